@@ -1,0 +1,15 @@
+mod AcceptedLemmas
+mod AdditionLemmas
+mod AppLemmas
+mod AscentLemmas
+mod ChangeLemmas
+mod ChangedLemmas
+mod HistoryLemmas
+mod IndexLemmas
+mod InsertedLemmas
+mod InsertionLemmas
+mod LookupLemmas
+mod MarkLemmas
+mod PackageLemmas
+mod ValidAppLemmas
+mod ValidityLemmas

@@ -1,0 +1,38 @@
+-- The packages of a content after an edit.
+use Rattle.std.proofs.Common.{◌≡◌, ℕ, cond, List, map, Option, Some, None, ap, sym, ◌∙◌}
+use Rattle.std.specs.Str.{bytes_eq}
+use Rattle.catalogue.proofs.InsertionLemmas.{Inserts, Inserts-append_after, Inserts-flat_map_change, Inserts-insert, Inserts-map, lookup-Inserts}
+use Rattle.catalogue.proofs.AcceptedLemmas.{TakesRelease-from_no_fault}
+use Rattle.catalogue.specs.Changes.{change, new_release, place_of, placed, with_release}
+use Rattle.catalogue.specs.Draft.{Indexes}
+use Rattle.catalogue.specs.Faults.{first_fault, tests_of_add_release}
+use Rattle.catalogue.specs.PackageIndex.{found_in}
+use Rattle.catalogue.specs.declared.edit.AddRelease.{AddRelease}
+use Rattle.catalogue.specs.declared.package_index.PackageIndex.{PackageIndex}
+use Rattle.catalogue.specs.Lookups.{app_of, declared_of, diff_package, full_package, is_app, packages_in, packages_of}
+use Rattle.catalogue.specs.declared.content.App.{App}
+use Rattle.catalogue.specs.declared.content.Declared.{Declared}
+use Rattle.catalogue.specs.declared.content.Release.{Release}
+
+-- a release that is added to an app adds its full package
+pub Inserts-packages_of : (apps : List App) (id : List ℕ) (release : Release) (app : App) → app_of apps id ≡ Some app → Inserts (full_package release) (packages_of apps) (packages_of (change (is_app id) (with_release release) apps))
+Inserts-packages_of apps id release app found =
+    let among : Inserts release app.releases (placed release app.releases) = Inserts-insert app.releases (place_of release.version app.releases) release in
+    Inserts-flat_map_change (is_app id) (with_release release) packages_in (full_package release) apps app found
+    (Inserts-append_after (full_package release) (map full_package app.releases) (map full_package (placed release app.releases)) (map diff_package app.diffs)
+    (Inserts-map full_package release app.releases (placed release app.releases) among))
+
+-- under its name it is found, and under any other what was found before
+pub declared_of-with_release : (apps : List App) (id : List ℕ) (release : Release) (app : App) → app_of apps id ≡ Some app → declared_of apps release.name ≡ None → (name : List ℕ) → declared_of (change (is_app id) (with_release release) apps) name ≡ cond (bytes_eq release.name name) (Some (full_package release).1) (declared_of apps name)
+declared_of-with_release apps id release app found fresh =
+    lookup-Inserts release.name (full_package release).1 (packages_of apps) _ (Inserts-packages_of apps id release app found) fresh
+
+-- an index that takes an accepted release's package is the index of the content with the release
+pub Indexes-with_release : (old new : PackageIndex) (apps : List App) (e : AddRelease) (name : List ℕ) (release : Release) → Indexes old apps → first_fault (tests_of_add_release apps e) ≡ None → release ≡ new_release e → name ≡ e.name → ((other : List ℕ) → found_in new other ≡ cond (bytes_eq name other) (Some (full_package release).1) (found_in old other)) → Indexes new (change (is_app e.app) (with_release (new_release e)) apps)
+Indexes-with_release old new apps e name release indexed accepted made named found other =
+    let takes = TakesRelease-from_no_fault apps e accepted in
+    found other
+    ∙ ap (λ (n : List ℕ). cond (bytes_eq n other) (Some (full_package release).1) (found_in old other)) named
+    ∙ ap (λ (r : Release). cond (bytes_eq e.name other) (Some (full_package r).1) (found_in old other)) made
+    ∙ ap (λ (o : Option Declared). cond (bytes_eq e.name other) (Some (full_package (new_release e)).1) o) (indexed other)
+    ∙ sym (declared_of-with_release apps e.app (new_release e) takes.app takes.found takes.new_name other)

@@ -1,0 +1,132 @@
+-- An edit keeps an app valid.
+use Rattle.std.proofs.Common.{◌≡◌, ℕ, ◌≤◌, ◌&&◌, Bool, true, false, cond, nat_le, List, [], Option, Some, None, count_by, refl, ap, sym, ◌∙◌, arith}
+use Rattle.std.specs.List.{list_any}
+use Rattle.std.specs.Option.{is_none, option_map_or}
+use Rattle.std.specs.Str.{bytes_eq}
+use Rattle.std.proofs.lemmas.Bool.{and_from, and_parts}
+use Rattle.std.proofs.lemmas.Slice.Eq.{bytes_eq-Decides}
+use Rattle.version.specs.Laws.{BelowIsTotal, BelowIsTransitive, LenientAgrees}
+use Rattle.version.specs.Versions.{is_below, lenient_version_of, version_of}
+use Rattle.catalogue.proofs.AcceptedLemmas.{Some-from_not_none, TakesApp, TakesRelease, TakesTargets}
+use Rattle.catalogue.proofs.AscentLemmas.{Inserts-placed, ascend-placed}
+use Rattle.catalogue.proofs.ChangedLemmas.{count_by-change, count_by-cons, length-change, list_all-change, list_any-change}
+use Rattle.catalogue.proofs.InsertedLemmas.{IsOnce-Inserts, count_by-none, length-Inserts, list_all-Inserts, list_all-weaker, list_any-kept}
+use Rattle.catalogue.specs.Changes.{change, new_app, new_cohort, new_release, placed, with_release, with_targets, with_targets_in}
+use Rattle.catalogue.specs.Faults.{has_release}
+use Rattle.catalogue.specs.Forms.{is_cohort_name, is_package_name, is_size}
+use Rattle.catalogue.specs.Lookups.{has_hash, is_cohort, is_release}
+use Rattle.catalogue.specs.Validity.{IsValidApp, is_good_audience, is_good_cohort, is_good_diff, is_good_release, is_released, most_share, spells}
+use Rattle.catalogue.specs.declared.content.App.{App}
+use Rattle.catalogue.specs.declared.content.Cohort.{Cohort}
+use Rattle.catalogue.specs.declared.content.Diff.{Diff}
+use Rattle.catalogue.specs.declared.content.Release.{Release}
+use Rattle.catalogue.specs.declared.edit.AddApp.{AddApp}
+use Rattle.catalogue.specs.declared.edit.AddRelease.{AddRelease}
+use Rattle.catalogue.specs.declared.edit.SetTarget.{SetTarget}
+
+-- what is released stays released when a release is added
+has_release-placed : (release : Release) (releases : List Release) (version : List ℕ) → has_release releases version ≡ true → has_release (placed release releases) version ≡ true
+has_release-placed release releases version = list_any-kept (is_release version) release releases (placed release releases) (Inserts-placed release releases)
+
+is_released-placed : (release : Release) (releases : List Release) (version : Option (List ℕ)) → is_released releases version ≡ true → is_released (placed release releases) version ≡ true
+is_released-placed release releases None there = refl
+is_released-placed release releases (Some version) there = has_release-placed release releases version there
+
+is_good_cohort-placed : (release : Release) (releases : List Release) (cohort : Cohort) → is_good_cohort releases cohort ≡ true → is_good_cohort (placed release releases) cohort ≡ true
+is_good_cohort-placed release releases cohort good =
+    let rest = and_parts (is_cohort_name cohort.name && nat_le cohort.share most_share && is_released releases cohort.target) (is_released releases cohort.held) good in
+    let front = and_parts (is_cohort_name cohort.name && nat_le cohort.share most_share) (is_released releases cohort.target) rest.0 in
+    and_from _ _ (and_from _ _ front.0 (is_released-placed release releases cohort.target front.1)) (is_released-placed release releases cohort.held rest.1)
+
+is_good_diff-placed : (release : Release) (releases : List Release) (diff : Diff) → is_good_diff releases diff ≡ true → is_good_diff (placed release releases) diff ≡ true
+is_good_diff-placed release releases diff good =
+    let sized = and_parts (is_below diff.from diff.to && has_release releases diff.from && has_release releases diff.to && is_package_name diff.name) (is_size diff.size) good in
+    let named = and_parts (is_below diff.from diff.to && has_release releases diff.from && has_release releases diff.to) (is_package_name diff.name) sized.0 in
+    let leads = and_parts (is_below diff.from diff.to && has_release releases diff.from) (has_release releases diff.to) named.0 in
+    let starts = and_parts (is_below diff.from diff.to) (has_release releases diff.from) leads.0 in
+    and_from _ _ (and_from _ _ (and_from _ _ (and_from _ _ starts.0 (has_release-placed release releases diff.from starts.1)) (has_release-placed release releases diff.to leads.1)) named.1) sized.1
+
+-- the spelling of an accepted version spells what a client's text would
+spells-lenient : LenientAgrees → (text : List ℕ) → is_none (version_of text) ≡ false → spells text (lenient_version_of text) ≡ true
+spells-lenient agrees text spelled =
+    let some = Some-from_not_none (version_of text) spelled in
+    let read = some.0 in
+    ap (λ o. option_map_or (λ (r : List ℕ × ℕ). bytes_eq r.0 (lenient_version_of text)) o false) some.1
+    ∙ (bytes_eq-Decides read.0 (lenient_version_of text)).1 (sym (agrees text read.0 read.1 some.1))
+
+module _ (transitive : BelowIsTransitive) (total : BelowIsTotal) (agrees : LenientAgrees) where
+  pub IsValidApp-with_release : (apps : List App) (e : AddRelease) (takes : TakesRelease apps e) → IsValidApp takes.app → IsValidApp (with_release (new_release e) takes.app)
+  IsValidApp-with_release apps e takes valid =
+      let app = takes.app in
+      let release = new_release e in
+      let among = Inserts-placed release app.releases in
+      record {
+        identified = valid.identified;
+        some_cohort = valid.some_cohort;
+        few_cohorts = valid.few_cohorts;
+        cohorts_once = valid.cohorts_once;
+        cohorts_good = list_all-weaker (is_good_cohort app.releases) (is_good_cohort (placed release app.releases)) (is_good_cohort-placed release app.releases) app.cohorts valid.cohorts_good;
+        few_releases = omega (arith, takes.room, length-Inserts release app.releases (placed release app.releases) among);
+        releases_ascend = ascend-placed transitive total release app.releases valid.releases_ascend takes.new_version;
+        hashes_once = IsOnce-Inserts has_hash release app.releases (placed release app.releases) among valid.hashes_once
+            (λ hash same. ap (λ h. count_by (has_hash h) app.releases) ((bytes_eq-Decides hash release.hash).0 same) ∙ count_by-none (has_hash release.hash) app.releases takes.new_hash);
+        releases_good = list_all-Inserts (is_good_release app.cohorts) release app.releases (placed release app.releases) among valid.releases_good
+            (and_from _ _ (and_from _ _ (and_from _ _ (spells-lenient agrees e.version takes.spelled) takes.named) takes.sized) refl);
+        few_diffs = valid.few_diffs;
+        diffs_ascend = valid.diffs_ascend;
+        diffs_good = list_all-weaker (is_good_diff app.releases) (is_good_diff (placed release app.releases)) (is_good_diff-placed release app.releases) app.diffs valid.diffs_good;
+      }
+
+-- a change of targets keeps the cohorts' names
+is_good_audience-with_targets : (e : SetTarget) (cohorts : List Cohort) (audience : Option (List (List ℕ))) → is_good_audience cohorts audience ≡ true → is_good_audience (change (is_cohort e.cohort) (with_targets e) cohorts) audience ≡ true
+is_good_audience-with_targets e cohorts None good = refl
+is_good_audience-with_targets e cohorts (Some names) good =
+    list_all-weaker (λ name. list_any (is_cohort name) cohorts) (λ name. list_any (is_cohort name) (change (is_cohort e.cohort) (with_targets e) cohorts))
+    (λ name there. list_any-change (is_cohort e.cohort) (with_targets e) (is_cohort name) (λ cohort. refl) cohorts ∙ there) names good
+
+pub IsValidApp-with_targets_in : (apps : List App) (e : SetTarget) (takes : TakesTargets apps e) → IsValidApp takes.app → IsValidApp (with_targets_in e takes.app)
+IsValidApp-with_targets_in apps e takes valid =
+    let app = takes.app in
+    let changed = change (is_cohort e.cohort) (with_targets e) app.cohorts in
+    let as_many = length-change (is_cohort e.cohort) (with_targets e) app.cohorts in
+    record {
+      identified = valid.identified;
+      some_cohort = rw as_many valid.some_cohort;
+      few_cohorts = rw as_many valid.few_cohorts;
+      cohorts_once = λ name. rw (count_by-change (is_cohort e.cohort) (with_targets e) (is_cohort name) (λ cohort. refl) app.cohorts) (valid.cohorts_once name);
+      cohorts_good = list_all-change (is_cohort e.cohort) (with_targets e) (is_good_cohort app.releases)
+          (λ cohort good.
+          let before = and_parts (is_cohort_name cohort.name && nat_le cohort.share most_share && is_released app.releases cohort.target) (is_released app.releases cohort.held) good in
+          let named = and_parts (is_cohort_name cohort.name && nat_le cohort.share most_share) (is_released app.releases cohort.target) before.0 in
+          and_from _ _ (and_from _ _ named.0 takes.target_released) takes.held_released) app.cohorts valid.cohorts_good;
+      few_releases = valid.few_releases;
+      releases_ascend = valid.releases_ascend;
+      hashes_once = valid.hashes_once;
+      releases_good = list_all-weaker (is_good_release app.cohorts) (is_good_release changed)
+          (λ release good.
+          let before = and_parts (spells release.spelled release.version && is_package_name release.name && is_size release.size) (is_good_audience app.cohorts release.audience) good in
+          and_from _ _ before.0 (is_good_audience-with_targets e app.cohorts release.audience before.1)) app.releases valid.releases_good;
+      few_diffs = valid.few_diffs;
+      diffs_ascend = valid.diffs_ascend;
+      diffs_good = valid.diffs_good;
+    }
+
+cond-le_one : (b : Bool) → cond b 1 0 ≤ 1
+cond-le_one true = omega arith
+cond-le_one false = omega arith
+
+pub IsValidApp-new_app : (apps : List App) (e : AddApp) → TakesApp apps e → IsValidApp (new_app e)
+IsValidApp-new_app apps e takes = record {
+  identified = takes.identified;
+  some_cohort = omega arith;
+  few_cohorts = omega arith;
+  cohorts_once = λ name. let counted = count_by-cons (is_cohort name) (new_cohort e.default) [] in let one = cond-le_one (is_cohort name (new_cohort e.default)) in omega arith;
+  cohorts_good = and_from _ _ (and_from _ _ (and_from _ _ (and_from _ _ takes.named refl) refl) refl) refl;
+  few_releases = omega arith;
+  releases_ascend = refl;
+  hashes_once = λ hash. omega arith;
+  releases_good = refl;
+  few_diffs = omega arith;
+  diffs_ascend = refl;
+  diffs_good = refl;
+}

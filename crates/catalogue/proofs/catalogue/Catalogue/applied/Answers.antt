@@ -1,0 +1,16 @@
+use Rattle.catalogue.proofs.HistoryLemmas.{Makes-from_outcome}
+use Rattle.catalogue.proofs.ValidityLemmas.{IsValid-Makes}
+use Rattle.catalogue.proofs.catalogue.Catalogue.applied.Goals as goal
+
+pub invariant_of-result : goal.invariant_of-result
+invariant_of-result c =
+    let edits = c.edits.result.now in
+    let before = c.in_ok-draft.draft.apps in
+    let after = c.run.new.self.apps in
+    record {
+      indexed = c.in_ok-run.ensures.indexed;
+      valid =
+          IsValid-Makes c.order.ensures.transitive c.order.ensures.total c.spellings.ensures edits before after
+          (Makes-from_outcome 0 edits before after c.in_ok-run.ensures.ok)
+          (rw c.in_ok-draft.ensures.content c.self.invariant.valid);
+    }

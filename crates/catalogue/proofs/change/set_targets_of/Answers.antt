@@ -1,0 +1,18 @@
+use Rattle.std.proofs.Common.{sym, ap, List}
+use Rattle.catalogue.proofs.ChangeLemmas.{change-Some, change-None}
+use Rattle.catalogue.specs.Changes.{with_targets_in}
+use Rattle.catalogue.specs.Lookups.{is_app}
+use Rattle.catalogue.specs.declared.content.Cohort.{Cohort}
+use Rattle.catalogue.proofs.change.set_targets_of.Goals as goal
+
+pub returns-in-Some : goal.returns-in-Some
+returns-in-Some c =
+    let edit = c.args.edit.now in
+    let app = c.item_mut-app.result.now in
+    change-Some (is_app edit.app) (with_targets_in edit) c.args.apps.now c.in-Some.index app _ (sym c.in-Some.ensures) c.item_mut-app.ensures.value
+    (ap (λ (cohorts : List Cohort). record app { cohorts = cohorts }) c.set_targets_in.ensures)
+
+pub returns-in_default : goal.returns-in_default
+returns-in_default c =
+    let edit = c.args.edit.now in
+    change-None (is_app edit.app) (with_targets_in edit) c.args.apps.now (sym c.in_default.ensures)

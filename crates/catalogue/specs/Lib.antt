@@ -1,0 +1,11 @@
+pub mod Batches
+pub mod Changes
+pub mod Draft
+pub mod Faults
+pub mod FaultTexts
+pub mod Forms
+pub mod Histories
+pub mod Lookups
+pub mod PackageIndex
+pub mod Soundness
+pub mod Validity

@@ -1,0 +1,108 @@
+-- What is true of every content that edits make; this project's profile. Crates above rest on it.
+use Rattle.std.specs.Prelude.{◌≡◌, ℕ, ◌≤◌, ◌&&◌, ◌||◌, Bool, true, false, nat_le, List, [], ◌∷◌, length, count_by, Option, None, Some}
+use Rattle.std.specs.List.{AllByRecursion, list_all, list_any}
+use Rattle.std.specs.Option.{option_map_or}
+use Rattle.std.specs.Str.{bytes_eq}
+use Rattle.version.specs.Versions.{is_below, version_of}
+use Rattle.catalogue.specs.Faults.{has_release, most_apps, most_releases}
+use Rattle.catalogue.specs.Forms.{is_app_id, is_cohort_name, is_package_name, is_size}
+use Rattle.catalogue.specs.Lookups.{has_hash, is_app, is_cohort, packages_of}
+use Rattle.catalogue.specs.declared.content.App.{App}
+use Rattle.catalogue.specs.declared.content.Cohort.{Cohort}
+use Rattle.catalogue.specs.declared.content.Declared.{Declared}
+use Rattle.catalogue.specs.declared.content.Diff.{Diff}
+use Rattle.catalogue.specs.declared.content.Release.{Release}
+
+-- an app's cohorts, and its differentials, at most
+abbrev pub most_cohorts : ℕ
+most_cohorts = 32
+
+abbrev pub most_diffs : ℕ
+most_diffs = 16384
+
+-- a cohort's share at most: all of 1000 clients
+abbrev pub most_share : ℕ
+most_share = 1000
+
+-- at most one item of the list has each key
+abbrev pub IsOnce : {K A : Type 0} → (K → A → Bool) → List A → Type 0
+IsOnce {K} has items = (key : K) → count_by (has key) items ≤ 1
+
+-- the package has the name
+abbrev pub is_package : List ℕ → List ℕ × Declared → Bool
+is_package name named = bytes_eq name named.0
+
+-- a release is below another by version
+abbrev pub is_release_below : Release → Release → Bool
+is_release_below lower upper = is_below lower.version upper.version
+
+-- a differential stands before another: by the release that it starts at, then by the other
+abbrev pub is_diff_before : Diff → Diff → Bool
+is_diff_before first second =
+    is_below first.from second.from || (bytes_eq first.from second.from && is_below first.to second.to)
+
+-- each item stands before all those after it
+abbrev pub ascend : {A : Type 0} → (A → A → Bool) → List A → Bool
+ascend before [] = true
+ascend before (x ∷ xs) = list_all (before x) xs && ascend before xs
+
+-- the text spells the version
+abbrev pub spells : List ℕ → List ℕ → Bool
+spells text version = option_map_or (λ read. bytes_eq read.0 version) (version_of text) false
+
+-- there is a release of the version, where one is given
+abbrev pub is_released : List Release → Option (List ℕ) → Bool
+is_released releases None = true
+is_released releases (Some version) = has_release releases version
+
+-- a cohort: its name, its share, and that its targets are released
+abbrev pub is_good_cohort : List Release → Cohort → Bool
+is_good_cohort releases cohort =
+    is_cohort_name cohort.name
+    && nat_le cohort.share most_share
+    && is_released releases cohort.target
+    && is_released releases cohort.held
+
+-- each name of an audience is that of a cohort, where there is an audience
+abbrev pub is_good_audience : List Cohort → Option (List (List ℕ)) → Bool
+is_good_audience cohorts None = true
+is_good_audience cohorts (Some names) = list_all (λ name. list_any (is_cohort name) cohorts) names
+
+-- a release: its spelling, its package's name and bytes, and its audience
+abbrev pub is_good_release : List Cohort → Release → Bool
+is_good_release cohorts release =
+    spells release.spelled release.version
+    && is_package_name release.name
+    && is_size release.size
+    && is_good_audience cohorts release.audience
+
+-- a differential: upward between releases, its package's name and bytes
+abbrev pub is_good_diff : List Release → Diff → Bool
+is_good_diff releases diff =
+    is_below diff.from diff.to
+    && has_release releases diff.from
+    && has_release releases diff.to
+    && is_package_name diff.name
+    && is_size diff.size
+
+-- an app
+pub record IsValidApp (app : App) : Type 0 where
+  pub identified : is_app_id app.id ≡ true
+  pub some_cohort : 1 ≤ length app.cohorts
+  pub few_cohorts : length app.cohorts ≤ most_cohorts
+  pub cohorts_once : IsOnce is_cohort app.cohorts
+  pub cohorts_good : list_all (is_good_cohort app.releases) app.cohorts ≡ true
+  pub few_releases : length app.releases ≤ most_releases
+  pub releases_ascend : ascend is_release_below app.releases ≡ true
+  pub hashes_once : IsOnce has_hash app.releases
+  pub releases_good : list_all (is_good_release app.cohorts) app.releases ≡ true
+  pub few_diffs : length app.diffs ≤ most_diffs
+  pub diffs_ascend : ascend is_diff_before app.diffs ≡ true
+  pub diffs_good : list_all (is_good_diff app.releases) app.diffs ≡ true
+
+-- a content
+pub record IsValid (apps : List App) : Type 0 where
+  pub few_apps : length apps ≤ most_apps
+  pub ids_once : IsOnce is_app apps
+  pub names_once : IsOnce is_package (packages_of apps)
+  pub apps_valid : AllByRecursion IsValidApp apps

@@ -1,0 +1,116 @@
+// A content that a batch is being applied to, with the index of its packages.
+
+ghost use Rattle.std.specs.Prelude.{◌≡◌, None, Ok, OnOk, IfOk, IfErr};
+ghost use Rattle.catalogue.specs.Batches.{Explains, outcome};
+ghost use Rattle.catalogue.specs.Changes.{after};
+ghost use Rattle.catalogue.specs.Draft.{Becomes, Indexes, IsIndexed};
+ghost use Rattle.catalogue.specs.Faults.{fault_of};
+ghost use Rattle.catalogue.specs.declared.edit.Edit.TheVariants as edits;
+
+use crate::change::{new_app, new_release, place_in, set_targets_of};
+use crate::content::{App, Declared};
+use crate::edit::{AddApp, AddRelease, Edit, SetTarget};
+use crate::fault::{ApplyError, Refused};
+use crate::package_index::PackageIndex;
+use crate::refusal;
+use std::alloc::{AllocError, Global};
+use values::Items;
+
+/// A content and its index; after a refused allocation the two may differ.
+#[derive(Debug, Drop)]
+pub(crate) struct Draft {
+    pub(crate) alloc: Global,
+    pub(crate) apps: Items<App>,
+    pub(crate) packages: PackageIndex,
+}
+
+fn copy_of(apps: &Items<App>) -> Result<Items<App>, AllocError>
+    ensures { IfOk result (λ copy. copy ≡ apps.now) }
+{
+    apps.clone()
+}
+
+impl Draft {
+    /// Makes a draft of a content and its index, in new memory.
+    pub(crate) fn of(
+        alloc: Global,
+        apps: &Items<App>,
+        packages: &PackageIndex,
+    ) -> Result<Draft, AllocError>
+        requires { Indexes packages.now apps.now }
+        ensures { IfOk result (λ draft. Becomes draft apps.now) }
+    {
+        let apps = copy_of(apps)?;
+        let packages = packages.copy()?;
+        Ok(Draft {
+            alloc,
+            apps,
+            packages,
+        })
+    }
+
+    fn add_app(&mut self, edit: &AddApp) -> Result<(), AllocError>
+        requires { IsIndexed self.old }
+        ensures { OnOk result (Becomes self.new (after self.old.apps (edits.AddApp edit.now))) }
+    {
+        let app = new_app(self.alloc, edit)?;
+        self.apps.push(app)
+    }
+
+    fn add_release(&mut self, edit: &AddRelease) -> Result<(), AllocError>
+        requires indexed { IsIndexed self.old }
+        requires accepted { fault_of self.old.apps (edits.AddRelease edit.now) ≡ None }
+        ensures { OnOk result (Becomes self.new (after self.old.apps (edits.AddRelease edit.now))) }
+    {
+        let release = new_release(edit)?;
+        let name = String::from_str(self.alloc, edit.name.as_str())?;
+        let hash = release.hash;
+        let declared = Declared {
+            size: release.size,
+            hash,
+        };
+        self.packages.insert(name, declared)?;
+        place_in(&mut self.apps, &edit.app, release)?;
+        Ok(())
+    }
+
+    fn set_target(&mut self, edit: &SetTarget)
+        requires { IsIndexed self.old }
+        ensures { Becomes self.new (after self.old.apps (edits.SetTarget edit.now)) }
+    {
+        set_targets_of(&mut self.apps, edit);
+    }
+
+    fn perform(&mut self, edit: &Edit) -> Result<(), AllocError>
+        requires indexed { IsIndexed self.old }
+        requires accepted { fault_of self.old.apps edit.now ≡ None }
+        ensures { OnOk result (Becomes self.new (after self.old.apps edit.now)) }
+    {
+        match edit {
+            Edit::AddApp(edit) => self.add_app(edit),
+            Edit::AddRelease(edit) => self.add_release(edit),
+            Edit::SetTarget(edit) => {
+                self.set_target(edit);
+                Ok(())
+            }
+        }
+    }
+
+    /// Performs edits in order, up to the first that is refused.
+    ///
+    /// After a refusal the draft is of no use.
+    pub(crate) fn run(&mut self, edits: &[Edit]) -> Result<(), ApplyError>
+        requires { IsIndexed self.old }
+        ensures ok { OnOk result (outcome edits.now self.old.apps ≡ Ok self.new.apps) }
+        ensures indexed { OnOk result (IsIndexed self.new) }
+        ensures refused { IfErr result (λ e. Explains e (outcome edits.now self.old.apps)) }
+    {
+        for (index, edit) in edits.iter().enumerate() {
+            if let Some(fault) = refusal::fault_of(self, edit) {
+                return Err(ApplyError::Refused(Refused { index, fault }));
+            }
+            self.perform(edit)?;
+        }
+        Ok(())
+    }
+}

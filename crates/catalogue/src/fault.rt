@@ -1,0 +1,125 @@
+ghost use Rattle.std.specs.Prelude.{Some};
+ghost use Rattle.catalogue.specs.FaultTexts.{fault_text, refused_text, error_text};
+
+use std::alloc::AllocError;
+use std::error::Error;
+use std::fmt;
+
+/// Why an edit was refused; it prints as its code and its name, as `C11 UnknownRelease`.
+#[derive(Clone, Copy, Debug, PartialEq, Eq)]
+pub enum Fault {
+    /// C1: no app has the identifier.
+    UnknownApp,
+    /// C2: an app has the identifier.
+    AppExists,
+    /// C3: the text is no identifier of an app.
+    BadAppId,
+    /// C4: the text is no version of 1 to 4 components.
+    BadVersion,
+    /// C5: the app has a release of the version.
+    ReleaseExists,
+    /// C6: a release of the app has the hash.
+    HashTaken,
+    /// C7: the text is not 64 lower-case hexadecimal digits.
+    BadHash,
+    /// C8: the size is not 1 to 2^40.
+    BadSize,
+    /// C9: the text is no name of a package, or no name of a cohort.
+    BadName,
+    /// C10: a package of the catalogue has the name.
+    NameTaken,
+    /// C11: the app has no release of the version.
+    UnknownRelease,
+    /// C12: the app has a differential of the pair.
+    DiffExists,
+    /// C13: the differential doesn't lead up.
+    DiffBackward,
+    /// C14: the app has no cohort of the name.
+    UnknownCohort,
+    /// C15: the app has a cohort of the name.
+    CohortExists,
+    /// C16: the share is above 1000.
+    BadShare,
+    /// C17: there are as many items of the kind as there may be.
+    Limit,
+}
+
+/// The first refused edit of a batch: its index from 0, and its first fault.
+#[derive(Clone, Copy, Debug, PartialEq, Eq)]
+pub struct Refused {
+    pub index: usize,
+    pub fault: Fault,
+}
+
+/// Why a batch was not applied.
+#[derive(Clone, Copy, Debug, PartialEq, Eq)]
+pub enum ApplyError {
+    /// An edit was refused.
+    Refused(Refused),
+    /// An allocation was refused.
+    Memory,
+}
+
+impl fmt::Display for Fault {
+    ghost output = { λ f. Some (fault_text f) };
+
+    fn fmt<W: fmt::Write>(&self, f: &mut fmt::Formatter<W>) -> fmt::Result {
+        f.write_str(match self {
+            Fault::UnknownApp => "C1 UnknownApp",
+            Fault::AppExists => "C2 AppExists",
+            Fault::BadAppId => "C3 BadAppId",
+            Fault::BadVersion => "C4 BadVersion",
+            Fault::ReleaseExists => "C5 ReleaseExists",
+            Fault::HashTaken => "C6 HashTaken",
+            Fault::BadHash => "C7 BadHash",
+            Fault::BadSize => "C8 BadSize",
+            Fault::BadName => "C9 BadName",
+            Fault::NameTaken => "C10 NameTaken",
+            Fault::UnknownRelease => "C11 UnknownRelease",
+            Fault::DiffExists => "C12 DiffExists",
+            Fault::DiffBackward => "C13 DiffBackward",
+            Fault::UnknownCohort => "C14 UnknownCohort",
+            Fault::CohortExists => "C15 CohortExists",
+            Fault::BadShare => "C16 BadShare",
+            Fault::Limit => "C17 Limit",
+        })
+    }
+}
+
+impl fmt::Display for Refused {
+    ghost output = { λ r. Some (refused_text r) };
+
+    fn fmt<W: fmt::Write>(&self, f: &mut fmt::Formatter<W>) -> fmt::Result {
+        let index = self.index;
+        let fault = self.fault;
+        write!(f, "edit {index}: {fault}")
+    }
+}
+
+impl fmt::Display for ApplyError {
+    ghost output = { λ e. Some (error_text e) };
+
+    fn fmt<W: fmt::Write>(&self, f: &mut fmt::Formatter<W>) -> fmt::Result {
+        match self {
+            ApplyError::Refused(refused) => write!(f, "{refused}"),
+            ApplyError::Memory => write!(f, "memory"),
+        }
+    }
+}
+
+impl Error for Fault {}
+
+impl Error for Refused {}
+
+impl Error for ApplyError {}
+
+impl From<AllocError> for ApplyError {
+    ghost use Rattle.std.specs.Prelude.{◌≡◌};
+    ghost use Rattle.catalogue.specs.declared.fault.ApplyError.TheVariants.{Memory};
+
+    ghost from_gives = { λ _ e. e ≡ Memory };
+
+    fn from(_refused: AllocError) -> ApplyError {
+        ApplyError::Memory
+    }
+}

@@ -1,0 +1,28 @@
+//! The catalogue: apps with their releases, differentials and cohorts, made by batches of edits.
+//!
+//! A `Catalogue` is seen as the list of its `App`s; `Catalogue::apply` takes a `Batch` of `Edit`s
+//! whole or refuses it whole, with the first refused edit and its `Fault`. Read `specs/Batches.antt`
+//! for the meaning of a batch, `specs/Faults.antt` for the faults of each edit in their order,
+//! `specs/Changes.antt` for what an accepted edit does, `specs/Validity.antt` for what is true of
+//! every catalogue, and `laws` for what holds over whole histories.
+//!
+//! It does not decide which release a client is offered, nor read profiles: crates above do.
+
+#![tactic(auto)]
+
+mod catalogue;
+mod change;
+mod content;
+mod draft;
+mod edit;
+mod fault;
+mod form;
+pub mod laws;
+mod lookup;
+mod package_index;
+mod refusal;
+
+pub use crate::catalogue::Catalogue;
+pub use crate::content::{App, Cohort, Declared, Diff, Mirror, Release};
+pub use crate::edit::{AddApp, AddRelease, Batch, Edit, SetTarget};
+pub use crate::fault::{ApplyError, Fault, Refused};

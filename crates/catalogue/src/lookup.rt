@@ -1,0 +1,74 @@
+// Items of a content by their names.
+
+ghost use Rattle.std.specs.Prelude.{◌≡◌, position};
+ghost use Rattle.std.specs.Option.{option_copied};
+ghost use Rattle.std.specs.List.{list_any};
+ghost use Rattle.catalogue.specs.Lookups.{app_of, has_hash, is_app, is_cohort, is_release};
+ghost use Rattle.catalogue.specs.Faults.{has_release};
+
+use crate::content::{App, Cohort, Release};
+use crate::form::is_same_id;
+use values::Items;
+use version::Version;
+
+/// The index of the app of an identifier.
+pub(crate) fn index_of_app(apps: &[App], id: &str) -> Option<usize>
+    ensures { result ≡ position (is_app id.now) apps.now }
+{
+    apps.iter().position(|app| is_same_id(id, app.id.as_str()))
+}
+
+/// The app of an identifier.
+pub(crate) fn find_app<'a>(apps: &'a [App], id: &str) -> Option<&'a App>
+    ensures { option_copied result ≡ app_of apps.now id.now }
+{
+    apps.iter().find(|app| is_same_id(id, app.id.as_str()))
+}
+
+/// The index of the release of a version.
+pub(crate) fn index_of_release(releases: &[Release], version: &Version) -> Option<usize>
+    ensures { result ≡ position (is_release version.now) releases.now }
+{
+    releases
+        .iter()
+        .position(|release| version.is_equal(&release.version))
+}
+
+/// Whether there is a release of a version.
+pub(crate) fn has_release(releases: &[Release], version: &Version) -> bool
+    ensures { result ≡ has_release releases.now version.now }
+{
+    releases
+        .iter()
+        .any(|release| version.is_equal(&release.version))
+}
+
+/// The index of the release of a hash.
+pub(crate) fn index_of_hash(releases: &[Release], hash: &[u8; 32]) -> Option<usize>
+    ensures { result ≡ position (has_hash hash.now) releases.now }
+{
+    releases.iter().position(|release| *hash == release.hash)
+}
+
+/// Whether a release has the hash.
+pub(crate) fn has_hash(releases: &[Release], hash: &[u8; 32]) -> bool
+    ensures { result ≡ list_any (has_hash hash.now) releases.now }
+{
+    releases.iter().any(|release| *hash == release.hash)
+}
+
+/// The index of the cohort of a name.
+pub(crate) fn index_of_cohort(cohorts: &[Cohort], name: &str) -> Option<usize>
+    ensures { result ≡ position (is_cohort name.now) cohorts.now }
+{
+    cohorts
+        .iter()
+        .position(|cohort| name == cohort.name.as_str())
+}
+
+/// Whether there is a cohort of a name.
+pub(crate) fn has_cohort(cohorts: &[Cohort], name: &str) -> bool
+    ensures { result ≡ list_any (is_cohort name.now) cohorts.now }
+{
+    cohorts.iter().any(|cohort| name == cohort.name.as_str())
+}

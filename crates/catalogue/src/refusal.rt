@@ -1,0 +1,122 @@
+// The first fault of an edit against a draft.
+
+ghost use Rattle.std.specs.Prelude.{◌≡◌, List, ℕ, Option};
+ghost use Rattle.std.specs.Option.{is_some};
+ghost use Rattle.catalogue.specs.Draft.{IsIndexed};
+ghost use Rattle.catalogue.specs.Faults.{fault_of, first_fault, is_misspelled, is_unreleased, tests_of_add_app, tests_of_add_release, tests_of_set_target};
+
+use crate::content::Release;
+use crate::draft::Draft;
+use crate::edit::{AddApp, AddRelease, Edit, SetTarget};
+use crate::fault::Fault;
+use crate::form::{hash_named, hash_of, is_app_id, is_cohort_name, is_package_name, is_size};
+use crate::lookup::{find_app, has_cohort, has_hash, has_release};
+use values::Text;
+use version::Version;
+
+pub(crate) const MOST_APPS: usize = 64;
+
+pub(crate) const MOST_RELEASES: usize = 512;
+
+fn fault_of_add_app(draft: &Draft, edit: &AddApp) -> Option<Fault>
+    ensures { result ≡ first_fault (tests_of_add_app draft.now.apps edit.now) }
+{
+    let apps = draft.apps.as_slice();
+    if !is_app_id(edit.app.as_str()) {
+        return Some(Fault::BadAppId);
+    }
+    if !is_cohort_name(edit.default.as_str()) {
+        return Some(Fault::BadName);
+    }
+    if find_app(apps, edit.app.as_str()).is_some() {
+        return Some(Fault::AppExists);
+    }
+    if apps.len() >= MOST_APPS {
+        return Some(Fault::Limit);
+    }
+    None
+}
+
+fn fault_of_add_release(draft: &Draft, edit: &AddRelease) -> Option<Fault>
+    requires { IsIndexed draft.now }
+    ensures { result ≡ first_fault (tests_of_add_release draft.now.apps edit.now) }
+{
+    let Some(app) = find_app(draft.apps.as_slice(), edit.app.as_str()) else {
+        return Some(Fault::UnknownApp);
+    };
+    let releases = app.releases.as_slice();
+    if Version::parse(edit.version.as_str()).is_none() {
+        return Some(Fault::BadVersion);
+    }
+    if hash_of(edit.sha256.as_str()).is_none() {
+        return Some(Fault::BadHash);
+    }
+    if !is_size(edit.size) {
+        return Some(Fault::BadSize);
+    }
+    if !is_package_name(edit.name.as_str()) {
+        return Some(Fault::BadName);
+    }
+    if has_release(releases, &Version::lenient(edit.version.as_str())) {
+        return Some(Fault::ReleaseExists);
+    }
+    if has_hash(releases, &hash_named(edit.sha256.as_str())) {
+        return Some(Fault::HashTaken);
+    }
+    if draft.packages.find(edit.name.as_str()).is_some() {
+        return Some(Fault::NameTaken);
+    }
+    if releases.len() >= MOST_RELEASES {
+        return Some(Fault::Limit);
+    }
+    None
+}
+
+fn is_misspelled(text: &Option<Text>) -> bool
+    ensures { result ≡ is_misspelled text.now }
+{
+    match text {
+        None => false,
+        Some(text) => Version::parse(text.as_str()).is_none(),
+    }
+}
+
+fn is_unreleased(releases: &[Release], text: &Option<Text>) -> bool
+    ensures { result ≡ is_unreleased releases.now text.now }
+{
+    match text {
+        None => false,
+        Some(text) => !has_release(releases, &Version::lenient(text.as_str())),
+    }
+}
+
+fn fault_of_set_target(draft: &Draft, edit: &SetTarget) -> Option<Fault>
+    ensures { result ≡ first_fault (tests_of_set_target draft.now.apps edit.now) }
+{
+    let Some(app) = find_app(draft.apps.as_slice(), edit.app.as_str()) else {
+        return Some(Fault::UnknownApp);
+    };
+    let releases = app.releases.as_slice();
+    if !has_cohort(app.cohorts.as_slice(), edit.cohort.as_str()) {
+        return Some(Fault::UnknownCohort);
+    }
+    if is_misspelled(&edit.target) || is_misspelled(&edit.held) {
+        return Some(Fault::BadVersion);
+    }
+    if is_unreleased(releases, &edit.target) || is_unreleased(releases, &edit.held) {
+        return Some(Fault::UnknownRelease);
+    }
+    None
+}
+
+/// The first fault of an edit, or none where it is accepted.
+pub(crate) fn fault_of(draft: &Draft, edit: &Edit) -> Option<Fault>
+    requires { IsIndexed draft.now }
+    ensures { result ≡ fault_of draft.now.apps edit.now }
+{
+    match edit {
+        Edit::AddApp(edit) => fault_of_add_app(draft, edit),
+        Edit::AddRelease(edit) => fault_of_add_release(draft, edit),
+        Edit::SetTarget(edit) => fault_of_set_target(draft, edit),
+    }
+}

@@ -1,0 +1,38 @@
+-- Editions: histories of accepted batches, and what one more batch makes of one; this project's
+-- profile.
+use Rattle.std.specs.Prelude.{◌≡◌, ℕ, ◌<◌, ◌≤◌, List, [], ◌∷◌, ◌++◌, length, IsOk, Result, Ok, Err}
+use Rattle.catalogue.specs.Batches.{outcome, run, then_run}
+use Rattle.catalogue.specs.Histories.{History, LeadsTo}
+use Rattle.catalogue.specs.declared.content.App.{App}
+use Rattle.catalogue.specs.declared.edit.Edit.{Edit}
+use Rattle.catalogue.specs.declared.fault.Refused.{Refused}
+use Rattle.editions.specs.declared.fault.NextError.{NextError}
+use Rattle.editions.specs.declared.fault.NextError.TheVariants as error
+
+-- an edition's batches, at most
+abbrev pub most_batches : ℕ
+most_batches = 4096
+
+-- an edition: its batches are not too many, and lead to its catalogue's content
+pub record IsSound (history : History) (apps : List App) : Type 0 where
+  pub few : length history ≤ most_batches
+  pub led : LeadsTo history apps
+
+-- the content that a batch leads to after a history, or its first refused edit
+abbrev pub outcome_after : History → List Edit → Result (List App) Refused
+outcome_after history batch = then_run (outcome batch) (run history [])
+
+-- the batch is accepted after the history
+abbrev pub IsAccepted : History → List Edit → Type 0
+IsAccepted history batch = IsOk (outcome_after history batch)
+
+-- what is answered to a batch after a history: the history with the batch at its end, where the
+-- batch is accepted and there is room; the batch's refusal; that there is no room, where it would
+-- have been accepted; or want of memory
+abbrev pub Continues : History → List Edit → Result History NextError → Type 0
+Continues history batch (Ok next) =
+    IsAccepted history batch × (length history < most_batches) × (next ≡ history ++ batch ∷ [])
+Continues history batch (Err (error.Refused refused)) = outcome_after history batch ≡ Err refused
+Continues history batch (Err error.HistoryFull) =
+    IsAccepted history batch × (length history ≡ most_batches)
+Continues history batch (Err error.Memory) = Unit {0}

@@ -1,0 +1,99 @@
+ghost use Rattle.std.specs.Prelude.{◌≡◌, [], ◌∷◌, ◌++◌, length, map, IfOk, Ok};
+ghost use Rattle.std.specs.Arc.{arc_value};
+ghost use Rattle.catalogue.specs.Histories.{LeadsTo};
+ghost use Rattle.editions.specs.Editions.{Continues};
+
+use crate::fault::NextError;
+use catalogue::{Batch, Catalogue};
+use std::alloc::{AllocError, Global};
+use std::marker::Model;
+use std::sync::Arc;
+
+const MOST_BATCHES: usize = 4096;
+
+/// A history of accepted batches with its catalogue, which contracts see as the history.
+///
+/// Its batches are shared with the editions before and after it.
+#[derive(Debug, Drop)]
+pub struct Edition {
+    alloc: Global,
+    batches: Vec<Arc<Batch>>,
+    catalogue: Catalogue,
+}
+
+impl Model for Edition {
+    ghost use Rattle.std.specs.Prelude.{map};
+    ghost use Rattle.std.specs.Arc.{arc_value};
+    ghost use Rattle.catalogue.specs.Histories.{History};
+
+    ghost Value = { History };
+
+    ghost use Rattle.editions.specs.Editions.{IsSound};
+
+    ghost view = { λ e. map arc_value e.batches.items };
+
+    ghost invariant = { λ e. IsSound (map arc_value e.batches.items) e.catalogue };
+}
+
+// The same batches with one more, in a list of its own.
+fn followed(
+    alloc: Global,
+    batches: &[Arc<Batch>],
+    batch: Batch,
+) -> Result<Vec<Arc<Batch>>, AllocError>
+    ensures { IfOk result (λ next. map arc_value next.items ≡ map arc_value batches.now ++ batch ∷ []) }
+{
+    let mut next = Vec::new(alloc);
+    for earlier in batches {
+        next.push(Arc::try_clone(earlier)?)?;
+    }
+    next.push(Arc::new(alloc, batch)?)?;
+    Ok(next)
+}
+
+impl Edition {
+    /// Makes the edition of no batches, and takes no memory.
+    pub fn empty(alloc: Global) -> Edition
+        ensures { result ≡ [] }
+    {
+        Edition {
+            alloc,
+            batches: Vec::new(alloc),
+            catalogue: Catalogue::empty(alloc),
+        }
+    }
+
+    /// Counts the batches, at most 4096.
+    pub fn number(&self) -> u64
+        ensures { result ≡ length self.now }
+    {
+        self.batches.len() as u64
+    }
+
+    /// Borrows the catalogue that the batches lead to.
+    pub fn catalogue(&self) -> &Catalogue
+        ensures { LeadsTo self.now result.now }
+    {
+        &self.catalogue
+    }
+
+    /// Makes the edition with one more batch, and leaves this one as it is.
+    ///
+    /// Refuses with the batch's first refused edit where there is one, then with `HistoryFull`
+    /// where this edition holds 4096 batches.
+    pub fn next(&self, batch: Batch) -> Result<Edition, NextError>
+        ensures { Continues self.now batch result }
+    {
+        catalogue::laws::growth();
+        let catalogue = self.catalogue.applied(&batch)?;
+        if self.batches.len() >= MOST_BATCHES {
+            return Err(NextError::HistoryFull);
+        }
+        let batches = followed(self.alloc, &self.batches, batch)?;
+        Ok(Edition {
+            alloc: self.alloc,
+            batches,
+            catalogue,
+        })
+    }
+}

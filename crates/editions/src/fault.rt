@@ -1,0 +1,71 @@
+ghost use Rattle.std.specs.Prelude.{Some};
+ghost use Rattle.editions.specs.FaultTexts.{error_text};
+
+use catalogue::{ApplyError, Refused};
+use std::alloc::{AllocError, AllocFailed};
+use std::error::Error;
+use std::fmt;
+
+/// Why an edition has no next one with a batch.
+///
+/// The refusals stand in the order in which they are looked for; want of memory may come before
+/// any of them.
+#[derive(Clone, Copy, Debug, PartialEq, Eq)]
+pub enum NextError {
+    /// An edit of the batch was refused.
+    Refused(Refused),
+    /// The edition holds 4096 batches, as many as it may.
+    HistoryFull,
+    /// An allocation was refused.
+    Memory,
+}
+
+impl fmt::Display for NextError {
+    ghost output = { λ e. Some (error_text e) };
+
+    fn fmt<W: fmt::Write>(&self, f: &mut fmt::Formatter<W>) -> fmt::Result {
+        match self {
+            NextError::Refused(refused) => write!(f, "{refused}"),
+            NextError::HistoryFull => write!(f, "history full"),
+            NextError::Memory => write!(f, "memory"),
+        }
+    }
+}
+
+impl Error for NextError {}
+
+impl From<ApplyError> for NextError {
+    ghost use Rattle.std.specs.Prelude.{◌≡◌};
+    ghost use Rattle.editions.specs.Refusals.{refusal_of};
+
+    ghost from_gives = { λ refused e. e ≡ refusal_of refused };
+
+    fn from(refused: ApplyError) -> NextError {
+        match refused {
+            ApplyError::Refused(refused) => NextError::Refused(refused),
+            ApplyError::Memory => NextError::Memory,
+        }
+    }
+}
+
+impl From<AllocError> for NextError {
+    ghost use Rattle.std.specs.Prelude.{◌≡◌};
+    ghost use Rattle.editions.specs.declared.fault.NextError.TheVariants.{Memory};
+
+    ghost from_gives = { λ _ e. e ≡ Memory };
+
+    fn from(_refused: AllocError) -> NextError {
+        NextError::Memory
+    }
+}
+
+impl<T: Drop> From<AllocFailed<T>> for NextError {
+    ghost use Rattle.std.specs.Prelude.{◌≡◌};
+    ghost use Rattle.editions.specs.declared.fault.NextError.TheVariants.{Memory};
+
+    ghost from_gives = { λ _ e. e ≡ Memory };
+
+    fn from(_refused: AllocFailed<T>) -> NextError {
+        NextError::Memory
+    }
+}

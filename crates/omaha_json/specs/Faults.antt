@@ -1,0 +1,12 @@
+-- How a refused request is printed: the fault's code and name, this project's own.
+use Rattle.std.specs.Prelude.{ℕ, List, ◌++◌, codes, decimal}
+use Rattle.omaha_json.specs.declared.fault.RequestFault.{RequestFault}
+use Rattle.omaha_json.specs.declared.fault.RequestFault.TheVariants.{NotJson, NoRequest, BadProtocol, BadApp, TooManyApps}
+
+-- the fault's code, a space and its name; of a bad app also a space and its index in decimal
+abbrev pub fault_text : RequestFault → List ℕ
+fault_text NotJson = codes "J1 NotJson"
+fault_text NoRequest = codes "J2 NoRequest"
+fault_text BadProtocol = codes "J3 BadProtocol"
+fault_text (BadApp index) = codes "J4 BadApp " ++ decimal index
+fault_text TooManyApps = codes "J5 TooManyApps"

@@ -1,0 +1,55 @@
+//! Whole texts with their records, which hold of the definitions alone.
+//!
+//! Each function does nothing when it runs: its contract is the law.
+
+ghost use Rattle.std.specs.Prelude.{codes};
+ghost use Rattle.omaha_json.specs.RequestExamples.{UpdateRequestReads, FullRequestReads, EmptyRequestReads, IsRefused};
+ghost use Rattle.omaha_json.specs.ReplyExamples.{EmptyReplyWrites, EmptyReplyLength, FullReplyWrites, DiffReplyWrites, AcknowledgingReplyWrites};
+
+use crate::fault::RequestFault;
+
+/// Shows the record of a request that wishes for an update.
+pub fn update_request_reads()
+    ensures { UpdateRequestReads }
+{}
+
+/// Shows the record of a request that says all that is read.
+pub fn full_request_reads()
+    ensures { FullRequestReads }
+{}
+
+/// Shows the record of a request that asks for no app.
+pub fn empty_request_reads()
+    ensures { EmptyRequestReads }
+{}
+
+/// Shows a text of each fault but the fifth, which takes 257 apps.
+pub fn faulty_texts_are_refused()
+    ensures not_json { IsRefused (codes "{") RequestFault.NotJson }
+    ensures no_request { IsRefused (codes "[]") RequestFault.NoRequest }
+    ensures bad_protocol { IsRefused (codes "{\"request\":{\"protocol\":\"3.0\"}}")
+        RequestFault.BadProtocol }
+    ensures bad_app { IsRefused (codes "{\"request\":{\"app\":[1],\"protocol\":\"3.1\"}}")
+        (RequestFault.BadApp 0) }
+{}
+
+/// Shows the text of a reply to a request that asks for no app.
+pub fn empty_reply_writes()
+    ensures text { EmptyReplyWrites }
+    ensures length { EmptyReplyLength }
+{}
+
+/// Shows the text of a reply that offers a full package.
+pub fn full_reply_writes()
+    ensures { FullReplyWrites }
+{}
+
+/// Shows the text of a reply that offers a differential beside the full package.
+pub fn diff_reply_writes()
+    ensures { DiffReplyWrites }
+{}
+
+/// Shows the text of a reply to a ping, an unknown app and two events.
+pub fn acknowledging_reply_writes()
+    ensures { AcknowledgingReplyWrites }
+{}

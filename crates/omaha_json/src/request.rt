@@ -1,0 +1,42 @@
+use values::{Items, Text};
+
+/// What one request of the Omaha protocol 3.1, JSON form, asks.
+#[derive(Clone, Debug, Drop)]
+pub struct Request {
+    /// The member `sessionid`, empty where it is missing.
+    pub session: Text,
+    /// The elements of `app` in order, at most 256, repeated ones too.
+    pub apps: Items<AppAsk>,
+}
+
+/// What a request asks for one app.
+#[derive(Clone, Debug, Drop)]
+pub struct AppAsk {
+    /// The identifier as the client spells it, 1 to 256 bytes.
+    pub appid: Text,
+    /// The installed version as the client spells it, empty where it is missing.
+    pub version: Text,
+    /// The fingerprint of the first installed package, empty where it is missing.
+    pub fp: Text,
+    /// The member `cohort`, empty where it is missing.
+    pub cohort: Text,
+    /// The member `cohorthint`, empty where it is missing.
+    pub hint: Text,
+    /// The member `updatecheck`, where there is one.
+    pub check: Option<Check>,
+    /// Whether there is a member `ping`.
+    pub ping: bool,
+    /// How many events the member `event` lists.
+    pub events: usize,
+}
+
+/// What a client says with its wish for an update.
+#[derive(Clone, Debug, Drop)]
+pub struct Check {
+    /// Whether updates are switched off, the member `updatedisabled`.
+    pub disabled: bool,
+    /// Whether a lower version may be offered, the member `rollback_allowed`.
+    pub rollback: bool,
+    /// The member `targetversionprefix`, empty where it is missing.
+    pub prefix: Text,
+}

@@ -1,0 +1,255 @@
+use omaha_json::{AppAsk, Request, read_request};
+use std::alloc::{AllocError, Global};
+use std::test::Fail;
+use values::ReadError;
+
+// What a body is read as: its session and asks, or its fault as it is printed.
+fn told(alloc: Global, body: &[u8]) -> Result<String, AllocError> {
+    match read_request(alloc, body) {
+        Ok(request) => shown(alloc, &request),
+        Err(ReadError::Fault(fault)) => format!(in alloc; "{fault}"),
+        Err(ReadError::Memory) => Err(AllocError),
+    }
+}
+
+fn shown(alloc: Global, request: &Request) -> Result<String, AllocError> {
+    let session = request.session.as_str();
+    let mut text = format!(in alloc; "s{session}")?;
+    for ask in request.apps.as_slice() {
+        push_ask(alloc, &mut text, ask)?;
+    }
+    Ok(text)
+}
+
+fn push_ask(alloc: Global, text: &mut String, ask: &AppAsk) -> Result<(), AllocError> {
+    let (version, fp) = (ask.version.as_str(), ask.fp.as_str());
+    let (cohort, hint) = (ask.cohort.as_str(), ask.hint.as_str());
+    text.push_str("; ")?;
+    text.push_str(ask.appid.as_str())?;
+    text.push_str(format!(in alloc; " v{version} f{fp} c{cohort} h{hint}")?.as_str())?;
+    if let Some(check) = &ask.check {
+        let (disabled, rollback) = (check.disabled, check.rollback);
+        let prefix = check.prefix.as_str();
+        text.push_str(format!(in alloc; " {disabled} {rollback} p{prefix}")?.as_str())?;
+    }
+    let (ping, events) = (ask.ping, ask.events);
+    text.push_str(format!(in alloc; " {ping} {events}")?.as_str())
+}
+
+// The first row `WANT | MIDDLE` whose body, the middle between front and back, is read otherwise.
+fn first_wrong(alloc: Global, rows: &str, front: &str, back: &str) -> Result<String, AllocError> {
+    for row in rows.lines() {
+        let Some((want, middle)) = row.split_once(" | ") else {
+            return format!(in alloc; "no row: {row}");
+        };
+        let body = format!(in alloc; "{front}{middle}{back}")?;
+        let got = told(alloc, body.as_str().as_bytes())?;
+        if got.as_str() != want {
+            return format!(in alloc; "{got} in place of {row}");
+        }
+    }
+    Ok(String::new(alloc))
+}
+
+const FAULTS: &str = r#"J1 NotJson | {
+J1 NotJson | {"request":{"protocol":"3.1"}} x
+J1 NotJson | {"request":{"protocol":"3.1","x":"\ud800"}}
+J1 NotJson | {"request":{"protocol":"3.1","x":1e999}}
+s |  { "request" : { "protocol" : "3.1" } }
+J2 NoRequest | []
+J2 NoRequest | {}
+J2 NoRequest | {"request":[]}
+J2 NoRequest | {"request":"3.1"}
+J3 BadProtocol | {"request":{}}
+J3 BadProtocol | {"request":{"app":1}}
+J3 BadProtocol | {"request":{"protocol":3.1}}
+J3 BadProtocol | {"request":{"protocol":"4.0"}}
+J3 BadProtocol | {"request":{"protocol":"3.1","protocol":"3.0"}}
+s | {"request":{"protocol":"3.0","protocol":"3.1"}}
+s | {"request":{"protocol":"3.1"}}
+s | {"request":{"protocol":"3.1","app":[]}}
+J4 BadApp 0 | {"request":{"protocol":"3.1","app":null}}
+J4 BadApp 0 | {"request":{"protocol":"3.1","app":{}}}
+J4 BadApp 0 | {"request":{"protocol":"3.1","app":[1]}}
+J4 BadApp 0 | {"request":{"protocol":"3.1","app":[[]]}}
+J4 BadApp 0 | {"request":{"protocol":"3.1","app":[{}]}}
+J4 BadApp 0 | {"request":{"protocol":"3.1","app":[{"appid":0}]}}
+J4 BadApp 0 | {"request":{"protocol":"3.1","app":[{"appid":""}]}}
+J4 BadApp 1 | {"request":{"protocol":"3.1","app":[{"appid":"a"},7]}}
+s | {"request":{"protocol":"3.1","app":[1],"app":[]}}
+J4 BadApp 0 | {"request":{"protocol":"3.1","app":[],"app":[1]}}"#;
+
+#[test]
+fn tells_the_first_fault_of_a_body(rt: HostRuntime) -> Result<(), Fail> {
+    let wrong = first_wrong(rt.alloc(), FAULTS, "", "")?;
+    assert!(rt; wrong.is_empty(), "{wrong}");
+    Ok(())
+}
+
+#[test]
+fn refuses_bytes_that_are_no_text(rt: HostRuntime) -> Result<(), Fail> {
+    let empty = told(rt.alloc(), b"")?;
+    assert!(rt; empty.as_str() == "J1 NotJson");
+    let no_utf8 = told(
+        rt.alloc(),
+        b"{\"request\":{\"protocol\":\"3.1\"},\"\xff\":0}",
+    )?;
+    assert!(rt; no_utf8.as_str() == "J1 NotJson");
+    let marked = told(
+        rt.alloc(),
+        b"\xef\xbb\xbf{\"request\":{\"protocol\":\"3.1\"}}",
+    )?;
+    assert!(rt; marked.as_str() == "J1 NotJson");
+    Ok(())
+}
+
+const FRONT: &str = r#"{"request":{"sessionid":"x","protocol":"3.1","app":["#;
+
+const BACK: &str = "]}}";
+
+// Of another type, a member counts as missing; of two of one name the last counts.
+const ASKS: &str = r#"sx; a v f c h false 0 | {"appid":"a"}
+sx; a v1.0 f cs:1 hb false 0 | {"appid":"a","version":"1.0","cohort":"s:1","cohorthint":"b"}
+sx; a v f c h false 0 | {"appid":"a","version":1,"cohort":[],"cohorthint":null}
+sx; a v f c h false 0 | {"appid":"a","packages":[]}
+sx; a v f c h false 0 | {"appid":"a","packages":{"package":{}}}
+sx; a v f c h false 0 | {"appid":"a","packages":{"package":[]}}
+sx; a v f c h false 0 | {"appid":"a","packages":{"package":[1,{"fp":"x"}]}}
+sx; a v f c h false 0 | {"appid":"a","packages":{"package":[{"fp":2}]}}
+sx; a v fx c h false 0 | {"appid":"a","packages":{"package":[{"fp":"x"},{"fp":"y"}]}}
+sx; a v f c h false 0 | {"appid":"a","updatecheck":true}
+sx; a v f c h false false p false 0 | {"appid":"a","updatecheck":{}}
+sx; a v f c h false false p false 0 | {"appid":"a","updatecheck":{"updatedisabled":"true"}}
+sx; a v f c h false false p false 0 | {"appid":"a","updatecheck":{"rollback_allowed":1}}
+sx; a v f c h true false p false 0 | {"appid":"a","updatecheck":{"updatedisabled":true}}
+sx; a v f c h false true p false 0 | {"appid":"a","updatecheck":{"rollback_allowed":true}}
+sx; a v f c h false false p4. false 0 | {"appid":"a","updatecheck":{"targetversionprefix":"4."}}
+sx; a v f c h false false p false 0 | {"appid":"a","updatecheck":{"targetversionprefix":4}}
+sx; a v f c h false 0 | {"appid":"a","ping":[]}
+sx; a v f c h true 0 | {"appid":"a","ping":{}}
+sx; a v f c h false 0 | {"appid":"a","event":{"0":1}}
+sx; a v f c h false 3 | {"appid":"a","event":[1,null,{}]}
+sx; b v2 f c h false 0 | {"appid":"a","version":"1","version":"2","appid":"b"}
+sx; a v f c h false 0 | {"appid":"a","version":"1","version":2}
+sx; a"\ v f cé h false 0 | {"appid":"\u0061\"\\","cohort":"\u00e9"}
+sx; A v f c h true 0; a v f c h false 1 | {"appid":"A","ping":{}},{"appid":"a","event":[{}]}"#;
+
+#[test]
+fn reads_what_is_asked_for_an_app(rt: HostRuntime) -> Result<(), Fail> {
+    let wrong = first_wrong(rt.alloc(), ASKS, FRONT, BACK)?;
+    assert!(rt; wrong.is_empty(), "{wrong}");
+    Ok(())
+}
+
+// A browser's request, most of whose members are not read.
+const BROWSER: &str = r#"{"request":{
+    "@os":"win", "@updater":"browser", "acceptformat":"crx3,puff", "arch":"x64", "dedup":"cr",
+    "hw":{"avx":true,"physmemory":16}, "ismachine":false, "nextversion":"3.0",
+    "os":{"arch":"x86_64","platform":"Windows","version":"10.0"}, "prodversion":"120.0",
+    "protocol":"3.1", "requestid":"{1}", "sessionid":"{5f}", "updaterversion":"120.0",
+    "app":[{"ap":"beta", "appid":"mhjfbmdg", "brand":"GGLS", "cohort":"stable:7", "enabled":true,
+        "event":[{"eventresult":1,"eventtype":3,"nextversion":"1.2.3"}],
+        "installsource":"ondemand", "packages":{"package":[{"fp":"1.ab","required":true}]},
+        "ping":{"ping_freshness":"{7}","r":-2}, "updatecheck":{"sameversionupdate":true},
+        "version":"1.2.3"}]}}"#;
+
+// The same request, with other values of the members that are not read.
+const ODD_BROWSER: &str = r#"{"request":{
+    "@os":1, "@updater":null, "acceptformat":[], "arch":1.5e-3, "dedup":{},
+    "hw":[[]], "ismachine":"no", "nextversion":4,
+    "os":18446744073709551616, "prodversion":-0,
+    "protocol":"3.1", "requestid":true, "sessionid":"{5f}", "updaterversion":null,
+    "app":[{"ap":[null], "appid":"mhjfbmdg", "brand":{}, "cohort":"stable:7", "enabled":0,
+        "event":[[]],
+        "installsource":1, "packages":{"package":[{"fp":"1.ab","required":{"fp":"z"}}],"fp":"z"},
+        "ping":{"r":{}}, "updatecheck":{"sameversionupdate":"x"},
+        "version":"1.2.3", "package":[{"fp":"z"}], "updatedisabled":true, "AppId":7, "":{}}]},
+    "app":1, "protocol":"3.0", "Request":7}"#;
+
+#[test]
+fn ignores_the_members_that_are_not_read(rt: HostRuntime) -> Result<(), Fail> {
+    let want = "s{5f}; mhjfbmdg v1.2.3 f1.ab cstable:7 h false false p true 1";
+    let got = told(rt.alloc(), BROWSER.as_bytes())?;
+    assert!(rt; got.as_str() == want, "{got}");
+    let got = told(rt.alloc(), ODD_BROWSER.as_bytes())?;
+    assert!(rt; got.as_str() == want, "{got}");
+    Ok(())
+}
+
+// A text, so many times another, and a third.
+fn repeated(
+    alloc: Global,
+    front: &str,
+    text: &str,
+    count: usize,
+    back: &str,
+) -> Result<String, AllocError> {
+    let mut whole = String::from_str(alloc, front)?;
+    for _ in 0..count {
+        whole.push_str(text)?;
+    }
+    whole.push_str(back)?;
+    Ok(whole)
+}
+
+// Whether what a body is read as begins so.
+fn begins(alloc: Global, body: &str, want: &str) -> Result<bool, AllocError> {
+    Ok(told(alloc, body.as_bytes())?.as_str().starts_with(want))
+}
+
+#[test]
+fn takes_identifiers_of_1_to_256_bytes(rt: HostRuntime) -> Result<(), Fail> {
+    let rows = [
+        ("a", 0, "J4 BadApp 0"),
+        ("a", 1, "s; a v"),
+        ("a", 256, "s; aaaa"),
+        ("a", 257, "J4 BadApp 0"),
+        ("é", 128, "s; éé"),
+        ("é", 129, "J4 BadApp 0"),
+    ];
+    for (letter, count, want) in rows {
+        let front = r#"{"request":{"protocol":"3.1","app":[{"appid":""#;
+        let body = repeated(rt.alloc(), front, letter, count, r#""}]}}"#)?;
+        assert!(rt;
+            begins(rt.alloc(), body.as_str(), want)?,
+            "{count} times {letter}"
+        );
+    }
+    Ok(())
+}
+
+#[test]
+fn counts_apps_after_reading_each(rt: HostRuntime) -> Result<(), Fail> {
+    let rows = [
+        (255, r#"{"appid":"b"}]}}"#, "s; a v"),
+        (256, r#"{"appid":"b"}]}}"#, "J5 TooManyApps"),
+        (256, "{}]}}", "J4 BadApp 256"),
+        (300, "null]}}", "J4 BadApp 300"),
+    ];
+    for (count, last, want) in rows {
+        let front = r#"{"request":{"protocol":"3.1","app":["#;
+        let body = repeated(rt.alloc(), front, r#"{"appid":"a"},"#, count, last)?;
+        assert!(rt;
+            begins(rt.alloc(), body.as_str(), want)?,
+            "{count} apps and {last}"
+        );
+    }
+    Ok(())
+}
+
+#[test]
+fn nests_at_most_127_levels(rt: HostRuntime) -> Result<(), Fail> {
+    // The lists of a member that is not read lie within two objects.
+    for (count, want) in [
+        (100, "s"),
+        (125, "s"),
+        (126, "J1 NotJson"),
+        (200, "J1 NotJson"),
+    ] {
+        let front = r#"{"request":{"protocol":"3.1","x":"#;
+        let open = repeated(rt.alloc(), front, "[", count, "")?;
+        let body = repeated(rt.alloc(), open.as_str(), "]", count, "}}")?;
+        assert!(rt; begins(rt.alloc(), body.as_str(), want)?, "{count} lists");
+    }
+    Ok(())
+}

@@ -1,0 +1,5 @@
+pub mod OrderLemmas
+mod SpellingLemmas
+mod PrintingLemmas
+mod ReadingBackLemmas
+mod ReadingLemmas

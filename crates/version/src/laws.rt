@@ -1,0 +1,20 @@
+//! What holds of all versions and texts, each law as the contract of a function.
+
+ghost use Rattle.version.specs.Laws.{BelowIsIrreflexive, BelowIsTotal, BelowIsTransitive, LenientAgrees, PrintReadsBack};
+
+/// States that `is_below` orders versions: strictly, and any two that differ.
+pub fn order()
+    ensures irreflexive { BelowIsIrreflexive }
+    ensures transitive { BelowIsTransitive }
+    ensures total { BelowIsTotal }
+{}
+
+/// States that a client's text which a publisher might write counts as the same version.
+pub fn spellings()
+    ensures { LenientAgrees }
+{}
+
+/// States that what a version prints counts as the same version when a client sends it.
+pub fn printing()
+    ensures { PrintReadsBack }
+{}
