@@ -1,3 +1,9 @@
+pub mod Chains
 pub mod Editions
 pub mod FaultTexts
+pub mod Moments
+pub mod Places
+pub mod Plans
 pub mod Refusals
+pub mod Replies
+pub mod Tracks

@@ -1,7 +1,7 @@
-ghost use Rattle.std.specs.Prelude.{◌≡◌, [], ◌∷◌, ◌++◌, length, map, IfOk, Ok};
+ghost use Rattle.std.specs.Prelude.{◌≡◌, ◌≤◌, [], ◌∷◌, ◌++◌, length, map, IfOk};
 ghost use Rattle.std.specs.Arc.{arc_value};
 ghost use Rattle.catalogue.specs.Histories.{LeadsTo};
-ghost use Rattle.editions.specs.Editions.{Continues};
+ghost use Rattle.editions.specs.Editions.{Continues, most_batches};
 
 use crate::fault::NextError;
 use catalogue::{Batch, Catalogue};
@@ -41,7 +41,8 @@ fn followed(
     batches: &[Arc<Batch>],
     batch: Batch,
 ) -> Result<Vec<Arc<Batch>>, AllocError>
-    ensures { IfOk result (λ next. map arc_value next.items ≡ map arc_value batches.now ++ batch ∷ []) }
+    ensures { IfOk result (λ next.
+        map arc_value next.items ≡ map arc_value batches.now ++ batch ∷ []) }
 {
     let mut next = Vec::new(alloc);
     for earlier in batches {
@@ -65,7 +66,8 @@ impl Edition {
 
     /// Counts the batches, at most 4096.
     pub fn number(&self) -> u64
-        ensures { result ≡ length self.now }
+        ensures count { result ≡ length self.now }
+        ensures few { length self.now ≤ most_batches }
     {
         self.batches.len() as u64
     }

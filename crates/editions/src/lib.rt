@@ -1,14 +1,29 @@
-//! Editions: a history of accepted batches with the catalogue that it leads to.
+//! Editions: histories of accepted batches with their catalogues, and what requests are answered.
 //!
 //! An `Edition` is seen as its history, the list of its batches; `Edition::next` gives the edition
-//! with one more batch, or says why there is none. Read `specs/Editions.antt` for when it does.
+//! with one more batch, or says why there is none. `plan` chooses a payload for each app of a
+//! request, and `render` writes the reply by the plan and what the mirrors granted. Read
+//! `specs/Editions.antt` for editions, `specs/Places.antt` and `specs/Chains.antt` for what may be
+//! offered, `specs/Plans.antt` for what is chosen and `specs/Replies.antt` for the reply.
 //!
-//! It does not publish: which edition clients are answered from is a crate's above.
+//! It does not publish editions, and grants no bytes: crates above do. A reply's text is that of
+//! `omaha_json`.
 
 #![tactic(auto)]
 
+mod choices;
 mod edition;
 mod fault;
+mod moment;
+mod payload;
+mod place;
+mod planning;
+mod rendering;
+mod track;
 
+pub use crate::choices::Plan;
 pub use crate::edition::Edition;
 pub use crate::fault::NextError;
+pub use crate::payload::{Choice, Payload};
+pub use crate::planning::plan;
+pub use crate::rendering::render;

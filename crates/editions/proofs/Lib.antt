@@ -1,0 +1,5 @@
+mod ChainLemmas
+mod FindingLemmas
+mod PlanLemmas
+mod ReplyLemmas
+mod ZipLemmas

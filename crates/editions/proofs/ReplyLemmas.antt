@@ -1,0 +1,35 @@
+-- Every reply has a text.
+use Rattle.std.proofs.Common.{List, map, Option, None, Some, All, ℕ, get_or}
+use Rattle.std.proofs.lemmas.List.Elements.{All-map}
+use Rattle.catalogue.specs.Lookups.{app_of}
+use Rattle.catalogue.specs.declared.content.App.{App}
+use Rattle.catalogue.specs.declared.content.Mirror.{Mirror}
+use Rattle.catalogue.specs.declared.content.Release.{Release}
+use Rattle.omaha_json.specs.ReplyWriting.{IsCheckWritable, IsStateWritable}
+use Rattle.omaha_json.specs.declared.reply.AppReply.{AppReply}
+use Rattle.omaha_json.specs.declared.request.AppAsk.{AppAsk}
+use Rattle.omaha_json.specs.declared.request.Check.{Check}
+use Rattle.std.specs.Option.{option_map}
+use Rattle.editions.specs.Replies.{app_reply, check_reply, Decision, state_of, update_reply}
+
+IsCheckWritable-check_reply : (mirrors : List Mirror) (release : Option Release) (outcome : Option ℕ) → IsCheckWritable (Some (check_reply mirrors release outcome))
+IsCheckWritable-check_reply mirrors None outcome = tt
+IsCheckWritable-check_reply mirrors (Some release) None = tt
+IsCheckWritable-check_reply mirrors (Some release) (Some mirror) = tt
+
+check_written : (mirrors : List Mirror) (app : App) (decision : Decision) (check : Option Check) → IsCheckWritable (option_map (λ _. update_reply mirrors app decision) check)
+check_written mirrors app decision None = tt
+check_written mirrors app decision (Some check) = IsCheckWritable-check_reply mirrors _ decision.1
+
+IsStateWritable-state_of : (mirrors : List Mirror) (app : Option App) (ask : AppAsk) (decision : Decision) → IsStateWritable (state_of mirrors app ask decision)
+IsStateWritable-state_of mirrors None ask decision = tt
+IsStateWritable-state_of mirrors (Some app) ask decision = check_written mirrors app decision ask.check
+
+IsStateWritable-one : (apps : List App) (mirrors : List Mirror) (asked : AppAsk × Decision) → IsStateWritable (app_reply apps mirrors asked).state
+IsStateWritable-one apps mirrors asked =
+    IsStateWritable-state_of mirrors (app_of apps asked.0.appid) asked.0 asked.1
+
+-- each answer for an app has a text
+pub IsStateWritable-app_reply : (apps : List App) (mirrors : List Mirror) (asked : List (AppAsk × Decision)) → All (λ (reply : AppReply). IsStateWritable reply.state) (map (app_reply apps mirrors) asked)
+IsStateWritable-app_reply apps mirrors asked =
+    All-map (λ (reply : AppReply). IsStateWritable reply.state) (app_reply apps mirrors) asked (λ index one within. IsStateWritable-one apps mirrors (get_or asked index one))

@@ -1,0 +1,111 @@
+-- What a request is answered, as a function of the catalogue's content, the payloads that were
+-- chosen, the mirrors that granted them, and the moment: the Omaha protocol 3.1, this project's
+-- profile.
+use Rattle.std.specs.Prelude.{ℕ, ◌<◌, ⊤, List, [], map, IsSome, length, Option, Some, None, option_and_then, option_map, slice_get}
+use Rattle.std.specs.List.{AllZip, zip}
+use Rattle.std.specs.Option.{option_map_or}
+use Rattle.catalogue.specs.Lookups.{app_of}
+use Rattle.catalogue.specs.declared.content.App.{App}
+use Rattle.catalogue.specs.declared.content.Mirror.{Mirror}
+use Rattle.catalogue.specs.declared.content.Release.{Release}
+use Rattle.omaha_json.specs.declared.reply.AppReply.{AppReply}
+use Rattle.omaha_json.specs.declared.reply.AppState.{AppState}
+use Rattle.omaha_json.specs.declared.reply.AppState.TheVariants as state
+use Rattle.omaha_json.specs.declared.reply.CheckReply.{CheckReply}
+use Rattle.omaha_json.specs.declared.reply.CheckReply.TheVariants as check
+use Rattle.omaha_json.specs.declared.reply.KnownApp.{KnownApp}
+use Rattle.omaha_json.specs.declared.reply.Offer.{Offer}
+use Rattle.omaha_json.specs.declared.reply.Part.{Part}
+use Rattle.omaha_json.specs.declared.reply.Reply.{Reply}
+use Rattle.omaha_json.specs.declared.request.AppAsk.{AppAsk}
+use Rattle.omaha_json.specs.declared.request.Request.{Request}
+use Rattle.editions.specs.Chains.{release_by}
+use Rattle.editions.specs.Moments.{elapsed_days, elapsed_seconds}
+use Rattle.editions.specs.Places.{fingerprint_of}
+use Rattle.editions.specs.Tracks.{cohort_text, track_of}
+use Rattle.editions.specs.declared.payload.Choice.{Choice}
+use Rattle.editions.specs.declared.payload.Payload.{Payload}
+
+-- the codebase of the mirror at an index
+abbrev pub codebase_at : List Mirror → ℕ → List ℕ
+codebase_at mirrors index = option_map_or (λ mirror. mirror.codebase) (slice_get mirrors index) []
+
+-- a release's full package at a codebase
+abbrev pub full_part : List ℕ → Release → Part
+full_part codebase release =
+    record { codebase = codebase; name = release.name; size = release.size; hash = release.hash }
+
+-- the offer of a release by its full package
+abbrev pub offer_of : List ℕ → Release → Offer
+offer_of codebase release =
+    record {
+      version = release.spelled;
+      fp = fingerprint_of release;
+      full = full_part codebase release;
+      diff = None;
+    }
+
+-- the answer to a wish for an update: nothing was chosen, no mirror granted it, or the offer
+abbrev pub check_reply : List Mirror → Option Release → Option ℕ → CheckReply
+check_reply mirrors None outcome = check.NoUpdate
+check_reply mirrors (Some release) None = check.Internal
+check_reply mirrors (Some release) (Some mirror) =
+    check.Offered (offer_of (codebase_at mirrors mirror) release)
+
+-- what was decided for one app: the payload that was chosen, if any, and the mirror that granted
+-- it, if any
+abbrev pub Decision : Type 0
+Decision = Option Payload × Option ℕ
+
+-- the answer to a wish for an update of a known app
+abbrev pub update_reply : List Mirror → App → Decision → CheckReply
+update_reply mirrors app decision =
+    check_reply mirrors (option_and_then (release_by app) decision.0) decision.1
+
+-- the answer for a known app, with the answer to its wish for an update, if any
+abbrev pub with_check : App → AppAsk → Option CheckReply → KnownApp
+with_check app ask check =
+    record {
+      cohort = cohort_text (track_of app);
+      name = (track_of app).cohort;
+      ping = ask.ping;
+      events = ask.events;
+      check = check;
+    }
+
+-- the answer for a known app; an update is answered where there is a wish for one
+abbrev pub known_app : List Mirror → App → AppAsk → Decision → KnownApp
+known_app mirrors app ask decision =
+    with_check app ask (option_map (λ _. update_reply mirrors app decision) ask.check)
+
+-- the state of an app: unknown, or known with its answer
+abbrev pub state_of : List Mirror → Option App → AppAsk → Decision → AppState
+state_of mirrors None ask decision = state.Unknown
+state_of mirrors (Some app) ask decision = state.Known (known_app mirrors app ask decision)
+
+-- the answer for one app, under the client's spelling of its identifier
+abbrev pub app_reply : List App → List Mirror → AppAsk × Decision → AppReply
+app_reply apps mirrors asked =
+    record {
+      appid = asked.0.appid;
+      state = state_of mirrors (app_of apps asked.0.appid) asked.0 asked.1;
+    }
+
+-- the answer to a request: one for each of its apps, in its order, repeated ones too
+abbrev pub reply_of : List App → Request → List (Option Payload) → List (Option ℕ)
+    → List Mirror → ℕ → Reply
+reply_of apps request payloads outcomes mirrors moment =
+    record {
+      days = elapsed_days moment;
+      seconds = elapsed_seconds moment;
+      apps = map (app_reply apps mirrors) (zip request.apps (zip payloads outcomes));
+    }
+
+-- an outcome of a wish: no mirror, or one of the mirrors, where there was a wish
+abbrev pub IsOutcome : List Mirror → Option Choice → Option ℕ → Type 0
+IsOutcome mirrors choice None = ⊤
+IsOutcome mirrors choice (Some mirror) = IsSome choice × (mirror < length mirrors)
+
+-- the outcomes of a plan: one for each of its apps
+abbrev pub AreOutcomes : List Mirror → List (Option Choice) → List (Option ℕ) → Type 0
+AreOutcomes mirrors plan outcomes = AllZip (IsOutcome mirrors) plan outcomes

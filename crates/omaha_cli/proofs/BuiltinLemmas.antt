@@ -1,0 +1,24 @@
+-- The built-in batch is accepted, so it is never refused.
+use Rattle.std.proofs.Common.{◌≡◌, List, [], Ok, Err, length, refl, ap, arith}
+use Rattle.version.specs.Versions.{components_of, lenient_version_of, version_of}
+use Rattle.catalogue.specs.Batches.{outcome}
+use Rattle.catalogue.specs.Forms.{hash_of}
+use Rattle.catalogue.specs.declared.edit.Edit.{Edit}
+use Rattle.catalogue.specs.declared.fault.Refused.{Refused}
+use Rattle.editions.specs.Editions.{Continues, outcome_after}
+use Rattle.editions.specs.declared.fault.NextError.{NextError}
+use Rattle.editions.specs.declared.fault.NextError.TheVariants as error
+use Rattle.hex.proofs.OnLiterals.{hex_on_literals}
+use Rattle.omaha_cli.specs.Builtin.{builtin_apps, builtin_batch}
+
+pub outcome-builtin_batch : outcome builtin_batch [] ≡ Ok builtin_apps
+unfolding version_of components_of lenient_version_of hash_of hex_on_literals
+outcome-builtin_batch = refl
+
+pub never_refused : (history : List (List Edit)) (batch : List Edit) (refused : Refused) → history ≡ [] → batch ≡ builtin_batch → Continues history batch (Err (error.Refused refused)) → ⊥
+never_refused history batch refused none same refuses =
+    let accepted : outcome_after [] builtin_batch ≡ Ok builtin_apps = outcome-builtin_batch in
+    cc
+
+pub never_full : (history : List (List Edit)) (batch : List Edit) → history ≡ [] → Continues history batch (Err error.HistoryFull) → ⊥
+never_full history batch none full = let count = ap length none in omega (arith, full.1)

@@ -1,0 +1,6 @@
+pub mod Answering
+pub mod Builtin
+pub mod Failures
+pub mod Intake
+pub mod Refusals
+pub mod Running
