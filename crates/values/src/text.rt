@@ -45,7 +45,8 @@ impl Text {
     pub fn into_string(self) -> String
         ensures { string_bytes result ≡ self }
     {
-        self.text
+        let Text { text } = self;
+        text
     }
 
     /// Tells a caller's proof that the text is UTF-8; it does nothing when it runs.
