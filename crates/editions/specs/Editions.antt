@@ -18,15 +18,6 @@ pub record IsSound (history : History) (apps : List App) : Type 0 where
   pub few : length history ≤ most_batches
   pub led : LeadsTo history apps
 
--- the content, none where a history was refused
-abbrev pub content_or_none : Result (List App) Refused → List App
-content_or_none (Ok apps) = apps
-content_or_none (Err refused) = []
-
--- the content of an edition's catalogue: what its history leads to
-abbrev pub content_of : History → List App
-content_of history = content_or_none (run history [])
-
 -- the content that a batch leads to after a history, or its first refused edit
 abbrev pub outcome_after : History → List Edit → Result (List App) Refused
 outcome_after history batch = then_run (outcome batch) (run history [])

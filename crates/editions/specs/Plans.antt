@@ -1,9 +1,12 @@
 -- What is chosen for each app of a request; this project's profile.
-use Rattle.std.specs.Prelude.{◌≡◌, ◌==◌, ◌&&◌, not, Bool, false, if◌then◌else◌, List, length, map, MatchOption, Option, Some, None, option_map}
+use Rattle.std.specs.Prelude.{◌≡◌, ◌==◌, ◌&&◌, not, Bool, false, if◌then◌else◌, List, [], length, map, MatchOption, Option, Some, None, option_map, Result, Ok, Err}
 use Rattle.std.specs.List.{AllZip}
 use Rattle.std.specs.Option.{option_map_or}
+use Rattle.catalogue.specs.Batches.{run}
+use Rattle.catalogue.specs.Histories.{History}
 use Rattle.catalogue.specs.Lookups.{app_of}
 use Rattle.catalogue.specs.declared.content.App.{App}
+use Rattle.catalogue.specs.declared.fault.Refused.{Refused}
 use Rattle.omaha_json.specs.declared.request.AppAsk.{AppAsk}
 use Rattle.omaha_json.specs.declared.request.Check.{Check}
 use Rattle.omaha_json.specs.declared.request.Request.{Request}
@@ -49,3 +52,12 @@ payload_in choice = option_map (λ chosen. chosen.payload) choice
 -- the payloads of a plan
 abbrev pub payloads_of : List (Option Choice) → List (Option Payload)
 payloads_of plan = map payload_in plan
+
+-- the content, where there is one
+abbrev pub content_or_none : Result (List App) Refused → List App
+content_or_none (Ok apps) = apps
+content_or_none (Err refused) = []
+
+-- the content that a history led to
+abbrev pub content_of : History → List App
+content_of history = content_or_none (run history [])

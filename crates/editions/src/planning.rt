@@ -1,7 +1,6 @@
 ghost use Rattle.std.specs.Prelude.{◌≡◌, ◌≤◌, length, IfOk};
-ghost use Rattle.editions.specs.Editions.{content_of};
 ghost use Rattle.editions.specs.Places.{IsWithin};
-ghost use Rattle.editions.specs.Plans.{is_open, wants_update, IsChosen, IsPlan, LeadsOn};
+ghost use Rattle.editions.specs.Plans.{content_of, is_open, wants_update, IsChosen, IsPlan, LeadsOn};
 
 use crate::choices::Plan;
 use crate::edition::Edition;

@@ -1,8 +1,7 @@
 ghost use Rattle.std.specs.Prelude.{◌≡◌, ◌≤◌, ◌++◌, ◌∷◌, decimal, length, map, Some, IfOk, IfSome, IsSome};
 ghost use Rattle.std.specs.List.{zip, AllZip};
 ghost use Rattle.omaha_json.specs.ReplyWriting.{reply_text};
-ghost use Rattle.editions.specs.Editions.{content_of};
-ghost use Rattle.editions.specs.Plans.{payloads_of, payload_in, IsChosen, IsPlan};
+ghost use Rattle.editions.specs.Plans.{content_of, payloads_of, payload_in, IsChosen, IsPlan};
 ghost use Rattle.editions.specs.Replies.{AreOutcomes, IsOutcome, app_reply, full_part, with_check, offer_of, reply_of, update_reply};
 ghost use Rattle.editions.specs.Chains.{release_by};
 ghost use Rattle.editions.specs.Places.{fingerprint_of};
