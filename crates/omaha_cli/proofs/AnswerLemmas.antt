@@ -1,5 +1,5 @@
 -- The built-in edition's content, what its one mirror grants, and the reply that follows.
-use Rattle.std.proofs.Common.{◌≡◌, ℕ, ◌<◌, List, [], ◌∷◌, map, Option, Some, None, refl, ap, ◌∙◌, subst, arith, rules}
+use Rattle.std.proofs.Common.{◌≡◌, ℕ, List, [], ◌∷◌, Option, Some, None, ap, ◌∙◌, subst, arith, rules}
 use Rattle.catalogue.specs.Batches.{run, then_run}
 use Rattle.catalogue.specs.Histories.{History}
 use Rattle.catalogue.specs.declared.content.App.{App}

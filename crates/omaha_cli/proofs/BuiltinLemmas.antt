@@ -6,7 +6,6 @@ use Rattle.catalogue.specs.Forms.{hash_of}
 use Rattle.catalogue.specs.declared.edit.Edit.{Edit}
 use Rattle.catalogue.specs.declared.fault.Refused.{Refused}
 use Rattle.editions.specs.Editions.{Continues, outcome_after}
-use Rattle.editions.specs.declared.fault.NextError.{NextError}
 use Rattle.editions.specs.declared.fault.NextError.TheVariants as error
 use Rattle.hex.proofs.OnLiterals.{hex_on_literals}
 use Rattle.omaha_cli.specs.Builtin.{builtin_apps, builtin_batch}

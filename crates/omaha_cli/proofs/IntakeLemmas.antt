@@ -1,5 +1,5 @@
 -- What was read of known bytes up to a limit that was not reached is all of them.
-use Rattle.std.proofs.Common.{◌≡◌, ℕ, ◌<◌, ◌≤◌, List, [], ◌++◌, length, take, Option, Some, None, ap, sym, ◌∙◌, arith}
+use Rattle.std.proofs.Common.{◌≡◌, ℕ, ◌<◌, ◌≤◌, List, [], ◌++◌, length, take, Option, Some, None, ap, ◌∙◌, arith}
 use Rattle.std.specs.Option.{IfSome, option_map}
 use Rattle.std.proofs.lemmas.List.{length-take, take_all}
 

@@ -1,5 +1,5 @@
 -- What the program does with what it reads; this project's profile.
-use Rattle.std.specs.Prelude.{◌≡◌, ℕ, ◌<◌, List, ◌∷◌, [], ◌++◌, codes, length, Option, Some, None, IfSome, Result, Ok, Err, String}
+use Rattle.std.specs.Prelude.{◌≡◌, ℕ, List, ◌∷◌, [], ◌++◌, codes, Option, IfSome, Result, Ok, Err}
 use Rattle.std.specs.Io.KnownBytes.{Appends}
 use Rattle.omaha_json.specs.RequestReading.{request_of_text}
 use Rattle.omaha_cli.specs.Answering.{Answers}
@@ -16,11 +16,12 @@ abbrev pub WritesReply : Option (List ℕ) → Option (List ℕ) → Option (Lis
 WritesReply input before after =
     IfSome input (λ bytes. (reply : List ℕ) × Answers bytes (Ok reply) × Appends before after reply)
 
--- what was answered to an input that a reader holds: its reply is written; or it has the fault; or
--- the reader, memory or the writer failed
+-- what was answered to an input that a reader holds: its reply is written; or it has the fault, or
+-- the reader or memory failed, and nothing is written; or the writer failed
 abbrev pub Responds : Option (List ℕ) → Option (List ℕ) → Option (List ℕ) → Result (Unit {0}) Failure → Type 0
 Responds input before after (Ok done) = WritesReply input before after
-Responds input before after (Err (failure.Request fault)) = IfSome input (λ bytes. request_of_text bytes ≡ Err fault)
-Responds input before after (Err failure.Read) = Unit {0}
-Responds input before after (Err failure.Memory) = Unit {0}
+Responds input before after (Err (failure.Request fault)) =
+    IfSome input (λ bytes. request_of_text bytes ≡ Err fault) × (after ≡ before)
+Responds input before after (Err failure.Read) = after ≡ before
+Responds input before after (Err failure.Memory) = after ≡ before
 Responds input before after (Err failure.Write) = Unit {0}

@@ -1,4 +1,4 @@
-use Rattle.std.proofs.Common.{arith, ap}
+use Rattle.std.proofs.Common.{arith}
 use Rattle.omaha_cli.proofs.IntakeLemmas.{IfSome-take}
 use Rattle.omaha_cli.proofs.intake.read_input.Goals as goal
 
