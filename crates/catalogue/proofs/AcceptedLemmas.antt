@@ -1,17 +1,20 @@
 -- What is known of an edit that has no fault.
-use Rattle.std.proofs.Common.{◌≡◌, ℕ, ◌<◌, Bool, true, false, not, List, [], ◌∷◌, length, Option, Some, None, refl, option_map}
+use Rattle.std.proofs.Common.{◌≡◌, ℕ, ◌<◌, Bool, true, false, not, nat_le, List, [], ◌∷◌, length, Option, Some, None, refl, option_map}
 use Rattle.std.specs.List.{list_any}
 use Rattle.std.specs.Option.{is_some, is_none}
 use Rattle.std.proofs.lemmas.Bool.{leb-false, or_parts}
 use Rattle.version.specs.Versions.{version_of, lenient_version_of}
-use Rattle.catalogue.specs.Faults.{first_fault, has_release, is_unreleased, most_apps, most_releases, tests_of_add_app, tests_of_add_release, tests_of_set_target}
+use Rattle.catalogue.specs.Faults.{first_fault, has_cohort, has_release, is_unreleased, most_apps, most_cohorts, most_releases, most_share, tests_of_add_app, tests_of_add_cohort, tests_of_add_release, tests_of_set_open, tests_of_set_share, tests_of_set_target}
 use Rattle.catalogue.specs.Forms.{hash_named, hash_of, is_app_id, is_cohort_name, is_package_name, is_size}
-use Rattle.catalogue.specs.Lookups.{app_of, declared_of, has_hash, is_cohort}
+use Rattle.catalogue.specs.Lookups.{app_of, cohorts_of, declared_of, has_hash}
 use Rattle.catalogue.specs.Validity.{is_released}
 use Rattle.catalogue.specs.declared.content.App.{App}
 use Rattle.catalogue.specs.declared.content.Release.{Release}
 use Rattle.catalogue.specs.declared.edit.AddApp.{AddApp}
+use Rattle.catalogue.specs.declared.edit.AddCohort.{AddCohort}
 use Rattle.catalogue.specs.declared.edit.AddRelease.{AddRelease}
+use Rattle.catalogue.specs.declared.edit.SetOpen.{SetOpen}
+use Rattle.catalogue.specs.declared.edit.SetShare.{SetShare}
 use Rattle.catalogue.specs.declared.edit.SetTarget.{SetTarget}
 use Rattle.catalogue.specs.declared.fault.Fault.{Fault}
 
@@ -94,13 +97,44 @@ TakesApp-from_no_fault apps e h =
       room = leb-false most_apps (length apps) tests.1.1.1.0;
     }
 
--- accepted targets: the app and the cohort are there, and the targets are released
-pub record TakesTargets (apps : List App) (e : SetTarget) : Type 0 where
+-- the cohort that an edit names is there, in its app
+pub record NamesCohort (apps : List App) (id name : List ℕ) : Type 0 where
+  pub app : App
+  pub found : app_of apps id ≡ Some app
+  pub there : has_cohort app.cohorts name ≡ true
+
+NamesCohort-from_tests : (apps : List App) (id name : List ℕ) → is_none (app_of apps id) ≡ false → not (has_cohort (cohorts_of apps id) name) ≡ false → NamesCohort apps id name
+NamesCohort-from_tests apps id name known there =
+    let some = Some-from_not_none (app_of apps id) known in
+    let found = some.1 in
+    record { app = some.0; found = found; there = true-from_not _ (rw found at there) }
+
+-- an accepted cohort: its app is there, its name is good, it is new, there is room
+pub record TakesCohort (apps : List App) (e : AddCohort) : Type 0 where
   pub app : App
   pub found : app_of apps e.app ≡ Some app
-  pub cohort_there : list_any (is_cohort e.cohort) app.cohorts ≡ true
-  pub target_released : is_released app.releases (option_map lenient_version_of e.target) ≡ true
-  pub held_released : is_released app.releases (option_map lenient_version_of e.held) ≡ true
+  pub named : is_cohort_name e.cohort ≡ true
+  pub new_name : has_cohort app.cohorts e.cohort ≡ false
+  pub room : length app.cohorts < most_cohorts
+
+pub TakesCohort-from_no_fault : (apps : List App) (e : AddCohort) → first_fault (tests_of_add_cohort apps e) ≡ None → TakesCohort apps e
+TakesCohort-from_no_fault apps e h =
+    let tests = NoneHold-first_fault (tests_of_add_cohort apps e) h in
+    let some = Some-from_not_none (app_of apps e.app) tests.0 in
+    let found = some.1 in
+    record {
+      app = some.0;
+      found = found;
+      named = true-from_not _ tests.1.0;
+      new_name = rw found at tests.1.1.0;
+      room = leb-false most_cohorts (length some.0.cohorts) (rw found at tests.1.1.1.0);
+    }
+
+-- accepted targets: the app and the cohort are there, and the targets are released
+pub record TakesTargets (apps : List App) (e : SetTarget) : Type 0 where
+  pub names : NamesCohort apps e.app e.cohort
+  pub target_released : is_released names.app.releases (option_map lenient_version_of e.target) ≡ true
+  pub held_released : is_released names.app.releases (option_map lenient_version_of e.held) ≡ true
 
 is_released-from_not_unreleased : (releases : List Release) (text : Option (List ℕ)) → is_unreleased releases text ≡ false → is_released releases (option_map lenient_version_of text) ≡ true
 is_released-from_not_unreleased releases None h = refl
@@ -109,13 +143,30 @@ is_released-from_not_unreleased releases (Some text) h = true-from_not _ h
 pub TakesTargets-from_no_fault : (apps : List App) (e : SetTarget) → first_fault (tests_of_set_target apps e) ≡ None → TakesTargets apps e
 TakesTargets-from_no_fault apps e h =
     let tests = NoneHold-first_fault (tests_of_set_target apps e) h in
-    let some = Some-from_not_none (app_of apps e.app) tests.0 in
-    let found = some.1 in
-    let released = or_parts (is_unreleased some.0.releases e.target) (is_unreleased some.0.releases e.held) (rw found at tests.1.1.1.0) in
+    let names = NamesCohort-from_tests apps e.app e.cohort tests.0 tests.1.0 in
+    let found = names.found in
+    let released = or_parts (is_unreleased names.app.releases e.target) (is_unreleased names.app.releases e.held) (rw found at tests.1.1.1.0) in
     record {
-      app = some.0;
-      found = found;
-      cohort_there = true-from_not _ (rw found at tests.1.0);
-      target_released = is_released-from_not_unreleased some.0.releases e.target released.0;
-      held_released = is_released-from_not_unreleased some.0.releases e.held released.1;
+      names = names;
+      target_released = is_released-from_not_unreleased names.app.releases e.target released.0;
+      held_released = is_released-from_not_unreleased names.app.releases e.held released.1;
     }
+
+-- an accepted share: the app and the cohort are there, and it is at most all clients
+pub record TakesShare (apps : List App) (e : SetShare) : Type 0 where
+  pub names : NamesCohort apps e.app e.cohort
+  pub within : nat_le e.share most_share ≡ true
+
+pub TakesShare-from_no_fault : (apps : List App) (e : SetShare) → first_fault (tests_of_set_share apps e) ≡ None → TakesShare apps e
+TakesShare-from_no_fault apps e h =
+    let tests = NoneHold-first_fault (tests_of_set_share apps e) h in
+    record {
+      names = NamesCohort-from_tests apps e.app e.cohort tests.0 tests.1.0;
+      within = true-from_not _ tests.1.1.0;
+    }
+
+-- an accepted open mark: the app and the cohort are there
+pub NamesCohort-from_no_fault : (apps : List App) (e : SetOpen) → first_fault (tests_of_set_open apps e) ≡ None → NamesCohort apps e.app e.cohort
+NamesCohort-from_no_fault apps e h =
+    let tests = NoneHold-first_fault (tests_of_set_open apps e) h in
+    NamesCohort-from_tests apps e.app e.cohort tests.0 tests.1.0

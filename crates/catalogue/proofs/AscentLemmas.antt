@@ -17,7 +17,7 @@ pub Inserts-placed : (release : Release) (releases : List Release) → Inserts r
 Inserts-placed release releases = Inserts-insert releases (place_of release.version releases) release
 
 -- a release goes behind those below it
-placed-cons : (release x : Release) (xs : List Release) → placed release (x ∷ xs) ≡ cond (is_below x.version release.version) (x ∷ placed release xs) (release ∷ x ∷ xs)
+pub placed-cons : (release x : Release) (xs : List Release) → placed release (x ∷ xs) ≡ cond (is_below x.version release.version) (x ∷ placed release xs) (release ∷ x ∷ xs)
 placed-cons release x xs = cases (is_below x.version release.version) refl
   where
     cases : (b : Bool) → is_below x.version release.version ≡ b → placed release (x ∷ xs) ≡ cond b (x ∷ placed release xs) (release ∷ x ∷ xs)

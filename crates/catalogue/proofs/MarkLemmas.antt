@@ -1,77 +1,164 @@
--- The targets of a cohort after an accepted edit.
-use Rattle.std.proofs.Common.{◌≡◌, ℕ, Bool, true, false, cond, ◌&&◌, List, [], ◌∷◌, find, Option, Some, None, refl, ap, sym, ◌∙◌}
-use Rattle.std.specs.Option.{option_map, option_map_or, unwrap_or}
+-- What is read of a cohort after an accepted edit: its targets, its share, its open mark.
+use Rattle.std.proofs.Common.{◌≡◌, ℕ, Bool, true, false, cond, ◌&&◌, List, [], ◌∷◌, ◌++◌, find, Option, Some, None, refl, ap, sym, ◌∙◌}
+use Rattle.std.specs.Option.{option_map, option_map_or, option_or, unwrap_or}
 use Rattle.std.specs.Str.{bytes_eq}
+use Rattle.std.proofs.lemmas.List.Folds.{find-append}
 use Rattle.std.proofs.lemmas.Slice.Eq.{bytes_eq-Decides}
 use Rattle.version.specs.Versions.{lenient_version_of}
 use Rattle.catalogue.proofs.AppLemmas.{read_app-change, read_app-kept, read_app-push_none, read_app-same_id, read_app-then}
 use Rattle.catalogue.proofs.LookupLemmas.{Some-from_list_any, find-change}
-use Rattle.catalogue.proofs.AcceptedLemmas.{TakesTargets, TakesTargets-from_no_fault}
-use Rattle.catalogue.specs.Changes.{after, change, new_app, new_cohort, new_release, with_release, with_targets, with_targets_in}
+use Rattle.catalogue.proofs.AcceptedLemmas.{NamesCohort, NamesCohort-from_no_fault, TakesShare-from_no_fault, TakesTargets-from_no_fault}
+use Rattle.catalogue.specs.Changes.{after, change, in_cohort, new_app, new_cohort, new_release, with_cohort, with_open, with_release, with_share, with_targets_of}
 use Rattle.catalogue.specs.Faults.{fault_of}
 use Rattle.catalogue.specs.Forms.{same_id}
-use Rattle.catalogue.specs.Histories.{Targets, sets_targets, targets_of}
-use Rattle.catalogue.specs.Lookups.{cohorts_of, is_cohort}
+use Rattle.catalogue.specs.Histories.{Targets, is_open, names_cohort, read_cohort, sets_open, sets_share, sets_targets, share_of, targets_of}
+use Rattle.catalogue.specs.Lookups.{cohorts_of, is_app, is_cohort}
 use Rattle.catalogue.specs.declared.content.App.{App}
 use Rattle.catalogue.specs.declared.content.Cohort.{Cohort}
+use Rattle.catalogue.specs.declared.edit.AddApp.{AddApp}
+use Rattle.catalogue.specs.declared.edit.AddCohort.{AddCohort}
+use Rattle.catalogue.specs.declared.edit.AddRelease.{AddRelease}
 use Rattle.catalogue.specs.declared.edit.Edit.{Edit}
 use Rattle.catalogue.specs.declared.edit.Edit.TheVariants as edit
-use Rattle.catalogue.specs.declared.edit.SetTarget.{SetTarget}
 
--- the targets of the found cohort, none where none is found
-abbrev targets_found : Option Cohort → Targets
-targets_found found = option_map_or (λ cohort. (cohort.target, cohort.held)) found (None, None)
+-- what is read of the found cohort, or the value where none is found
+abbrev read_found : {A : Type 0} → (Cohort → A) → A → Option Cohort → A
+read_found read none found = option_map_or read found none
 
--- the targets of the cohort of a name
-abbrev targets_in : List ℕ → List Cohort → Targets
-targets_in name cohorts = targets_found (find (is_cohort name) cohorts)
+-- what is read of the cohort of a name
+abbrev read_in : {A : Type 0} → (Cohort → A) → A → List ℕ → List Cohort → A
+read_in read none name cohorts = read_found read none (find (is_cohort name) cohorts)
 
--- the targets that the edit sets
-abbrev targets_set : SetTarget → Targets
-targets_set e = (option_map lenient_version_of e.target, option_map lenient_version_of e.held)
+-- a change of a cohort keeps its name
+abbrev KeepsName : (Cohort → Cohort) → Type 0
+KeepsName f = (cohort : Cohort) → (f cohort).name ≡ cohort.name
 
--- a new app's cohort has no targets
-targets_in-new_app : (name default : List ℕ) → targets_in name (new_cohort default ∷ []) ≡ (None, None)
-targets_in-new_app name default = cases (bytes_eq name default)
-  where
-    cases : (b : Bool) → targets_found (cond b (Some (new_cohort default)) None) ≡ (None, None)
-    cases true = refl
-    cases false = refl
+-- a mark that is `none` of every new cohort
+module _ {A : Type 0} (read : Cohort → A) (none : A) (first : (name : List ℕ) → read (new_cohort name) ≡ none) where
+  -- a new cohort has the first value, as one that is not there
+  read_in-push : (name new : List ℕ) (cohorts : List Cohort) → read_in read none name (cohorts ++ new_cohort new ∷ []) ≡ read_in read none name cohorts
+  read_in-push name new cohorts =
+      ap (read_found read none) (find-append (is_cohort name) cohorts (new_cohort new ∷ []))
+      ∙ cases (find (is_cohort name) cohorts) (bytes_eq name new)
+    where
+      cases : (o : Option Cohort) (b : Bool) → read_found read none (option_or o (cond b (Some (new_cohort new)) None)) ≡ read_found read none o
+      cases None true = first new
+      cases None false = refl
+      cases (Some cohort) b = refl
 
--- the named cohort, which is there, has the targets that are set, any other those that it had
-targets_in-change : (name : List ℕ) (e : SetTarget) (cohorts : List Cohort) (cohort : Cohort) → find (is_cohort e.cohort) cohorts ≡ Some cohort → targets_in name (change (is_cohort e.cohort) (with_targets e) cohorts) ≡ cond (bytes_eq name e.cohort) (targets_set e) (targets_in name cohorts)
-targets_in-change name e cohorts cohort found =
-    ap targets_found (find-change (λ (c : Cohort). c.name) (with_targets e) (λ c. refl) name e.cohort cohorts)
-    ∙ cases (bytes_eq name e.cohort) refl
-  where
-    cases : (b : Bool) → bytes_eq name e.cohort ≡ b → targets_found (cond b (option_map (with_targets e) (find (is_cohort name) cohorts)) (find (is_cohort name) cohorts)) ≡ cond b (targets_set e) (targets_in name cohorts)
-    cases true same =
-        let decides = bytes_eq-Decides name e.cohort in
-        ap (λ (n : List ℕ). targets_found (option_map (with_targets e) (find (is_cohort n) cohorts))) (decides.0 same)
-        ∙ ap (λ (o : Option Cohort). targets_found (option_map (with_targets e) o)) found
-    cases false other = refl
+  -- what a change of a cohort leaves is what was read
+  read_in-kept : (f : Cohort → Cohort) → KeepsName f → ((cohort : Cohort) → read (f cohort) ≡ read cohort) → (name changed : List ℕ) (cohorts : List Cohort) → read_in read none name (change (is_cohort changed) f cohorts) ≡ read_in read none name cohorts
+  read_in-kept f kept same name changed cohorts =
+      ap (read_found read none) (find-change (λ (c : Cohort). c.name) f kept name changed cohorts)
+      ∙ cases (bytes_eq name changed) (find (is_cohort name) cohorts)
+    where
+      cases : (b : Bool) (o : Option Cohort) → read_found read none (cond b (option_map f o) o) ≡ read_found read none o
+      cases true None = refl
+      cases true (Some cohort) = same cohort
+      cases false o = refl
+
+  -- the named cohort, which is there, has what is set, any other what it had
+  read_in-set : (f : Cohort → Cohort) → KeepsName f → (value : A) → ((cohort : Cohort) → read (f cohort) ≡ value) → (name changed : List ℕ) (cohorts : List Cohort) (cohort : Cohort) → find (is_cohort changed) cohorts ≡ Some cohort → read_in read none name (change (is_cohort changed) f cohorts) ≡ cond (bytes_eq name changed) value (read_in read none name cohorts)
+  read_in-set f kept value sets name changed cohorts cohort found =
+      ap (read_found read none) (find-change (λ (c : Cohort). c.name) f kept name changed cohorts)
+      ∙ cases (bytes_eq name changed) refl
+    where
+      cases : (b : Bool) → bytes_eq name changed ≡ b → read_found read none (cond b (option_map f (find (is_cohort name) cohorts)) (find (is_cohort name) cohorts)) ≡ cond b value (read_in read none name cohorts)
+      cases true same =
+          let decides = bytes_eq-Decides name changed in
+          ap (λ (n : List ℕ). read_found read none (option_map f (find (is_cohort n) cohorts))) (decides.0 same)
+          ∙ ap (λ (o : Option Cohort). read_found read none (option_map f o)) found
+          ∙ sets cohort
+      cases false other = refl
+
+  -- a change of an app that leaves what is read in it
+  read_cohort-kept : (f : App → App) → ((app : App) → (f app).id ≡ app.id) → (name : List ℕ) → ((app : App) → read_in read none name (f app).cohorts ≡ read_in read none name app.cohorts) → (apps : List App) (id changed : List ℕ) → read_cohort read none (change (is_app changed) f apps) id name ≡ read_cohort read none apps id name
+  read_cohort-kept f kept name same apps id changed =
+      read_app-then (read_in read none name) (λ app. app.cohorts) [] (change (is_app changed) f apps) id
+      ∙ read_app-kept (λ app. read_in read none name app.cohorts) none f kept same apps id changed
+      ∙ sym (read_app-then (read_in read none name) (λ app. app.cohorts) [] apps id)
+
+  read_cohort-add_app : (apps : List App) (e : AddApp) (id name : List ℕ) → read_cohort read none (after apps (edit.AddApp e)) id name ≡ read_cohort read none apps id name
+  read_cohort-add_app apps e id name =
+      read_app-then (read_in read none name) (λ app. app.cohorts) [] (after apps (edit.AddApp e)) id
+      ∙ read_app-push_none (λ app. read_in read none name app.cohorts) none apps (new_app e) id (read_in-push name e.default [])
+      ∙ sym (read_app-then (read_in read none name) (λ app. app.cohorts) [] apps id)
+
+  read_cohort-add_release : (apps : List App) (e : AddRelease) (id name : List ℕ) → read_cohort read none (after apps (edit.AddRelease e)) id name ≡ read_cohort read none apps id name
+  read_cohort-add_release apps e id name = read_cohort-kept (with_release (new_release e)) (λ app. refl) name (λ app. refl) apps id e.app
+
+  read_cohort-add_cohort : (apps : List App) (e : AddCohort) (id name : List ℕ) → read_cohort read none (after apps (edit.AddCohort e)) id name ≡ read_cohort read none apps id name
+  read_cohort-add_cohort apps e id name =
+      read_cohort-kept (with_cohort (new_cohort e.cohort)) (λ app. refl) name (λ app. read_in-push name e.cohort app.cohorts) apps id e.app
+
+  -- an edit that sets something else of a cohort
+  read_cohort-other : (f : Cohort → Cohort) → KeepsName f → ((cohort : Cohort) → read (f cohort) ≡ read cohort) → (apps : List App) (id name changed changed_name : List ℕ) → read_cohort read none (change (is_app changed) (in_cohort changed_name f) apps) id name ≡ read_cohort read none apps id name
+  read_cohort-other f kept same apps id name changed changed_name =
+      read_cohort-kept (in_cohort changed_name f) (λ app. refl) name (λ app. read_in-kept f kept same name changed_name app.cohorts) apps id changed
+
+  -- the edit that sets it
+  read_cohort-set : (f : Cohort → Cohort) → KeepsName f → (value : A) → ((cohort : Cohort) → read (f cohort) ≡ value) → (apps : List App) (id name changed changed_name : List ℕ) → NamesCohort apps changed changed_name → read_cohort read none (change (is_app changed) (in_cohort changed_name f) apps) id name ≡ unwrap_or (cond (names_cohort id name changed changed_name) (Some value) None) (read_cohort read none apps id name)
+  read_cohort-set f kept value sets apps id name changed changed_name names =
+      ap (read_in read none name) (read_app-change (λ app. app.cohorts) [] (in_cohort changed_name f) (λ app. refl) apps id changed names.app names.found)
+      ∙ cases (same_id id changed) refl
+    where
+      set_or_kept : (b : Bool) → cond b value (read_cohort read none apps id name) ≡ unwrap_or (cond b (Some value) None) (read_cohort read none apps id name)
+      set_or_kept true = refl
+      set_or_kept false = refl
+
+      cases : (b : Bool) → same_id id changed ≡ b → read_in read none name (cond b (change (is_cohort changed_name) f names.app.cohorts) (cohorts_of apps id)) ≡ unwrap_or (cond (b && bytes_eq name changed_name) (Some value) None) (read_cohort read none apps id name)
+      cases true same =
+          let some = Some-from_list_any (is_cohort changed_name) names.app.cohorts names.there in
+          read_in-set f kept value sets name changed_name names.app.cohorts some.0 some.1
+          ∙ ap (λ (old : List Cohort). cond (bytes_eq name changed_name) value (read_in read none name old)) (sym (read_app-same_id (λ app. app.cohorts) [] apps id changed names.app same names.found))
+          ∙ set_or_kept (bytes_eq name changed_name)
+      cases false other = refl
+
+-- the targets of a cohort
+abbrev targets : Cohort → Targets
+targets cohort = (cohort.target, cohort.held)
 
 -- a cohort's targets are those that the edit sets for it, else those that it had
 pub targets_of-after : (id name : List ℕ) (apps : List App) (e : Edit) → fault_of apps e ≡ None → targets_of (after apps e) id name ≡ unwrap_or (sets_targets id name e) (targets_of apps id name)
-targets_of-after id name apps (edit.AddApp e) accepted =
-    read_app-then (targets_in name) (λ app. app.cohorts) [] (after apps (edit.AddApp e)) id
-    ∙ read_app-push_none (λ app. targets_in name app.cohorts) (None, None) apps (new_app e) id (targets_in-new_app name e.default)
-    ∙ sym (read_app-then (targets_in name) (λ app. app.cohorts) [] apps id)
-targets_of-after id name apps (edit.AddRelease e) accepted =
-    ap (targets_in name) (read_app-kept (λ app. app.cohorts) [] (with_release (new_release e)) (λ app. refl) (λ app. refl) apps id e.app)
+targets_of-after id name apps (edit.AddApp e) accepted = read_cohort-add_app targets (None, None) (λ new. refl) apps e id name
+targets_of-after id name apps (edit.AddRelease e) accepted = read_cohort-add_release targets (None, None) (λ new. refl) apps e id name
+targets_of-after id name apps (edit.AddCohort e) accepted = read_cohort-add_cohort targets (None, None) (λ new. refl) apps e id name
 targets_of-after id name apps (edit.SetTarget e) accepted =
-    let takes = TakesTargets-from_no_fault apps e accepted in
-    ap (targets_in name) (read_app-change (λ app. app.cohorts) [] (with_targets_in e) (λ app. refl) apps id e.app takes.app takes.found)
-    ∙ cases takes (same_id id e.app) refl
-  where
-    set_or_kept : (b : Bool) → cond b (targets_set e) (targets_of apps id name) ≡ unwrap_or (cond b (Some (targets_set e)) None) (targets_of apps id name)
-    set_or_kept true = refl
-    set_or_kept false = refl
+    read_cohort-set targets (None, None) (λ new. refl) (with_targets_of e) (λ cohort. refl)
+    (option_map lenient_version_of e.target, option_map lenient_version_of e.held) (λ cohort. refl) apps id name e.app e.cohort (TakesTargets-from_no_fault apps e accepted).names
+targets_of-after id name apps (edit.SetShare e) accepted =
+    read_cohort-other targets (None, None) (λ new. refl) (with_share e.share) (λ cohort. refl) (λ cohort. refl) apps id name e.app e.cohort
+targets_of-after id name apps (edit.SetOpen e) accepted =
+    read_cohort-other targets (None, None) (λ new. refl) (with_open e.on) (λ cohort. refl) (λ cohort. refl) apps id name e.app e.cohort
 
-    cases : (takes : TakesTargets apps e) (b : Bool) → same_id id e.app ≡ b → targets_in name (cond b (change (is_cohort e.cohort) (with_targets e) takes.app.cohorts) (cohorts_of apps id)) ≡ unwrap_or (cond (b && bytes_eq name e.cohort) (Some (targets_set e)) None) (targets_of apps id name)
-    cases takes true same =
-        let some = Some-from_list_any (is_cohort e.cohort) takes.app.cohorts takes.cohort_there in
-        targets_in-change name e takes.app.cohorts some.0 some.1
-        ∙ ap (λ (old : List Cohort). cond (bytes_eq name e.cohort) (targets_set e) (targets_in name old)) (sym (read_app-same_id (λ app. app.cohorts) [] apps id e.app takes.app same takes.found))
-        ∙ set_or_kept (bytes_eq name e.cohort)
-    cases takes false other = refl
+-- the share of a cohort
+abbrev share : Cohort → ℕ
+share cohort = cohort.share
+
+-- a cohort's share is the one that the edit sets for it, else the one that it had
+pub share_of-after : (id name : List ℕ) (apps : List App) (e : Edit) → fault_of apps e ≡ None → share_of (after apps e) id name ≡ unwrap_or (sets_share id name e) (share_of apps id name)
+share_of-after id name apps (edit.AddApp e) accepted = read_cohort-add_app share 1000 (λ new. refl) apps e id name
+share_of-after id name apps (edit.AddRelease e) accepted = read_cohort-add_release share 1000 (λ new. refl) apps e id name
+share_of-after id name apps (edit.AddCohort e) accepted = read_cohort-add_cohort share 1000 (λ new. refl) apps e id name
+share_of-after id name apps (edit.SetTarget e) accepted =
+    read_cohort-other share 1000 (λ new. refl) (with_targets_of e) (λ cohort. refl) (λ cohort. refl) apps id name e.app e.cohort
+share_of-after id name apps (edit.SetShare e) accepted =
+    read_cohort-set share 1000 (λ new. refl) (with_share e.share) (λ cohort. refl) e.share (λ cohort. refl) apps id name e.app e.cohort (TakesShare-from_no_fault apps e accepted).names
+share_of-after id name apps (edit.SetOpen e) accepted =
+    read_cohort-other share 1000 (λ new. refl) (with_open e.on) (λ cohort. refl) (λ cohort. refl) apps id name e.app e.cohort
+
+-- the open mark of a cohort
+abbrev open_mark : Cohort → Bool
+open_mark cohort = cohort.hintable
+
+-- a cohort's open mark is the one that the edit sets for it, else the one that it had
+pub is_open-after : (id name : List ℕ) (apps : List App) (e : Edit) → fault_of apps e ≡ None → is_open (after apps e) id name ≡ unwrap_or (sets_open id name e) (is_open apps id name)
+is_open-after id name apps (edit.AddApp e) accepted = read_cohort-add_app open_mark false (λ new. refl) apps e id name
+is_open-after id name apps (edit.AddRelease e) accepted = read_cohort-add_release open_mark false (λ new. refl) apps e id name
+is_open-after id name apps (edit.AddCohort e) accepted = read_cohort-add_cohort open_mark false (λ new. refl) apps e id name
+is_open-after id name apps (edit.SetTarget e) accepted =
+    read_cohort-other open_mark false (λ new. refl) (with_targets_of e) (λ cohort. refl) (λ cohort. refl) apps id name e.app e.cohort
+is_open-after id name apps (edit.SetShare e) accepted =
+    read_cohort-other open_mark false (λ new. refl) (with_share e.share) (λ cohort. refl) (λ cohort. refl) apps id name e.app e.cohort
+is_open-after id name apps (edit.SetOpen e) accepted =
+    read_cohort-set open_mark false (λ new. refl) (with_open e.on) (λ cohort. refl) e.on (λ cohort. refl) apps id name e.app e.cohort (NamesCohort-from_no_fault apps e accepted)

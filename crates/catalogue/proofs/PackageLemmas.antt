@@ -1,7 +1,8 @@
 -- The packages of a content after an edit.
 use Rattle.std.proofs.Common.{◌≡◌, ℕ, cond, List, map, Option, Some, None, ap, sym, ◌∙◌}
+use Rattle.std.specs.Map.{lookup}
 use Rattle.std.specs.Str.{bytes_eq}
-use Rattle.catalogue.proofs.InsertionLemmas.{Inserts, Inserts-append_after, Inserts-flat_map_change, Inserts-insert, Inserts-map, lookup-Inserts}
+use Rattle.catalogue.proofs.InsertionLemmas.{Inserts, Inserts-append_after, Inserts-flat_map_change, Inserts-insert, Inserts-map, flat_map-change, lookup-Inserts}
 use Rattle.catalogue.proofs.AcceptedLemmas.{TakesRelease-from_no_fault}
 use Rattle.catalogue.specs.Changes.{change, new_release, place_of, placed, with_release}
 use Rattle.catalogue.specs.Draft.{Indexes}
@@ -26,6 +27,11 @@ Inserts-packages_of apps id release app found =
 pub declared_of-with_release : (apps : List App) (id : List ℕ) (release : Release) (app : App) → app_of apps id ≡ Some app → declared_of apps release.name ≡ None → (name : List ℕ) → declared_of (change (is_app id) (with_release release) apps) name ≡ cond (bytes_eq release.name name) (Some (full_package release).1) (declared_of apps name)
 declared_of-with_release apps id release app found fresh =
     lookup-Inserts release.name (full_package release).1 (packages_of apps) _ (Inserts-packages_of apps id release app found) fresh
+
+-- a change of an app that keeps its packages keeps what is declared under each name
+pub declared_of-kept : (id : List ℕ) (f : App → App) → ((app : App) → packages_in (f app) ≡ packages_in app) → (apps : List App) (name : List ℕ) → declared_of (change (is_app id) f apps) name ≡ declared_of apps name
+declared_of-kept id f same apps name =
+    ap (λ (packages : List (List ℕ × Declared)). lookup (bytes_eq name) packages) (flat_map-change (is_app id) f packages_in same apps)
 
 -- an index that takes an accepted release's package is the index of the content with the release
 pub Indexes-with_release : (old new : PackageIndex) (apps : List App) (e : AddRelease) (name : List ℕ) (release : Release) → Indexes old apps → first_fault (tests_of_add_release apps e) ≡ None → release ≡ new_release e → name ≡ e.name → ((other : List ℕ) → found_in new other ≡ cond (bytes_eq name other) (Some (full_package release).1) (found_in old other)) → Indexes new (change (is_app e.app) (with_release (new_release e)) apps)

@@ -1,28 +1,47 @@
 -- An edit keeps an app valid.
-use Rattle.std.proofs.Common.{◌≡◌, ℕ, ◌≤◌, ◌&&◌, Bool, true, false, cond, nat_le, List, [], Option, Some, None, count_by, refl, ap, sym, ◌∙◌, arith}
-use Rattle.std.specs.List.{list_any}
+use Rattle.std.proofs.Common.{◌≡◌, ℕ, ◌≤◌, ◌&&◌, Bool, true, false, cond, nat_le, List, [], ◌∷◌, ◌++◌, Option, Some, None, count_by, option_map, refl, ap, sym, ◌∙◌, arith}
 use Rattle.std.specs.Option.{is_none, option_map_or}
 use Rattle.std.specs.Str.{bytes_eq}
 use Rattle.std.proofs.lemmas.Bool.{and_from, and_parts}
 use Rattle.std.proofs.lemmas.Slice.Eq.{bytes_eq-Decides}
 use Rattle.version.specs.Laws.{BelowIsTotal, BelowIsTransitive, LenientAgrees}
 use Rattle.version.specs.Versions.{is_below, lenient_version_of, version_of}
-use Rattle.catalogue.proofs.AcceptedLemmas.{Some-from_not_none, TakesApp, TakesRelease, TakesTargets}
+use Rattle.catalogue.proofs.AcceptedLemmas.{Some-from_not_none, TakesApp, TakesCohort, TakesRelease}
 use Rattle.catalogue.proofs.AscentLemmas.{Inserts-placed, ascend-placed}
 use Rattle.catalogue.proofs.ChangedLemmas.{count_by-change, count_by-cons, length-change, list_all-change, list_any-change}
+use Rattle.catalogue.proofs.HashLemmas.{is_hash-hash_named}
 use Rattle.catalogue.proofs.InsertedLemmas.{IsOnce-Inserts, count_by-none, length-Inserts, list_all-Inserts, list_all-weaker, list_any-kept}
-use Rattle.catalogue.specs.Changes.{change, new_app, new_cohort, new_release, placed, with_release, with_targets, with_targets_in}
-use Rattle.catalogue.specs.Faults.{has_release}
-use Rattle.catalogue.specs.Forms.{is_cohort_name, is_package_name, is_size}
+use Rattle.catalogue.proofs.InsertionLemmas.{Inserts-push}
+use Rattle.catalogue.specs.Changes.{change, in_cohort, new_app, new_cohort, new_release, placed, with_cohort, with_release, with_share, with_targets_of}
+use Rattle.catalogue.specs.Faults.{has_cohort, has_release, most_share}
+use Rattle.catalogue.specs.Forms.{is_cohort_name, is_hash, is_package_name, is_size}
 use Rattle.catalogue.specs.Lookups.{has_hash, is_cohort, is_release}
-use Rattle.catalogue.specs.Validity.{IsValidApp, is_good_audience, is_good_cohort, is_good_diff, is_good_release, is_released, most_share, spells}
+use Rattle.catalogue.specs.Validity.{IsValidApp, is_good_audience, is_good_cohort, is_good_diff, is_good_release, is_released, spells}
 use Rattle.catalogue.specs.declared.content.App.{App}
 use Rattle.catalogue.specs.declared.content.Cohort.{Cohort}
 use Rattle.catalogue.specs.declared.content.Diff.{Diff}
 use Rattle.catalogue.specs.declared.content.Release.{Release}
 use Rattle.catalogue.specs.declared.edit.AddApp.{AddApp}
+use Rattle.catalogue.specs.declared.edit.AddCohort.{AddCohort}
 use Rattle.catalogue.specs.declared.edit.AddRelease.{AddRelease}
 use Rattle.catalogue.specs.declared.edit.SetTarget.{SetTarget}
+
+-- what is known of a good cohort
+pub record GoodCohort (releases : List Release) (cohort : Cohort) : Type 0 where
+  pub named : is_cohort_name cohort.name ≡ true
+  pub shared : nat_le cohort.share most_share ≡ true
+  pub target : is_released releases cohort.target ≡ true
+  pub held : is_released releases cohort.held ≡ true
+
+pub GoodCohort-from_test : (releases : List Release) (cohort : Cohort) → is_good_cohort releases cohort ≡ true → GoodCohort releases cohort
+GoodCohort-from_test releases cohort good =
+    let rest = and_parts (is_cohort_name cohort.name && nat_le cohort.share most_share && is_released releases cohort.target) (is_released releases cohort.held) good in
+    let front = and_parts (is_cohort_name cohort.name && nat_le cohort.share most_share) (is_released releases cohort.target) rest.0 in
+    let named = and_parts (is_cohort_name cohort.name) (nat_le cohort.share most_share) front.0 in
+    record { named = named.0; shared = named.1; target = front.1; held = rest.1 }
+
+pub is_good_cohort-from_parts : (releases : List Release) (cohort : Cohort) → GoodCohort releases cohort → is_good_cohort releases cohort ≡ true
+is_good_cohort-from_parts releases cohort good = and_from _ _ (and_from _ _ (and_from _ _ good.named good.shared) good.target) good.held
 
 -- what is released stays released when a release is added
 has_release-placed : (release : Release) (releases : List Release) (version : List ℕ) → has_release releases version ≡ true → has_release (placed release releases) version ≡ true
@@ -34,17 +53,23 @@ is_released-placed release releases (Some version) there = has_release-placed re
 
 is_good_cohort-placed : (release : Release) (releases : List Release) (cohort : Cohort) → is_good_cohort releases cohort ≡ true → is_good_cohort (placed release releases) cohort ≡ true
 is_good_cohort-placed release releases cohort good =
-    let rest = and_parts (is_cohort_name cohort.name && nat_le cohort.share most_share && is_released releases cohort.target) (is_released releases cohort.held) good in
-    let front = and_parts (is_cohort_name cohort.name && nat_le cohort.share most_share) (is_released releases cohort.target) rest.0 in
-    and_from _ _ (and_from _ _ front.0 (is_released-placed release releases cohort.target front.1)) (is_released-placed release releases cohort.held rest.1)
+    let before = GoodCohort-from_test releases cohort good in
+    is_good_cohort-from_parts (placed release releases) cohort (record {
+      named = before.named;
+      shared = before.shared;
+      target = is_released-placed release releases cohort.target before.target;
+      held = is_released-placed release releases cohort.held before.held;
+    })
 
 is_good_diff-placed : (release : Release) (releases : List Release) (diff : Diff) → is_good_diff releases diff ≡ true → is_good_diff (placed release releases) diff ≡ true
 is_good_diff-placed release releases diff good =
-    let sized = and_parts (is_below diff.from diff.to && has_release releases diff.from && has_release releases diff.to && is_package_name diff.name) (is_size diff.size) good in
+    let hashed = and_parts (is_below diff.from diff.to && has_release releases diff.from && has_release releases diff.to && is_package_name diff.name && is_size diff.size) (is_hash diff.hash) good in
+    let sized = and_parts (is_below diff.from diff.to && has_release releases diff.from && has_release releases diff.to && is_package_name diff.name) (is_size diff.size) hashed.0 in
     let named = and_parts (is_below diff.from diff.to && has_release releases diff.from && has_release releases diff.to) (is_package_name diff.name) sized.0 in
     let leads = and_parts (is_below diff.from diff.to && has_release releases diff.from) (has_release releases diff.to) named.0 in
     let starts = and_parts (is_below diff.from diff.to) (has_release releases diff.from) leads.0 in
-    and_from _ _ (and_from _ _ (and_from _ _ (and_from _ _ starts.0 (has_release-placed release releases diff.from starts.1)) (has_release-placed release releases diff.to leads.1)) named.1) sized.1
+    let ends = and_from _ _ (and_from _ _ starts.0 (has_release-placed release releases diff.from starts.1)) (has_release-placed release releases diff.to leads.1) in
+    and_from _ _ (and_from _ _ (and_from _ _ ends named.1) sized.1) hashed.1
 
 -- the spelling of an accepted version spells what a client's text would
 spells-lenient : LenientAgrees → (text : List ℕ) → is_none (version_of text) ≡ false → spells text (lenient_version_of text) ≡ true
@@ -71,41 +96,77 @@ module _ (transitive : BelowIsTransitive) (total : BelowIsTotal) (agrees : Lenie
         hashes_once = IsOnce-Inserts has_hash release app.releases (placed release app.releases) among valid.hashes_once
             (λ hash same. ap (λ h. count_by (has_hash h) app.releases) ((bytes_eq-Decides hash release.hash).0 same) ∙ count_by-none (has_hash release.hash) app.releases takes.new_hash);
         releases_good = list_all-Inserts (is_good_release app.cohorts) release app.releases (placed release app.releases) among valid.releases_good
-            (and_from _ _ (and_from _ _ (and_from _ _ (spells-lenient agrees e.version takes.spelled) takes.named) takes.sized) refl);
+            (and_from _ _ (and_from _ _ (and_from _ _ (and_from _ _ (spells-lenient agrees e.version takes.spelled) takes.named) takes.sized) (is_hash-hash_named e.sha256 takes.hashed)) refl);
         few_diffs = valid.few_diffs;
         diffs_ascend = valid.diffs_ascend;
         diffs_good = list_all-weaker (is_good_diff app.releases) (is_good_diff (placed release app.releases)) (is_good_diff-placed release app.releases) app.diffs valid.diffs_good;
       }
 
--- a change of targets keeps the cohorts' names
-is_good_audience-with_targets : (e : SetTarget) (cohorts : List Cohort) (audience : Option (List (List ℕ))) → is_good_audience cohorts audience ≡ true → is_good_audience (change (is_cohort e.cohort) (with_targets e) cohorts) audience ≡ true
-is_good_audience-with_targets e cohorts None good = refl
-is_good_audience-with_targets e cohorts (Some names) good =
-    list_all-weaker (λ name. list_any (is_cohort name) cohorts) (λ name. list_any (is_cohort name) (change (is_cohort e.cohort) (with_targets e) cohorts))
-    (λ name there. list_any-change (is_cohort e.cohort) (with_targets e) (is_cohort name) (λ cohort. refl) cohorts ∙ there) names good
+-- an audience stays good where each cohort's name stays
+is_good_audience-kept : (old new : List Cohort) → ((name : List ℕ) → has_cohort old name ≡ true → has_cohort new name ≡ true) → (audience : Option (List (List ℕ))) → is_good_audience old audience ≡ true → is_good_audience new audience ≡ true
+is_good_audience-kept old new kept None good = refl
+is_good_audience-kept old new kept (Some names) good = list_all-weaker (has_cohort old) (has_cohort new) kept names good
 
-pub IsValidApp-with_targets_in : (apps : List App) (e : SetTarget) (takes : TakesTargets apps e) → IsValidApp takes.app → IsValidApp (with_targets_in e takes.app)
-IsValidApp-with_targets_in apps e takes valid =
-    let app = takes.app in
-    let changed = change (is_cohort e.cohort) (with_targets e) app.cohorts in
-    let as_many = length-change (is_cohort e.cohort) (with_targets e) app.cohorts in
+-- and so does a release
+is_good_release-kept : (old new : List Cohort) → ((name : List ℕ) → has_cohort old name ≡ true → has_cohort new name ≡ true) → (release : Release) → is_good_release old release ≡ true → is_good_release new release ≡ true
+is_good_release-kept old new kept release good =
+    let before = and_parts (spells release.spelled release.version && is_package_name release.name && is_size release.size && is_hash release.hash) (is_good_audience old release.audience) good in
+    and_from _ _ before.0 (is_good_audience-kept old new kept release.audience before.1)
+
+-- a change of a cohort that keeps its name and keeps it good
+pub IsValidApp-in_cohort : (name : List ℕ) (f : Cohort → Cohort) (app : App) → ((cohort : Cohort) → (f cohort).name ≡ cohort.name) → ((cohort : Cohort) → is_good_cohort app.releases cohort ≡ true → is_good_cohort app.releases (f cohort) ≡ true) → IsValidApp app → IsValidApp (in_cohort name f app)
+IsValidApp-in_cohort name f app kept keeps_good valid =
+    let as_many = length-change (is_cohort name) f app.cohorts in
     record {
       identified = valid.identified;
       some_cohort = rw as_many valid.some_cohort;
       few_cohorts = rw as_many valid.few_cohorts;
-      cohorts_once = λ name. rw (count_by-change (is_cohort e.cohort) (with_targets e) (is_cohort name) (λ cohort. refl) app.cohorts) (valid.cohorts_once name);
-      cohorts_good = list_all-change (is_cohort e.cohort) (with_targets e) (is_good_cohort app.releases)
-          (λ cohort good.
-          let before = and_parts (is_cohort_name cohort.name && nat_le cohort.share most_share && is_released app.releases cohort.target) (is_released app.releases cohort.held) good in
-          let named = and_parts (is_cohort_name cohort.name && nat_le cohort.share most_share) (is_released app.releases cohort.target) before.0 in
-          and_from _ _ (and_from _ _ named.0 takes.target_released) takes.held_released) app.cohorts valid.cohorts_good;
+      cohorts_once = λ key. rw (count_by-change (is_cohort name) f (is_cohort key) (λ cohort. ap (bytes_eq key) (kept cohort)) app.cohorts) (valid.cohorts_once key);
+      cohorts_good = list_all-change (is_cohort name) f (is_good_cohort app.releases) keeps_good app.cohorts valid.cohorts_good;
       few_releases = valid.few_releases;
       releases_ascend = valid.releases_ascend;
       hashes_once = valid.hashes_once;
-      releases_good = list_all-weaker (is_good_release app.cohorts) (is_good_release changed)
-          (λ release good.
-          let before = and_parts (spells release.spelled release.version && is_package_name release.name && is_size release.size) (is_good_audience app.cohorts release.audience) good in
-          and_from _ _ before.0 (is_good_audience-with_targets e app.cohorts release.audience before.1)) app.releases valid.releases_good;
+      releases_good = list_all-weaker (is_good_release app.cohorts) (is_good_release (change (is_cohort name) f app.cohorts))
+          (is_good_release-kept app.cohorts (change (is_cohort name) f app.cohorts)
+          (λ key there. list_any-change (is_cohort name) f (is_cohort key) (λ cohort. ap (bytes_eq key) (kept cohort)) app.cohorts ∙ there)) app.releases valid.releases_good;
+      few_diffs = valid.few_diffs;
+      diffs_ascend = valid.diffs_ascend;
+      diffs_good = valid.diffs_good;
+    }
+
+pub is_good_cohort-with_targets_of : (e : SetTarget) (releases : List Release) → is_released releases (option_map lenient_version_of e.target) ≡ true → is_released releases (option_map lenient_version_of e.held) ≡ true → (cohort : Cohort) → is_good_cohort releases cohort ≡ true → is_good_cohort releases (with_targets_of e cohort) ≡ true
+is_good_cohort-with_targets_of e releases target held cohort good =
+    let before = GoodCohort-from_test releases cohort good in
+    is_good_cohort-from_parts releases (with_targets_of e cohort) (record { named = before.named; shared = before.shared; target = target; held = held })
+
+pub is_good_cohort-with_share : (share : ℕ) (releases : List Release) → nat_le share most_share ≡ true → (cohort : Cohort) → is_good_cohort releases cohort ≡ true → is_good_cohort releases (with_share share cohort) ≡ true
+is_good_cohort-with_share share releases within cohort good =
+    let before = GoodCohort-from_test releases cohort good in
+    is_good_cohort-from_parts releases (with_share share cohort) (record { named = before.named; shared = within; target = before.target; held = before.held })
+
+-- a new cohort is good
+is_good_cohort-new_cohort : (releases : List Release) (name : List ℕ) → is_cohort_name name ≡ true → is_good_cohort releases (new_cohort name) ≡ true
+is_good_cohort-new_cohort releases name named =
+    is_good_cohort-from_parts releases (new_cohort name) (record { named = named; shared = refl; target = refl; held = refl })
+
+pub IsValidApp-with_cohort : (apps : List App) (e : AddCohort) (takes : TakesCohort apps e) → IsValidApp takes.app → IsValidApp (with_cohort (new_cohort e.cohort) takes.app)
+IsValidApp-with_cohort apps e takes valid =
+    let app = takes.app in
+    let cohort = new_cohort e.cohort in
+    let cohorts = app.cohorts ++ cohort ∷ [] in
+    let among = Inserts-push app.cohorts cohort in
+    record {
+      identified = valid.identified;
+      some_cohort = omega (arith, valid.some_cohort, length-Inserts cohort app.cohorts cohorts among);
+      few_cohorts = omega (arith, takes.room, length-Inserts cohort app.cohorts cohorts among);
+      cohorts_once = IsOnce-Inserts is_cohort cohort app.cohorts cohorts among valid.cohorts_once
+          (λ name same. ap (λ n. count_by (is_cohort n) app.cohorts) ((bytes_eq-Decides name e.cohort).0 same) ∙ count_by-none (is_cohort e.cohort) app.cohorts takes.new_name);
+      cohorts_good = list_all-Inserts (is_good_cohort app.releases) cohort app.cohorts cohorts among valid.cohorts_good (is_good_cohort-new_cohort app.releases e.cohort takes.named);
+      few_releases = valid.few_releases;
+      releases_ascend = valid.releases_ascend;
+      hashes_once = valid.hashes_once;
+      releases_good = list_all-weaker (is_good_release app.cohorts) (is_good_release cohorts)
+          (is_good_release-kept app.cohorts cohorts (λ name there. list_any-kept (is_cohort name) cohort app.cohorts cohorts among there)) app.releases valid.releases_good;
       few_diffs = valid.few_diffs;
       diffs_ascend = valid.diffs_ascend;
       diffs_good = valid.diffs_good;
@@ -121,7 +182,7 @@ IsValidApp-new_app apps e takes = record {
   some_cohort = omega arith;
   few_cohorts = omega arith;
   cohorts_once = λ name. let counted = count_by-cons (is_cohort name) (new_cohort e.default) [] in let one = cond-le_one (is_cohort name (new_cohort e.default)) in omega arith;
-  cohorts_good = and_from _ _ (and_from _ _ (and_from _ _ (and_from _ _ takes.named refl) refl) refl) refl;
+  cohorts_good = and_from _ _ (is_good_cohort-new_cohort [] e.default takes.named) refl;
   few_releases = omega arith;
   releases_ascend = refl;
   hashes_once = λ hash. omega arith;

@@ -1,29 +1,29 @@
 -- Every accepted edit, every batch and every history keeps a content valid.
-use Rattle.std.proofs.Common.{◌≡◌, ℕ, true, List, [], ◌∷◌, ◌++◌, map, None, count_by, refl, ap, ◌∙◌, arith}
+use Rattle.std.proofs.Common.{◌≡◌, ℕ, true, List, [], ◌∷◌, ◌++◌, map, Some, None, count_by, refl, ap, ◌∙◌, arith}
 use Rattle.std.specs.Char.{to_ascii_lowercase}
 use Rattle.std.specs.Str.{bytes_eq}
 use Rattle.std.proofs.lemmas.Grind.{flat_map-append}
 use Rattle.std.proofs.lemmas.List.{append-nil}
 use Rattle.std.proofs.lemmas.Slice.Eq.{bytes_eq-Decides}
 use Rattle.version.specs.Laws.{BelowIsTotal, BelowIsTransitive, LenientAgrees}
-use Rattle.catalogue.proofs.AcceptedLemmas.{TakesApp, TakesApp-from_no_fault, TakesRelease, TakesRelease-from_no_fault, TakesTargets, TakesTargets-from_no_fault}
+use Rattle.catalogue.proofs.AcceptedLemmas.{NamesCohort, NamesCohort-from_no_fault, TakesApp, TakesApp-from_no_fault, TakesCohort-from_no_fault, TakesRelease, TakesRelease-from_no_fault, TakesShare-from_no_fault, TakesTargets-from_no_fault}
 use Rattle.catalogue.proofs.ChangedLemmas.{AllByRecursion-change, AllByRecursion-push, count_by-change, length-change}
 use Rattle.catalogue.proofs.HistoryLemmas.{Makes, holds-Makes}
 use Rattle.catalogue.proofs.InsertedLemmas.{IsOnce-Inserts, count_by-none, length-Inserts, list_any-find, list_any-lookup}
 use Rattle.catalogue.proofs.InsertionLemmas.{Inserts-push, flat_map-change}
 use Rattle.catalogue.proofs.PackageLemmas.{Inserts-packages_of}
-use Rattle.catalogue.proofs.ValidAppLemmas.{IsValidApp-new_app, IsValidApp-with_release, IsValidApp-with_targets_in}
-use Rattle.catalogue.specs.Changes.{after, change, new_app, new_release, with_release, with_targets_in}
+use Rattle.catalogue.proofs.ValidAppLemmas.{IsValidApp-in_cohort, IsValidApp-new_app, IsValidApp-with_cohort, IsValidApp-with_release, is_good_cohort-with_share, is_good_cohort-with_targets_of}
+use Rattle.catalogue.specs.Changes.{after, change, in_cohort, new_app, new_cohort, new_release, with_cohort, with_open, with_release, with_share, with_targets_of}
 use Rattle.catalogue.specs.Faults.{fault_of}
 use Rattle.catalogue.specs.Forms.{same_id}
-use Rattle.catalogue.specs.Lookups.{full_package, is_app, packages_in, packages_of}
-use Rattle.catalogue.specs.Validity.{IsValid, IsValidApp, is_package}
+use Rattle.catalogue.specs.Lookups.{app_of, full_package, is_app, packages_in, packages_of}
+use Rattle.catalogue.specs.Validity.{IsValid, IsValidApp, is_good_cohort, is_package}
 use Rattle.catalogue.specs.declared.content.App.{App}
+use Rattle.catalogue.specs.declared.content.Cohort.{Cohort}
 use Rattle.catalogue.specs.declared.edit.AddApp.{AddApp}
 use Rattle.catalogue.specs.declared.edit.AddRelease.{AddRelease}
 use Rattle.catalogue.specs.declared.edit.Edit.{Edit}
 use Rattle.catalogue.specs.declared.edit.Edit.TheVariants as edit
-use Rattle.catalogue.specs.declared.edit.SetTarget.{SetTarget}
 
 -- identifiers that name one app count the same apps
 count_by-is_app : (left right : List ℕ) → same_id left right ≡ true → (apps : List App) → count_by (is_app left) apps ≡ count_by (is_app right) apps
@@ -57,13 +57,19 @@ IsValid-add_release transitive total agrees apps e takes valid =
       apps_valid = AllByRecursion-change (is_app e.app) changed IsValidApp apps takes.app takes.found valid.apps_valid (IsValidApp-with_release transitive total agrees apps e takes);
     }
 
-IsValid-set_target : (apps : List App) (e : SetTarget) → TakesTargets apps e → IsValid apps → IsValid (change (is_app e.app) (with_targets_in e) apps)
-IsValid-set_target apps e takes valid = record {
-  few_apps = rw (length-change (is_app e.app) (with_targets_in e) apps) valid.few_apps;
-  ids_once = λ id. rw (count_by-change (is_app e.app) (with_targets_in e) (is_app id) (λ app. refl) apps) (valid.ids_once id);
-  names_once = λ name. rw (flat_map-change (is_app e.app) (with_targets_in e) packages_in (λ app. refl) apps) (valid.names_once name);
-  apps_valid = AllByRecursion-change (is_app e.app) (with_targets_in e) IsValidApp apps takes.app takes.found valid.apps_valid (IsValidApp-with_targets_in apps e takes);
+-- a change of an app that keeps its identifier and its packages and keeps it valid
+IsValid-change : (id : List ℕ) (f : App → App) (apps : List App) (app : App) → app_of apps id ≡ Some app → ((a : App) → (f a).id ≡ a.id) → ((a : App) → packages_in (f a) ≡ packages_in a) → (IsValidApp app → IsValidApp (f app)) → IsValid apps → IsValid (change (is_app id) f apps)
+IsValid-change id f apps app found kept same keeps_valid valid = record {
+  few_apps = rw (length-change (is_app id) f apps) valid.few_apps;
+  ids_once = λ key. rw (count_by-change (is_app id) f (is_app key) (λ a. ap (same_id key) (kept a)) apps) (valid.ids_once key);
+  names_once = λ name. rw (flat_map-change (is_app id) f packages_in same apps) (valid.names_once name);
+  apps_valid = AllByRecursion-change (is_app id) f IsValidApp apps app found valid.apps_valid keeps_valid;
 }
+
+-- a change of a cohort that keeps its name and keeps it good
+IsValid-in_cohort : (apps : List App) (id name : List ℕ) (names : NamesCohort apps id name) (f : Cohort → Cohort) → ((cohort : Cohort) → (f cohort).name ≡ cohort.name) → ((cohort : Cohort) → is_good_cohort names.app.releases cohort ≡ true → is_good_cohort names.app.releases (f cohort) ≡ true) → IsValid apps → IsValid (change (is_app id) (in_cohort name f) apps)
+IsValid-in_cohort apps id name names f kept keeps_good valid =
+    IsValid-change id (in_cohort name f) apps names.app names.found (λ app. refl) (λ app. refl) (IsValidApp-in_cohort name f names.app kept keeps_good) valid
 
 -- the empty content
 pub IsValid-empty : IsValid []
@@ -79,7 +85,17 @@ module _ (transitive : BelowIsTransitive) (total : BelowIsTotal) (agrees : Lenie
   IsValid-after apps (edit.AddApp e) accepted valid = IsValid-add_app apps e (TakesApp-from_no_fault apps e accepted) valid
   IsValid-after apps (edit.AddRelease e) accepted valid =
       IsValid-add_release transitive total agrees apps e (TakesRelease-from_no_fault apps e accepted) valid
-  IsValid-after apps (edit.SetTarget e) accepted valid = IsValid-set_target apps e (TakesTargets-from_no_fault apps e accepted) valid
+  IsValid-after apps (edit.AddCohort e) accepted valid =
+      let takes = TakesCohort-from_no_fault apps e accepted in
+      IsValid-change e.app (with_cohort (new_cohort e.cohort)) apps takes.app takes.found (λ app. refl) (λ app. refl) (IsValidApp-with_cohort apps e takes) valid
+  IsValid-after apps (edit.SetTarget e) accepted valid =
+      let takes = TakesTargets-from_no_fault apps e accepted in
+      IsValid-in_cohort apps e.app e.cohort takes.names (with_targets_of e) (λ cohort. refl) (is_good_cohort-with_targets_of e takes.names.app.releases takes.target_released takes.held_released) valid
+  IsValid-after apps (edit.SetShare e) accepted valid =
+      let takes = TakesShare-from_no_fault apps e accepted in
+      IsValid-in_cohort apps e.app e.cohort takes.names (with_share e.share) (λ cohort. refl) (is_good_cohort-with_share e.share takes.names.app.releases takes.within) valid
+  IsValid-after apps (edit.SetOpen e) accepted valid =
+      IsValid-in_cohort apps e.app e.cohort (NamesCohort-from_no_fault apps e accepted) (with_open e.on) (λ cohort. refl) (λ cohort good. good) valid
 
   -- what accepted edits make of a valid content
   pub IsValid-Makes : (edits : List Edit) (apps made : List App) → Makes edits apps made → IsValid apps → IsValid made

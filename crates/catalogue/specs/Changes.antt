@@ -1,5 +1,5 @@
 -- What an accepted edit makes of a content: an equation each; this project's profile.
-use Rattle.std.specs.Prelude.{ℕ, Bool, false, not, List, [], ◌∷◌, ◌++◌, if◌then◌else◌, insert, None, option_map}
+use Rattle.std.specs.Prelude.{ℕ, Bool, false, not, List, [], ◌∷◌, ◌++◌, if◌then◌else◌, insert, Option, None, option_map}
 use Rattle.std.specs.List.{position_or_len}
 use Rattle.version.specs.Versions.{is_below, lenient_version_of}
 use Rattle.catalogue.specs.Forms.{hash_named}
@@ -56,21 +56,35 @@ placed release releases = insert releases (place_of release.version releases) re
 abbrev pub with_release : Release → App → App
 with_release release app = record app { releases = placed release app.releases }
 
--- a cohort with both targets replaced
-abbrev pub with_targets : SetTarget → Cohort → Cohort
-with_targets e cohort =
-    record cohort {
-      target = option_map lenient_version_of e.target;
-      held = option_map lenient_version_of e.held;
-    }
+-- an app with one more cohort, behind its others
+abbrev pub with_cohort : Cohort → App → App
+with_cohort cohort app = record app { cohorts = app.cohorts ++ cohort ∷ [] }
 
--- an app with the targets of one cohort replaced
-abbrev pub with_targets_in : SetTarget → App → App
-with_targets_in e app =
-    record app { cohorts = change (is_cohort e.cohort) (with_targets e) app.cohorts }
+-- a cohort with both targets replaced
+abbrev pub with_targets : Option (List ℕ) → Option (List ℕ) → Cohort → Cohort
+with_targets target held cohort = record cohort { target = target; held = held }
+
+-- a cohort with the targets of an edit
+abbrev pub with_targets_of : SetTarget → Cohort → Cohort
+with_targets_of e = with_targets (option_map lenient_version_of e.target) (option_map lenient_version_of e.held)
+
+-- a cohort with its share replaced
+abbrev pub with_share : ℕ → Cohort → Cohort
+with_share share cohort = record cohort { share = share }
+
+-- a cohort with its open mark replaced
+abbrev pub with_open : Bool → Cohort → Cohort
+with_open on cohort = record cohort { hintable = on }
+
+-- an app with its cohort of a name changed
+abbrev pub in_cohort : List ℕ → (Cohort → Cohort) → App → App
+in_cohort name changed app = record app { cohorts = change (is_cohort name) changed app.cohorts }
 
 -- the content after an accepted edit
 abbrev pub after : List App → Edit → List App
 after apps (edit.AddApp e) = apps ++ new_app e ∷ []
 after apps (edit.AddRelease e) = change (is_app e.app) (with_release (new_release e)) apps
-after apps (edit.SetTarget e) = change (is_app e.app) (with_targets_in e) apps
+after apps (edit.AddCohort e) = change (is_app e.app) (with_cohort (new_cohort e.cohort)) apps
+after apps (edit.SetTarget e) = change (is_app e.app) (in_cohort e.cohort (with_targets_of e)) apps
+after apps (edit.SetShare e) = change (is_app e.app) (in_cohort e.cohort (with_share e.share)) apps
+after apps (edit.SetOpen e) = change (is_app e.app) (in_cohort e.cohort (with_open e.on)) apps

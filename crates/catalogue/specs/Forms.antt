@@ -46,6 +46,10 @@ hash_of text = if list_all is_hash_digit text then result_ok (decode_sized text 
 abbrev pub hash_named : List ℕ → List ℕ
 hash_named text = unwrap_or (hash_of text) (replicate 32 0)
 
+-- a hash: 32 bytes
+abbrev pub is_hash : List ℕ → Bool
+is_hash hash = (length hash == 32) && list_all (λ byte. nat_le byte 255) hash
+
 -- a package's bytes: 1 to 2^40
 abbrev pub is_size : ℕ → Bool
 is_size size = nat_le 1 size && nat_le size (2 ^ 40)

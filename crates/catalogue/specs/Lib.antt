@@ -1,11 +1,15 @@
 pub mod Batches
 pub mod Changes
+pub mod ContentExamples
+pub mod Contents
 pub mod Draft
 pub mod Faults
 pub mod FaultTexts
 pub mod Forms
 pub mod Histories
 pub mod Lookups
+pub mod Marks
+pub mod Mirrors
 pub mod PackageIndex
 pub mod Soundness
 pub mod Validity

@@ -1,11 +1,11 @@
 -- What is true of every content that edits make; this project's profile. Crates above rest on it.
 use Rattle.std.specs.Prelude.{◌≡◌, ℕ, ◌≤◌, ◌&&◌, ◌||◌, Bool, true, false, nat_le, List, [], ◌∷◌, length, count_by, Option, None, Some}
-use Rattle.std.specs.List.{AllByRecursion, list_all, list_any}
+use Rattle.std.specs.List.{AllByRecursion, list_all}
 use Rattle.std.specs.Option.{option_map_or}
 use Rattle.std.specs.Str.{bytes_eq}
 use Rattle.version.specs.Versions.{is_below, version_of}
-use Rattle.catalogue.specs.Faults.{has_release, most_apps, most_releases}
-use Rattle.catalogue.specs.Forms.{is_app_id, is_cohort_name, is_package_name, is_size}
+use Rattle.catalogue.specs.Faults.{has_cohort, has_release, most_apps, most_cohorts, most_releases, most_share}
+use Rattle.catalogue.specs.Forms.{is_app_id, is_cohort_name, is_hash, is_package_name, is_size}
 use Rattle.catalogue.specs.Lookups.{has_hash, is_app, is_cohort, packages_of}
 use Rattle.catalogue.specs.declared.content.App.{App}
 use Rattle.catalogue.specs.declared.content.Cohort.{Cohort}
@@ -13,16 +13,9 @@ use Rattle.catalogue.specs.declared.content.Declared.{Declared}
 use Rattle.catalogue.specs.declared.content.Diff.{Diff}
 use Rattle.catalogue.specs.declared.content.Release.{Release}
 
--- an app's cohorts, and its differentials, at most
-abbrev pub most_cohorts : ℕ
-most_cohorts = 32
-
+-- differentials of one app at most
 abbrev pub most_diffs : ℕ
 most_diffs = 16384
-
--- a cohort's share at most: all of 1000 clients
-abbrev pub most_share : ℕ
-most_share = 1000
 
 -- at most one item of the list has each key
 abbrev pub IsOnce : {K A : Type 0} → (K → A → Bool) → List A → Type 0
@@ -66,17 +59,18 @@ is_good_cohort releases cohort =
 -- each name of an audience is that of a cohort, where there is an audience
 abbrev pub is_good_audience : List Cohort → Option (List (List ℕ)) → Bool
 is_good_audience cohorts None = true
-is_good_audience cohorts (Some names) = list_all (λ name. list_any (is_cohort name) cohorts) names
+is_good_audience cohorts (Some names) = list_all (has_cohort cohorts) names
 
--- a release: its spelling, its package's name and bytes, and its audience
+-- a release: its spelling, its package's name, bytes and hash, and its audience
 abbrev pub is_good_release : List Cohort → Release → Bool
 is_good_release cohorts release =
     spells release.spelled release.version
     && is_package_name release.name
     && is_size release.size
+    && is_hash release.hash
     && is_good_audience cohorts release.audience
 
--- a differential: upward between releases, its package's name and bytes
+-- a differential: upward between releases, its package's name, bytes and hash
 abbrev pub is_good_diff : List Release → Diff → Bool
 is_good_diff releases diff =
     is_below diff.from diff.to
@@ -84,6 +78,7 @@ is_good_diff releases diff =
     && has_release releases diff.to
     && is_package_name diff.name
     && is_size diff.size
+    && is_hash diff.hash
 
 -- an app
 pub record IsValidApp (app : App) : Type 0 where

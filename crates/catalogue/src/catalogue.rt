@@ -1,5 +1,6 @@
 ghost use Rattle.std.specs.Prelude.{◌≡◌, ◌<◌, [], length, slice_get, IfOk, IfErr, OnOk, OnErr, Some, Ok, position};
 ghost use Rattle.catalogue.specs.Batches.{Explains, outcome};
+ghost use Rattle.catalogue.specs.Contents.{IsPlain};
 ghost use Rattle.catalogue.specs.Validity.{IsValid};
 ghost use Rattle.catalogue.specs.Lookups.{cohorts_at, declared_of, diffs_at, has_hash, is_app, is_cohort, is_release, releases_at};
 
@@ -99,6 +100,14 @@ impl Catalogue {
         let _ = &self.apps;
     }
 
+    /// Tells a caller's proof that a catalogue has nothing that no edit makes; it does nothing when
+    /// it runs.
+    pub fn is_plain(&self)
+        ensures { IsPlain self.now }
+    {
+        let _ = &self.apps;
+    }
+
     /// Borrows the apps, in the order of their addition.
     pub fn apps(&self) -> &[App]
         ensures { result.now ≡ self.now }
@@ -143,7 +152,7 @@ impl Catalogue {
         requires { app < length self.now }
         ensures { result ≡ position (is_release version.now) (releases_at self.now app) }
     {
-        lookup::index_of_release(self.releases(app), version)
+        self.apps.as_slice()[app].find_release(version)
     }
 
     /// Finds the index of an app's release by the SHA-256 of its full package.

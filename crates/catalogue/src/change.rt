@@ -2,11 +2,12 @@
 
 ghost use Rattle.std.specs.Prelude.{◌≡◌, ◌≤◌, ◌&&◌, ◌++◌, ◌∷◌, [], List, ℕ, None, not, length, IfOk, OnOk, option_map, position};
 ghost use Rattle.version.specs.Versions.{is_below, lenient_version_of};
-ghost use Rattle.catalogue.specs.Changes.{change, new_app, new_cohort, new_release, place_of, placed, with_release, with_targets, with_targets_in};
+ghost use Rattle.catalogue.specs.Changes.{change, in_cohort, new_app, new_cohort, new_release, place_of, placed, with_cohort, with_release, with_targets_of};
 ghost use Rattle.catalogue.specs.Lookups.{is_app, is_cohort};
+ghost use Rattle.catalogue.specs.Marks.{with_mark};
 
 use crate::content::{App, Cohort, Release};
-use crate::edit::{AddApp, AddRelease, SetTarget};
+use crate::edit::{AddApp, AddCohort, AddRelease, SetTarget};
 use crate::form::hash_named;
 use crate::lookup;
 use std::alloc::{AllocError, Global};
@@ -58,6 +59,12 @@ pub(crate) fn new_release(edit: &AddRelease) -> Result<Release, AllocError>
     })
 }
 
+pub(crate) fn added_cohort(edit: &AddCohort) -> Result<Cohort, AllocError>
+    ensures { IfOk result (λ cohort. cohort ≡ new_cohort edit.now.cohort) }
+{
+    Ok(new_cohort(edit.cohort.clone()?))
+}
+
 fn first_not_below(releases: &[Release], version: &Version) -> Option<usize>
     ensures { result
         ≡ position (λ release. not (is_below release.version version.now)) releases.now }
@@ -106,6 +113,37 @@ pub(crate) fn place_in(apps: &mut Items<App>, id: &Text, release: Release) -> Re
     Ok(())
 }
 
+fn push_cohort(cohorts: &mut Items<Cohort>, cohort: Cohort) -> Result<(), AllocError>
+    ensures { OnOk result (cohorts.new ≡ cohorts.old ++ cohort ∷ []) }
+{
+    cohorts.push(cohort)
+}
+
+pub(crate) fn add_cohort_to(
+    apps: &mut Items<App>,
+    id: &Text,
+    cohort: Cohort,
+) -> Result<(), AllocError>
+    ensures { OnOk result (apps.new ≡ change (is_app id.now) (with_cohort cohort) apps.old) }
+{
+    if let Some(index) = index_of_app(apps, id) {
+        let app = apps.item_mut(index);
+        push_cohort(&mut app.cohorts, cohort)?;
+    }
+    Ok(())
+}
+
+/// What an edit sets of a cohort.
+#[derive(Clone, Copy, Debug)]
+pub(crate) enum Mark {
+    Targets {
+        target: Option<Version>,
+        held: Option<Version>,
+    },
+    Share(u64),
+    Open(bool),
+}
+
 fn version_named(text: &Option<Text>) -> Option<Version>
     ensures { result ≡ option_map lenient_version_of text.now }
 {
@@ -115,27 +153,42 @@ fn version_named(text: &Option<Text>) -> Option<Version>
     }
 }
 
-fn set_targets(cohort: &mut Cohort, edit: &SetTarget)
-    ensures { cohort.new ≡ with_targets edit.now cohort.old }
+pub(crate) fn targets_of(edit: &SetTarget) -> Mark
+    ensures { with_mark result ≡ with_targets_of edit.now }
 {
-    cohort.target = version_named(&edit.target);
-    cohort.held = version_named(&edit.held);
-}
-
-fn set_targets_in(cohorts: &mut Items<Cohort>, edit: &SetTarget)
-    ensures { cohorts.new ≡ change (is_cohort edit.now.cohort) (with_targets edit.now) cohorts.old }
-{
-    if let Some(index) = index_of_cohort(cohorts, &edit.cohort) {
-        let cohort = cohorts.item_mut(index);
-        set_targets(cohort, edit);
+    Mark::Targets {
+        target: version_named(&edit.target),
+        held: version_named(&edit.held),
     }
 }
 
-pub(crate) fn set_targets_of(apps: &mut Items<App>, edit: &SetTarget)
-    ensures { apps.new ≡ change (is_app edit.now.app) (with_targets_in edit.now) apps.old }
+fn set_mark(cohort: &mut Cohort, mark: Mark)
+    ensures { cohort.new ≡ with_mark mark cohort.old }
 {
-    if let Some(index) = index_of_app(apps, &edit.app) {
+    match mark {
+        Mark::Targets { target, held } => {
+            cohort.target = target;
+            cohort.held = held;
+        }
+        Mark::Share(share) => cohort.share = share,
+        Mark::Open(on) => cohort.hintable = on,
+    }
+}
+
+fn set_mark_in(cohorts: &mut Items<Cohort>, name: &Text, mark: Mark)
+    ensures { cohorts.new ≡ change (is_cohort name.now) (with_mark mark) cohorts.old }
+{
+    if let Some(index) = index_of_cohort(cohorts, name) {
+        let cohort = cohorts.item_mut(index);
+        set_mark(cohort, mark);
+    }
+}
+
+pub(crate) fn set_mark_of(apps: &mut Items<App>, id: &Text, cohort: &Text, mark: Mark)
+    ensures { apps.new ≡ change (is_app id.now) (in_cohort cohort.now (with_mark mark)) apps.old }
+{
+    if let Some(index) = index_of_app(apps, id) {
         let app = apps.item_mut(index);
-        set_targets_in(&mut app.cohorts, edit);
+        set_mark_in(&mut app.cohorts, cohort, mark);
     }
 }

@@ -1,19 +1,10 @@
-ghost use Rattle.std.specs.Prelude.{◌≡◌, IfOk};
+ghost use Rattle.std.specs.Prelude.{◌≡◌, IfOk, position};
+ghost use Rattle.catalogue.specs.Lookups.{is_release};
 
+use crate::lookup;
 use std::alloc::AllocError;
 use values::{Items, Text};
 use version::Version;
-
-/// A server that clients download packages from.
-#[derive(Clone, Debug, Drop)]
-pub struct Mirror {
-    /// Its name, of a cohort name's form and used once.
-    pub name: Text,
-    /// Where its packages lie; a package's address is this followed by the package's name.
-    pub codebase: Text,
-    /// How many bytes it may be granted in all, at most 2^60.
-    pub budget: u64,
-}
 
 /// An app with all that the catalogue holds of it.
 #[derive(Debug, Drop)]
@@ -67,6 +58,15 @@ impl Clone for App {
     }
 }
 
+impl App {
+    /// Finds the index of the app's release by its version.
+    pub fn find_release(&self, version: &Version) -> Option<usize>
+        ensures { result ≡ position (is_release version.now) self.now.releases }
+    {
+        lookup::index_of_release(self.releases.as_slice(), version)
+    }
+}
+
 /// A release of an app, with its full package.
 #[derive(Clone, Debug, Drop)]
 pub struct Release {
@@ -112,8 +112,8 @@ pub struct Cohort {
     pub target: Option<Version>,
     /// The version of the release that its held clients are meant to have, if any.
     pub held: Option<Version>,
-    /// How many of 1000 clients have the target; the others are held.
-    pub share: u16,
+    /// How many of 1000 clients have the target, 0 to 1000; the others are held.
+    pub share: u64,
     /// Whether its clients may be led down to a lower target.
     pub rollback: bool,
     /// Whether a client's hint may name it.

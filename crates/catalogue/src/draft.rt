@@ -2,19 +2,23 @@
 
 ghost use Rattle.std.specs.Prelude.{◌≡◌, None, Ok, OnOk, IfOk, IfErr};
 ghost use Rattle.catalogue.specs.Batches.{Explains, outcome};
-ghost use Rattle.catalogue.specs.Changes.{after};
+ghost use Rattle.catalogue.specs.Changes.{after, change, in_cohort};
 ghost use Rattle.catalogue.specs.Draft.{Becomes, Indexes, IsIndexed};
 ghost use Rattle.catalogue.specs.Faults.{fault_of};
+ghost use Rattle.catalogue.specs.Lookups.{is_app};
+ghost use Rattle.catalogue.specs.Marks.{with_mark};
 ghost use Rattle.catalogue.specs.declared.edit.Edit.TheVariants as edits;
 
-use crate::change::{new_app, new_release, place_in, set_targets_of};
+use crate::change::{
+    Mark, add_cohort_to, added_cohort, new_app, new_release, place_in, set_mark_of, targets_of,
+};
 use crate::content::{App, Declared};
-use crate::edit::{AddApp, AddRelease, Edit, SetTarget};
+use crate::edit::{AddApp, AddCohort, AddRelease, Edit, SetOpen, SetShare, SetTarget};
 use crate::fault::{ApplyError, Refused};
 use crate::package_index::PackageIndex;
 use crate::refusal;
 use std::alloc::{AllocError, Global};
-use values::Items;
+use values::{Items, Text};
 
 /// A content and its index; after a refused allocation the two may differ.
 #[derive(Debug, Drop)]
@@ -74,11 +78,44 @@ impl Draft {
         Ok(())
     }
 
+    fn add_cohort(&mut self, edit: &AddCohort) -> Result<(), AllocError>
+        requires { IsIndexed self.old }
+        ensures { OnOk result (Becomes self.new (after self.old.apps (edits.AddCohort edit.now))) }
+    {
+        let cohort = added_cohort(edit)?;
+        add_cohort_to(&mut self.apps, &edit.app, cohort)?;
+        Ok(())
+    }
+
+    fn set_mark(&mut self, id: &Text, cohort: &Text, mark: Mark)
+        requires { IsIndexed self.old }
+        ensures { Becomes
+            self.new
+            (change (is_app id.now) (in_cohort cohort.now (with_mark mark)) self.old.apps) }
+    {
+        set_mark_of(&mut self.apps, id, cohort, mark);
+    }
+
     fn set_target(&mut self, edit: &SetTarget)
         requires { IsIndexed self.old }
         ensures { Becomes self.new (after self.old.apps (edits.SetTarget edit.now)) }
     {
-        set_targets_of(&mut self.apps, edit);
+        let targets = targets_of(edit);
+        self.set_mark(&edit.app, &edit.cohort, targets);
+    }
+
+    fn set_share(&mut self, edit: &SetShare)
+        requires { IsIndexed self.old }
+        ensures { Becomes self.new (after self.old.apps (edits.SetShare edit.now)) }
+    {
+        self.set_mark(&edit.app, &edit.cohort, Mark::Share(edit.share));
+    }
+
+    fn set_open(&mut self, edit: &SetOpen)
+        requires { IsIndexed self.old }
+        ensures { Becomes self.new (after self.old.apps (edits.SetOpen edit.now)) }
+    {
+        self.set_mark(&edit.app, &edit.cohort, Mark::Open(edit.on));
     }
 
     fn perform(&mut self, edit: &Edit) -> Result<(), AllocError>
@@ -89,8 +126,17 @@ impl Draft {
         match edit {
             Edit::AddApp(edit) => self.add_app(edit),
             Edit::AddRelease(edit) => self.add_release(edit),
+            Edit::AddCohort(edit) => self.add_cohort(edit),
             Edit::SetTarget(edit) => {
                 self.set_target(edit);
+                Ok(())
+            }
+            Edit::SetShare(edit) => {
+                self.set_share(edit);
+                Ok(())
+            }
+            Edit::SetOpen(edit) => {
+                self.set_open(edit);
                 Ok(())
             }
         }

@@ -29,6 +29,15 @@ pub struct AddRelease {
     pub sha256: Text,
 }
 
+/// Adds a cohort to an app, behind its others, at the first values of a cohort.
+#[derive(Clone, Debug, Drop)]
+pub struct AddCohort {
+    /// The app's identifier, in any case.
+    pub app: Text,
+    /// The cohort's name: 1 to 32 bytes of `a-z`, `0-9`, `-`.
+    pub cohort: Text,
+}
+
 /// Sets the target and the held target of a cohort; both are replaced.
 #[derive(Clone, Debug, Drop)]
 pub struct SetTarget {
@@ -42,12 +51,37 @@ pub struct SetTarget {
     pub held: Option<Text>,
 }
 
+/// Sets how many of 1000 clients of a cohort have its target.
+#[derive(Clone, Debug, Drop)]
+pub struct SetShare {
+    /// The app's identifier, in any case.
+    pub app: Text,
+    /// The cohort's name.
+    pub cohort: Text,
+    /// The cohort's share from then on, 0 to 1000.
+    pub share: u64,
+}
+
+/// Sets whether a client's hint may name a cohort.
+#[derive(Clone, Debug, Drop)]
+pub struct SetOpen {
+    /// The app's identifier, in any case.
+    pub app: Text,
+    /// The cohort's name.
+    pub cohort: Text,
+    /// Whether a hint may name it from then on.
+    pub on: bool,
+}
+
 /// One change of a catalogue.
 #[derive(Clone, Debug, Drop)]
 pub enum Edit {
     AddApp(AddApp),
     AddRelease(AddRelease),
+    AddCohort(AddCohort),
     SetTarget(SetTarget),
+    SetShare(SetShare),
+    SetOpen(SetOpen),
 }
 
 /// A list of edits that a catalogue takes whole or not at all.

@@ -9,7 +9,8 @@ use hex::FromHex;
 
 const MOST_BYTES: u64 = 1 << 40;
 
-fn has_length(text: &str, least: usize, most: usize) -> bool
+/// Whether a text has from `least` to `most` bytes.
+pub(crate) fn has_length(text: &str, least: usize, most: usize) -> bool
     ensures { result ≡ has_length least most text.now }
 {
     least <= text.len() && text.len() <= most
@@ -47,8 +48,8 @@ fn are_cohort_bytes(text: &str) -> bool
     text.as_bytes().iter().all(|byte| is_cohort_byte(*byte))
 }
 
-/// Whether a text is a cohort's name.
-pub(crate) fn is_cohort_name(text: &str) -> bool
+/// Whether a text is a cohort's name: 1 to 32 bytes of `a-z`, `0-9` and `-`.
+pub fn is_cohort_name(text: &str) -> bool
     ensures { result ≡ is_cohort_name text.now }
 {
     has_length(text, 1, 32) && are_cohort_bytes(text)

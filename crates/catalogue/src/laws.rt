@@ -1,6 +1,9 @@
-//! What holds over whole histories of batches, each law as the contract of a function.
+//! What holds over whole histories of batches, and of whole contents, each law as the contract of a
+//! function that does nothing when it runs.
 
-ghost use Rattle.catalogue.specs.Histories.{AppsWereAdded, CohortsWereAdded, HistoriesAreValid, HistoriesGrow, ReleasesWereAdded, TargetsAreTheLastSet};
+ghost use Rattle.catalogue.specs.ContentExamples.{SmallContentHasItsEdits};
+ghost use Rattle.catalogue.specs.Contents.{ContentsAreMade, HistoriesArePlain};
+ghost use Rattle.catalogue.specs.Histories.{AppsWereAdded, CohortsWereAdded, HistoriesAreValid, HistoriesGrow, OpenMarksAreTheLastSet, ReleasesWereAdded, SharesAreTheLastSet, TargetsAreTheLastSet};
 
 /// States that an item is there exactly where some edit of the history added it.
 pub fn additions()
@@ -11,7 +14,9 @@ pub fn additions()
 
 /// States that a mark is that of the last edit of the history that set it, else its first value.
 pub fn marks()
-    ensures { TargetsAreTheLastSet }
+    ensures targets { TargetsAreTheLastSet }
+    ensures shares { SharesAreTheLastSet }
+    ensures open_marks { OpenMarksAreTheLastSet }
 {}
 
 /// States that a batch that is accepted after a history makes a longer history.
@@ -26,3 +31,23 @@ pub fn validity()
     version::laws::order();
     version::laws::spellings();
 }
+
+/// States that what a history leads to has no stones, withdrawn releases, audiences, rollback marks
+/// and differentials, which no edit makes.
+pub fn plainness()
+    ensures { HistoriesArePlain }
+{}
+
+/// States that the edits of a valid and plain content, in the order of a profile, are accepted from
+/// the empty content on and make that content.
+pub fn contents()
+    ensures { ContentsAreMade }
+{
+    version::laws::order();
+    version::laws::spellings();
+}
+
+/// Shows the edits of a small content, in their order.
+pub fn small_content()
+    ensures { SmallContentHasItsEdits }
+{}

@@ -1,10 +1,12 @@
 //! The catalogue: apps with their releases, differentials and cohorts, made by batches of edits.
 //!
 //! A `Catalogue` is seen as the list of its `App`s; `Catalogue::apply` takes a `Batch` of `Edit`s
-//! whole or refuses it whole, with the first refused edit and its `Fault`. Read `specs/Batches.antt`
-//! for the meaning of a batch, `specs/Faults.antt` for the faults of each edit in their order,
-//! `specs/Changes.antt` for what an accepted edit does, `specs/Validity.antt` for what is true of
-//! every catalogue, and `laws` for what holds over whole histories.
+//! whole or refuses it whole, with the first refused edit and its `Fault`. Read
+//! `specs/Batches.antt` for the meaning of a batch, `specs/Faults.antt` for the faults of each
+//! edit in their order, `specs/Changes.antt` for what an accepted edit does,
+//! `specs/Validity.antt` for what is true of every catalogue, `specs/Contents.antt` for the edits
+//! that make a content anew, and `laws` for what holds over whole histories and contents. A
+//! `Mirror` tells whether it has the form of one.
 //!
 //! It does not decide which release a client is offered, nor read profiles: crates above do.
 
@@ -19,10 +21,13 @@ mod fault;
 mod form;
 pub mod laws;
 mod lookup;
+mod mirror;
 mod package_index;
 mod refusal;
 
 pub use crate::catalogue::Catalogue;
-pub use crate::content::{App, Cohort, Declared, Diff, Mirror, Release};
-pub use crate::edit::{AddApp, AddRelease, Batch, Edit, SetTarget};
+pub use crate::content::{App, Cohort, Declared, Diff, Release};
+pub use crate::edit::{AddApp, AddCohort, AddRelease, Batch, Edit, SetOpen, SetShare, SetTarget};
 pub use crate::fault::{ApplyError, Fault, Refused};
+pub use crate::form::is_cohort_name;
+pub use crate::mirror::Mirror;

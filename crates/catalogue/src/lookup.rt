@@ -4,7 +4,7 @@ ghost use Rattle.std.specs.Prelude.{◌≡◌, position};
 ghost use Rattle.std.specs.Option.{option_copied};
 ghost use Rattle.std.specs.List.{list_any};
 ghost use Rattle.catalogue.specs.Lookups.{app_of, has_hash, is_app, is_cohort, is_release};
-ghost use Rattle.catalogue.specs.Faults.{has_release};
+ghost use Rattle.catalogue.specs.Faults.{has_cohort, has_release};
 
 use crate::content::{App, Cohort, Release};
 use crate::form::is_same_id;
@@ -68,7 +68,7 @@ pub(crate) fn index_of_cohort(cohorts: &[Cohort], name: &str) -> Option<usize>
 
 /// Whether there is a cohort of a name.
 pub(crate) fn has_cohort(cohorts: &[Cohort], name: &str) -> bool
-    ensures { result ≡ list_any (is_cohort name.now) cohorts.now }
+    ensures { result ≡ has_cohort cohorts.now name.now }
 {
     cohorts.iter().any(|cohort| name == cohort.name.as_str())
 }

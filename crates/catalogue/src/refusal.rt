@@ -3,20 +3,24 @@
 ghost use Rattle.std.specs.Prelude.{◌≡◌, List, ℕ, Option};
 ghost use Rattle.std.specs.Option.{is_some};
 ghost use Rattle.catalogue.specs.Draft.{IsIndexed};
-ghost use Rattle.catalogue.specs.Faults.{fault_of, first_fault, is_misspelled, is_unreleased, tests_of_add_app, tests_of_add_release, tests_of_set_target};
+ghost use Rattle.catalogue.specs.Faults.{fault_of, first_fault, is_misspelled, is_unreleased, tests_of_add_app, tests_of_add_cohort, tests_of_add_release, tests_of_set_open, tests_of_set_share, tests_of_set_target};
 
 use crate::content::Release;
 use crate::draft::Draft;
-use crate::edit::{AddApp, AddRelease, Edit, SetTarget};
+use crate::edit::{AddApp, AddCohort, AddRelease, Edit, SetOpen, SetShare, SetTarget};
 use crate::fault::Fault;
 use crate::form::{hash_named, hash_of, is_app_id, is_cohort_name, is_package_name, is_size};
 use crate::lookup::{find_app, has_cohort, has_hash, has_release};
 use values::Text;
 use version::Version;
 
-pub(crate) const MOST_APPS: usize = 64;
+const MOST_APPS: usize = 64;
 
-pub(crate) const MOST_RELEASES: usize = 512;
+const MOST_RELEASES: usize = 512;
+
+const MOST_COHORTS: usize = 32;
+
+const MOST_SHARE: u64 = 1000;
 
 fn fault_of_add_app(draft: &Draft, edit: &AddApp) -> Option<Fault>
     ensures { result ≡ first_fault (tests_of_add_app draft.now.apps edit.now) }
@@ -72,6 +76,25 @@ fn fault_of_add_release(draft: &Draft, edit: &AddRelease) -> Option<Fault>
     None
 }
 
+fn fault_of_add_cohort(draft: &Draft, edit: &AddCohort) -> Option<Fault>
+    ensures { result ≡ first_fault (tests_of_add_cohort draft.now.apps edit.now) }
+{
+    let Some(app) = find_app(draft.apps.as_slice(), edit.app.as_str()) else {
+        return Some(Fault::UnknownApp);
+    };
+    let cohorts = app.cohorts.as_slice();
+    if !is_cohort_name(edit.cohort.as_str()) {
+        return Some(Fault::BadName);
+    }
+    if has_cohort(cohorts, edit.cohort.as_str()) {
+        return Some(Fault::CohortExists);
+    }
+    if cohorts.len() >= MOST_COHORTS {
+        return Some(Fault::Limit);
+    }
+    None
+}
+
 fn is_misspelled(text: &Option<Text>) -> bool
     ensures { result ≡ is_misspelled text.now }
 {
@@ -109,6 +132,33 @@ fn fault_of_set_target(draft: &Draft, edit: &SetTarget) -> Option<Fault>
     None
 }
 
+fn fault_of_set_share(draft: &Draft, edit: &SetShare) -> Option<Fault>
+    ensures { result ≡ first_fault (tests_of_set_share draft.now.apps edit.now) }
+{
+    let Some(app) = find_app(draft.apps.as_slice(), edit.app.as_str()) else {
+        return Some(Fault::UnknownApp);
+    };
+    if !has_cohort(app.cohorts.as_slice(), edit.cohort.as_str()) {
+        return Some(Fault::UnknownCohort);
+    }
+    if edit.share > MOST_SHARE {
+        return Some(Fault::BadShare);
+    }
+    None
+}
+
+fn fault_of_set_open(draft: &Draft, edit: &SetOpen) -> Option<Fault>
+    ensures { result ≡ first_fault (tests_of_set_open draft.now.apps edit.now) }
+{
+    let Some(app) = find_app(draft.apps.as_slice(), edit.app.as_str()) else {
+        return Some(Fault::UnknownApp);
+    };
+    if !has_cohort(app.cohorts.as_slice(), edit.cohort.as_str()) {
+        return Some(Fault::UnknownCohort);
+    }
+    None
+}
+
 /// The first fault of an edit, or none where it is accepted.
 pub(crate) fn fault_of(draft: &Draft, edit: &Edit) -> Option<Fault>
     requires { IsIndexed draft.now }
@@ -117,6 +167,9 @@ pub(crate) fn fault_of(draft: &Draft, edit: &Edit) -> Option<Fault>
     match edit {
         Edit::AddApp(edit) => fault_of_add_app(draft, edit),
         Edit::AddRelease(edit) => fault_of_add_release(draft, edit),
+        Edit::AddCohort(edit) => fault_of_add_cohort(draft, edit),
         Edit::SetTarget(edit) => fault_of_set_target(draft, edit),
+        Edit::SetShare(edit) => fault_of_set_share(draft, edit),
+        Edit::SetOpen(edit) => fault_of_set_open(draft, edit),
     }
 }

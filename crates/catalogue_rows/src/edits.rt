@@ -1,6 +1,8 @@
 // Edits and batches that the tests are made of.
 
-use catalogue::{AddApp, AddRelease, Batch, Catalogue, Edit, SetTarget};
+use catalogue::{
+    AddApp, AddCohort, AddRelease, Batch, Catalogue, Edit, Mirror, SetOpen, SetShare, SetTarget,
+};
 use std::alloc::{AllocError, Global};
 use std::test::Fail;
 use values::Text;
@@ -15,7 +17,7 @@ pub(crate) const LONGER: &str = "248d6a61d20638b8e5c026930c3e6039a33ce45964ff216
 pub(crate) const FRESH: &str = "3333333333333333333333333333333333333333333333333333333333333333";
 
 /// A release's row: its app, version, name, size and hash.
-pub(crate) type ReleaseRow = (&'static str, &'static str, &'static str, u64, &'static str);
+pub(crate) type ReleaseRow<'a> = (&'a str, &'a str, &'a str, u64, &'a str);
 
 /// A target's row: its app, cohort, target and held target.
 pub(crate) type TargetRow = (
@@ -31,7 +33,7 @@ pub(crate) fn add_app(alloc: Global, app: &str, default: &str) -> Result<Edit, A
     Ok(Edit::AddApp(AddApp { app, default }))
 }
 
-pub(crate) fn add_release(alloc: Global, row: ReleaseRow) -> Result<Edit, AllocError> {
+pub(crate) fn add_release(alloc: Global, row: ReleaseRow<'_>) -> Result<Edit, AllocError> {
     let (app, version, name, size, sha256) = row;
     let app = Text::copy_of(alloc, app)?;
     let version = Text::copy_of(alloc, version)?;
@@ -67,11 +69,54 @@ pub(crate) fn set_target(alloc: Global, row: TargetRow) -> Result<Edit, AllocErr
     }))
 }
 
+pub(crate) fn add_cohort(alloc: Global, app: &str, cohort: &str) -> Result<Edit, AllocError> {
+    let app = Text::copy_of(alloc, app)?;
+    let cohort = Text::copy_of(alloc, cohort)?;
+    Ok(Edit::AddCohort(AddCohort { app, cohort }))
+}
+
+pub(crate) fn set_share(
+    alloc: Global,
+    app: &str,
+    cohort: &str,
+    share: u64,
+) -> Result<Edit, AllocError> {
+    let app = Text::copy_of(alloc, app)?;
+    let cohort = Text::copy_of(alloc, cohort)?;
+    Ok(Edit::SetShare(SetShare { app, cohort, share }))
+}
+
+pub(crate) fn set_open(
+    alloc: Global,
+    app: &str,
+    cohort: &str,
+    on: bool,
+) -> Result<Edit, AllocError> {
+    let app = Text::copy_of(alloc, app)?;
+    let cohort = Text::copy_of(alloc, cohort)?;
+    Ok(Edit::SetOpen(SetOpen { app, cohort, on }))
+}
+
+pub(crate) fn mirror(
+    alloc: Global,
+    name: &str,
+    codebase: &str,
+    budget: u64,
+) -> Result<Mirror, AllocError> {
+    let name = Text::copy_of(alloc, name)?;
+    let codebase = Text::copy_of(alloc, codebase)?;
+    Ok(Mirror {
+        name,
+        codebase,
+        budget,
+    })
+}
+
 /// A batch of an app, releases and targets, in that order.
 pub(crate) fn batch(
     alloc: Global,
     app: &str,
-    releases: &[ReleaseRow],
+    releases: &[ReleaseRow<'_>],
     targets: &[TargetRow],
 ) -> Result<Batch, AllocError> {
     let mut edits = Vec::new(alloc);

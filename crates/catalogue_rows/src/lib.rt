@@ -5,6 +5,14 @@
 #![tactic(auto)]
 
 #[cfg(test)]
+mod cohort_tests;
+#[cfg(test)]
 mod edits;
+#[cfg(test)]
+mod limit_tests;
+#[cfg(test)]
+mod mirror_tests;
+#[cfg(test)]
+mod refusals;
 #[cfg(test)]
 mod tests;

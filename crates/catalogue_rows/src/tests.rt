@@ -2,40 +2,13 @@ use crate::edits::{
     ABC, FRESH, LONGER, ReleaseRow, TargetRow, add_app, add_release, batch, set_target, small,
     small_batch,
 };
-use catalogue::{ApplyError, Batch, Catalogue, Edit, Fault, Refused};
-use std::alloc::{AllocError, Global};
-use std::process::Abort;
+use crate::refusals::{leaves_the_catalogue, refused_at, shown};
+use catalogue::{ApplyError, Catalogue, Fault, Refused};
+use std::alloc::Global;
 use std::test::Fail;
 use version::Version;
 
 const UPPER: &str = "BA7816BF8F01CFEA414140DE5DAE2223B00361A396177A9CB410FF61F20015AD";
-
-fn refused_at(index: usize, fault: Fault) -> Result<(), ApplyError> {
-    Err(ApplyError::Refused(Refused { index, fault }))
-}
-
-fn shown(alloc: Global, catalogue: &Catalogue) -> Result<String, AllocError> {
-    format!(in alloc; "{catalogue:?}")
-}
-
-// A good edit before the one that is refused counts for nothing.
-fn leaves_the_catalogue(
-    rt: &impl Abort,
-    alloc: Global,
-    catalogue: &mut Catalogue,
-    edit: Edit,
-    fault: Fault,
-) -> Result<(), Fail> {
-    let before = shown(alloc, catalogue)?;
-    let mut edits = Vec::new(alloc);
-    edits.push(add_app(alloc, "fresh", "stable")?)?;
-    edits.push(edit)?;
-    let answer = catalogue.apply(&Batch::new(edits));
-    assert_eq!(rt; answer, refused_at(1, fault));
-    let after = shown(alloc, catalogue)?;
-    assert_eq!(rt; after.as_str(), before.as_str());
-    Ok(())
-}
 
 #[test]
 fn refuses_a_batch_whole_for_a_bad_app(rt: HostRuntime) -> Result<(), Fail> {
@@ -57,7 +30,7 @@ fn refuses_a_batch_whole_for_a_bad_app(rt: HostRuntime) -> Result<(), Fail> {
 fn refuses_a_batch_whole_for_a_bad_release(rt: HostRuntime) -> Result<(), Fail> {
     let alloc = rt.alloc();
     let mut catalogue = small(alloc)?;
-    let rows: [(Fault, ReleaseRow); 9] = [
+    let rows: [(Fault, ReleaseRow<'_>); 9] = [
         (Fault::UnknownApp, ("x", "01", ".x", 0, ABC)),
         (Fault::BadVersion, ("mini", "01.0", "new.bin", 1, FRESH)),
         (
@@ -102,21 +75,6 @@ fn refuses_a_batch_whole_for_a_bad_target(rt: HostRuntime) -> Result<(), Fail> {
         let edit = set_target(alloc, row)?;
         leaves_the_catalogue(&rt, alloc, &mut catalogue, edit, fault)?;
     }
-    Ok(())
-}
-
-#[test]
-fn refuses_a_sixty_fifth_app(rt: HostRuntime) -> Result<(), Fail> {
-    let alloc = rt.alloc();
-    let mut edits = Vec::new(alloc);
-    for index in 0..65u32 {
-        let id = format!(in alloc; "app{index}")?;
-        edits.push(add_app(alloc, id.as_str(), "stable")?)?;
-    }
-    let mut catalogue = Catalogue::empty(alloc);
-    let answer = catalogue.apply(&Batch::new(edits));
-    assert_eq!(rt; answer, refused_at(64, Fault::Limit));
-    assert_eq!(rt; catalogue.apps().len(), 0);
     Ok(())
 }
 

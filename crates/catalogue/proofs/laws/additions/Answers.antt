@@ -2,7 +2,8 @@
 use Rattle.std.proofs.Common.{[]}
 use Rattle.std.specs.List.{list_any}
 use Rattle.catalogue.specs.Histories.{adds_app, adds_cohort, adds_release, edits_of, same_release}
-use Rattle.catalogue.specs.Lookups.{cohorts_of, is_app, is_cohort, releases_of}
+use Rattle.catalogue.specs.Faults.{has_cohort}
+use Rattle.catalogue.specs.Lookups.{cohorts_of, is_app, releases_of}
 use Rattle.catalogue.proofs.AdditionLemmas.{any_app-after, any_cohort-after, any_release-after}
 use Rattle.catalogue.proofs.HistoryLemmas.{Makes-from_run, list_any-Makes}
 use Rattle.catalogue.proofs.laws.additions.Goals as goal
@@ -17,4 +18,4 @@ returns-clause-releases c = λ history apps led id release.
 
 pub returns-clause-cohorts : goal.returns-clause-cohorts
 returns-clause-cohorts c = λ history apps led id name.
-    list_any-Makes (λ content. list_any (is_cohort name) (cohorts_of content id)) (adds_cohort id name) (any_cohort-after id name) (edits_of history) [] apps (Makes-from_run history [] apps led)
+    list_any-Makes (λ content. has_cohort (cohorts_of content id) name) (adds_cohort id name) (any_cohort-after id name) (edits_of history) [] apps (Makes-from_run history [] apps led)

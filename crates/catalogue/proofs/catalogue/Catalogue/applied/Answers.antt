@@ -1,4 +1,5 @@
 use Rattle.catalogue.proofs.HistoryLemmas.{Makes-from_outcome}
+use Rattle.catalogue.proofs.PlainLemmas.{IsPlain-Makes}
 use Rattle.catalogue.proofs.ValidityLemmas.{IsValid-Makes}
 use Rattle.catalogue.proofs.catalogue.Catalogue.applied.Goals as goal
 
@@ -7,10 +8,11 @@ invariant_of-result c =
     let edits = c.edits.result.now in
     let before = c.in_ok-draft.draft.apps in
     let after = c.run.new.self.apps in
+    let makes = Makes-from_outcome 0 edits before after c.in_ok-run.ensures.ok in
     record {
       indexed = c.in_ok-run.ensures.indexed;
       valid =
-          IsValid-Makes c.order.ensures.transitive c.order.ensures.total c.spellings.ensures edits before after
-          (Makes-from_outcome 0 edits before after c.in_ok-run.ensures.ok)
+          IsValid-Makes c.order.ensures.transitive c.order.ensures.total c.spellings.ensures edits before after makes
           (rw c.in_ok-draft.ensures.content c.self.invariant.valid);
+      plain = IsPlain-Makes edits before after makes (rw c.in_ok-draft.ensures.content c.self.invariant.plain);
     }
