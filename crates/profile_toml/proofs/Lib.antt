@@ -1,0 +1,3 @@
+mod DocumentLemmas
+mod ListLemmas
+mod MirrorLemmas

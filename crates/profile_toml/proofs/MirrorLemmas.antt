@@ -1,0 +1,158 @@
+-- Mirrors among which there is no bad one, and the profiles that have them.
+use Rattle.std.proofs.Common.{◌≡◌, ℕ, ◌+◌, ◌≤◌, ◌||◌, not, nat_lt, List, [], ◌∷◌, ◌++◌, length, Bool, true, false, cond, Option, Some, None, Result, Ok, Err, codes, refl, ap, arith, append_assoc, append-nil, ltb-false}
+use Rattle.std.specs.List.{count_by, list_all, list_any}
+use Rattle.std.specs.Option.{ok_or, option_map_or}
+use Rattle.std.proofs.lemmas.List.Sums.{sum_by-append}
+use Rattle.std.proofs.lemmas.Slice.Eq.{bytes_eq-Decides}
+use Rattle.catalogue.specs.Mirrors.{is_mirror}
+use Rattle.catalogue.specs.declared.edit.Edit.{Edit}
+use Rattle.catalogue.specs.declared.mirror.Mirror.{Mirror}
+use Rattle.profile_toml.specs.Documents.{document_of}
+use Rattle.profile_toml.specs.Expansion.{edits_of}
+use Rattle.toml.specs.Data.{Members}
+use Rattle.profile_toml.specs.Fields.{◌>>=◌, known}
+use Rattle.profile_toml.specs.Lists.{each, optional_tables, required_tables}
+use Rattle.profile_toml.specs.Laws.{AreMirrors}
+use Rattle.profile_toml.specs.MirrorLists.{bad_mirror, first_bad_after, is_bad_after, is_named, most_mirrors}
+use Rattle.profile_toml.specs.Profiles.{app_of, good_mirrors, mirror_of, profile_of, schema}
+use Rattle.profile_toml.specs.Reading.{profile_of_text}
+use Rattle.profile_toml.specs.declared.fault.ProfileFault.{ProfileFault}
+use Rattle.profile_toml.specs.declared.fault.ProfileFault.TheVariants.{NotToml, BadMirror}
+use Rattle.profile_toml.specs.declared.place.Place.TheVariants as place
+use Rattle.profile_toml.specs.declared.profile.AppEntry.{AppEntry}
+use Rattle.profile_toml.specs.declared.profile.Profile.{Profile}
+use Rattle.profile_toml.specs.declared.shape.Shape.TheVariants as shape
+
+count_by-cons : {A : Type 0} (q : A → Bool) (x : A) (xs : List A)
+    → count_by q (x ∷ xs) ≡ cond (q x) 1 0 + count_by q xs
+count_by-cons q x xs = let joined = sum_by-append (λ y. cond (q y) 1 0) (x ∷ []) xs in omega arith
+
+count_by-append : {A : Type 0} (q : A → Bool) (xs ys : List A)
+    → count_by q (xs ++ ys) ≡ count_by q xs + count_by q ys
+count_by-append q xs ys = sum_by-append (λ y. cond (q y) 1 0) xs ys
+
+-- a test that answers no index was false
+no_index : (test : Bool) (index : ℕ) (rest : Option ℕ)
+    → cond test (Some index) rest ≡ None → (test ≡ false) × (rest ≡ None)
+no_index true index rest none = absurd (cc)
+no_index false index rest none = (refl, none)
+
+-- a mirror that is not bad has its form, and another name than those before it
+neither : (formed named : Bool) → (not formed || named) ≡ false → (formed ≡ true) × (named ≡ false)
+neither true named fits = (refl, fits)
+neither false named fits = absurd (cc)
+
+not_bad : (before : List Mirror) (mirror : Mirror) (mirrors : List Mirror)
+    → first_bad_after before (mirror ∷ mirrors) ≡ None
+    → (is_bad_after before mirror ≡ false) × (first_bad_after (before ++ mirror ∷ []) mirrors ≡ None)
+not_bad before mirror mirrors none = no_index (is_bad_after before mirror) (length before) _ none
+
+all_formed : (before mirrors : List Mirror)
+    → first_bad_after before mirrors ≡ None → list_all is_mirror mirrors ≡ true
+all_formed before [] none = refl
+all_formed before (mirror ∷ mirrors) none =
+    let good = not_bad before mirror mirrors none in
+    let here = neither (is_mirror mirror) (list_any (is_named mirror.name) before) good.0 in
+    rw here.0 (all_formed (before ++ mirror ∷ []) mirrors good.1)
+
+-- where no mirror has the name, none is counted
+uncounted : (name : List ℕ) (mirrors : List Mirror)
+    → list_any (is_named name) mirrors ≡ false → count_by (is_named name) mirrors ≡ 0
+uncounted name [] none = refl
+uncounted name (mirror ∷ mirrors) none = by_test (is_named name mirror) refl none (uncounted name mirrors)
+  where
+    by_test : (test : Bool) → is_named name mirror ≡ test → (test || list_any (is_named name) mirrors) ≡ false
+        → (list_any (is_named name) mirrors ≡ false → count_by (is_named name) mirrors ≡ 0)
+        → count_by (is_named name) (mirror ∷ mirrors) ≡ 0
+    by_test true here others rest = absurd (cc)
+    by_test false here others rest =
+        let counted = count_by-cons (is_named name) mirror mirrors in
+        let nothing = ap (λ (t : Bool). cond {A = ℕ} t 1 0) here in
+        let none_left = rest others in
+        omega arith
+
+-- one more mirror of another name than those before it leaves each name at most once
+once_more : (name : List ℕ) (before : List Mirror) (mirror : Mirror)
+    → list_any (is_named mirror.name) before ≡ false → count_by (is_named name) before ≤ 1
+    → count_by (is_named name) (before ++ mirror ∷ []) ≤ 1
+once_more name before mirror new once = by_test (is_named name mirror) refl
+  where
+    by_test : (test : Bool) → is_named name mirror ≡ test → count_by (is_named name) (before ++ mirror ∷ []) ≤ 1
+    by_test true here =
+        let same : name ≡ mirror.name = (bytes_eq-Decides name mirror.name).0 here in
+        let none : count_by (is_named name) before ≡ 0 = uncounted name before (rw same new) in
+        let counted = count_by-append (is_named name) before (mirror ∷ []) in
+        let alone = count_by-cons (is_named name) mirror [] in
+        let one = ap (λ (t : Bool). cond {A = ℕ} t 1 0) here in
+        omega arith
+    by_test false here =
+        let counted = count_by-append (is_named name) before (mirror ∷ []) in
+        let alone = count_by-cons (is_named name) mirror [] in
+        let nothing = ap (λ (t : Bool). cond {A = ℕ} t 1 0) here in
+        omega arith
+
+each_once : (name : List ℕ) (before mirrors : List Mirror)
+    → first_bad_after before mirrors ≡ None → count_by (is_named name) before ≤ 1
+    → count_by (is_named name) (before ++ mirrors) ≤ 1
+each_once name before [] none once = rw (append-nil before) once
+each_once name before (mirror ∷ mirrors) none once =
+    let good = not_bad before mirror mirrors none in
+    let here = neither (is_mirror mirror) (list_any (is_named mirror.name) before) good.0 in
+    let more = each_once name (before ++ mirror ∷ []) mirrors good.1 (once_more name before mirror here.1 once) in
+    rw append_assoc at more
+
+-- where no index is told, the mirrors are good
+AreMirrors-none : (mirrors : List Mirror) → bad_mirror mirrors ≡ None → AreMirrors mirrors
+AreMirrors-none [] none = absurd (cc)
+AreMirrors-none (mirror ∷ mirrors) none =
+    let apart = no_index (nat_lt most_mirrors (length (mirror ∷ mirrors))) most_mirrors (first_bad_after [] (mirror ∷ mirrors)) none in
+    record {
+      some = omega arith;
+      few = ltb-false most_mirrors (length (mirror ∷ mirrors)) apart.0;
+      formed = all_formed [] (mirror ∷ mirrors) apart.1;
+      once = λ name. each_once name [] (mirror ∷ mirrors) apart.1 (omega arith);
+    }
+
+by_index : (index : Option ℕ) (mirrors good : List Mirror)
+    → option_map_or (λ i. Err (BadMirror i)) index (Ok mirrors) ≡ Ok good → (index ≡ None) × (mirrors ≡ good)
+by_index None mirrors good read = (refl, cc)
+by_index (Some i) mirrors good read = absurd (cc)
+
+AreMirrors-good_mirrors : (mirrors good : List Mirror) → good_mirrors mirrors ≡ Ok good → AreMirrors good
+AreMirrors-good_mirrors mirrors good read =
+    let told = by_index (bad_mirror mirrors) mirrors good read in
+    rw (← told.1) (AreMirrors-none mirrors told.0)
+
+-- a step that gave a value followed one that did
+bind-ok : {X Y : Type 0} (first : Result X ProfileFault) (step : X → Result Y ProfileFault) (y : Y)
+    → (first >>= step) ≡ Ok y → (x : X) × (first ≡ Ok x) × (step x ≡ Ok y)
+bind-ok (Ok x) step y given = (x, refl, given)
+bind-ok (Err fault) step y given = absurd (cc)
+
+abbrev whole_of : List Mirror → List AppEntry → Profile
+whole_of mirrors apps = record { mirrors = mirrors; apps = apps }
+
+AreMirrors-profile_of : (table : Members) (profile : Profile) → profile_of table ≡ Ok profile → AreMirrors profile.mirrors
+unfolding profile_of
+AreMirrors-profile_of table profile read =
+    let of_schema = bind-ok (schema table) _ profile read in
+    let of_keys = bind-ok (known shape.Profile place.Top table) _ profile of_schema.2 in
+    let of_mirrors = bind-ok (required_tables place.Top (codes "mirror") table) _ profile of_keys.2 in
+    let of_apps = bind-ok (optional_tables place.Top (codes "app") table) _ profile of_mirrors.2 in
+    let mirrors = bind-ok (each place.Top (codes "mirror") mirror_of 0 of_mirrors.0) _ profile of_apps.2 in
+    let apps = bind-ok (each place.Top (codes "app") app_of 0 of_apps.0) _ profile mirrors.2 in
+    let good = bind-ok (good_mirrors mirrors.0) _ profile apps.2 in
+    let whole : whole_of good.0 apps.0 ≡ profile = cc (good.2) in
+    let same : good.0 ≡ profile.mirrors = ap (λ (p : Profile). p.mirrors) whole in
+    rw (← same) (AreMirrors-good_mirrors mirrors.0 good.0 good.1)
+
+pub AreMirrors-profile_of_text : (text : List ℕ) (edits : List Edit) (mirrors : List Mirror)
+    → profile_of_text text ≡ Ok (edits, mirrors) → AreMirrors mirrors
+unfolding profile_of_text
+AreMirrors-profile_of_text text edits mirrors read =
+    let of_table = bind-ok (ok_or (document_of text) NotToml) _ (edits, mirrors) read in
+    let of_profile = bind-ok (profile_of of_table.0) _ (edits, mirrors) of_table.2 in
+    let good = AreMirrors-profile_of of_table.0 of_profile.0 of_profile.1 in
+    let pairs : (edits_of of_profile.0.apps, of_profile.0.mirrors) ≡ (edits, mirrors) = cc (of_profile.2) in
+    let same : of_profile.0.mirrors ≡ mirrors = ap (λ (p : List Edit × List Mirror). p.1) pairs in
+    rw (← same) good

@@ -1,0 +1,12 @@
+-- How a refused profile or script is printed: the fault's code and name; this project's profile.
+use Rattle.std.specs.Prelude.{ℕ, List, ◌++◌, codes, decimal}
+use Rattle.profile_toml.specs.declared.fault.ProfileFault.{ProfileFault}
+use Rattle.profile_toml.specs.declared.fault.ProfileFault.TheVariants.{NotToml, BadSchema, BadEntry, BadMirror, TooManyEdits}
+
+-- the fault's code, a space and its name; of a bad entry also its path, of a bad mirror its index
+abbrev pub fault_text : ProfileFault → List ℕ
+fault_text NotToml = codes "F1 NotToml"
+fault_text BadSchema = codes "F2 BadSchema"
+fault_text (BadEntry path) = codes "F3 BadEntry " ++ path
+fault_text (BadMirror index) = codes "F4 BadMirror " ++ decimal index
+fault_text TooManyEdits = codes "F5 TooManyEdits"

@@ -1,0 +1,11 @@
+pub mod Documents
+pub mod Expansion
+pub mod FaultTexts
+pub mod Fields
+pub mod Laws
+pub mod Lists
+pub mod MirrorLists
+pub mod Places
+pub mod Profiles
+pub mod Reading
+pub mod Scripts

@@ -1,0 +1,46 @@
+use std::error::Error;
+use std::fmt;
+use values::Text;
+
+/// Why a text is no profile, or no script.
+///
+/// The faults stand in the order in which they are looked for.
+#[derive(Debug, Drop)]
+pub enum ProfileFault {
+    /// F1: the text is not TOML, or not UTF-8.
+    NotToml,
+    /// F2: the key `schema` is missing or not the integer 1.
+    BadSchema,
+    /// F3: the path of the first unknown key, missing key, value of a wrong type or negative
+    /// integer, or of the name of a cohort that repeats an earlier one, as
+    /// `app[0].release[2].size`.
+    BadEntry(Text),
+    /// F4: the index of a mirror, from 0: 0 where there is none, 4 where there is a fifth, else
+    /// that of the first one that has not a mirror's form or has the name of an earlier one.
+    BadMirror(usize),
+    /// F5: a script has more than 4096 edits.
+    TooManyEdits,
+}
+
+/// Writes the fault's code and name, and after a space the path or the index.
+impl fmt::Display for ProfileFault {
+    ghost use Rattle.std.specs.Prelude.{Some};
+    ghost use Rattle.profile_toml.specs.FaultTexts.{fault_text};
+
+    ghost output = { λ fault. Some (fault_text fault) };
+
+    fn fmt<W: fmt::Write>(&self, f: &mut fmt::Formatter<W>) -> fmt::Result {
+        match self {
+            ProfileFault::NotToml => f.write_str("F1 NotToml"),
+            ProfileFault::BadSchema => f.write_str("F2 BadSchema"),
+            ProfileFault::BadEntry(path) => {
+                let path = path.as_str();
+                write!(f, "F3 BadEntry {path}")
+            }
+            ProfileFault::BadMirror(index) => write!(f, "F4 BadMirror {index}"),
+            ProfileFault::TooManyEdits => f.write_str("F5 TooManyEdits"),
+        }
+    }
+}
+
+impl Error for ProfileFault {}
