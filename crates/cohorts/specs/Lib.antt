@@ -1,0 +1,3 @@
+pub mod CohortTexts
+pub mod Laws
+pub mod Tracks
