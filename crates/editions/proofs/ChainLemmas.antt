@@ -11,36 +11,36 @@ use Rattle.version.specs.Versions.{is_below}
 use Rattle.catalogue.specs.Lookups.{is_release}
 use Rattle.catalogue.specs.declared.content.App.{App}
 use Rattle.catalogue.specs.declared.content.Release.{Release}
+use Rattle.cohorts.specs.declared.track.Track.{Track}
 use Rattle.editions.specs.Chains.{Begins, IsChain, LeadsNowhere, leads_up, permits_to, release_by, target_of}
 use Rattle.editions.specs.Places.{version_at}
-use Rattle.editions.specs.Tracks.{track_of}
 use Rattle.editions.specs.declared.payload.Payload.{Payload}
 use Rattle.editions.specs.declared.payload.Payload.TheVariants.{Full}
 use Rattle.editions.specs.declared.place.Place.{Place}
 use Rattle.editions.specs.declared.place.Place.TheVariants.{At}
 
 -- what a target is: the release of the track's version
-pub record IsTarget (app : App) (index : ℕ) (release : Release) (version : List ℕ) : Type 0 where
-  pub tracked : (track_of app).target ≡ Some version
+pub record IsTarget (app : App) (track : Track) (index : ℕ) (release : Release) (version : List ℕ) : Type 0 where
+  pub tracked : track.target ≡ Some version
   pub there : slice_get app.releases index ≡ Some release
   pub spelled : release.version ≡ version
 
 -- a chain ends at a target
-no_chain : (app : App) (place : Place) (payloads : List Payload) → target_of app ≡ None → IsChain app place payloads → ⊥
-no_chain app place [] none chain = let e = rw none at chain in cc
-no_chain app place (Full release ∷ payloads) none chain =
-    no_chain app (At release) payloads none chain.1
+no_chain : (app : App) (track : Track) (place : Place) (payloads : List Payload) → target_of app track ≡ None → IsChain app track place payloads → ⊥
+no_chain app track place [] none chain = let e = rw none at chain in cc
+no_chain app track place (Full release ∷ payloads) none chain =
+    no_chain app track (At release) payloads none chain.1
 
 -- without a target no chain leads on
-pub LeadsNowhere-no_target : (app : App) (place : Place) → target_of app ≡ None → LeadsNowhere app place
-LeadsNowhere-no_target app place none payload (others, chain) =
-    no_chain app place (payload ∷ others) none chain
+pub LeadsNowhere-no_target : (app : App) (track : Track) (place : Place) → target_of app track ≡ None → LeadsNowhere app track place
+LeadsNowhere-no_target app track place none payload (others, chain) =
+    no_chain app track place (payload ∷ others) none chain
 
 -- the target is the release of the track's version
-pub IsTarget-target_of : (app : App) (index : ℕ) (release : Release) → target_of app ≡ Some index → release ≡ get_or app.releases index release → (version : List ℕ) × IsTarget app index release version
-IsTarget-target_of app index release target item = cases (track_of app).target refl target
+pub IsTarget-target_of : (app : App) (track : Track) (index : ℕ) (release : Release) → target_of app track ≡ Some index → release ≡ get_or app.releases index release → (version : List ℕ) × IsTarget app track index release version
+IsTarget-target_of app track index release target item = cases track.target refl target
   where
-    cases : (sought : Option (List ℕ)) → (track_of app).target ≡ sought → option_and_then (λ version. position (is_release version) app.releases) sought ≡ Some index → (version : List ℕ) × IsTarget app index release version
+    cases : (sought : Option (List ℕ)) → track.target ≡ sought → option_and_then (λ version. position (is_release version) app.releases) sought ≡ Some index → (version : List ℕ) × IsTarget app track index release version
     cases None tracked found = cc
     cases (Some version) tracked found =
         let at = position-Some (is_release version) app.releases index release found in
@@ -73,16 +73,16 @@ module _ (irreflexive : BelowIsIrreflexive) (transitive : BelowIsTransitive) (to
       cases false level = subst (λ (version : List ℕ). is_below lower version ≡ true) (total middle upper level not_above) below
 
   -- from a place that isn't below the target no chain leads on
-  pub LeadsNowhere-not_below : (app : App) (place : Place) (index : ℕ) (release : Release) (version : List ℕ) → IsTarget app index release version → is_below (version_at app place) release.version ≡ false → LeadsNowhere app place
-  LeadsNowhere-not_below app place index release version target not_below payload (others, chain) =
+  pub LeadsNowhere-not_below : (app : App) (track : Track) (place : Place) (index : ℕ) (release : Release) (version : List ℕ) → IsTarget app track index release version → is_below (version_at app place) release.version ≡ false → LeadsNowhere app track place
+  LeadsNowhere-not_below app track place index release version target not_below payload (others, chain) =
       let permitted : permits_to app version place payload ≡ true = rw target.tracked at chain.0 in
       let parts = permitted_parts app place payload version permitted in
       let below = below_both (version_at app place) parts.0 version parts.1 parts.2 in
       false≢true (sym not_below ∙ (rw target.spelled below))
 
   -- from a place below the target its full package begins a chain
-  pub Begins-target : (app : App) (place : Place) (index : ℕ) (release : Release) (version : List ℕ) → IsTarget app index release version → target_of app ≡ Some index → is_below (version_at app place) release.version ≡ true → Begins app place (Full index)
-  Begins-target app place index release version target sought below =
+  pub Begins-target : (app : App) (track : Track) (place : Place) (index : ℕ) (release : Release) (version : List ℕ) → IsTarget app track index release version → target_of app track ≡ Some index → is_below (version_at app place) release.version ≡ true → Begins app track place (Full index)
+  Begins-target app track place index release version target sought below =
       let up : leads_up (version_at app place) version release ≡ true =
       and_from _ _ below (not_from_false _ (rw target.spelled (irreflexive version))) in
       ([], (rw (target.tracked, target.there) up, rw sought refl))

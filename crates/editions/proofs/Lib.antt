@@ -1,4 +1,5 @@
 mod ChainLemmas
+mod ClientLemmas
 mod FindingLemmas
 mod PlanLemmas
 mod ReplyLemmas

@@ -1,15 +1,15 @@
 -- Every reply has a text.
 use Rattle.std.proofs.Common.{List, map, Option, None, Some, All, ℕ, get_or}
 use Rattle.std.proofs.lemmas.List.Elements.{All-map}
-use Rattle.catalogue.specs.Lookups.{app_of}
 use Rattle.catalogue.specs.declared.content.App.{App}
-use Rattle.catalogue.specs.declared.content.Mirror.{Mirror}
+use Rattle.catalogue.specs.declared.mirror.Mirror.{Mirror}
 use Rattle.catalogue.specs.declared.content.Release.{Release}
 use Rattle.omaha_json.specs.ReplyWriting.{IsCheckWritable, IsStateWritable}
 use Rattle.omaha_json.specs.declared.reply.AppReply.{AppReply}
 use Rattle.omaha_json.specs.declared.request.AppAsk.{AppAsk}
 use Rattle.omaha_json.specs.declared.request.Check.{Check}
 use Rattle.std.specs.Option.{option_map}
+use Rattle.editions.specs.Clients.{Client, client_of}
 use Rattle.editions.specs.Replies.{app_reply, check_reply, Decision, state_of, update_reply}
 
 IsCheckWritable-check_reply : (mirrors : List Mirror) (release : Option Release) (outcome : Option ℕ) → IsCheckWritable (Some (check_reply mirrors release outcome))
@@ -21,15 +21,16 @@ check_written : (mirrors : List Mirror) (app : App) (decision : Decision) (check
 check_written mirrors app decision None = tt
 check_written mirrors app decision (Some check) = IsCheckWritable-check_reply mirrors _ decision.1
 
-IsStateWritable-state_of : (mirrors : List Mirror) (app : Option App) (ask : AppAsk) (decision : Decision) → IsStateWritable (state_of mirrors app ask decision)
+IsStateWritable-state_of : (mirrors : List Mirror) (client : Option Client) (ask : AppAsk) (decision : Decision) → IsStateWritable (state_of mirrors client ask decision)
 IsStateWritable-state_of mirrors None ask decision = tt
-IsStateWritable-state_of mirrors (Some app) ask decision = check_written mirrors app decision ask.check
+IsStateWritable-state_of mirrors (Some client) ask decision =
+    check_written mirrors client.app decision ask.check
 
-IsStateWritable-one : (apps : List App) (mirrors : List Mirror) (asked : AppAsk × Decision) → IsStateWritable (app_reply apps mirrors asked).state
-IsStateWritable-one apps mirrors asked =
-    IsStateWritable-state_of mirrors (app_of apps asked.0.appid) asked.0 asked.1
+IsStateWritable-one : (apps : List App) (session : List ℕ) (mirrors : List Mirror) (asked : AppAsk × Decision) → IsStateWritable (app_reply apps session mirrors asked).state
+IsStateWritable-one apps session mirrors asked =
+    IsStateWritable-state_of mirrors (client_of apps session asked.0) asked.0 asked.1
 
 -- each answer for an app has a text
-pub IsStateWritable-app_reply : (apps : List App) (mirrors : List Mirror) (asked : List (AppAsk × Decision)) → All (λ (reply : AppReply). IsStateWritable reply.state) (map (app_reply apps mirrors) asked)
-IsStateWritable-app_reply apps mirrors asked =
-    All-map (λ (reply : AppReply). IsStateWritable reply.state) (app_reply apps mirrors) asked (λ index one within. IsStateWritable-one apps mirrors (get_or asked index one))
+pub IsStateWritable-app_reply : (apps : List App) (session : List ℕ) (mirrors : List Mirror) (asked : List (AppAsk × Decision)) → All (λ (reply : AppReply). IsStateWritable reply.state) (map (app_reply apps session mirrors) asked)
+IsStateWritable-app_reply apps session mirrors asked =
+    All-map (λ (reply : AppReply). IsStateWritable reply.state) (app_reply apps session mirrors) asked (λ index one within. IsStateWritable-one apps session mirrors (get_or asked index one))

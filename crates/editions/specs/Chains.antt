@@ -1,13 +1,13 @@
--- Which payloads a client may be offered, and the chains of them that lead to its target; this
--- project's profile.
+-- Which payloads a client may be offered on its track, and the chains of them that lead to the
+-- track's target; this project's profile.
 use Rattle.std.specs.Prelude.{◌≡◌, ℕ, ◌&&◌, not, Bool, false, IsTrue, List, [], ◌∷◌, Option, Some, option_and_then, option_map, position, slice_get, sum_by}
 use Rattle.std.specs.Option.{option_map_or}
 use Rattle.version.specs.Versions.{is_below}
 use Rattle.catalogue.specs.Lookups.{is_release}
 use Rattle.catalogue.specs.declared.content.App.{App}
 use Rattle.catalogue.specs.declared.content.Release.{Release}
+use Rattle.cohorts.specs.declared.track.Track.{Track}
 use Rattle.editions.specs.Places.{version_at}
-use Rattle.editions.specs.Tracks.{track_of}
 use Rattle.editions.specs.declared.payload.Payload.{Payload}
 use Rattle.editions.specs.declared.payload.Payload.TheVariants.{Full}
 use Rattle.editions.specs.declared.place.Place.{Place}
@@ -36,34 +36,36 @@ permits_to app target place payload =
     option_map_or (leads_up (version_at app place) target) (release_by app payload) false
 
 -- the payload is permitted from the place; a track without a target permits nothing
-abbrev pub permits : App → Place → Payload → Bool
-permits app place payload =
-    option_map_or (λ target. permits_to app target place payload) (track_of app).target false
+abbrev pub permits : App → Track → Place → Payload → Bool
+permits app track place payload =
+    option_map_or (λ target. permits_to app target place payload) track.target false
 
--- the index of the release that clients are meant to have
-abbrev pub target_of : App → Option ℕ
-target_of app =
-    option_and_then (λ version. position (is_release version) app.releases) (track_of app).target
+-- the index of the release that a track's clients are meant to have
+abbrev pub target_of : App → Track → Option ℕ
+target_of app track =
+    option_and_then (λ version. position (is_release version) app.releases) track.target
 
--- the place is the target
-abbrev pub IsAtTarget : App → Place → Type 0
-IsAtTarget app place = option_map (λ release. At release) (target_of app) ≡ Some place
+-- the place is the track's target
+abbrev pub IsAtTarget : App → Track → Place → Type 0
+IsAtTarget app track place = option_map (λ release. At release) (target_of app track) ≡ Some place
 
 -- a chain: payloads, each permitted from where the one before it leads, that end at the target; no
 -- payload at all is a chain only at the target
-abbrev pub IsChain : App → Place → List Payload → Type 0
-IsChain app place [] = IsAtTarget app place
-IsChain app place (payload ∷ payloads) =
-    IsTrue (permits app place payload) × IsChain app (At (destination_of payload)) payloads
+abbrev pub IsChain : App → Track → Place → List Payload → Type 0
+IsChain app track place [] = IsAtTarget app track place
+IsChain app track place (payload ∷ payloads) =
+    IsTrue (permits app track place payload)
+    × IsChain app track (At (destination_of payload)) payloads
 
 -- a chain's sum: the bytes of its payloads
 abbrev pub sum_of : App → List Payload → ℕ
 sum_of app payloads = sum_by (bytes_of app) payloads
 
 -- the payload begins a chain
-abbrev pub Begins : App → Place → Payload → Type 0
-Begins app place payload = (others : List Payload) × IsChain app place (payload ∷ others)
+abbrev pub Begins : App → Track → Place → Payload → Type 0
+Begins app track place payload =
+    (others : List Payload) × IsChain app track place (payload ∷ others)
 
 -- no chain leads on: none begins with a payload
-abbrev pub LeadsNowhere : App → Place → Type 0
-LeadsNowhere app place = (payload : Payload) → ¬ Begins app place payload
+abbrev pub LeadsNowhere : App → Track → Place → Type 0
+LeadsNowhere app track place = (payload : Payload) → ¬ Begins app track place payload

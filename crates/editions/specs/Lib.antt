@@ -1,4 +1,5 @@
 pub mod Chains
+pub mod Clients
 pub mod Editions
 pub mod FaultTexts
 pub mod Moments
@@ -6,4 +7,3 @@ pub mod Places
 pub mod Plans
 pub mod Refusals
 pub mod Replies
-pub mod Tracks

@@ -1,16 +1,17 @@
 -- What is chosen for each app of a request; this project's profile.
-use Rattle.std.specs.Prelude.{◌≡◌, ◌==◌, ◌&&◌, not, Bool, false, if◌then◌else◌, List, [], length, map, MatchOption, Option, Some, None, option_map, Result, Ok, Err}
+use Rattle.std.specs.Prelude.{◌≡◌, ℕ, ◌==◌, ◌&&◌, not, Bool, false, if◌then◌else◌, List, [], length, map, MatchOption, Option, Some, None, option_map, Result, Ok, Err}
 use Rattle.std.specs.List.{AllZip}
 use Rattle.std.specs.Option.{option_map_or}
 use Rattle.catalogue.specs.Batches.{run}
 use Rattle.catalogue.specs.Histories.{History}
-use Rattle.catalogue.specs.Lookups.{app_of}
 use Rattle.catalogue.specs.declared.content.App.{App}
 use Rattle.catalogue.specs.declared.fault.Refused.{Refused}
+use Rattle.cohorts.specs.declared.track.Track.{Track}
 use Rattle.omaha_json.specs.declared.request.AppAsk.{AppAsk}
 use Rattle.omaha_json.specs.declared.request.Check.{Check}
 use Rattle.omaha_json.specs.declared.request.Request.{Request}
 use Rattle.editions.specs.Chains.{Begins, bytes_of, LeadsNowhere}
+use Rattle.editions.specs.Clients.{Client, client_of}
 use Rattle.editions.specs.Places.{place_of}
 use Rattle.editions.specs.declared.payload.Choice.{Choice}
 use Rattle.editions.specs.declared.payload.Payload.{Payload}
@@ -24,26 +25,27 @@ is_open check = not check.disabled && (length check.prefix == 0)
 abbrev pub wants_update : AppAsk → Bool
 wants_update ask = option_map_or is_open ask.check false
 
--- the app that wants an update, none where it is unknown or wants none
-abbrev pub app_to_update : List App → AppAsk → Option App
-app_to_update apps ask = if wants_update ask then app_of apps ask.appid else None
+-- the client that wants an update, none where its app is unknown or it wants none
+abbrev pub client_to_update : List App → List ℕ → AppAsk → Option Client
+client_to_update apps session ask = if wants_update ask then client_of apps session ask else None
 
--- what is chosen for an app that wants an update: a payload that begins a chain, with its bytes; or
--- nothing, where no chain leads on
-abbrev pub LeadsOn : App → Place → Option Choice → Type 0
-LeadsOn app place None = LeadsNowhere app place
-LeadsOn app place (Some choice) =
-    Begins app place choice.payload × (choice.bytes ≡ bytes_of app choice.payload)
+-- what is chosen for a client that wants an update: a payload that begins a chain, with its bytes;
+-- or nothing, where no chain leads on
+abbrev pub LeadsOn : App → Track → Place → Option Choice → Type 0
+LeadsOn app track place None = LeadsNowhere app track place
+LeadsOn app track place (Some choice) =
+    Begins app track place choice.payload × (choice.bytes ≡ bytes_of app choice.payload)
 
--- what is chosen for an app of a request: nothing, where the app is unknown or wants no update
-abbrev pub IsChosen : List App → AppAsk → Option Choice → Type 0
-IsChosen apps ask choice =
-    MatchOption (app_to_update apps ask) (choice ≡ None)
-    (λ app. LeadsOn app (place_of app ask) choice)
+-- what is chosen for an app of a session's request: nothing, where the app is unknown or wants no
+-- update
+abbrev pub IsChosen : List App → List ℕ → AppAsk → Option Choice → Type 0
+IsChosen apps session ask choice =
+    MatchOption (client_to_update apps session ask) (choice ≡ None)
+    (λ client. LeadsOn client.app client.track (place_of client.app ask) choice)
 
 -- a plan: what is chosen for each app of the request, in its order
 abbrev pub IsPlan : List App → Request → List (Option Choice) → Type 0
-IsPlan apps request plan = AllZip (IsChosen apps) request.apps plan
+IsPlan apps request plan = AllZip (IsChosen apps request.session) request.apps plan
 
 -- the payload that was chosen, if any
 abbrev pub payload_in : Option Choice → Option Payload

@@ -4,9 +4,8 @@
 use Rattle.std.specs.Prelude.{ℕ, ◌<◌, ⊤, List, [], map, IsSome, length, Option, Some, None, option_and_then, option_map, slice_get}
 use Rattle.std.specs.List.{AllZip, zip}
 use Rattle.std.specs.Option.{option_map_or}
-use Rattle.catalogue.specs.Lookups.{app_of}
 use Rattle.catalogue.specs.declared.content.App.{App}
-use Rattle.catalogue.specs.declared.content.Mirror.{Mirror}
+use Rattle.catalogue.specs.declared.mirror.Mirror.{Mirror}
 use Rattle.catalogue.specs.declared.content.Release.{Release}
 use Rattle.omaha_json.specs.declared.reply.AppReply.{AppReply}
 use Rattle.omaha_json.specs.declared.reply.AppState.{AppState}
@@ -20,9 +19,9 @@ use Rattle.omaha_json.specs.declared.reply.Reply.{Reply}
 use Rattle.omaha_json.specs.declared.request.AppAsk.{AppAsk}
 use Rattle.omaha_json.specs.declared.request.Request.{Request}
 use Rattle.editions.specs.Chains.{release_by}
+use Rattle.editions.specs.Clients.{Client, client_of, cohort_of, cohort_text}
 use Rattle.editions.specs.Moments.{elapsed_days, elapsed_seconds}
 use Rattle.editions.specs.Places.{fingerprint_of}
-use Rattle.editions.specs.Tracks.{cohort_text, track_of}
 use Rattle.editions.specs.declared.payload.Choice.{Choice}
 use Rattle.editions.specs.declared.payload.Payload.{Payload}
 
@@ -62,33 +61,33 @@ abbrev pub update_reply : List Mirror → App → Decision → CheckReply
 update_reply mirrors app decision =
     check_reply mirrors (option_and_then (release_by app) decision.0) decision.1
 
--- the answer for a known app, with the answer to its wish for an update, if any
-abbrev pub with_check : App → AppAsk → Option CheckReply → KnownApp
-with_check app ask check =
+-- the answer for a client, with the answer to its wish for an update, if any
+abbrev pub with_check : Client → AppAsk → Option CheckReply → KnownApp
+with_check client ask check =
     record {
-      cohort = cohort_text (track_of app);
-      name = (track_of app).cohort;
+      cohort = cohort_text client;
+      name = (cohort_of client).name;
       ping = ask.ping;
       events = ask.events;
       check = check;
     }
 
--- the answer for a known app; an update is answered where there is a wish for one
-abbrev pub known_app : List Mirror → App → AppAsk → Decision → KnownApp
-known_app mirrors app ask decision =
-    with_check app ask (option_map (λ _. update_reply mirrors app decision) ask.check)
+-- the answer for a client; an update is answered where there is a wish for one
+abbrev pub known_app : List Mirror → Client → AppAsk → Decision → KnownApp
+known_app mirrors client ask decision =
+    with_check client ask (option_map (λ _. update_reply mirrors client.app decision) ask.check)
 
 -- the state of an app: unknown, or known with its answer
-abbrev pub state_of : List Mirror → Option App → AppAsk → Decision → AppState
+abbrev pub state_of : List Mirror → Option Client → AppAsk → Decision → AppState
 state_of mirrors None ask decision = state.Unknown
-state_of mirrors (Some app) ask decision = state.Known (known_app mirrors app ask decision)
+state_of mirrors (Some client) ask decision = state.Known (known_app mirrors client ask decision)
 
--- the answer for one app, under the client's spelling of its identifier
-abbrev pub app_reply : List App → List Mirror → AppAsk × Decision → AppReply
-app_reply apps mirrors asked =
+-- the answer for one app of a session's request, under the client's spelling of its identifier
+abbrev pub app_reply : List App → List ℕ → List Mirror → AppAsk × Decision → AppReply
+app_reply apps session mirrors asked =
     record {
       appid = asked.0.appid;
-      state = state_of mirrors (app_of apps asked.0.appid) asked.0 asked.1;
+      state = state_of mirrors (client_of apps session asked.0) asked.0 asked.1;
     }
 
 -- the answer to a request: one for each of its apps, in its order, repeated ones too
@@ -98,7 +97,9 @@ reply_of apps request payloads outcomes mirrors moment =
     record {
       days = elapsed_days moment;
       seconds = elapsed_seconds moment;
-      apps = map (app_reply apps mirrors) (zip request.apps (zip payloads outcomes));
+      apps =
+          map (app_reply apps request.session mirrors)
+          (zip request.apps (zip payloads outcomes));
     }
 
 -- an outcome of a wish: no mirror, or one of the mirrors, where there was a wish

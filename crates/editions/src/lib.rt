@@ -3,15 +3,17 @@
 //! An `Edition` is seen as its history, the list of its batches; `Edition::next` gives the edition
 //! with one more batch, or says why there is none. `plan` chooses a payload for each app of a
 //! request, and `render` writes the reply by the plan and what the mirrors granted. Read
-//! `specs/Editions.antt` for editions, `specs/Places.antt` and `specs/Chains.antt` for what may be
-//! offered, `specs/Plans.antt` for what is chosen and `specs/Replies.antt` for the reply.
+//! `specs/Editions.antt` for editions, `specs/Clients.antt` for who asks, `specs/Places.antt` and
+//! `specs/Chains.antt` for what may be offered, `specs/Plans.antt` for what is chosen and
+//! `specs/Replies.antt` for the reply.
 //!
-//! It does not publish editions, and grants no bytes: crates above do. A reply's text is that of
-//! `omaha_json`.
+//! It does not publish editions, and grants no bytes: crates above do. A client's track is that of
+//! `cohorts`, and a reply's text that of `omaha_json`.
 
 #![tactic(auto)]
 
 mod choices;
+mod client;
 mod edition;
 mod fault;
 mod moment;
@@ -19,7 +21,6 @@ mod payload;
 mod place;
 mod planning;
 mod rendering;
-mod track;
 
 pub use crate::choices::Plan;
 pub use crate::edition::Edition;

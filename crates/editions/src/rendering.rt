@@ -1,4 +1,4 @@
-ghost use Rattle.std.specs.Prelude.{◌≡◌, ◌≤◌, ◌++◌, ◌∷◌, decimal, length, map, Some, IfOk, IfSome, IsSome};
+ghost use Rattle.std.specs.Prelude.{◌≡◌, ◌<◌, length, map, Some, IfOk, IfSome, IsSome};
 ghost use Rattle.std.specs.List.{zip, AllZip};
 ghost use Rattle.omaha_json.specs.ReplyWriting.{reply_text};
 ghost use Rattle.editions.specs.Plans.{content_of, payloads_of, payload_in, IsChosen, IsPlan};
@@ -7,19 +7,17 @@ ghost use Rattle.editions.specs.Chains.{release_by};
 ghost use Rattle.editions.specs.Places.{fingerprint_of};
 
 use crate::choices::Plan;
+use crate::client::{client_of, cohort_of};
 use crate::edition::Edition;
 use crate::moment::{elapsed_days, elapsed_seconds};
 use crate::payload::{Choice, Payload};
-use crate::track::{default_cohort, find_app};
-use catalogue::{App, Catalogue, Cohort, Mirror, Release};
+use catalogue::{App, Catalogue, Mirror, Release};
+use cohorts::{CohortText, Track};
 use omaha_json::{
     AppAsk, AppReply, AppState, CheckReply, KnownApp, Offer, Part, Reply, Request, write_reply,
 };
 use std::alloc::{AllocError, Global};
 use values::{Items, Text};
-
-// The bucket of every client.
-const BUCKET: u16 = 0;
 
 fn fingerprint_of(alloc: Global, release: &Release) -> Result<Text, AllocError>
     ensures { IfOk result (λ fp. fp ≡ fingerprint_of release.now) }
@@ -90,26 +88,19 @@ fn update_reply(
     Ok(CheckReply::Offered(offer))
 }
 
-// The text by which a client names its track.
-fn cohort_text(alloc: Global, cohort: &Cohort, bucket: u16) -> Result<Text, AllocError>
-    ensures { IfOk result (λ text. text ≡ cohort.now.name ++ 58 ∷ decimal bucket) }
-{
-    let name = cohort.name.as_str();
-    let text = format!(in alloc; "{name}:{bucket}")?;
-    Ok(Text::new(text))
-}
-
 fn known_app(
     alloc: Global,
     app: &App,
+    track: &Track,
     ask: &AppAsk,
     check: Option<CheckReply>,
 ) -> Result<KnownApp, AllocError>
-    requires { 1 ≤ length app.now.cohorts }
-    ensures { IfOk result (λ known. known ≡ with_check app.now ask.now check) }
+    requires { track.now.cohort < length app.now.cohorts }
+    ensures { IfOk result (λ known. known
+        ≡ with_check (record { app = app.now; track = track.now }) ask.now check) }
 {
-    let cohort = default_cohort(app);
-    let text = cohort_text(alloc, cohort, BUCKET)?;
+    let cohort = cohort_of(app, track);
+    let text = CohortText::print(alloc, cohort.name.as_str(), track.bucket)?;
     let name = cohort.name.clone()?;
     Ok(KnownApp {
         cohort: text,
@@ -123,18 +114,19 @@ fn known_app(
 fn app_reply(
     alloc: Global,
     catalogue: &Catalogue,
+    session: &str,
     mirrors: &[Mirror],
     ask: &AppAsk,
     choice: Option<Choice>,
     outcome: Option<usize>,
 ) -> Result<AppReply, AllocError>
-    requires chosen { IsChosen catalogue.now ask.now choice }
+    requires chosen { IsChosen catalogue.now session.now ask.now choice }
     requires decided { IsOutcome mirrors.now choice outcome }
     ensures { IfOk result (λ reply. reply
-        ≡ app_reply catalogue.now mirrors.now (ask.now, (payload_in choice, outcome))) }
+        ≡ app_reply catalogue.now session.now mirrors.now (ask.now, (payload_in choice, outcome))) }
 {
     let appid = ask.appid.clone()?;
-    let Some(app) = find_app(catalogue, ask.appid.as_str()) else {
+    let Some((app, track)) = client_of(catalogue, session, ask) else {
         return Ok(AppReply {
             appid,
             state: AppState::Unknown,
@@ -144,7 +136,7 @@ fn app_reply(
         Some(_) => Some(update_reply(alloc, mirrors, app, choice, outcome)?),
         None => None,
     };
-    let known = known_app(alloc, app, ask, check)?;
+    let known = known_app(alloc, app, &track, ask, check)?;
     Ok(AppReply {
         appid,
         state: AppState::Known(known),
@@ -154,21 +146,22 @@ fn app_reply(
 fn app_replies(
     alloc: Global,
     catalogue: &Catalogue,
+    session: &str,
     mirrors: &[Mirror],
     asks: &[AppAsk],
     plan: &[Option<Choice>],
     outcomes: &[Option<usize>],
 ) -> Result<Vec<AppReply>, AllocError>
-    requires planned { AllZip (IsChosen catalogue.now) asks.now plan.now }
+    requires planned { AllZip (IsChosen catalogue.now session.now) asks.now plan.now }
     requires decided { AreOutcomes mirrors.now plan.now outcomes.now }
     ensures { IfOk result (λ replies. replies.items
-        ≡ map (app_reply catalogue.now mirrors.now)
+        ≡ map (app_reply catalogue.now session.now mirrors.now)
         (zip asks.now (zip (payloads_of plan.now) outcomes.now))) }
 {
     let mut replies = Vec::new(alloc);
     for (index, ask) in asks.iter().enumerate() {
         let (choice, outcome) = (plan[index], outcomes[index]);
-        let reply = app_reply(alloc, catalogue, mirrors, ask, choice, outcome)?;
+        let reply = app_reply(alloc, catalogue, session, mirrors, ask, choice, outcome)?;
         replies.push(reply)?;
     }
     Ok(replies)
@@ -196,8 +189,10 @@ pub fn render(
         outcomes.now mirrors.now moment)) }
 {
     let catalogue = edition.catalogue();
+    let session = request.session.as_str();
     let asks = request.apps.as_slice();
-    let apps = app_replies(alloc, catalogue, mirrors, asks, plan.choices(), outcomes)?;
+    let choices = plan.choices();
+    let apps = app_replies(alloc, catalogue, session, mirrors, asks, choices, outcomes)?;
     write_reply(
         alloc,
         &Reply {

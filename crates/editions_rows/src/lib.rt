@@ -5,8 +5,12 @@
 #![tactic(auto)]
 
 #[cfg(test)]
+mod asking;
+#[cfg(test)]
 mod batches;
 #[cfg(test)]
 mod histories;
 #[cfg(test)]
 mod replies;
+#[cfg(test)]
+mod tracks;

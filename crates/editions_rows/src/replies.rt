@@ -1,80 +1,9 @@
-ghost use Rattle.std.specs.Prelude.{◌≡◌, ◌<◌, length, IfOk, IfSome};
-ghost use Rattle.editions.specs.Replies.{AreOutcomes, IsOutcome};
-
+use crate::asking::{body, reply, request};
 use crate::batches::{FIRST, SECOND, THIRD, small};
-use catalogue::Mirror;
-use editions::{Choice, Edition, Payload, Plan, plan, render};
-use omaha_json::{Request, read_request};
+use editions::{Choice, Edition, Payload, plan};
+use omaha_json::read_request;
 use std::alloc::{AllocError, Global};
 use std::test::Fail;
-use values::Text;
-
-fn mirror(alloc: Global) -> Result<Mirror, AllocError> {
-    let name = Text::copy_of(alloc, "m0")?;
-    let codebase = Text::copy_of(alloc, "http://m0.example/p/")?;
-    let budget = 1000000;
-    Ok(Mirror {
-        name,
-        codebase,
-        budget,
-    })
-}
-
-// The outcome of a wish that one mirror grants, or none.
-fn outcome(choice: Option<Choice>, mirrors: &[Mirror], granted: Option<usize>) -> Option<usize>
-    requires { IfSome granted (λ mirror. mirror < length mirrors.now) }
-    ensures { IsOutcome mirrors.now choice result }
-{
-    match choice {
-        Some(_) => granted,
-        None => None,
-    }
-}
-
-// The outcomes of a plan whose wishes are all granted by one mirror, or by none.
-fn outcomes(
-    alloc: Global,
-    plan: &Plan,
-    mirrors: &[Mirror],
-    granted: Option<usize>,
-) -> Result<Vec<Option<usize>>, AllocError>
-    requires { IfSome granted (λ mirror. mirror < length mirrors.now) }
-    ensures { IfOk result (λ outcomes. AreOutcomes mirrors.now plan.now outcomes.items) }
-{
-    let mut outcomes = Vec::new(alloc);
-    for choice in plan.choices() {
-        outcomes.push(outcome(*choice, mirrors, granted))?;
-    }
-    Ok(outcomes)
-}
-
-// The reply to a request whose wishes are granted by the only mirror, or by none.
-fn reply(
-    alloc: Global,
-    edition: &Edition,
-    request: &Request,
-    is_granted: bool,
-    moment: u64,
-) -> Result<Vec<u8>, Fail> {
-    let plan = plan(alloc, edition, request)?;
-    let mirrors = [mirror(alloc)?];
-    let granted = if is_granted { Some(0) } else { None };
-    let outcomes = outcomes(alloc, &plan, &mirrors, granted)?;
-    Ok(render(alloc, edition, request, &plan, &outcomes, &mirrors, moment)?)
-}
-
-// A request that asks so for its apps.
-fn request(alloc: Global, apps: &str) -> Result<Request, Fail> {
-    let text = format!(in alloc; "{{\"request\":{{\"app\":[{apps}],\"protocol\":\"3.1\"}}}}")?;
-    Ok(read_request(alloc, text.as_str().as_bytes())?)
-}
-
-// A reply that answers so for its apps, at that day and second.
-fn body(alloc: Global, apps: &str, days: u64, seconds: u64) -> Result<String, AllocError> {
-    format!(in alloc;
-        ")]}}'\n{{\"response\":{{\"app\":[{apps}],\"daystart\":{{\"elapsed_days\":{days},\"elapsed_seconds\":{seconds}}},\"protocol\":\"3.1\"}}}}"
-    )
-}
 
 #[test]
 fn tells_days_and_seconds(rt: HostRuntime) -> Result<(), Fail> {
@@ -118,7 +47,7 @@ const UP_TO_DATE: &str =
 // A client at the release of a hash, with what else it says.
 fn at(alloc: Global, hash: &str, version: &str, check: &str) -> Result<String, AllocError> {
     format!(in alloc;
-        "{{\"appid\":\"mini\",\"packages\":{{\"package\":[{{\"fp\":\"1.{hash}\"}}]}},\"updatecheck\":{check},\"version\":\"{version}\"}}"
+        "{{\"appid\":\"mini\",\"cohort\":\"stable:0\",\"packages\":{{\"package\":[{{\"fp\":\"1.{hash}\"}}]}},\"updatecheck\":{check},\"version\":\"{version}\"}}"
     )
 }
 

@@ -6,4 +6,4 @@ use Rattle.editions.proofs.rendering.app_replies.Given as goal
 
 abbrev pub invariant-loop-index : goal.invariant-loop-index
 invariant-loop-index l =
-    l.replies.items ≡ map (app_reply l.catalogue l.mirrors) (take l.index (zip l.asks (zip (payloads_of l.plan) l.outcomes)))
+    l.replies.items ≡ map (app_reply l.catalogue l.session l.mirrors) (take l.index (zip l.asks (zip (payloads_of l.plan) l.outcomes)))

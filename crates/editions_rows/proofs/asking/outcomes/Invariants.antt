@@ -1,6 +1,6 @@
 use Rattle.std.proofs.Common.{take}
 use Rattle.editions.specs.Replies.{AreOutcomes}
-use Rattle.editions_rows.proofs.replies.outcomes.Given as goal
+use Rattle.editions_rows.proofs.asking.outcomes.Given as goal
 
 abbrev pub invariant-loop-choice : goal.invariant-loop-choice
 invariant-loop-choice l = AreOutcomes l.mirrors (take l.choice-index l.plan) l.outcomes.items

@@ -1,0 +1,29 @@
+-- Who asks in a request: for each of its apps that the catalogue has, a client on its track; this
+-- project's profile.
+use Rattle.std.specs.Prelude.{ℕ, List, Option, option_map}
+use Rattle.catalogue.specs.Lookups.{app_of}
+use Rattle.catalogue.specs.declared.content.App.{App}
+use Rattle.catalogue.specs.declared.content.Cohort.{Cohort}
+use Rattle.cohorts.specs.CohortTexts.{printed}
+use Rattle.cohorts.specs.Tracks.{cohort_at, track_of}
+use Rattle.cohorts.specs.declared.track.Track.{Track}
+use Rattle.omaha_json.specs.declared.request.AppAsk.{AppAsk}
+
+-- a client of an app, on its track
+pub record Client : Type 0 where
+  pub app : App
+  pub track : Track
+
+-- the client of a session that asks for an app, none where the app is unknown
+abbrev pub client_of : List App → List ℕ → AppAsk → Option Client
+client_of apps session ask =
+    option_map (λ app. record { app = app; track = track_of app.cohorts ask session })
+    (app_of apps ask.appid)
+
+-- the cohort that serves a client
+abbrev pub cohort_of : Client → Cohort
+cohort_of client = cohort_at client.app.cohorts client.track.cohort
+
+-- the text by which a client names its cohort and its bucket
+abbrev pub cohort_text : Client → List ℕ
+cohort_text client = printed (cohort_of client).name client.track.bucket
