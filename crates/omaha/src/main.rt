@@ -20,7 +20,7 @@ fn main(rt: HostRuntime) -> ExitCode {
     let mut output = rt.stdout();
     let mut faults = rt.stderr();
     ExitCode::from(match words(&rt) {
-        Ok(words) => run(rt.alloc(), &words, &mut input, &mut output, &mut faults),
+        Ok(words) => run(&rt, &words, &mut input, &mut output, &mut faults),
         Err(error) => refuse(&error, &mut faults),
     })
 }

@@ -1,3 +1,4 @@
 mod AnswerLemmas
 mod BuiltinLemmas
+mod CommandLemmas
 mod IntakeLemmas

@@ -1,7 +1,8 @@
--- What the program answers to an input: the reply to the request that it is, from the built-in
--- catalogue at the moment 0; or its first fault. This project's profile.
-use Rattle.std.specs.Prelude.{◌≡◌, ℕ, List, [], ◌∷◌, map, Option, option_map, Result, Ok, Err}
-use Rattle.editions.specs.Plans.{IsPlan, payloads_of}
+-- What the program answers to an input: the reply to the request that it is, from a catalogue at a
+-- moment; or its first fault. This project's profile.
+use Rattle.std.specs.Prelude.{◌≡◌, ℕ, List, [], ◌∷◌, map, Option, Some, None, option_and_then, Result, Ok, Err}
+use Rattle.catalogue.specs.declared.mirror.Mirror.{Mirror}
+use Rattle.editions.specs.Plans.{IsPlan, content_of, payloads_of}
 use Rattle.editions.specs.Replies.{reply_of}
 use Rattle.editions.specs.declared.payload.Choice.{Choice}
 use Rattle.omaha_json.specs.ReplyWriting.{reply_text}
@@ -10,25 +11,31 @@ use Rattle.omaha_json.specs.declared.fault.RequestFault.{RequestFault}
 use Rattle.omaha_json.specs.declared.request.Request.{Request}
 use Rattle.values.specs.Reading.{Explains}
 use Rattle.values.specs.declared.read_error.ReadError.{ReadError}
-use Rattle.omaha_cli.specs.Builtin.{builtin_apps, builtin_mirror}
+use Rattle.omaha_cli.specs.declared.service.Service.{Service}
 
--- every wish is granted by the one mirror
-abbrev pub granted : List (Option Choice) → List (Option ℕ)
-granted plan = map (option_map (λ chosen. 0)) plan
+-- the first mirror, where there is one
+abbrev pub first_mirror : List Mirror → Option ℕ
+first_mirror [] = None
+first_mirror (mirror ∷ mirrors) = Some 0
+
+-- every wish is granted by the first mirror
+abbrev pub granted : List Mirror → List (Option Choice) → List (Option ℕ)
+granted mirrors plan = map (option_and_then (λ chosen. first_mirror mirrors)) plan
 
 -- the reply's text by a plan
-abbrev pub reply_by : List (Option Choice) → Request → List ℕ
-reply_by plan request =
+abbrev pub reply_by : Service → ℕ → List (Option Choice) → Request → List ℕ
+reply_by service moment plan request =
     reply_text
-    (reply_of builtin_apps request (payloads_of plan) (granted plan) (builtin_mirror ∷ []) 0)
+    (reply_of (content_of service.edition) request (payloads_of plan) (granted service.mirrors plan) service.mirrors moment)
 
--- the text is the reply by some plan of the built-in catalogue for the request
-pub record IsReply (request : Request) (text : List ℕ) : Type 0 where
+-- the text is the reply by some plan of the catalogue for the request
+pub record IsReply (service : Service) (moment : ℕ) (request : Request) (text : List ℕ) : Type 0 where
   pub plan : List (Option Choice)
-  pub planned : IsPlan builtin_apps request plan
-  pub written : text ≡ reply_by plan request
+  pub planned : IsPlan (content_of service.edition) request plan
+  pub written : text ≡ reply_by service moment plan request
 
 -- the reply to the request that the input is; or the input's first fault, or want of memory
-abbrev pub Answers : List ℕ → Result (List ℕ) (ReadError RequestFault) → Type 0
-Answers input (Ok reply) = (request : Request) × (request_of_text input ≡ Ok request) × IsReply request reply
-Answers input (Err error) = Explains error (request_of_text input)
+abbrev pub Answers : Service → ℕ → List ℕ → Result (List ℕ) (ReadError RequestFault) → Type 0
+Answers service moment input (Ok reply) =
+    (request : Request) × (request_of_text input ≡ Ok request) × IsReply service moment request reply
+Answers service moment input (Err error) = Explains error (request_of_text input)

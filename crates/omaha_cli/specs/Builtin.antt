@@ -2,9 +2,10 @@
 -- with two releases, whose one cohort is meant to have the second; and its mirror.
 use Rattle.std.specs.Prelude.{ℕ, false, List, [], ◌∷◌, codes, replicate, Some, None}
 use Rattle.catalogue.specs.declared.content.App.{App}
-use Rattle.catalogue.specs.declared.content.Mirror.{Mirror}
+use Rattle.catalogue.specs.declared.mirror.Mirror.{Mirror}
 use Rattle.catalogue.specs.declared.edit.Edit.{Edit}
 use Rattle.catalogue.specs.declared.edit.Edit.TheVariants as edit
+use Rattle.omaha_cli.specs.declared.service.Service.{Service}
 
 -- the app `mini`, with its default cohort `stable`
 abbrev pub added_app : Edit
@@ -68,3 +69,7 @@ builtin_apps =
           ∷ [];
       diffs = [];
     } ∷ []
+
+-- what is answered from without a profile
+abbrev pub builtin_service : Service
+builtin_service = record { edition = builtin_batch ∷ []; mirrors = builtin_mirror ∷ [] }

@@ -1,5 +1,5 @@
 -- What the program reads; this project's profile.
-use Rattle.std.specs.Prelude.{ℕ}
+use Rattle.std.specs.Prelude.{◌≡◌, ◌⊎◌, ℕ}
 use Rattle.omaha_cli.specs.declared.failure.Failure.{Failure}
 use Rattle.omaha_cli.specs.declared.failure.Failure.TheVariants as failure
 
@@ -9,7 +9,4 @@ most_input = 262144
 
 -- a failure of reading: of the device, by too long an input, or for want of memory
 abbrev pub IsOfInput : Failure → Type 0
-IsOfInput failure.Read = Unit {0}
-IsOfInput (failure.Request fault) = ⊥
-IsOfInput failure.Memory = Unit {0}
-IsOfInput failure.Write = ⊥
+IsOfInput refusal = (refusal ≡ failure.Read) ⊎ (refusal ≡ failure.Memory)

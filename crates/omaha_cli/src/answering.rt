@@ -1,35 +1,48 @@
-ghost use Rattle.std.specs.Prelude.{◌≡◌, IfOk, IfErr, Ok, Err};
-ghost use Rattle.omaha_cli.specs.Answering.{Answers, granted};
+ghost use Rattle.std.specs.Prelude.{◌≡◌, IfOk, IfErr, Ok, Err, nat_lt, length, if◌then◌else◌, Some, None};
+ghost use Rattle.omaha_cli.specs.Answering.{Answers, first_mirror, granted};
 
-use crate::builtin::{builtin_edition, builtin_mirror};
+use crate::service::Service;
+use catalogue::Mirror;
 use editions::{Plan, plan, render};
 use omaha_json::{RequestFault, read_request};
 use std::alloc::{AllocError, Global};
 use values::ReadError;
 
-// Every wish is granted by the one mirror.
-fn granted(alloc: Global, plan: &Plan) -> Result<Vec<Option<usize>>, AllocError>
-    ensures { IfOk result (λ outcomes. outcomes.items ≡ granted plan.now) }
+fn first_mirror(mirrors: &[Mirror]) -> Option<usize>
+    ensures { result ≡ first_mirror mirrors.now }
 {
+    if mirrors.is_empty() { None } else { Some(0) }
+}
+
+// Every wish is granted by the first mirror.
+fn granted(alloc: Global, mirrors: &[Mirror], plan: &Plan) -> Result<Vec<Option<usize>>, AllocError>
+    ensures { IfOk result (λ outcomes. outcomes.items ≡ granted mirrors.now plan.now) }
+{
+    let first = first_mirror(mirrors);
     plan.choices()
         .iter()
-        .map(|choice| choice.map(|_| 0))
+        .map(|choice| choice.and_then(|_| first))
         .collect(alloc)
 }
 
-/// Answers an input from the built-in catalogue, at the moment 0.
+/// Answers an input from a catalogue, at a moment in seconds since 1 January 1970 UTC.
 ///
 /// The answer is the reply to the request that the input is, and nothing else; or the input's
 /// first fault, as `omaha_json::read_request` tells it.
-pub fn answer(alloc: Global, input: &[u8]) -> Result<Vec<u8>, ReadError<RequestFault>>
-    ensures ok { IfOk result (λ reply. Answers input.now (Ok reply.items)) }
-    ensures refused { IfErr result (λ error. Answers input.now (Err error)) }
+pub fn answer(
+    alloc: Global,
+    service: &Service,
+    moment: u64,
+    input: &[u8],
+) -> Result<Vec<u8>, ReadError<RequestFault>>
+    ensures ok { IfOk result (λ reply. Answers service.now moment input.now (Ok reply.items)) }
+    ensures refused { IfErr result (λ error. Answers service.now moment input.now (Err error)) }
 {
     let request = read_request(alloc, input)?;
-    let edition = builtin_edition(alloc)?;
-    let mirrors = [builtin_mirror(alloc)?];
-    let plan = plan(alloc, &edition, &request)?;
-    let outcomes = granted(alloc, &plan)?;
-    let reply = render(alloc, &edition, &request, &plan, &outcomes, &mirrors, 0)?;
+    let edition = &service.edition;
+    let mirrors = service.mirrors.as_slice();
+    let plan = plan(alloc, edition, &request)?;
+    let outcomes = granted(alloc, mirrors, &plan)?;
+    let reply = render(alloc, edition, &request, &plan, &outcomes, mirrors, moment)?;
     Ok(reply)
 }

@@ -1,9 +1,17 @@
-//! Runs of the program over readers and writers in memory, and over ones that fail.
+//! Runs of the program over files, readers and writers in memory, and over ones that fail.
 //!
 //! It has tests alone, so that `omaha_cli` itself is proved once.
 
 #![tactic(auto)]
 
+#[cfg(test)]
+mod command_tests;
+#[cfg(test)]
+mod ending;
+#[cfg(test)]
+mod shelf;
+#[cfg(test)]
+mod staged;
 #[cfg(test)]
 mod streams;
 #[cfg(test)]

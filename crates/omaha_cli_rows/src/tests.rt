@@ -1,7 +1,8 @@
+use crate::ending::{Ending, ends};
 use crate::streams::{Blank, Breaks, Full};
 use omaha_cli::run;
-use std::alloc::Global;
 use std::process::Abort;
+use std::rt::Files;
 use std::test::Fail;
 
 // A client at the first release, and the offer of the second.
@@ -18,34 +19,31 @@ const LATEST: &str =
 const NONE: &str =
     ")]}'\n{\"response\":{\"app\":[{\"appid\":\"mini\",\"cohort\":\"stable:0\",\"cohortname\":\"stable\",\"status\":\"ok\",\"updatecheck\":{\"status\":\"noupdate\"}}],\"daystart\":{\"elapsed_days\":0,\"elapsed_seconds\":0},\"protocol\":\"3.1\"}}";
 
-// What a run without words writes for an input.
-fn answers(
-    rt: &impl Abort,
-    alloc: Global,
+// Tests a run over the built-in catalogue, without words and with `once`.
+fn answers<R: Abort + Files + AllocGlobal>(
+    rt: &R,
     input: &str,
     status: u8,
     output: &str,
     faults: &str,
 ) -> Result<(), Fail> {
-    let words = Vec::new(alloc);
-    let mut reader = input.as_bytes();
-    let mut written = Vec::new(alloc);
-    let mut told = Vec::new(alloc);
-    let ended = run(alloc, &words, &mut reader, &mut written, &mut told);
-    assert_eq!(rt; ended, status);
-    assert_eq!(rt; written.as_slice(), output.as_bytes());
-    assert_eq!(rt; told.as_slice(), faults.as_bytes());
-    Ok(())
+    let wanted = Ending {
+        status,
+        output,
+        faults,
+    };
+    ends(rt, rt, &[], input, wanted)?;
+    ends(rt, rt, &["once"], input, wanted)
 }
 
 #[test]
 fn offers_the_second_release(rt: HostRuntime) -> Result<(), Fail> {
-    answers(&rt, rt.alloc(), OLD, 0, OFFER, "")
+    answers(&rt, OLD, 0, OFFER, "")
 }
 
 #[test]
 fn has_no_update_at_the_target(rt: HostRuntime) -> Result<(), Fail> {
-    answers(&rt, rt.alloc(), LATEST, 0, NONE, "")
+    answers(&rt, LATEST, 0, NONE, "")
 }
 
 #[test]
@@ -64,7 +62,7 @@ fn refuses_with_one_line(rt: HostRuntime) -> Result<(), Fail> {
         ),
     ];
     for (input, line) in rows {
-        answers(&rt, rt.alloc(), input, 1, "", line)?;
+        answers(&rt, input, 1, "", line)?;
     }
     Ok(())
 }
@@ -76,7 +74,7 @@ fn refuses_an_input_that_breaks_off_or_is_too_long(rt: HostRuntime) -> Result<()
     for left in [0, 1, 40] {
         let mut written = Vec::new(alloc);
         let mut told = Vec::new(alloc);
-        let ended = run(alloc, &words, &mut Breaks { left }, &mut written, &mut told);
+        let ended = run(&rt, &words, &mut Breaks { left }, &mut written, &mut told);
         assert_eq!(rt; ended, 1);
         assert_eq!(rt; told.as_slice(), b"omaha: read\n".as_slice());
     }
@@ -84,7 +82,7 @@ fn refuses_an_input_that_breaks_off_or_is_too_long(rt: HostRuntime) -> Result<()
     for (left, line) in rows {
         let mut written = Vec::new(alloc);
         let mut told = Vec::new(alloc);
-        let ended = run(alloc, &words, &mut Blank { left }, &mut written, &mut told);
+        let ended = run(&rt, &words, &mut Blank { left }, &mut written, &mut told);
         assert_eq!(rt; ended, 1);
         assert_eq!(rt; told.as_slice(), line.as_bytes());
     }
@@ -98,24 +96,9 @@ fn tells_that_a_reply_was_not_written(rt: HostRuntime) -> Result<(), Fail> {
     for left in 0..OFFER.len() {
         let mut reader = OLD.as_bytes();
         let mut told = Vec::new(alloc);
-        let ended = run(alloc, &words, &mut reader, &mut Full { left }, &mut told);
+        let ended = run(&rt, &words, &mut reader, &mut Full { left }, &mut told);
         assert_eq!(rt; ended, 1);
         assert_eq!(rt; told.as_slice(), b"omaha: write\n".as_slice());
     }
-    Ok(())
-}
-
-#[test]
-fn takes_no_words(rt: HostRuntime) -> Result<(), Fail> {
-    let alloc = rt.alloc();
-    let mut words = Vec::new(alloc);
-    words.push(String::from_str(alloc, "once")?)?;
-    let mut reader = OLD.as_bytes();
-    let mut written = Vec::new(alloc);
-    let mut told = Vec::new(alloc);
-    let ended = run(alloc, &words, &mut reader, &mut written, &mut told);
-    assert_eq!(rt; ended, 2);
-    assert_eq!(rt; written.len(), 0);
-    assert_eq!(rt; reader.len(), OLD.len());
     Ok(())
 }

@@ -1,0 +1,73 @@
+-- What the options of the command line spell.
+use Rattle.std.proofs.Common.{◌≡◌, ◌≢◌, ℕ, ◌<◌, ◌^◌, Bool, true, false, not, ◌&&◌, List, [], ◌∷◌, length, inl, inr, subst, ap₂, Option, Some, None, Result, Ok, Err, refl, ap, sym, ◌∙◌, arith}
+use Rattle.std.specs.Option.{option_map, option_map_or}
+use Rattle.std.specs.Result.{IsErrAnd, OkIff, result_ok}
+use Rattle.std.specs.Str.{all_ascii_digits}
+use Rattle.std.specs.Str.Parse.{digits_value}
+use Rattle.std.proofs.lemmas.Bool.Decides.{nat_tests}
+use Rattle.clap.specs.Kinds.{or_else}
+use Rattle.clap.specs.Words.{App, FailsBy, HasKind, Kinds, Row, Text, fault_of, is_simple, is_simple_and_free, kind_of, subcommand_of}
+use Rattle.clap.specs.declared.error.Error.{Error}
+use Rattle.clap.specs.declared.error.kind.ErrorKind.TheVariants.{OutOfMemory}
+use Rattle.omaha_cli.specs.Running.{HasMistake}
+use Rattle.omaha_cli.specs.Commands.{faults_of, faults_of_once, moment_of, omaha_app}
+use Rattle.omaha_cli.specs.declared.command_line.Once.{Once}
+
+-- the moment that std's `parse` gives for a text with no `+` in front
+pub moment_of-from_parse :
+    {E : Type 0} (digits : List ℕ) (parsed : Result ℕ E) →
+    OkIff parsed ((all_ascii_digits digits ≡ true) × (0 < length digits) × (digits_value 10 digits < 2 ^ 64)) (digits_value 10 digits) →
+    result_ok parsed ≡ moment_of digits
+moment_of-from_parse digits (Ok number) fits = grind (arith, nat_tests)
+moment_of-from_parse digits (Err error) fails = grind (arith, nat_tests)
+
+-- the third of three tests that are true says no to its question
+pub third_denies : (first second asked others : Bool) → (first && (second && (not asked && others))) ≡ true → asked ≡ false
+third_denies true true false others all = refl
+third_denies true true true others all = cc
+third_denies true false asked others all = cc
+third_denies false second asked others all = cc
+
+-- `clap` reads the program's commands by its plain rules
+pub omaha_app-is_simple : is_simple omaha_app ≡ true
+omaha_app-is_simple = refl
+
+pub omaha_app-is_simple_and_free : is_simple_and_free omaha_app ≡ true
+omaha_app-is_simple_and_free = refl
+
+-- an error of one of the first kinds has one of both
+has_first : (first next : Kinds) (error : Error) → HasKind first error → HasKind (or_else first next) error
+has_first [] next error (inl memory) = inl memory
+has_first [] next error (inr among) = elim among [ ]
+has_first (kind ∷ kinds) next error has = has
+
+fails_first : (words : List Text) (result : Result Once Error) (error : Error) → HasKind (fault_of omaha_app words) error → IsErrAnd result (λ told. told ≡ error) → FailsBy (faults_of words) result
+fails_first words (Ok once) error has same = elim same [ ]
+fails_first words (Err told) error has same =
+    subst (λ (e : Error). HasKind (faults_of words) e) (sym same) (has_first (fault_of omaha_app words) _ error has)
+
+-- what `clap` finds wrong with the words is wrong with them
+pub fails_by_clap : (app : App) (words : List Text) (result : Result Once Error) (error : Error) → app ≡ omaha_app → (is_simple_and_free app ≡ true → HasKind (fault_of app words) error) → IsErrAnd result (λ told. told ≡ error) → FailsBy (faults_of words) result
+fails_by_clap app words result error is has same =
+    fails_first words result error
+    (subst (λ (a : App). is_simple_and_free a ≡ true → HasKind (fault_of a words) error) is has omaha_app-is_simple_and_free)
+    same
+
+options_of : (options : List Row) (found : Option (Text × List Row)) → option_map (λ named. named.1) found ≡ Some options → option_map_or (λ named. faults_of_once named.1) found [] ≡ faults_of_once options
+options_of options None some = cc
+options_of options (Some found) some = ap (λ (o : Option (List Row)). option_map_or faults_of_once o []) some
+
+-- where `clap` finds nothing wrong, what is wrong with the options of `once` is wrong with the words
+pub fails_by_options : (app : App) (words : List Text) (options : List Row) (result : Result Once Error) (found : Option (Text × List Row)) → app ≡ omaha_app → (is_simple_and_free app ≡ true → fault_of app words ≡ []) → (is_simple app ≡ true → found ≡ subcommand_of app words) → Some options ≡ option_map (λ named. named.1) found → FailsBy (faults_of_once options) result → FailsBy (faults_of words) result
+fails_by_options app words options result found is none names named fails =
+    let nothing : fault_of omaha_app words ≡ [] =
+    subst (λ (a : App). is_simple_and_free a ≡ true → fault_of a words ≡ []) is none omaha_app-is_simple_and_free in
+    let entered : found ≡ subcommand_of omaha_app words =
+    subst (λ (a : App). is_simple a ≡ true → found ≡ subcommand_of a words) is names omaha_app-is_simple in
+    let met = sym (ap (option_map (λ n. n.1)) entered) ∙ sym named in
+    subst (λ (kinds : Kinds). FailsBy kinds result) (sym (ap₂ or_else nothing (options_of options (subcommand_of omaha_app words) met))) fails
+
+-- an error that isn't want of memory is a mistake, or help
+pub HasMistake-kind : (faults : Kinds) (error : Error) → HasKind faults error → kind_of error ≢ OutOfMemory → HasMistake faults
+HasMistake-kind faults error (inl memory) other = absurd (other memory)
+HasMistake-kind faults error (inr among) other = (kind_of error, among)

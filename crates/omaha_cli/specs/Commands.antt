@@ -1,0 +1,71 @@
+-- What the words of the command line ask for, over the words as `clap` reads them; this project's
+-- profile.
+use Rattle.std.specs.Prelude.{ℕ, ◌^◌, ◌==◌, ◌&&◌, Bool, true, List, [], ◌∷◌, codes, length, nat_lt, slice_index, if◌then◌else◌, Option, Some, None, unwrap_or}
+use Rattle.std.specs.Option.{option_map_or}
+use Rattle.std.specs.Str.{all_ascii_digits}
+use Rattle.std.specs.Str.Parse.{digits_value}
+use Rattle.clap.specs.Kinds.{or_else}
+use Rattle.clap.specs.Simple.{on_top}
+use Rattle.clap.specs.Words.{App, Kinds, Row, Rule, Text, fault_of, first_of, new_app, new_rule, subcommand_of, with_rule, with_subcommand}
+use Rattle.clap.specs.declared.error.kind.ErrorKind.TheVariants.{ValueValidation}
+use Rattle.omaha_cli.specs.declared.command_line.Once.{Once}
+
+-- an option `--name VALUE`
+abbrev pub option_named : List ℕ → Rule
+option_named name = record (new_rule name) { long = Some name; value_names = 1 }
+
+-- the command `once`, with its two options
+abbrev pub once_app : App
+once_app =
+    with_rule (with_rule (new_app (codes "once")) (option_named (codes "profile")))
+    (option_named (codes "moment"))
+
+-- the program's commands; its words are those behind its name
+abbrev pub omaha_app : App
+omaha_app =
+    with_subcommand (on_top (λ top. record top { no_binary_name = true }) (new_app (codes "omaha")))
+    once_app.top
+
+-- the text begins with a `+`
+abbrev pub has_plus : List ℕ → Bool
+has_plus text = slice_index text 0 == 43
+
+-- the text is decimal digits, at least one, of a number below 2^64
+abbrev pub is_moment : List ℕ → Bool
+is_moment text =
+    nat_lt 0 (length text) && all_ascii_digits text && nat_lt (digits_value 10 text) (2 ^ 64)
+
+-- the moment that a text spells
+abbrev pub moment_of : List ℕ → Option ℕ
+moment_of text = if is_moment text then Some (digits_value 10 text) else None
+
+-- the moment that is asked for, 0 where none is; or none where its text spells none
+abbrev pub moment_in : List Row → Option ℕ
+moment_in options = option_map_or moment_of (first_of (codes "moment") options) (Some 0)
+
+-- what the options of `once` ask for
+abbrev pub once_in : List Row → Once
+once_in options =
+    record {
+      profile = first_of (codes "profile") options;
+      moment = unwrap_or (moment_in options) 0;
+    }
+
+-- what is wrong with the options of `once`
+abbrev pub faults_of_once : List Row → Kinds
+faults_of_once options = option_map_or (λ moment. []) (moment_in options) (ValueValidation ∷ [])
+
+-- without a command: the built-in catalogue, at the moment 0
+abbrev pub plain_once : Once
+plain_once = record { profile = None; moment = 0 }
+
+-- what the words ask for
+abbrev pub once_of : List Text → Once
+once_of words = option_map_or (λ named. once_in named.1) (subcommand_of omaha_app words) plain_once
+
+-- what is wrong with the words, or the help that they ask for: what `clap` finds, else what is wrong
+-- with the options
+abbrev pub faults_of : List Text → Kinds
+faults_of words =
+    or_else (fault_of omaha_app words)
+    (option_map_or (λ named. faults_of_once named.1) (subcommand_of omaha_app words) [])

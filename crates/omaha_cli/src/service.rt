@@ -1,0 +1,53 @@
+// What the program answers from, and how a profile makes it.
+
+ghost use Rattle.std.specs.Prelude.{◌≡◌, IfOk};
+ghost use Rattle.editions.specs.Plans.{content_of};
+ghost use Rattle.omaha_cli.specs.Builtin.{builtin_apps, builtin_service};
+ghost use Rattle.omaha_cli.specs.Services.{Gives, service_of_text};
+
+use crate::builtin::{builtin_edition, builtin_mirror};
+use crate::failure::Failure;
+use catalogue::Mirror;
+use editions::{Edition, NextError};
+use profile_toml::read_profile;
+use std::alloc::{AllocError, Global};
+use values::Items;
+
+/// What requests are answered from: an edition, and the mirrors of its packages.
+#[derive(Drop)]
+pub struct Service {
+    /// The edition, whose catalogue is the one that is answered from.
+    pub edition: Edition,
+    /// The mirrors, the first of which grants every wish.
+    pub mirrors: Items<Mirror>,
+}
+
+/// Makes the built-in catalogue's service.
+pub fn builtin_service(alloc: Global) -> Result<Service, AllocError>
+    ensures service { IfOk result (λ service. service ≡ builtin_service) }
+    ensures content { IfOk result (λ service. content_of service.edition ≡ builtin_apps) }
+{
+    let edition = builtin_edition(alloc)?;
+    let mut mirrors = Items::empty(alloc);
+    mirrors.push(builtin_mirror(alloc)?)?;
+    Ok(Service { edition, mirrors })
+}
+
+/// Makes the service of a profile.
+///
+/// Refuses with the profile's first fault, as `profile_toml::read_profile` tells it; else with the
+/// first of its edits that the empty catalogue refuses.
+pub fn read_service(alloc: Global, profile: &[u8]) -> Result<Service, Failure>
+    ensures { Gives (service_of_text profile.now) result }
+{
+    let (batch, mirrors) = read_profile(alloc, profile)?;
+    match Edition::empty(alloc).next(batch) {
+        Ok(edition) => Ok(Service {
+            edition,
+            mirrors: Items::new(mirrors),
+        }),
+        Err(NextError::Refused(refused)) => Err(Failure::Edit(refused)),
+        Err(NextError::Memory) => Err(Failure::Memory),
+        Err(NextError::HistoryFull) => unreachable!(),
+    }
+}

@@ -1,0 +1,82 @@
+// How a run ends.
+
+use omaha_cli::run;
+use std::process::Abort;
+use std::rt::Files;
+use std::test::Fail;
+
+/// What a run writes and tells, and its status.
+#[derive(Clone, Copy, Drop)]
+pub(crate) struct Ending<'a> {
+    pub(crate) status: u8,
+    pub(crate) output: &'a str,
+    pub(crate) faults: &'a str,
+}
+
+fn strings<R: AllocGlobal>(rt: &R, words: &[&str]) -> Result<Vec<String>, Fail> {
+    let mut strings = Vec::new(rt.alloc());
+    for word in words {
+        strings.push(String::from_str(rt.alloc(), word)?)?;
+    }
+    Ok(strings)
+}
+
+/// Tests how a run ends by its words and its input.
+pub(crate) fn ends<R: Files + AllocGlobal>(
+    rt: &impl Abort,
+    files: &R,
+    words: &[&str],
+    input: &str,
+    wanted: Ending<'_>,
+) -> Result<(), Fail> {
+    let words = strings(files, words)?;
+    let mut reader = input.as_bytes();
+    let mut written = Vec::new(files.alloc());
+    let mut told = Vec::new(files.alloc());
+    let status = run(files, &words, &mut reader, &mut written, &mut told);
+    assert_eq!(rt; status, wanted.status);
+    assert_eq!(rt; written.as_slice(), wanted.output.as_bytes());
+    assert_eq!(rt; told.as_slice(), wanted.faults.as_bytes());
+    Ok(())
+}
+
+/// Tests that words are no right ones: the status is 2, the mistake is told as `clap` tells it, and
+/// nothing is read or written. The told text begins with the line.
+pub(crate) fn is_mistaken<R: Files + AllocGlobal>(
+    rt: &impl Abort,
+    files: &R,
+    words: &[&str],
+    line: &str,
+) -> Result<(), Fail> {
+    let words = strings(files, words)?;
+    let mut reader = b"{".as_slice();
+    let mut written = Vec::new(files.alloc());
+    let mut told = Vec::new(files.alloc());
+    let status = run(files, &words, &mut reader, &mut written, &mut told);
+    assert_eq!(rt; status, 2);
+    assert_eq!(rt; reader.len(), 1);
+    assert_eq!(rt; written.len(), 0);
+    assert!(rt; told.as_slice().starts_with(line.as_bytes()), "{line}");
+    Ok(())
+}
+
+/// Tests that words ask for help, which has the text.
+pub(crate) fn shows<R: Files + AllocGlobal>(
+    rt: &impl Abort,
+    files: &R,
+    words: &[&str],
+    text: &str,
+) -> Result<(), Fail> {
+    let words = strings(files, words)?;
+    let mut reader = b"{".as_slice();
+    let mut written = Vec::new(files.alloc());
+    let mut told = Vec::new(files.alloc());
+    let status = run(files, &words, &mut reader, &mut written, &mut told);
+    assert_eq!(rt; status, 0);
+    assert_eq!(rt; told.len(), 0);
+    let shown = String::from_utf8(written)
+        .ok()
+        .unwrap_or(String::new(files.alloc()));
+    assert!(rt; shown.as_str().contains(text), "{text}");
+    Ok(())
+}

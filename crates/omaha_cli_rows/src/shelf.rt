@@ -1,0 +1,138 @@
+// Files in memory.
+
+use std::alloc::{Allocator, Global};
+use std::fs::{FileTimes, Metadata, OpenFile, OpenOptions, Permissions};
+use std::io;
+use std::io::{ErrorKind, Read, Seek, SeekFrom, Write};
+use std::rt::Files;
+
+/// The files that a run finds, each a path and what it holds; and the path of one that can be
+/// opened, but not read.
+#[derive(Drop)]
+pub(crate) struct Shelf<'a> {
+    pub(crate) alloc: Global,
+    pub(crate) files: &'a [(&'static str, &'static str)],
+    pub(crate) broken: &'static str,
+}
+
+/// A file that is read, or fails.
+#[derive(Drop)]
+pub(crate) struct Page {
+    left: &'static [u8],
+    is_broken: bool,
+}
+
+impl Alloc for Shelf<'_> {
+    type A = Global;
+
+    fn alloc(&self) -> Global {
+        self.alloc
+    }
+}
+
+fn unsupported<T>() -> io::Result<T> {
+    Err(io::Error::from(ErrorKind::Unsupported))
+}
+
+impl Files for Shelf<'_> {
+    type File = Page;
+
+    type Dir = Page;
+
+    fn open_file(&self, _how: &OpenOptions, path: &str) -> io::Result<Page> {
+        if path == self.broken {
+            return Ok(Page {
+                left: b"".as_slice(),
+                is_broken: true,
+            });
+        }
+        for (name, text) in self.files {
+            if path == *name {
+                return Ok(Page {
+                    left: text.as_bytes(),
+                    is_broken: false,
+                });
+            }
+        }
+        Err(io::Error::from(ErrorKind::NotFound))
+    }
+
+    fn open_dir(&self, _path: &str) -> io::Result<Page> {
+        unsupported()
+    }
+
+    fn metadata(&self, _path: &str) -> io::Result<Metadata> {
+        unsupported()
+    }
+
+    fn symlink_metadata(&self, _path: &str) -> io::Result<Metadata> {
+        unsupported()
+    }
+
+    fn copy(&self, _from: &str, _to: &str) -> io::Result<u64> {
+        unsupported()
+    }
+
+    fn rename(&self, _from: &str, _to: &str) -> io::Result<()> {
+        unsupported()
+    }
+
+    fn remove_file(&self, _path: &str) -> io::Result<()> {
+        unsupported()
+    }
+
+    fn create_dir(&self, _path: &str) -> io::Result<()> {
+        unsupported()
+    }
+
+    fn remove_dir(&self, _path: &str) -> io::Result<()> {
+        unsupported()
+    }
+
+    fn remove_dir_all<B: Allocator>(&self, _alloc: B, _path: &str) -> io::Result<()> {
+        unsupported()
+    }
+}
+
+impl Read for Page {
+    fn read(&mut self, buf: &mut [u8]) -> io::Result<usize> {
+        if self.is_broken {
+            return Err(io::Error::from(ErrorKind::ConnectionReset));
+        }
+        self.left.read(buf)
+    }
+}
+
+impl Write for Page {
+    fn write(&mut self, _buf: &[u8]) -> io::Result<usize> {
+        Err(io::Error::from(ErrorKind::Unsupported))
+    }
+
+    fn flush(&mut self) -> io::Result<()> {
+        unsupported()
+    }
+}
+
+impl Seek for Page {
+    fn seek(&mut self, _to: SeekFrom) -> io::Result<u64> {
+        unsupported()
+    }
+}
+
+impl OpenFile for Page {
+    fn metadata(&self) -> io::Result<Metadata> {
+        unsupported()
+    }
+
+    fn set_len(&self, _size: u64) -> io::Result<()> {
+        unsupported()
+    }
+
+    fn sync_all(&self) -> io::Result<()> {
+        unsupported()
+    }
+
+    fn sync_data(&self) -> io::Result<()> {
+        unsupported()
+    }
+}
