@@ -1,0 +1,57 @@
+#!/usr/bin/env python3
+"""Writes a large profile to standard output.
+
+    bench/generate.py [--apps N] [--releases N] [--cohorts N]
+
+Each app has its cohorts, the first of which is the default one, and its releases in ascending
+order; each cohort has a target, a held target and a share.
+"""
+
+import argparse
+import hashlib
+import sys
+
+
+def release(app, number):
+    version = f"{1 + number // 100}.{number % 100}.{number * 7 % 1000}"
+    digest = hashlib.sha256(f"app-{app} {version}".encode()).hexdigest()
+    return version, (
+        "[[app.release]]\n"
+        f'version = "{version}"\n'
+        f'name = "app-{app}-{version}.bin"\n'
+        f"size = {1000000 + number}\n"
+        f'sha256 = "{digest}"\n\n'
+    )
+
+
+def write_profile(out, apps, releases, cohorts):
+    out.write("schema = 1\n\n")
+    out.write('[[mirror]]\nname = "m0"\ncodebase = "http://m0.example/p/"\nbudget = 1000000000\n\n')
+    for app in range(apps):
+        rows = [release(app, number) for number in range(releases)]
+        out.write(f'[[app]]\nid = "org.example.app-{app}"\ndefault = "cohort-0"\n\n')
+        for cohort in range(cohorts):
+            target, held = rows[-1 - cohort][0], rows[-1 - cohort - cohorts][0]
+            out.write(
+                "[[app.cohort]]\n"
+                f'name = "cohort-{cohort}"\n'
+                f'target = "{target}"\n'
+                f'held = "{held}"\n'
+                f"share = {100 + cohort}\n"
+                f"open = {'true' if cohort % 2 else 'false'}\n\n"
+            )
+        for _, text in rows:
+            out.write(text)
+
+
+def main():
+    options = argparse.ArgumentParser(description=__doc__, formatter_class=argparse.RawTextHelpFormatter)
+    options.add_argument("--apps", type=int, default=64, help="apps, 1 to 64 [default: 64]")
+    options.add_argument("--releases", type=int, default=512, help="releases of an app, 8 to 512 [default: 512]")
+    options.add_argument("--cohorts", type=int, default=4, help="cohorts of an app, 1 to 4 [default: 4]")
+    asked = options.parse_args()
+    write_profile(sys.stdout, asked.apps, asked.releases, asked.cohorts)
+
+
+if __name__ == "__main__":
+    main()
