@@ -9,7 +9,7 @@ use Rattle.clap.specs.Kinds.{or_else}
 use Rattle.clap.specs.Words.{App, FailsBy, HasKind, Kinds, Row, Text, fault_of, is_simple, is_simple_and_free, kind_of, subcommand_of}
 use Rattle.clap.specs.declared.error.Error.{Error}
 use Rattle.clap.specs.declared.error.kind.ErrorKind.TheVariants.{OutOfMemory}
-use Rattle.omaha_cli.specs.Running.{HasMistake}
+use Rattle.omaha_cli.specs.Running.{HasMistake, IsMistake}
 use Rattle.omaha_cli.specs.Commands.{faults_of, faults_of_once, moment_of, omaha_app}
 use Rattle.omaha_cli.specs.declared.command_line.Once.{Once}
 
@@ -67,7 +67,7 @@ fails_by_options app words options result found is none names named fails =
     let met = sym (ap (option_map (λ n. n.1)) entered) ∙ sym named in
     subst (λ (kinds : Kinds). FailsBy kinds result) (sym (ap₂ or_else nothing (options_of options (subcommand_of omaha_app words) met))) fails
 
--- an error that isn't want of memory is a mistake, or help
-pub HasMistake-kind : (faults : Kinds) (error : Error) → HasKind faults error → kind_of error ≢ OutOfMemory → HasMistake faults
-HasMistake-kind faults error (inl memory) other = absurd (other memory)
-HasMistake-kind faults error (inr among) other = (kind_of error, among)
+-- an error that is neither want of memory nor help is a mistake of the words
+pub HasMistake-kind : (faults : Kinds) (error : Error) → HasKind faults error → kind_of error ≢ OutOfMemory → IsMistake (kind_of error) → HasMistake faults
+HasMistake-kind faults error (inl memory) other mistake = absurd (other memory)
+HasMistake-kind faults error (inr among) other mistake = (kind_of error, mistake, among)

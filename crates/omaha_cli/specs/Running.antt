@@ -1,5 +1,5 @@
 -- What the program does with what it reads; this project's profile.
-use Rattle.std.specs.Prelude.{◌≡◌, ◌⊎◌, ⊤, ℕ, List, ◌∷◌, [], ◌++◌, codes, Option, Some, None, IfSome, Result, Ok, Err}
+use Rattle.std.specs.Prelude.{◌≡◌, ◌≢◌, ◌⊎◌, ⊤, ℕ, List, ◌∷◌, [], ◌++◌, codes, Option, Some, None, IfSome, Result, Ok, Err}
 use Rattle.std.specs.Io.KnownBytes.{Appends}
 use Rattle.clap.specs.Words.{IsAmong, Kinds, Text}
 use Rattle.clap.specs.declared.error.kind.ErrorKind.{ErrorKind}
@@ -70,9 +70,13 @@ IsHelp told = (told ≡ kind.DisplayHelp) ⊎ (told ≡ kind.DisplayVersion)
 abbrev pub AsksHelp : Kinds → Type 0
 AsksHelp faults = (told : ErrorKind) × IsHelp told × IsAmong told faults
 
--- a mistake of the words
+-- an error that is a mistake, and not help
+abbrev pub IsMistake : ErrorKind → Type 0
+IsMistake told = (told ≢ kind.DisplayHelp) × (told ≢ kind.DisplayVersion)
+
+-- the words have a mistake
 abbrev pub HasMistake : Kinds → Type 0
-HasMistake faults = (mistake : ErrorKind) × IsAmong mistake faults
+HasMistake faults = (told : ErrorKind) × IsMistake told × IsAmong told faults
 
 -- a run that ends well: help was asked for, or the words are right and the reply is written
 abbrev pub EndsWell : List Text → Option (List ℕ) → Option (List ℕ) → Option (List ℕ) → Type 0

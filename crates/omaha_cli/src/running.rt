@@ -3,7 +3,7 @@
 ghost use Rattle.std.specs.Prelude.{◌≡◌, ◌≢◌, ◌≤◌, map, string_bytes};
 ghost use Rattle.clap.specs.Words.{kind_of};
 ghost use Rattle.omaha_cli.specs.Commands.{faults_of};
-ghost use Rattle.omaha_cli.specs.Running.{EndsWell, HasMistake, IsHelp};
+ghost use Rattle.omaha_cli.specs.Running.{EndsWell, HasMistake, IsHelp, IsMistake};
 
 use crate::command_line::read_words;
 use crate::failure::Failure;
@@ -26,7 +26,8 @@ fn show<W: Write>(writer: &mut W, help: &Error) -> Result<(), Failure> {
 fn misread<W: Write, F: Write>(error: &Error, writer: &mut W, faults: &mut F) -> u8
     ensures bound { result ≤ 2 }
     ensures helped { result ≡ 0 → IsHelp (kind_of error.now) }
-    ensures mistaken { result ≡ 2 → kind_of error.now ≢ ErrorKind.OutOfMemory }
+    ensures known { result ≡ 2 → kind_of error.now ≢ ErrorKind.OutOfMemory }
+    ensures mistaken { result ≡ 2 → IsMistake (kind_of error.now) }
 {
     match error.kind() {
         ErrorKind::OutOfMemory => refused(faults, &Failure::Memory),
