@@ -2,3 +2,4 @@ mod AnswerLemmas
 mod BuiltinLemmas
 mod CommandLemmas
 mod IntakeLemmas
+mod RunLemmas

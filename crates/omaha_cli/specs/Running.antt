@@ -1,14 +1,16 @@
 -- What the program does with what it reads; this project's profile.
-use Rattle.std.specs.Prelude.{◌≡◌, ◌≢◌, ◌⊎◌, ⊤, ℕ, List, ◌∷◌, [], ◌++◌, codes, Option, Some, None, IfSome, Result, Ok, Err}
+use Rattle.std.specs.Prelude.{◌≡◌, ◌≢◌, ◌⊎◌, ⊤, ℕ, List, ◌∷◌, [], ◌++◌, codes, Option, Some, None, Result, Ok, Err}
 use Rattle.std.specs.Io.KnownBytes.{Appends}
 use Rattle.clap.specs.Words.{IsAmong, Kinds, Text}
 use Rattle.clap.specs.declared.error.kind.ErrorKind.{ErrorKind}
 use Rattle.clap.specs.declared.error.kind.ErrorKind.TheVariants as kind
 use Rattle.omaha_json.specs.RequestReading.{request_of_text}
+use Rattle.omaha_json.specs.declared.fault.RequestFault.{RequestFault}
 use Rattle.omaha_cli.specs.Answering.{Answers}
 use Rattle.omaha_cli.specs.Builtin.{builtin_service}
 use Rattle.omaha_cli.specs.Commands.{faults_of, once_of}
 use Rattle.omaha_cli.specs.Failures.{failure_text}
+use Rattle.omaha_cli.specs.Intake.{IsInput}
 use Rattle.omaha_cli.specs.Services.{service_of_text}
 use Rattle.omaha_cli.specs.declared.command_line.Once.{Once}
 use Rattle.omaha_cli.specs.declared.failure.Failure.{Failure}
@@ -37,30 +39,42 @@ IsServed (Some path) (Err (failure.File named)) = named ≡ path
 IsServed (Some path) (Err failure.Memory) = ⊤
 IsServed (Some path) (Err refusal) = IsOfFile (Err refusal)
 
--- the reply to the input was written, and nothing else
-abbrev pub WritesReply : Service → ℕ → Option (List ℕ) → Option (List ℕ) → Option (List ℕ) → Type 0
-WritesReply service moment input before after =
-    IfSome input (λ bytes. (reply : List ℕ) × Answers service moment bytes (Ok reply) × Appends before after reply)
+-- there is something to answer from
+abbrev pub IsReady : Once → Type 0
+IsReady once = (service : Service) × IsServed once.profile (Ok service)
 
--- what was answered to an input that a reader holds: its reply is written; or there is nothing to
--- answer from, the request has the fault, or the reader or memory failed, and nothing is written; or
--- the writer failed
+-- the bytes are a reply to the input that a reader holds
+pub record IsReplyTo (once : Once) (held : Option (List ℕ)) (reply : List ℕ) : Type 0 where
+  pub service : Service
+  pub served : IsServed once.profile (Ok service)
+  pub input : List ℕ
+  pub read : IsInput held input
+  pub answered : Answers service once.moment input (Ok reply)
+
+-- the input that a reader holds has the fault
+pub record IsFaultOf (once : Once) (held : Option (List ℕ)) (fault : RequestFault) : Type 0 where
+  pub ready : IsReady once
+  pub input : List ℕ
+  pub read : IsInput held input
+  pub refused : request_of_text input ≡ Err fault
+
+-- what was answered to the input that a reader holds: a reply to it is written, and nothing else;
+-- or nothing is written, since there is nothing to answer from, or there is, and the reader failed or
+-- the request has the fault, or for want of memory; or the writer failed to take a reply
 abbrev pub Responds : Once → Option (List ℕ) → Option (List ℕ) → Option (List ℕ) → Result (Unit {0}) Failure → Type 0
-Responds once input before after (Ok done) =
-    (service : Service) × IsServed once.profile (Ok service)
-    × WritesReply service once.moment input before after
-Responds once input before after (Err (failure.File path)) =
+Responds once held before after (Ok done) =
+    (reply : List ℕ) × IsReplyTo once held reply × Appends before after reply
+Responds once held before after (Err (failure.File path)) =
     IsServed once.profile (Err (failure.File path)) × (after ≡ before)
-Responds once input before after (Err (failure.Profile fault)) =
+Responds once held before after (Err (failure.Profile fault)) =
     IsServed once.profile (Err (failure.Profile fault)) × (after ≡ before)
-Responds once input before after (Err (failure.Edit refused)) =
+Responds once held before after (Err (failure.Edit refused)) =
     IsServed once.profile (Err (failure.Edit refused)) × (after ≡ before)
-Responds once input before after (Err (failure.Request fault)) =
-    (service : Service) × IsServed once.profile (Ok service)
-    × IfSome input (λ bytes. request_of_text bytes ≡ Err fault) × (after ≡ before)
-Responds once input before after (Err failure.Read) = after ≡ before
-Responds once input before after (Err failure.Memory) = after ≡ before
-Responds once input before after (Err failure.Write) = ⊤
+Responds once held before after (Err failure.Read) = IsReady once × (after ≡ before)
+Responds once held before after (Err (failure.Request fault)) =
+    IsFaultOf once held fault × (after ≡ before)
+Responds once held before after (Err failure.Memory) = after ≡ before
+Responds once held before after (Err failure.Write) = (reply : List ℕ) × IsReplyTo once held reply
 
 -- an error that is help
 abbrev pub IsHelp : ErrorKind → Type 0
@@ -78,8 +92,20 @@ IsMistake told = (told ≢ kind.DisplayHelp) × (told ≢ kind.DisplayVersion)
 abbrev pub HasMistake : Kinds → Type 0
 HasMistake faults = (told : ErrorKind) × IsMistake told × IsAmong told faults
 
--- a run that ends well: help was asked for, or the words are right and the reply is written
+-- a run that ends well: help was asked for, or the words are right and a reply is written
 abbrev pub EndsWell : List Text → Option (List ℕ) → Option (List ℕ) → Option (List ℕ) → Type 0
-EndsWell words input before after =
+EndsWell words held before after =
     AsksHelp (faults_of words)
-    ⊎ ((faults_of words ≡ []) × Responds (once_of words) input before after (Ok tt))
+    ⊎ ((faults_of words ≡ []) × Responds (once_of words) held before after (Ok tt))
+
+-- right words are answered with a failure
+abbrev pub Fails : List Text → Option (List ℕ) → Option (List ℕ) → Option (List ℕ) → Type 0
+Fails words held before after =
+    (faults_of words ≡ [])
+    × ((refusal : Failure) × Responds (once_of words) held before after (Err refusal))
+
+-- a run that is refused: help was asked for, and could not be shown; right words are answered with a
+-- failure; or nothing was written, for want of memory
+abbrev pub EndsRefused : List Text → Option (List ℕ) → Option (List ℕ) → Option (List ℕ) → Type 0
+EndsRefused words held before after =
+    AsksHelp (faults_of words) ⊎ Fails words held before after ⊎ (after ≡ before)

@@ -1,9 +1,9 @@
 // A run of the program, from its words to its status.
 
-ghost use Rattle.std.specs.Prelude.{◌≡◌, ◌≢◌, ◌≤◌, map, string_bytes};
+ghost use Rattle.std.specs.Prelude.{◌≡◌, ◌≢◌, ◌≤◌, ◌⊎◌, map, string_bytes};
 ghost use Rattle.clap.specs.Words.{kind_of};
 ghost use Rattle.omaha_cli.specs.Commands.{faults_of};
-ghost use Rattle.omaha_cli.specs.Running.{EndsWell, HasMistake, IsHelp, IsMistake};
+ghost use Rattle.omaha_cli.specs.Running.{EndsRefused, EndsWell, HasMistake, IsHelp, IsMistake};
 
 use crate::command_line::read_words;
 use crate::failure::Failure;
@@ -28,6 +28,7 @@ fn misread<W: Write, F: Write>(error: &Error, writer: &mut W, faults: &mut F) ->
     ensures helped { result ≡ 0 → IsHelp (kind_of error.now) }
     ensures known { result ≡ 2 → kind_of error.now ≢ ErrorKind.OutOfMemory }
     ensures mistaken { result ≡ 2 → IsMistake (kind_of error.now) }
+    ensures untouched { IsHelp (kind_of error.now) ⊎ (writer.new ≡ writer.old) }
 {
     match error.kind() {
         ErrorKind::OutOfMemory => refused(faults, &Failure::Memory),
@@ -59,7 +60,11 @@ pub fn run<R: Files + AllocGlobal, I: Read, W: Write, F: Write>(
     ensures ok { result ≡ 0
         → EndsWell (map string_bytes words.now) (I.remaining reader.old) (W.contents writer.old)
         (W.contents writer.new) }
+    ensures refused { result ≡ 1
+        → EndsRefused (map string_bytes words.now) (I.remaining reader.old) (W.contents writer.old)
+        (W.contents writer.new) }
     ensures mistaken { result ≡ 2 → HasMistake (faults_of (map string_bytes words.now)) }
+    ensures untouched { result ≡ 2 → (reader.new ≡ reader.old) × (writer.new ≡ writer.old) }
 {
     match read_words(rt.alloc(), words) {
         Ok(once) => match respond(rt, &once, reader, writer) {
