@@ -76,21 +76,13 @@ Responds once held before after (Err (failure.Request fault)) =
 Responds once held before after (Err failure.Memory) = after ≡ before
 Responds once held before after (Err failure.Write) = (reply : List ℕ) × IsReplyTo once held reply
 
--- an error that is help
-abbrev pub IsHelp : ErrorKind → Type 0
-IsHelp told = (told ≡ kind.DisplayHelp) ⊎ (told ≡ kind.DisplayVersion)
-
--- help is asked for
+-- the words ask for help
 abbrev pub AsksHelp : Kinds → Type 0
-AsksHelp faults = (told : ErrorKind) × IsHelp told × IsAmong told faults
+AsksHelp faults = IsAmong kind.DisplayHelp faults
 
--- an error that is a mistake, and not help
-abbrev pub IsMistake : ErrorKind → Type 0
-IsMistake told = (told ≢ kind.DisplayHelp) × (told ≢ kind.DisplayVersion)
-
--- the words have a mistake
+-- the words have a mistake, which help is not
 abbrev pub HasMistake : Kinds → Type 0
-HasMistake faults = (told : ErrorKind) × IsMistake told × IsAmong told faults
+HasMistake faults = (told : ErrorKind) × (told ≢ kind.DisplayHelp) × IsAmong told faults
 
 -- a run that ends well: help was asked for, or the words are right and a reply is written
 abbrev pub EndsWell : List Text → Option (List ℕ) → Option (List ℕ) → Option (List ℕ) → Type 0

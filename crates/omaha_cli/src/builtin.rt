@@ -81,7 +81,7 @@ fn batch(alloc: Global) -> Result<Batch, AllocError>
 }
 
 /// Makes the edition of the built-in catalogue, whose one batch is always accepted.
-pub fn builtin_edition(alloc: Global) -> Result<Edition, AllocError>
+pub(crate) fn builtin_edition(alloc: Global) -> Result<Edition, AllocError>
     ensures { IfOk result (λ edition. edition ≡ builtin_batch ∷ []) }
 {
     match Edition::empty(alloc).next(batch(alloc)?) {
@@ -93,7 +93,7 @@ pub fn builtin_edition(alloc: Global) -> Result<Edition, AllocError>
 }
 
 /// Makes the mirror that the built-in catalogue's packages lie on.
-pub fn builtin_mirror(alloc: Global) -> Result<Mirror, AllocError>
+pub(crate) fn builtin_mirror(alloc: Global) -> Result<Mirror, AllocError>
     ensures { IfOk result (λ mirror. mirror ≡ builtin_mirror) }
 {
     let name = Text::copy_of(alloc, "m0")?;

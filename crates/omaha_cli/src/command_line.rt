@@ -25,7 +25,8 @@ const PROFILE: &str =
 const MOMENT: &str =
     "The moment of the reply, in whole seconds since 1 January 1970 UTC: a decimal number from 0 to 18446744073709551615 [default: 0]";
 
-const AFTER_ONCE: &str = "A refusal is one line on standard error, and nothing on standard output:
+const AFTER_ONCE: &str =
+    "A refusal is one line on standard error; but for `write`, nothing is written to standard output:
   omaha: file F                        the file can't be read
   omaha: F3 BadEntry app[0].id         the profile is no good, and where
   omaha: edit 12: C11 UnknownRelease   an edit of the profile is refused

@@ -21,7 +21,6 @@ mod running;
 mod service;
 
 pub use crate::answering::answer;
-pub use crate::builtin::{builtin_edition, builtin_mirror};
 pub use crate::command_line::Once;
 pub use crate::failure::Failure;
 pub use crate::refusing::refuse;

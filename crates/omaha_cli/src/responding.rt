@@ -1,7 +1,7 @@
 // The answer to the request that a reader holds, written to a writer.
 
 ghost use Rattle.std.specs.Prelude.{◌≡◌, IfErr, OnOk};
-ghost use Rattle.std.specs.Io.KnownBytes.{Appends};
+ghost use Rattle.std.specs.Io.KnownBytes.{Appends, Keeps};
 ghost use Rattle.omaha_cli.specs.Running.{IsOfPath, IsServed, Responds};
 ghost use Rattle.omaha_cli.specs.declared.failure.Failure.TheVariants.{Write as WriteFailed};
 
@@ -39,17 +39,24 @@ fn service<R: Files + AllocGlobal>(rt: &R, once: &Once) -> Result<Service, Failu
     }
 }
 
+/// Flushes a writer.
+pub(crate) fn finish<W: Write>(writer: &mut W) -> Result<(), Failure>
+    ensures kept { Keeps (W.contents writer.old) (W.contents writer.new) }
+    ensures refused { IfErr result (λ failure. failure ≡ WriteFailed) }
+{
+    match writer.flush() {
+        Ok(()) => Ok(()),
+        Err(_) => Err(Failure::Write),
+    }
+}
+
 // Writes a reply whole.
 fn send<W: Write>(writer: &mut W, reply: &[u8]) -> Result<(), Failure>
     ensures ok { OnOk result (Appends (W.contents writer.old) (W.contents writer.new) reply.now) }
     ensures refused { IfErr result (λ failure. failure ≡ WriteFailed) }
 {
     match writer.write_all(reply) {
-        Ok(()) => {}
-        Err(_) => return Err(Failure::Write),
-    }
-    match writer.flush() {
-        Ok(()) => Ok(()),
+        Ok(()) => finish(writer),
         Err(_) => Err(Failure::Write),
     }
 }

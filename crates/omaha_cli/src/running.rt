@@ -3,12 +3,12 @@
 ghost use Rattle.std.specs.Prelude.{◌≡◌, ◌≢◌, ◌≤◌, ◌⊎◌, map, string_bytes};
 ghost use Rattle.clap.specs.Words.{kind_of};
 ghost use Rattle.omaha_cli.specs.Commands.{faults_of};
-ghost use Rattle.omaha_cli.specs.Running.{EndsRefused, EndsWell, HasMistake, IsHelp, IsMistake};
+ghost use Rattle.omaha_cli.specs.Running.{EndsRefused, EndsWell, HasMistake};
 
 use crate::command_line::read_words;
 use crate::failure::Failure;
 use crate::refusing::refused;
-use crate::responding::respond;
+use crate::responding::{finish, respond};
 use clap::Error;
 use clap::error::ErrorKind;
 use std::io::{Read, Write};
@@ -17,7 +17,7 @@ use std::rt::Files;
 // Shows the help that is asked for.
 fn show<W: Write>(writer: &mut W, help: &Error) -> Result<(), Failure> {
     match write!(writer, "{help}") {
-        Ok(()) => Ok(()),
+        Ok(()) => finish(writer),
         Err(_) => Err(Failure::Write),
     }
 }
@@ -25,14 +25,14 @@ fn show<W: Write>(writer: &mut W, help: &Error) -> Result<(), Failure> {
 // Tells a mistake of the words, or shows the help that they ask for.
 fn misread<W: Write, F: Write>(error: &Error, writer: &mut W, faults: &mut F) -> u8
     ensures bound { result ≤ 2 }
-    ensures helped { result ≡ 0 → IsHelp (kind_of error.now) }
+    ensures helped { result ≡ 0 → kind_of error.now ≡ ErrorKind.DisplayHelp }
     ensures known { result ≡ 2 → kind_of error.now ≢ ErrorKind.OutOfMemory }
-    ensures mistaken { result ≡ 2 → IsMistake (kind_of error.now) }
-    ensures untouched { IsHelp (kind_of error.now) ⊎ (writer.new ≡ writer.old) }
+    ensures mistaken { result ≡ 2 → kind_of error.now ≢ ErrorKind.DisplayHelp }
+    ensures untouched { (kind_of error.now ≡ ErrorKind.DisplayHelp) ⊎ (writer.new ≡ writer.old) }
 {
     match error.kind() {
         ErrorKind::OutOfMemory => refused(faults, &Failure::Memory),
-        ErrorKind::DisplayHelp | ErrorKind::DisplayVersion => match show(writer, error) {
+        ErrorKind::DisplayHelp => match show(writer, error) {
             Ok(()) => 0,
             Err(failure) => refused(faults, &failure),
         },

@@ -1,7 +1,9 @@
-use crate::ending::{Ending, ends, is_mistaken, shows};
+use crate::ending::{ends, ends_over, is_mistaken, refused, replied, shows};
 use crate::shelf::Shelf;
 use crate::staged::{BETA, DATED, HELD, HINTED, SHARED, STAGED, TARGET, UNRELEASED, WAITING};
+use crate::streams::Breaks;
 use std::alloc::Global;
+use std::io::ErrorKind;
 use std::test::Fail;
 
 const FILES: [(&str, &str); 7] = [
@@ -22,22 +24,7 @@ fn shelf(alloc: Global) -> Shelf<'static> {
         alloc,
         files: FILES.as_slice(),
         broken: "broken",
-    }
-}
-
-fn replied(output: &str) -> Ending<'_> {
-    Ending {
-        status: 0,
-        output,
-        faults: "",
-    }
-}
-
-fn refused(faults: &str) -> Ending<'_> {
-    Ending {
-        status: 1,
-        output: "",
-        faults,
+        large: "large.toml",
     }
 }
 
@@ -68,6 +55,7 @@ fn tells_what_is_wrong_with_the_profile(rt: HostRuntime) -> Result<(), Fail> {
     let rows = [
         ("nowhere.toml", "omaha: file nowhere.toml\n"),
         ("broken", "omaha: file broken\n"),
+        ("large.toml", "omaha: memory\n"),
         ("broken.toml", "omaha: F1 NotToml\n"),
         ("empty.toml", "omaha: F2 BadSchema\n"),
         ("keyless.toml", "omaha: F3 BadEntry mirror[0].name\n"),
@@ -76,14 +64,13 @@ fn tells_what_is_wrong_with_the_profile(rt: HostRuntime) -> Result<(), Fail> {
         ("unreleased.toml", "omaha: edit 6: C11 UnknownRelease\n"),
     ];
     for (profile, line) in rows {
-        // The request is no good either, but the profile is looked at first.
-        ends(
-            &rt,
-            &shelf,
-            &["once", "--profile", profile],
-            "{",
-            refused(line),
-        )?;
+        // The reader fails too, but the profile is looked at first.
+        let mut reader = Breaks {
+            left: 0,
+            kind: ErrorKind::ConnectionReset,
+        };
+        let words = ["once", "--profile", profile];
+        ends_over(&rt, &shelf, &words, &mut reader, refused(line))?;
     }
     Ok(())
 }
@@ -95,54 +82,66 @@ fn tells_the_request_behind_a_good_profile(rt: HostRuntime) -> Result<(), Fail> 
     ends(&rt, &shelf, &words, "{", refused("omaha: J1 NotJson\n"))
 }
 
+// Words that the program doesn't take, and the beginning of what is told of them.
+const MISTAKES: [(&[&str], &str); 13] = [
+    (
+        &["once", "--profile", "nowhere.toml", "--moment", "+5"],
+        "error: invalid value '+5' for '--moment <N>'",
+    ),
+    (
+        &["once", "--profile", "nowhere.toml", "--moment", ""],
+        "error: invalid value '' for '--moment <N>'",
+    ),
+    (
+        &["once", "--moment", " 5"],
+        "error: invalid value ' 5' for '--moment <N>'",
+    ),
+    (
+        &["once", "--moment", "5s"],
+        "error: invalid value '5s' for '--moment <N>'",
+    ),
+    (
+        &["once", "--moment", "0x5"],
+        "error: invalid value '0x5' for '--moment <N>'",
+    ),
+    (
+        &["once", "--moment", "1.0"],
+        "error: invalid value '1.0' for '--moment <N>'",
+    ),
+    (
+        &["once", "--moment", "18446744073709551616"],
+        "error: invalid value '18446744073709551616' for '--moment <N>'",
+    ),
+    (
+        &["once", "--moment=-5"],
+        "error: invalid value '-5' for '--moment <N>'",
+    ),
+    (
+        &["once", "--moment", "-5"],
+        "error: unexpected argument '-5' found\n",
+    ),
+    (&["serve"], "error: unrecognized subcommand 'serve'\n"),
+    (
+        &["--profile", "staged.toml"],
+        "error: unexpected argument '--profile' found\n",
+    ),
+    (
+        &["once", "staged.toml"],
+        "error: unexpected argument 'staged.toml' found\n",
+    ),
+    (
+        &["once", "--profile"],
+        "error: a value is required for '--profile <F>'",
+    ),
+];
+
 #[test]
 fn takes_no_other_words(rt: HostRuntime) -> Result<(), Fail> {
     let shelf = shelf(rt.alloc());
-    let moments = [
-        "+5",
-        "-5",
-        "",
-        " 5",
-        "5s",
-        "0x5",
-        "1.0",
-        "18446744073709551616",
-    ];
-    for moment in moments {
-        // The file isn't there either, but the words are looked at first.
-        let words = ["once", "--profile", "nowhere.toml", "--moment", moment];
-        is_mistaken(&rt, &shelf, &words, "error: ")?;
+    for (words, line) in MISTAKES {
+        is_mistaken(&rt, &shelf, words, line)?;
     }
-    is_mistaken(
-        &rt,
-        &shelf,
-        &["serve"],
-        "error: unrecognized subcommand 'serve'\n",
-    )?;
-    is_mistaken(
-        &rt,
-        &shelf,
-        &["--profile", "staged.toml"],
-        "error: unexpected argument '--profile' found\n",
-    )?;
-    is_mistaken(
-        &rt,
-        &shelf,
-        &["once", "staged.toml"],
-        "error: unexpected argument 'staged.toml' found\n",
-    )?;
-    is_mistaken(
-        &rt,
-        &shelf,
-        &["once", "--profile"],
-        "error: a value is required for '--profile <F>'",
-    )?;
-    is_mistaken(
-        &rt,
-        &shelf,
-        &["once", "--moment=+5"],
-        "error: invalid value '+5' for '--moment <N>'",
-    )
+    Ok(())
 }
 
 #[test]

@@ -1,6 +1,7 @@
 // How a run ends.
 
 use omaha_cli::run;
+use std::io::Read;
 use std::process::Abort;
 use std::rt::Files;
 use std::test::Fail;
@@ -13,12 +14,48 @@ pub(crate) struct Ending<'a> {
     pub(crate) faults: &'a str,
 }
 
+/// A run that writes a reply.
+pub(crate) fn replied(output: &str) -> Ending<'_> {
+    Ending {
+        status: 0,
+        output,
+        faults: "",
+    }
+}
+
+/// A run that is refused with a line.
+pub(crate) fn refused(faults: &str) -> Ending<'_> {
+    Ending {
+        status: 1,
+        output: "",
+        faults,
+    }
+}
+
 fn strings<R: AllocGlobal>(rt: &R, words: &[&str]) -> Result<Vec<String>, Fail> {
     let mut strings = Vec::new(rt.alloc());
     for word in words {
         strings.push(String::from_str(rt.alloc(), word)?)?;
     }
     Ok(strings)
+}
+
+/// Tests how a run ends by its words and its reader.
+pub(crate) fn ends_over<R: Files + AllocGlobal, I: Read>(
+    rt: &impl Abort,
+    files: &R,
+    words: &[&str],
+    reader: &mut I,
+    wanted: Ending<'_>,
+) -> Result<(), Fail> {
+    let words = strings(files, words)?;
+    let mut written = Vec::new(files.alloc());
+    let mut told = Vec::new(files.alloc());
+    let status = run(files, &words, reader, &mut written, &mut told);
+    assert_eq!(rt; status, wanted.status);
+    assert_eq!(rt; written.as_slice(), wanted.output.as_bytes());
+    assert_eq!(rt; told.as_slice(), wanted.faults.as_bytes());
+    Ok(())
 }
 
 /// Tests how a run ends by its words and its input.
@@ -29,15 +66,7 @@ pub(crate) fn ends<R: Files + AllocGlobal>(
     input: &str,
     wanted: Ending<'_>,
 ) -> Result<(), Fail> {
-    let words = strings(files, words)?;
-    let mut reader = input.as_bytes();
-    let mut written = Vec::new(files.alloc());
-    let mut told = Vec::new(files.alloc());
-    let status = run(files, &words, &mut reader, &mut written, &mut told);
-    assert_eq!(rt; status, wanted.status);
-    assert_eq!(rt; written.as_slice(), wanted.output.as_bytes());
-    assert_eq!(rt; told.as_slice(), wanted.faults.as_bytes());
-    Ok(())
+    ends_over(rt, files, words, &mut input.as_bytes(), wanted)
 }
 
 /// Tests that words are no right ones: the status is 2, the mistake is told as `clap` tells it, and

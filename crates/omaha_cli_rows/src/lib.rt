@@ -9,6 +9,12 @@ mod command_tests;
 #[cfg(test)]
 mod ending;
 #[cfg(test)]
+mod failing_tests;
+#[cfg(test)]
+mod offers;
+#[cfg(test)]
+mod service_tests;
+#[cfg(test)]
 mod shelf;
 #[cfg(test)]
 mod staged;

@@ -6,13 +6,14 @@ use std::io;
 use std::io::{ErrorKind, Read, Seek, SeekFrom, Write};
 use std::rt::Files;
 
-/// The files that a run finds, each a path and what it holds; and the path of one that can be
-/// opened, but not read.
+/// The files that a run finds, each a path and what it holds; the path of one that can be opened,
+/// but not read; and that of one for which there is no memory.
 #[derive(Drop)]
 pub(crate) struct Shelf<'a> {
     pub(crate) alloc: Global,
     pub(crate) files: &'a [(&'static str, &'static str)],
     pub(crate) broken: &'static str,
+    pub(crate) large: &'static str,
 }
 
 /// A file that is read, or fails.
@@ -45,6 +46,9 @@ impl Files for Shelf<'_> {
                 left: b"".as_slice(),
                 is_broken: true,
             });
+        }
+        if path == self.large {
+            return Err(io::Error::from(ErrorKind::OutOfMemory));
         }
         for (name, text) in self.files {
             if path == *name {

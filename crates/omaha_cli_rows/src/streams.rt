@@ -3,16 +3,17 @@
 use std::io;
 use std::io::{ErrorKind, Read, Write};
 
-/// A reader that gives so many bytes `{`, and then fails.
+/// A reader that gives so many bytes `{`, and then fails with an error of the kind.
 #[derive(Drop)]
 pub(crate) struct Breaks {
     pub(crate) left: usize,
+    pub(crate) kind: ErrorKind,
 }
 
 impl Read for Breaks {
     fn read(&mut self, buf: &mut [u8]) -> io::Result<usize> {
         if self.left == 0 {
-            return Err(io::Error::from(ErrorKind::ConnectionReset));
+            return Err(io::Error::from(self.kind));
         }
         if buf.is_empty() {
             return Ok(0);
