@@ -16,6 +16,7 @@ mod LookupLemmas
 mod MakingLemmas
 mod MarkLemmas
 mod PackageLemmas
+mod PlaceLemmas
 mod PlainLemmas
 mod SplitLemmas
 mod SpellingLemmas

@@ -70,8 +70,6 @@ impl Catalogue {
         ensures ok { IfOk result (λ next. outcome batch.now self.now ≡ Ok next) }
         ensures refused { IfErr result (λ e. Explains e (outcome batch.now self.now)) }
     {
-        version::laws::order();
-        version::laws::spellings();
         let mut draft = Draft::of(self.alloc, &self.apps, &self.packages)?;
         draft.run(batch.edits())?;
         Ok(Catalogue {
@@ -147,12 +145,13 @@ impl Catalogue {
         lookup::index_of_app(self.apps.as_slice(), id)
     }
 
-    /// Finds the index of an app's release by its version.
+    /// Finds the index of an app's release by its version, in logarithmic time.
     pub fn find_release(&self, app: usize, version: &Version) -> Option<usize>
         requires { app < length self.now }
         ensures { result ≡ position (is_release version.now) (releases_at self.now app) }
     {
-        self.apps.as_slice()[app].find_release(version)
+        self.is_valid();
+        lookup::index_of_release(self.releases(app), version)
     }
 
     /// Finds the index of an app's release by the SHA-256 of its full package.

@@ -1,10 +1,11 @@
 // What an accepted edit does to the apps of a content.
 
-ghost use Rattle.std.specs.Prelude.{◌≡◌, ◌≤◌, ◌&&◌, ◌++◌, ◌∷◌, [], List, ℕ, None, not, length, IfOk, OnOk, option_map, position};
-ghost use Rattle.version.specs.Versions.{is_below, lenient_version_of};
-ghost use Rattle.catalogue.specs.Changes.{change, in_cohort, new_app, new_cohort, new_release, place_of, placed, with_cohort, with_release, with_targets_of};
+ghost use Rattle.std.specs.Prelude.{◌≡◌, ◌&&◌, ◌++◌, ◌∷◌, [], List, ℕ, None, true, IfOk, OnOk, option_map, position};
+ghost use Rattle.version.specs.Versions.{lenient_version_of};
+ghost use Rattle.catalogue.specs.Changes.{change, in_cohort, new_app, new_cohort, new_release, placed, with_cohort, with_release, with_targets_of};
 ghost use Rattle.catalogue.specs.Lookups.{is_app, is_cohort};
 ghost use Rattle.catalogue.specs.Marks.{with_mark};
+ghost use Rattle.catalogue.specs.Validity.{IsValid, ascend, is_release_below};
 
 use crate::content::{App, Cohort, Release};
 use crate::edit::{AddApp, AddCohort, AddRelease, SetTarget};
@@ -65,29 +66,11 @@ pub(crate) fn added_cohort(edit: &AddCohort) -> Result<Cohort, AllocError>
     Ok(new_cohort(edit.cohort.clone()?))
 }
 
-fn first_not_below(releases: &[Release], version: &Version) -> Option<usize>
-    ensures { result
-        ≡ position (λ release. not (is_below release.version version.now)) releases.now }
-{
-    releases
-        .iter()
-        .position(|release| !release.version.is_below(version))
-}
-
-fn place_of(releases: &[Release], version: &Version) -> usize
-    ensures value { result ≡ place_of version.now releases.now }
-    ensures bound { result ≤ length releases.now }
-{
-    match first_not_below(releases, version) {
-        Some(index) => index,
-        None => releases.len(),
-    }
-}
-
 fn place(releases: &mut Items<Release>, release: Release) -> Result<(), AllocError>
+    requires { ascend is_release_below releases.old ≡ true }
     ensures { OnOk result (releases.new ≡ placed release releases.old) }
 {
-    let index = place_of(releases.as_slice(), &release.version);
+    let index = lookup::place_of(releases.as_slice(), &release.version);
     releases.insert(index, release)
 }
 
@@ -104,6 +87,7 @@ fn index_of_cohort(cohorts: &Items<Cohort>, name: &Text) -> Option<usize>
 }
 
 pub(crate) fn place_in(apps: &mut Items<App>, id: &Text, release: Release) -> Result<(), AllocError>
+    requires { IsValid apps.old }
     ensures { OnOk result (apps.new ≡ change (is_app id.now) (with_release release) apps.old) }
 {
     if let Some(index) = index_of_app(apps, id) {

@@ -1,7 +1,6 @@
 ghost use Rattle.std.specs.Prelude.{◌≡◌, IfOk, position};
 ghost use Rattle.catalogue.specs.Lookups.{is_release};
 
-use crate::lookup;
 use std::alloc::AllocError;
 use values::{Items, Text};
 use version::Version;
@@ -59,11 +58,14 @@ impl Clone for App {
 }
 
 impl App {
-    /// Finds the index of the app's release by its version.
+    /// Finds the index of the app's release by its version, whatever the order of its releases.
     pub fn find_release(&self, version: &Version) -> Option<usize>
         ensures { result ≡ position (is_release version.now) self.now.releases }
     {
-        lookup::index_of_release(self.releases.as_slice(), version)
+        self.releases
+            .as_slice()
+            .iter()
+            .position(|release| version.is_equal(&release.version))
     }
 }
 

@@ -7,6 +7,7 @@ ghost use Rattle.catalogue.specs.Draft.{Becomes, Indexes, IsIndexed};
 ghost use Rattle.catalogue.specs.Faults.{fault_of};
 ghost use Rattle.catalogue.specs.Lookups.{is_app};
 ghost use Rattle.catalogue.specs.Marks.{with_mark};
+ghost use Rattle.catalogue.specs.Validity.{IsValid};
 ghost use Rattle.catalogue.specs.declared.edit.Edit.TheVariants as edits;
 
 use crate::change::{
@@ -63,6 +64,7 @@ impl Draft {
 
     fn add_release(&mut self, edit: &AddRelease) -> Result<(), AllocError>
         requires indexed { IsIndexed self.old }
+        requires valid { IsValid self.old.apps }
         requires accepted { fault_of self.old.apps (edits.AddRelease edit.now) ≡ None }
         ensures { OnOk result (Becomes self.new (after self.old.apps (edits.AddRelease edit.now))) }
     {
@@ -120,6 +122,7 @@ impl Draft {
 
     fn perform(&mut self, edit: &Edit) -> Result<(), AllocError>
         requires indexed { IsIndexed self.old }
+        requires valid { IsValid self.old.apps }
         requires accepted { fault_of self.old.apps edit.now ≡ None }
         ensures { OnOk result (Becomes self.new (after self.old.apps edit.now)) }
     {
@@ -146,11 +149,15 @@ impl Draft {
     ///
     /// After a refusal the draft is of no use.
     pub(crate) fn run(&mut self, edits: &[Edit]) -> Result<(), ApplyError>
-        requires { IsIndexed self.old }
+        requires indexed { IsIndexed self.old }
+        requires valid { IsValid self.old.apps }
         ensures ok { OnOk result (outcome edits.now self.old.apps ≡ Ok self.new.apps) }
         ensures indexed { OnOk result (IsIndexed self.new) }
+        ensures valid { OnOk result (IsValid self.new.apps) }
         ensures refused { IfErr result (λ e. Explains e (outcome edits.now self.old.apps)) }
     {
+        version::laws::order();
+        version::laws::spellings();
         for (index, edit) in edits.iter().enumerate() {
             if let Some(fault) = refusal::fault_of(self, edit) {
                 return Err(ApplyError::Refused(Refused { index, fault }));

@@ -1,10 +1,12 @@
 // Items of a content by their names.
 
-ghost use Rattle.std.specs.Prelude.{◌≡◌, position};
+ghost use Rattle.std.specs.Prelude.{◌≡◌, ◌≤◌, true, length, position};
 ghost use Rattle.std.specs.Option.{option_copied};
 ghost use Rattle.std.specs.List.{list_any};
+ghost use Rattle.catalogue.specs.Changes.{place_of};
 ghost use Rattle.catalogue.specs.Lookups.{app_of, has_hash, is_app, is_cohort, is_release};
 ghost use Rattle.catalogue.specs.Faults.{has_cohort, has_release};
+ghost use Rattle.catalogue.specs.Validity.{ascend, is_release_below};
 
 use crate::content::{App, Cohort, Release};
 use crate::form::is_same_id;
@@ -25,22 +27,39 @@ pub(crate) fn find_app<'a>(apps: &'a [App], id: &str) -> Option<&'a App>
     apps.iter().find(|app| is_same_id(id, app.id.as_str()))
 }
 
-/// The index of the release of a version.
-pub(crate) fn index_of_release(releases: &[Release], version: &Version) -> Option<usize>
-    ensures { result ≡ position (is_release version.now) releases.now }
+/// Where a release of a version stands among releases by ascending version, found by halves.
+pub(crate) fn place_of(releases: &[Release], version: &Version) -> usize
+    requires { ascend is_release_below releases.now ≡ true }
+    ensures value { result ≡ place_of version.now releases.now }
+    ensures bound { result ≤ length releases.now }
 {
-    releases
-        .iter()
-        .position(|release| version.is_equal(&release.version))
+    version::laws::order();
+    releases.partition_point(|release| release.version.is_below(version))
 }
 
-/// Whether there is a release of a version.
+/// Whether there is a release of a version among releases by ascending version.
 pub(crate) fn has_release(releases: &[Release], version: &Version) -> bool
+    requires { ascend is_release_below releases.now ≡ true }
     ensures { result ≡ has_release releases.now version.now }
 {
-    releases
-        .iter()
-        .any(|release| version.is_equal(&release.version))
+    version::laws::order();
+    match releases.get(place_of(releases, version)) {
+        Some(release) => version.is_equal(&release.version),
+        None => false,
+    }
+}
+
+/// The index of the release of a version among releases by ascending version.
+pub(crate) fn index_of_release(releases: &[Release], version: &Version) -> Option<usize>
+    requires { ascend is_release_below releases.now ≡ true }
+    ensures { result ≡ position (is_release version.now) releases.now }
+{
+    version::laws::order();
+    if has_release(releases, version) {
+        Some(place_of(releases, version))
+    } else {
+        None
+    }
 }
 
 /// The index of the release of a hash.

@@ -1,9 +1,10 @@
 // The first fault of an edit against a draft.
 
-ghost use Rattle.std.specs.Prelude.{◌≡◌, List, ℕ, Option};
+ghost use Rattle.std.specs.Prelude.{◌≡◌, List, ℕ, Option, true};
 ghost use Rattle.std.specs.Option.{is_some};
 ghost use Rattle.catalogue.specs.Draft.{IsIndexed};
 ghost use Rattle.catalogue.specs.Faults.{fault_of, first_fault, is_misspelled, is_unreleased, tests_of_add_app, tests_of_add_cohort, tests_of_add_release, tests_of_set_open, tests_of_set_share, tests_of_set_target};
+ghost use Rattle.catalogue.specs.Validity.{IsValid, ascend, is_release_below};
 
 use crate::content::Release;
 use crate::draft::Draft;
@@ -42,7 +43,8 @@ fn fault_of_add_app(draft: &Draft, edit: &AddApp) -> Option<Fault>
 }
 
 fn fault_of_add_release(draft: &Draft, edit: &AddRelease) -> Option<Fault>
-    requires { IsIndexed draft.now }
+    requires indexed { IsIndexed draft.now }
+    requires valid { IsValid draft.now.apps }
     ensures { result ≡ first_fault (tests_of_add_release draft.now.apps edit.now) }
 {
     let Some(app) = find_app(draft.apps.as_slice(), edit.app.as_str()) else {
@@ -105,6 +107,7 @@ fn is_misspelled(text: &Option<Text>) -> bool
 }
 
 fn is_unreleased(releases: &[Release], text: &Option<Text>) -> bool
+    requires { ascend is_release_below releases.now ≡ true }
     ensures { result ≡ is_unreleased releases.now text.now }
 {
     match text {
@@ -114,6 +117,7 @@ fn is_unreleased(releases: &[Release], text: &Option<Text>) -> bool
 }
 
 fn fault_of_set_target(draft: &Draft, edit: &SetTarget) -> Option<Fault>
+    requires { IsValid draft.now.apps }
     ensures { result ≡ first_fault (tests_of_set_target draft.now.apps edit.now) }
 {
     let Some(app) = find_app(draft.apps.as_slice(), edit.app.as_str()) else {
@@ -161,7 +165,8 @@ fn fault_of_set_open(draft: &Draft, edit: &SetOpen) -> Option<Fault>
 
 /// The first fault of an edit, or none where it is accepted.
 pub(crate) fn fault_of(draft: &Draft, edit: &Edit) -> Option<Fault>
-    requires { IsIndexed draft.now }
+    requires indexed { IsIndexed draft.now }
+    requires valid { IsValid draft.now.apps }
     ensures { result ≡ fault_of draft.now.apps edit.now }
 {
     match edit {

@@ -1,5 +1,7 @@
 use Rattle.std.proofs.Common.{sym, ap, List}
+use Rattle.std.proofs.lemmas.List.Quantifiers.{position-Some}
 use Rattle.catalogue.proofs.ChangeLemmas.{change-Some, change-None}
+use Rattle.catalogue.proofs.PlaceLemmas.{ascend-item}
 use Rattle.catalogue.specs.Changes.{with_release}
 use Rattle.catalogue.specs.Lookups.{is_app}
 use Rattle.catalogue.specs.declared.content.Release.{Release}
@@ -13,3 +15,9 @@ returns-in_ok-place c =
 
 pub returns-in_default : goal.returns-in_default
 returns-in_default c = change-None (is_app c.args.id.now) (with_release c.args.release) c.args.apps.now (sym c.in_default.ensures)
+
+pub place-requires : goal.place-requires
+place-requires c =
+    let app = c.item_mut-app.result.now in
+    let at = position-Some (is_app c.args.id.now) c.args.apps.now c.in-Some.index app (sym c.in-Some.ensures) in
+    ascend-item c.args.apps.now c.in-Some.index app at.0 c.item_mut-app.ensures.value c.requires

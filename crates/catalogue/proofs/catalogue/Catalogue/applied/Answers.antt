@@ -1,6 +1,5 @@
 use Rattle.catalogue.proofs.HistoryLemmas.{Makes-from_outcome}
 use Rattle.catalogue.proofs.PlainLemmas.{IsPlain-Makes}
-use Rattle.catalogue.proofs.ValidityLemmas.{IsValid-Makes}
 use Rattle.catalogue.proofs.catalogue.Catalogue.applied.Goals as goal
 
 pub invariant_of-result : goal.invariant_of-result
@@ -11,8 +10,6 @@ invariant_of-result c =
     let makes = Makes-from_outcome 0 edits before after c.in_ok-run.ensures.ok in
     record {
       indexed = c.in_ok-run.ensures.indexed;
-      valid =
-          IsValid-Makes c.order.ensures.transitive c.order.ensures.total c.spellings.ensures edits before after makes
-          (rw c.in_ok-draft.ensures.content c.self.invariant.valid);
+      valid = c.in_ok-run.ensures.valid;
       plain = IsPlain-Makes edits before after makes (rw c.in_ok-draft.ensures.content c.self.invariant.plain);
     }
