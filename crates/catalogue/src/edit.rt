@@ -76,11 +76,17 @@ pub struct SetOpen {
 /// One change of a catalogue.
 #[derive(Clone, Debug, Drop)]
 pub enum Edit {
+    /// An app, with its default cohort and no release.
     AddApp(AddApp),
+    /// A release of an app.
     AddRelease(AddRelease),
+    /// A cohort of an app, without targets, open to no hint.
     AddCohort(AddCohort),
+    /// The two targets of a cohort.
     SetTarget(SetTarget),
+    /// The share of a cohort.
     SetShare(SetShare),
+    /// The open mark of a cohort.
     SetOpen(SetOpen),
 }
 

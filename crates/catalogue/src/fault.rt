@@ -47,7 +47,9 @@ pub enum Fault {
 /// The first refused edit of a batch: its index from 0, and its first fault.
 #[derive(Clone, Copy, Debug, PartialEq, Eq)]
 pub struct Refused {
+    /// The edit's index in its batch, from 0.
     pub index: usize,
+    /// The first of the edit's faults.
     pub fault: Fault,
 }
 
