@@ -1,99 +1,70 @@
 // The catalogue that the tests are made of, and changes of it.
 
-use catalogue::{
-    AddApp, AddCohort, AddRelease, Batch, Catalogue, Edit, SetOpen, SetShare, SetTarget,
-};
-use std::alloc::{AllocError, Global};
+use catalogue::Catalogue;
+use profile_toml::{read_profile, read_script};
+use std::alloc::Global;
 use std::test::Fail;
-use values::Text;
 
-fn add_app(alloc: Global) -> Result<Edit, AllocError> {
-    let app = Text::copy_of(alloc, "demo")?;
-    let default = Text::copy_of(alloc, "stable")?;
-    Ok(Edit::AddApp(AddApp { app, default }))
-}
+const DEMO: &str = r#"schema = 1
 
-fn add_cohort(alloc: Global, cohort: &str) -> Result<Edit, AllocError> {
-    let app = Text::copy_of(alloc, "demo")?;
-    let cohort = Text::copy_of(alloc, cohort)?;
-    Ok(Edit::AddCohort(AddCohort { app, cohort }))
-}
+[[mirror]]
+name = "m0"
+codebase = "http://m0.example/p/"
+budget = 1000000
 
-// A release of a version, whose hash has one digit.
-fn add_release(alloc: Global, version: &str, digit: &str) -> Result<Edit, AllocError> {
-    let app = Text::copy_of(alloc, "demo")?;
-    let name = Text::new(format!(in alloc; "demo-{version}.bin")?);
-    let version = Text::copy_of(alloc, version)?;
-    let sha256 = Text::new(digit.repeat(alloc, 64)?);
-    Ok(Edit::AddRelease(AddRelease {
-        app,
-        version,
-        name,
-        size: 1000,
-        sha256,
-    }))
-}
+[[app]]
+id = "demo"
+default = "stable"
+cohort = [
+    { name = "stable", target = "4.0", held = "3.0", share = 500 },
+    { name = "beta", target = "3.0", share = 1000, open = true },
+]
 
-fn set_target(
-    alloc: Global,
-    cohort: &str,
-    target: &str,
-    held: Option<&str>,
-) -> Result<Edit, AllocError> {
-    let app = Text::copy_of(alloc, "demo")?;
-    let cohort = Text::copy_of(alloc, cohort)?;
-    let target = Text::copy_of(alloc, target)?;
-    let held = match held {
-        Some(version) => Some(Text::copy_of(alloc, version)?),
-        None => None,
-    };
-    Ok(Edit::SetTarget(SetTarget {
-        app,
-        cohort,
-        target: Some(target),
-        held,
-    }))
-}
+[[app.release]]
+version = "1.0"
+name = "demo-1.0.bin"
+size = 1000
+sha256 = "1111111111111111111111111111111111111111111111111111111111111111"
 
-/// An edit that sets the share of a cohort.
-pub(crate) fn set_share(alloc: Global, cohort: &str, share: u64) -> Result<Edit, AllocError> {
-    let app = Text::copy_of(alloc, "demo")?;
-    let cohort = Text::copy_of(alloc, cohort)?;
-    Ok(Edit::SetShare(SetShare { app, cohort, share }))
-}
+[[app.release]]
+version = "2.0"
+name = "demo-2.0.bin"
+size = 1000
+sha256 = "2222222222222222222222222222222222222222222222222222222222222222"
 
-/// An edit that sets whether hints may name a cohort.
-pub(crate) fn set_open(alloc: Global, cohort: &str, on: bool) -> Result<Edit, AllocError> {
-    let app = Text::copy_of(alloc, "demo")?;
-    let cohort = Text::copy_of(alloc, cohort)?;
-    Ok(Edit::SetOpen(SetOpen { app, cohort, on }))
-}
+[[app.release]]
+version = "3.0"
+name = "demo-3.0.bin"
+size = 1000
+sha256 = "3333333333333333333333333333333333333333333333333333333333333333"
 
-// App `demo` with its cohorts and its releases 1.0 to 4.0.
-fn cohorts_and_releases(alloc: Global) -> Result<Vec<Edit>, AllocError> {
-    let mut edits = Vec::new(alloc);
-    edits.push(add_app(alloc)?)?;
-    edits.push(add_cohort(alloc, "beta")?)?;
-    for (version, digit) in [("1.0", "1"), ("2.0", "2"), ("3.0", "3"), ("4.0", "4")] {
-        edits.push(add_release(alloc, version, digit)?)?;
-    }
-    Ok(edits)
-}
+[[app.release]]
+version = "4.0"
+name = "demo-4.0.bin"
+size = 1000
+sha256 = "4444444444444444444444444444444444444444444444444444444444444444"
+"#;
 
 /// App `demo`: half of `stable` has 4.0 and is else held at 3.0, and the open `beta` has 3.0.
 pub(crate) fn demo(alloc: Global) -> Result<Catalogue, Fail> {
-    let mut edits = cohorts_and_releases(alloc)?;
-    edits.push(set_target(alloc, "stable", "4.0", Some("3.0"))?)?;
-    edits.push(set_share(alloc, "stable", 500)?)?;
-    edits.push(set_target(alloc, "beta", "3.0", None)?)?;
-    edits.push(set_share(alloc, "beta", 1000)?)?;
-    edits.push(set_open(alloc, "beta", true)?)?;
-    Ok(Catalogue::empty(alloc).applied(&Batch::new(edits))?)
+    let (batch, _mirrors) = read_profile(alloc, DEMO.as_bytes())?;
+    Ok(Catalogue::empty(alloc).applied(&batch)?)
 }
 
-/// App `demo` after one more edit.
-pub(crate) fn demo_after(alloc: Global, edit: Edit) -> Result<Catalogue, Fail> {
-    let mut edits = Vec::new(alloc);
-    edits.push(edit)?;
-    Ok(demo(alloc)?.applied(&Batch::new(edits))?)
+// App `demo` after the only edit of a script.
+fn demo_after(alloc: Global, edit: &str) -> Result<Catalogue, Fail> {
+    let text = format!(in alloc; "schema = 1\nbase = 1\nedit = [{{ app = 'demo', {edit} }}]\n")?;
+    let (_base, batch) = read_script(alloc, text.as_str().as_bytes())?;
+    Ok(demo(alloc)?.applied(&batch)?)
+}
+
+/// App `demo` with another share of a cohort.
+pub(crate) fn with_share(alloc: Global, cohort: &str, share: u64) -> Result<Catalogue, Fail> {
+    let edit = format!(in alloc; "do = 'set_share', cohort = '{cohort}', share = {share}")?;
+    demo_after(alloc, edit.as_str())
+}
+
+/// App `demo` where no hint may name `beta`.
+pub(crate) fn with_closed_beta(alloc: Global) -> Result<Catalogue, Fail> {
+    demo_after(alloc, "do = 'set_open', cohort = 'beta', on = false")
 }

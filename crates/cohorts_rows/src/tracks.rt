@@ -1,4 +1,4 @@
-use crate::profile::{demo, demo_after, set_open, set_share};
+use crate::profile::{demo, with_closed_beta, with_share};
 use catalogue::Catalogue;
 use cohorts::{CohortText, Lane, assign};
 use omaha_json::{AppAsk, Check};
@@ -105,7 +105,7 @@ fn serves_the_buckets_below_the_share(rt: HostRuntime) -> Result<(), Fail> {
         ("beta", 7, "beta:7", "beta:7 held"),
     ];
     for (name, share, cohort, want) in rows {
-        let catalogue = demo_after(alloc, set_share(alloc, name, share)?)?;
+        let catalogue = with_share(alloc, name, share)?;
         let ask = client(alloc, cohort, "")?;
         let track = shown(alloc, &catalogue, &ask, "abc")?;
         assert_eq!(rt; track.as_str(), want);
@@ -116,7 +116,7 @@ fn serves_the_buckets_below_the_share(rt: HostRuntime) -> Result<(), Fail> {
 #[test]
 fn takes_a_closed_cohort_from_the_text_alone(rt: HostRuntime) -> Result<(), Fail> {
     let alloc = rt.alloc();
-    let catalogue = demo_after(alloc, set_open(alloc, "beta", false)?)?;
+    let catalogue = with_closed_beta(alloc)?;
     let rows = [
         ("beta:7", "", "beta:7 target 3.0"),
         ("stable:7", "beta", "stable:7 target 4.0"),

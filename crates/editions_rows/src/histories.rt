@@ -1,4 +1,4 @@
-use crate::batches::{lone, releases, set_target, small};
+use crate::batches::{releases, set_target, small};
 use catalogue::{Batch, Fault, Refused};
 use editions::{Edition, NextError};
 use std::test::Fail;
@@ -15,7 +15,7 @@ fn takes_4096_batches_and_no_more(rt: HostRuntime) -> Result<(), Fail> {
     assert_eq!(rt; edition.number(), 4096);
     let more = edition.next(Batch::new(Vec::new(alloc)));
     assert_eq!(rt; more.err(), Some(NextError::HistoryFull));
-    let bad = edition.next(lone(alloc, set_target(alloc, "2.0")?)?);
+    let bad = edition.next(set_target(alloc, "2.0")?);
     let refused = Refused {
         index: 0,
         fault: Fault::UnknownApp,
@@ -35,7 +35,7 @@ fn target(edition: &Edition) -> Option<Version> {
 fn leaves_the_edition_before_as_it_was(rt: HostRuntime) -> Result<(), Fail> {
     let alloc = rt.alloc();
     let first = Edition::empty(alloc).next(releases(alloc)?)?;
-    let second = first.next(lone(alloc, set_target(alloc, "3.0")?)?)?;
+    let second = first.next(set_target(alloc, "3.0")?)?;
     assert_eq!(rt; (first.number(), target(&first)), (1, None));
     let third = Some(Version::lenient("3.0"));
     assert_eq!(rt; (second.number(), target(&second)), (2, third));
@@ -45,7 +45,7 @@ fn leaves_the_edition_before_as_it_was(rt: HostRuntime) -> Result<(), Fail> {
 #[test]
 fn prints_refusals(rt: HostRuntime) -> Result<(), Fail> {
     let alloc = rt.alloc();
-    let bad = small(alloc)?.next(lone(alloc, set_target(alloc, "3.5")?)?);
+    let bad = small(alloc)?.next(set_target(alloc, "3.5")?);
     let unknown = bad.err().ok_or("accepted")?;
     let texts = [
         (unknown, "edit 0: C11 UnknownRelease"),
