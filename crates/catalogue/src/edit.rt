@@ -20,8 +20,8 @@ pub struct AddRelease {
     pub app: Text,
     /// The release's version: 1 to 4 decimal components without leading zeros.
     pub version: Text,
-    /// The name of its full package: 1 to 128 bytes of `A-Z`, `a-z`, `0-9`, `.`, `_`, `-`, not
-    /// beginning with `.`.
+    /// The name of its full package: at most 128 ASCII letters, digits, `.`, `_` and `-`, at least one,
+    /// and no `.` at the front.
     pub name: Text,
     /// The bytes of its full package, 1 to 2^40.
     pub size: u64,

@@ -81,11 +81,11 @@ fn asks_rollback(ask: &AppAsk) -> bool
 
 /// Gives the track of a client in the app at an index, which is in range; it takes no memory.
 ///
-/// The cohort is the open one that the client's hint names, else the one that its cohort text
-/// names, else the app's default. The bucket is that of its cohort text, where the text has the
-/// form, else that of its session, a text that may be empty. A bucket below the cohort's share is in
-/// the target's lane, any other in the held one, and the target is that of the lane. The client may
-/// be led down where the cohort's rollback mark is set and the client allows it.
+/// A hint counts where it is the name of an open cohort, then the cohort text where the app has its
+/// cohort; other clients are in the default one. The bucket is the cohort text's, or that of the
+/// session, which may be empty, where no text of the form is sent. A bucket below the cohort's share
+/// is in the target's lane, any other in the held one, and the target is that of the lane. The client
+/// may be led down where the cohort's rollback mark is set and the client allows it.
 pub fn assign(catalogue: &Catalogue, app: usize, ask: &AppAsk, session: &str) -> Track
     requires { app < length catalogue.now }
     ensures track { result ≡ track_of (cohorts_at catalogue.now app) ask.now session.now }

@@ -49,8 +49,8 @@ target_of app track =
 abbrev pub IsAtTarget : App → Track → Place → Type 0
 IsAtTarget app track place = option_map (λ release. At release) (target_of app track) ≡ Some place
 
--- a chain: payloads, each permitted from where the one before it leads, that end at the target; no
--- payload at all is a chain only at the target
+-- a chain brings a client to the target: its first payload is permitted from the client's place, each
+-- later one from where the one before has led; at the target itself no payload is needed
 abbrev pub IsChain : App → Track → Place → List Payload → Type 0
 IsChain app track place [] = IsAtTarget app track place
 IsChain app track place (payload ∷ payloads) =

@@ -169,8 +169,8 @@ fn app_replies(
 
 /// Writes the reply to a request, in the Omaha protocol 3.1, JSON form.
 ///
-/// The plan is that of this edition and request. Each of its apps has one outcome: the index of
-/// the mirror that granted its wish, or none; a mirror only where there is a wish. The moment is
+/// The plan was made of the same edition and request. Each of its apps has one outcome: the index
+/// of the mirror that granted its wish, or none; a mirror only where there is a wish. The moment is
 /// in seconds since 1 January 1970, UTC.
 pub fn render(
     alloc: Global,

@@ -9,8 +9,8 @@ abbrev pub Explains : {Y F : Type 0} → ReadError F → Result Y F → Type 0
 Explains errors.Memory reading = Unit {0}
 Explains (errors.Fault fault) reading = reading ≡ Err fault
 
--- what a reader answered is what reading gives, unless memory ran out; `view` is how a contract
--- sees the reader's value
+-- a reader's answer agrees with the reading, where there was memory; `view` is how a contract sees
+-- the reader's value
 abbrev pub Reads : {X Y F : Type 0} → (X → Y) → Result X (ReadError F) → Result Y F → Type 0
 Reads view (Ok value) reading = reading ≡ Ok (view value)
 Reads view (Err error) reading = Explains error reading
