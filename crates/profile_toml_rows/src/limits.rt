@@ -1,8 +1,23 @@
-use catalogue::Catalogue;
+use catalogue::{App, Catalogue};
 use profile_toml::read_profile;
 use std::alloc::{AllocError, Global};
 use std::test::Fail;
 use values::ReadError;
+
+// How many apps there are, and how many releases and cohorts the last one has.
+fn counts(alloc: Global, apps: &[App]) -> Result<String, AllocError> {
+    let Some(last) = apps.last() else {
+        return String::from_str(alloc, "no app");
+    };
+    let (releases, cohorts) = (
+        last.releases.as_slice().len(),
+        last.cohorts.as_slice().len(),
+    );
+    format!(in alloc;
+        "{0} apps, {releases} releases, {cohorts} cohorts",
+        apps.len()
+    )
+}
 
 // What the catalogue says of a profile's edits.
 fn applied(alloc: Global, text: &[u8]) -> Result<String, AllocError> {
@@ -13,7 +28,7 @@ fn applied(alloc: Global, text: &[u8]) -> Result<String, AllocError> {
     };
     let mut catalogue = Catalogue::empty(alloc);
     match catalogue.apply(&batch) {
-        Ok(()) => format!(in alloc; "{0} apps", catalogue.apps().len()),
+        Ok(()) => counts(alloc, catalogue.apps()),
         Err(error) => format!(in alloc; "{error}"),
     }
 }
@@ -58,11 +73,11 @@ fn cohorts(alloc: Global, count: usize) -> Result<String, AllocError> {
 fn leaves_the_catalogues_limits_to_it(rt: HostRuntime) -> Result<(), Fail> {
     let alloc = rt.alloc();
     let rows = [
-        (apps(alloc, 64)?, "64 apps"),
+        (apps(alloc, 64)?, "64 apps, 0 releases, 1 cohorts"),
         (apps(alloc, 65)?, "edit 64: C17 Limit"),
-        (releases(alloc, 512)?, "1 apps"),
+        (releases(alloc, 512)?, "1 apps, 512 releases, 1 cohorts"),
         (releases(alloc, 513)?, "edit 513: C17 Limit"),
-        (cohorts(alloc, 32)?, "1 apps"),
+        (cohorts(alloc, 32)?, "1 apps, 0 releases, 32 cohorts"),
         (cohorts(alloc, 33)?, "edit 32: C17 Limit"),
     ];
     for (text, want) in &rows {
@@ -76,7 +91,7 @@ fn leaves_the_catalogues_limits_to_it(rt: HostRuntime) -> Result<(), Fail> {
 #[test]
 fn tells_the_edit_that_is_refused(rt: HostRuntime) -> Result<(), Fail> {
     let rows = [
-        ("", "1 apps"),
+        ("", "1 apps, 0 releases, 1 cohorts"),
         (
             "[[app.cohort]]\nname = 'stable'\ntarget = '1'\n",
             "edit 1: C11 UnknownRelease",

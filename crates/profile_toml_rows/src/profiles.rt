@@ -51,6 +51,8 @@ fn nests_at_most_80_levels(rt: HostRuntime) -> Result<(), Fail> {
 
 const MIRROR_FAULTS: &str = r#"F3 BadEntry mirror | mirror = 1
 F3 BadEntry mirror | [mirror]
+F3 BadEntry mirror | mirror.name = "m"~mirror.codebase = "http://m/"~mirror.budget = 7
+F3 BadEntry mirror[0].name | [[mirror]]~name.name = "m"
 F3 BadEntry mirror[0] | mirror = [1]
 F3 BadEntry mirror[1] | mirror = [{ x = 1 }, []]
 F3 BadEntry app | app = 1~mirror = [{}]
@@ -114,11 +116,14 @@ mirror = [{ name = "m", codebase = "http://m/", budget = 7 }]
 [[app]]
 "#;
 
+// A dotted key makes one table, as a header in single brackets does, and never a list.
 const APP_FAULTS: &str = r#"F3 BadEntry app[0].default | id = 'a'
 F3 BadEntry app[0].diff | diff = []~id = 1
 F3 BadEntry app[0].id | id = 07:32:00~cohort = 1
 F3 BadEntry app[1].id | id = 'a'~default = 'b'~[[app]]
 F3 BadEntry app[0].cohort | id = 'a'~default = 'b'~cohort = {}
+F3 BadEntry app[0].cohort | id = 'a'~default = 'b'~cohort.name = 'c'
+F3 BadEntry app[0].cohort | id = 'a'~default = 'b'~[app.cohort]~name = 'c'
 F3 BadEntry app[0].release | id = 'a'~default = 'b'~release = ''
 F3 BadEntry app[0].release[1] | id = 'a'~default = 'b'~cohort = [{}]~release = [{}, 0]
 F3 BadEntry app[0].cohort[0].name | id = 'a'~default = 'b'~cohort = [{}]~release = [{}]"#;
@@ -150,6 +155,9 @@ F3 BadEntry app[0].cohort[0].share | cohort = [{ name = 'c', share = -1, open = 
 F3 BadEntry app[0].cohort[0].open | cohort = [{ name = 'c', open = 'true' }]~release = [{}]"#;
 
 const RELEASE_FAULTS: &str = r#"F3 BadEntry app[0].release[0].stone | release = [{ stone = true }]
+F3 BadEntry app[0].release[0].withdrawn | release = [{ version = 1, withdrawn = true }]
+F3 BadEntry app[0].release[0].audience | release = [{ audience = ['b'], withdrawn = true }]
+F3 BadEntry app[0].release[0].version | [[app.release]]~version.major = 1
 F3 BadEntry app[0].release[0].version | release = [{ version = 1.0 }]
 F3 BadEntry app[0].release[0].name | release = [{ version = '1', size = -3 }]
 F3 BadEntry app[0].release[0].size | release = [{ version = '1', name = 'n', size = '3' }]
@@ -183,9 +191,17 @@ F3 BadEntry mirror[0]."x\n" | [[mirror]]~"x\n" = 1
 F3 BadEntry App | App = []~app = 1
 F3 BadEntry schemas | schemas = 1"#;
 
+// A tab beside a quote or a backslash stays as it is, between apostrophes where the key has none.
+const TABBED_KEYS: &str = "F3 BadEntry 'a\tb\"' | 'a\tb\"' = 1
+F3 BadEntry 'a\tb\\' | 'a\tb\\' = 1
+F3 BadEntry \"a\\tb\\\"'\" | \"a\\tb\\\"'\" = 1
+F3 BadEntry \"a\\tb'\" | \"a\tb'\" = 1";
+
 #[test]
 fn tells_unknown_keys_in_byte_order(rt: HostRuntime) -> Result<(), Fail> {
     let wrong = first_wrong(rt.alloc(), Form::Profile, "schema = 1\n", UNKNOWN_KEYS)?;
+    assert!(rt; wrong.is_empty(), "{wrong}");
+    let wrong = first_wrong(rt.alloc(), Form::Profile, "schema = 1\n", TABBED_KEYS)?;
     assert!(rt; wrong.is_empty(), "{wrong}");
     Ok(())
 }
@@ -216,7 +232,7 @@ name = "n"
 sha256 = "x"
 size = "#;
 
-// Dotted keys, inline tables and headers are ways to write one table.
+// Inline tables and headers are ways to write a list of tables; no dotted key is.
 #[test]
 fn gives_the_edits_of_an_app(rt: HostRuntime) -> Result<(), Fail> {
     let wrong = first_wrong(rt.alloc(), Form::Profile, APP, EDITS)?;

@@ -37,10 +37,15 @@ F3 BadEntry edit[1].do | edit = [{ do = 'add_app', app = 'a', default = 'b' }, {
 const EDIT_FAULTS: &str =
     r#"F3 BadEntry edit[0].a | edit = [{ do = 'add_app', z = 1, a = 2, app = 1 }]
 F3 BadEntry edit[0].cohort | edit = [{ do = 'add_app', cohort = 'c' }]
+F3 BadEntry edit[0].do | edit = [{ do.app = 'add_app' }]
+F3 BadEntry edit[0].app | edit = [{ do = 'add_app', app.default = 'b' }]
 F3 BadEntry edit[0].app | edit = [{ do = 'add_app', default = 1 }]
 F3 BadEntry edit[0].default | edit = [{ do = 'add_app', app = 'a' }]
 F3 BadEntry edit[0].app | edit = [{ do = 'add_release' }]
 F3 BadEntry edit[0].version | edit = [{ do = 'add_release', app = 'a' }]
+F3 BadEntry edit[0].stone | edit = [{ do = 'add_release', app = 'a', stone = true }]
+F3 BadEntry edit[0].withdrawn | edit = [{ do = 'add_release', app = 'a', withdrawn = true }]
+F3 BadEntry edit[0].audience | edit = [{ do = 'add_release', app = 'a', audience = [] }]
 F3 BadEntry edit[0].size | edit = [{ do='add_release', app='', version='', name='', size=-1 }]
 F3 BadEntry edit[0].sha256 | edit = [{ do='add_release', app='', version='', name='', size=1 }]
 F3 BadEntry edit[0].cohort | edit = [{ do = 'add_cohort', app = 'a' }]
@@ -48,7 +53,8 @@ F3 BadEntry edit[0].on | edit = [{ do = 'add_cohort', app = 'a', on = true }]
 F3 BadEntry edit[0].held | edit = [{ do = 'set_target', app = 'a', cohort = 'c', held = 1 }]
 F3 BadEntry edit[0].share | edit = [{ do = 'set_share', app = 'a', cohort = 'c' }]
 F3 BadEntry edit[0].on | edit = [{ do = 'set_open', app = 'a', cohort = 'c' }]
-F3 BadEntry edit[0].on | edit = [{ do = 'set_open', app = 'a', cohort = 'c', on = 1 }]"#;
+F3 BadEntry edit[0].on | edit = [{ do = 'set_open', app = 'a', cohort = 'c', on = 1 }]
+F3 BadEntry edit[0].rollback | edit = [{ do = 'set_open', rollback = true, on = true }]"#;
 
 const FRONT: &str = "schema = 1\nbase = 7\n";
 
@@ -80,19 +86,25 @@ fn reads_each_kind_of_edit(rt: HostRuntime) -> Result<(), Fail> {
 
 const OPENS: &str = "{ do = 'set_open', app = 'a', cohort = 'c', on = true },";
 
-// Whether a script is read as something that begins so: these edits, and behind them one more.
-fn begins(alloc: Global, edits: usize, last: &str, want: &str) -> Result<bool, AllocError> {
+// What a script of so many edits is read as, with one more behind them.
+fn many(alloc: Global, edits: usize, last: &str) -> Result<String, AllocError> {
     let back = format!(in alloc; "{last}]\n")?;
     let front = "schema = 1\nbase = 7\nedit = [";
     let text = repeated(alloc, front, OPENS, edits, back.as_str())?;
-    let got = script(alloc, text.as_str().as_bytes())?;
-    Ok(got.as_str().starts_with(want))
+    script(alloc, text.as_str().as_bytes())
+}
+
+#[test]
+fn keeps_each_of_4096_edits(rt: HostRuntime) -> Result<(), Fail> {
+    let want = repeated(rt.alloc(), "on 7;", " open a c true;", 4096, "")?;
+    let got = many(rt.alloc(), 4095, OPENS)?;
+    assert!(rt; got.as_str() == want.as_str(), "{got}");
+    Ok(())
 }
 
 #[test]
 fn counts_edits_after_reading_each(rt: HostRuntime) -> Result<(), Fail> {
     let rows = [
-        (4095, OPENS, "on 7; open a c true; "),
         (4096, OPENS, "F5 TooManyEdits"),
         (
             4500,
@@ -102,8 +114,8 @@ fn counts_edits_after_reading_each(rt: HostRuntime) -> Result<(), Fail> {
         (4096, "1", "F3 BadEntry edit[4096]"),
     ];
     for (edits, last, want) in rows {
-        let right = begins(rt.alloc(), edits, last, want)?;
-        assert!(rt; right, "{edits} edits: {want}");
+        let got = many(rt.alloc(), edits, last)?;
+        assert!(rt; got.as_str() == want, "{got} in place of {want}");
     }
     Ok(())
 }
