@@ -1,3 +1,5 @@
 mod DocumentLemmas
+mod LineLemmas
 mod ListLemmas
 mod MirrorLemmas
+mod PathLemmas

@@ -1,12 +1,14 @@
--- What holds of every profile that is read; this project's profile.
-use Rattle.std.specs.Prelude.{◌≡◌, ℕ, ◌≤◌, List, length, true, Ok}
-use Rattle.std.specs.List.{list_all}
+-- What holds of every profile that is read, and of every path that is told; this project's profile.
+use Rattle.std.specs.Prelude.{◌≡◌, ℕ, ◌≤◌, ◌==◌, ◌||◌, Bool, List, length, true, false, Ok}
+use Rattle.std.specs.List.{list_all, list_any}
 use Rattle.catalogue.specs.Mirrors.{is_mirror}
 use Rattle.catalogue.specs.Validity.{IsOnce}
 use Rattle.catalogue.specs.declared.edit.Edit.{Edit}
 use Rattle.catalogue.specs.declared.mirror.Mirror.{Mirror}
 use Rattle.profile_toml.specs.MirrorLists.{is_named, most_mirrors}
+use Rattle.profile_toml.specs.Places.{indexed, path_of}
 use Rattle.profile_toml.specs.Reading.{profile_of_text}
+use Rattle.profile_toml.specs.declared.place.Place.{Place}
 
 -- one to four mirrors, each of a mirror's form, no two of one name
 pub record AreMirrors (mirrors : List Mirror) : Type 0 where
@@ -20,3 +22,20 @@ abbrev pub ProfilesNameMirrors : Type 0
 ProfilesNameMirrors =
     (text : List ℕ) (edits : List Edit) (mirrors : List Mirror) →
     profile_of_text text ≡ Ok (edits, mirrors) → AreMirrors mirrors
+
+-- the byte ends a line: a line feed or a carriage return
+abbrev pub ends_line : ℕ → Bool
+ends_line byte = byte == 10 || byte == 13
+
+-- no line ends in the text
+abbrev pub IsOneLine : List ℕ → Type 0
+IsOneLine text = list_any ends_line text ≡ false
+
+-- the path of a key is one line, whatever bytes the key has
+abbrev pub PathsAreOneLine : Type 0
+PathsAreOneLine = (place : Place) (key : List ℕ) → IsOneLine (path_of place key)
+
+-- the path of an element of a key's list is one line
+abbrev pub ElementsAreOneLine : Type 0
+ElementsAreOneLine =
+    (place : Place) (key : List ℕ) (index : ℕ) → IsOneLine (indexed (path_of place key) index)

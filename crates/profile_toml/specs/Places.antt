@@ -14,7 +14,7 @@ use Rattle.profile_toml.specs.declared.shape.Verb.TheVariants as verb
 
 -- a key in a path: as it is, but as TOML writes it where it has a control byte: in quotes and with
 -- escapes, or between apostrophes and as it is where its control bytes are tabs alone and it has a
--- quote or a backslash and no apostrophe; so a path is one line
+-- quote or a backslash and no apostrophe; so a path is one line, as `laws::paths` says
 abbrev pub shown_key : List ℕ → List ℕ
 shown_key key = if list_any is_ascii_control key then key_text key else key
 

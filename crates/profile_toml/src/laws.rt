@@ -1,9 +1,17 @@
-//! What holds of every profile, as the contract of a function that does nothing when it runs.
+//! What holds of every profile and every path, as contracts of functions that do nothing when they
+//! run.
 
-ghost use Rattle.profile_toml.specs.Laws.{ProfilesNameMirrors};
+ghost use Rattle.profile_toml.specs.Laws.{ElementsAreOneLine, PathsAreOneLine, ProfilesNameMirrors};
 
 /// States that a profile that is read names one to four mirrors, each of a mirror's form and no two
 /// of one name.
 pub fn mirrors()
     ensures { ProfilesNameMirrors }
+{}
+
+/// States that the path that a fault tells is one line, whatever bytes a key has: it has no line
+/// feed and no carriage return.
+pub fn paths()
+    ensures keys { PathsAreOneLine }
+    ensures elements { ElementsAreOneLine }
 {}

@@ -5,7 +5,7 @@
 //! of the edition that it is written for; `read_script` gives both. `specs/Reading.antt` says what
 //! a text is read as, or which `ProfileFault` it has: the first one. Read `specs/Profiles.antt` and
 //! `specs/Scripts.antt` for the keys, `specs/Expansion.antt` for a profile's edits in their order,
-//! and `laws` for what holds of every profile.
+//! and `laws` for what holds of every profile and every path.
 //!
 //! It does not apply a batch, and does not judge what an edit says: that is `catalogue`. It does
 //! not write profiles.
