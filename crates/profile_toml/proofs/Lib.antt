@@ -1,5 +1,8 @@
 mod DocumentLemmas
+mod FaultLemmas
 mod LineLemmas
 mod ListLemmas
 mod MirrorLemmas
 mod PathLemmas
+mod ProfileFaultLemmas
+mod ScriptFaultLemmas

@@ -75,7 +75,7 @@ IsOneLine-digits_onto (suc count) base upper number text of_text =
     IsOneLine-cond (number / base == 0) _ _ (λ last. longer)
     (λ more. IsOneLine-digits_onto count base upper (number / base) (digit ∷ text) longer)
 
-IsOneLine-decimal : (number : ℕ) → IsOneLine (decimal number)
+pub IsOneLine-decimal : (number : ℕ) → IsOneLine (decimal number)
 unfolding digits
 IsOneLine-decimal number = IsOneLine-digits_onto 64 10 false number [] refl
 
