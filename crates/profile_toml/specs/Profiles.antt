@@ -1,7 +1,7 @@
 -- What a profile's tables say: its mirrors and its apps, or the first fault; this project's
--- profile, schema 1. The tables are looked at from the top: the profile's own keys, then the
--- mirrors, then the apps, each followed by its cohorts and then its releases. In one table unknown
--- keys come first, then the known ones in the order of `keys_of`.
+-- profile, schema 1. Tables are read from the top down: the profile's own keys, the mirrors one by
+-- one, and app by app its own keys, its cohorts and its releases. A table's unknown keys are told
+-- before its known ones, which follow `keys_of`.
 use Rattle.std.specs.Prelude.{ℕ, ◌+◌, ◌==◌, Bool, false, List, [], ◌∷◌, ◌++◌, codes, if◌then◌else◌, option_and_then, unwrap_or, Result, Ok, Err}
 use Rattle.std.specs.List.{list_any}
 use Rattle.std.specs.Option.{option_map_or}

@@ -1,6 +1,6 @@
 -- What a script's tables say: the edition that it is written for and its edits, or the first fault;
--- this project's profile, schema 1. Of an edit `do` is looked at first, since it says which keys
--- there are; then unknown keys, then the known ones in the order of `keys_of`.
+-- this project's profile, schema 1. Which keys an edit has depends on its `do`, so that is read
+-- first; unknown keys follow, and then the known ones in the order of `keys_of_edit`.
 use Rattle.std.specs.Prelude.{ℕ, nat_le, List, [], ◌∷◌, length, codes, if◌then◌else◌, Option, option_and_then, Result, Ok, Err}
 use Rattle.std.specs.Map.{lookup}
 use Rattle.std.specs.Str.{bytes_eq}

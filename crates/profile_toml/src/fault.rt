@@ -4,12 +4,12 @@ use values::Text;
 
 /// Why a text is no profile, or no script.
 ///
-/// The faults stand in the order in which they are looked for.
+/// An earlier variant is told before a later one.
 #[derive(Debug, Drop)]
 pub enum ProfileFault {
-    /// F1: the text is not TOML, or not UTF-8.
+    /// F1: the bytes are no UTF-8, or no TOML.
     NotToml,
-    /// F2: the key `schema` is missing or not the integer 1.
+    /// F2: the text has no key `schema` with the integer 1.
     BadSchema,
     /// F3: the path of the first unknown key, missing key, value of a wrong type or negative
     /// integer, or of the name of a cohort that repeats an earlier one, as

@@ -14,9 +14,10 @@ use values::ReadError;
 /// Reads a profile of schema 1: the edits that make its catalogue, and its one to four mirrors.
 ///
 /// Faults are looked for in the order of `ProfileFault`, and in the tables from the top: the
-/// profile's own keys, the mirrors, then each app with its cohorts and its releases. In one table
-/// unknown keys come first, in byte order. TOML is what the crate `toml` takes: version 1.1,
-/// integers of 64 bits, at most 80 levels. What the edits say is not judged.
+/// profile's own keys, the mirrors, then each app with its cohorts and its releases. A table's
+/// unknown keys are told before its others, the least of them in byte order. TOML is what the crate
+/// `toml` takes: version 1.1, integers of 64 bits, at most 80 levels. What the edits say is not
+/// judged.
 #[tactic(auto, unfolding(crate::specs::Reading::profile_of_text))]
 pub fn read_profile(
     alloc: Global,
@@ -32,9 +33,9 @@ pub fn read_profile(
 
 /// Reads a script of schema 1: the number of the edition that it is written for, and its edits.
 ///
-/// Faults are looked for in the order of `ProfileFault`, and in the tables from the top. Of an edit
-/// `do` is looked at first, then unknown keys in byte order, then the others. There are at most
-/// 4096 edits. What the edits say is not judged.
+/// Faults are looked for in the order of `ProfileFault`, and in the tables from the top. An edit's
+/// `do` is read before its other keys, of which unknown ones are told first, the least in byte order.
+/// There are at most 4096 edits. What the edits say is not judged.
 #[tactic(auto, unfolding(crate::specs::Reading::script_of_text))]
 pub fn read_script(alloc: Global, bytes: &[u8]) -> Result<(u64, Batch), ReadError<ProfileFault>>
     ensures { Reads (λ script. script) result (script_of_text bytes.now) }
