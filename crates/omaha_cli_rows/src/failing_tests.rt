@@ -46,8 +46,10 @@ fn tells_that_a_reply_was_not_written(rt: HostRuntime) -> Result<(), Fail> {
 
 #[test]
 fn tells_why_words_were_not_read(rt: HostRuntime) -> Result<(), Fail> {
-    let no_text =
-        "error: a word of the command line is no UTF-8 text\n\nFor more information, try '--help'.\n";
+    let no_text = concat!(
+        "error: a word of the command line is no UTF-8 text\n",
+        "\nFor more information, try '--help'.\n",
+    );
     let rows = [
         (ErrorKind::InvalidData, 2, no_text),
         (ErrorKind::OutOfMemory, 1, "omaha: memory\n"),
