@@ -15,6 +15,7 @@ mod LastReleaseLemmas
 mod LookupLemmas
 mod MakingLemmas
 mod MarkLemmas
+mod OnceLemmas
 mod PackageLemmas
 mod PlaceLemmas
 mod PlainLemmas

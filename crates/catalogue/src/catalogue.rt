@@ -142,6 +142,7 @@ impl Catalogue {
     pub fn app(&self, id: &str) -> Option<usize>
         ensures { result ≡ position (is_app id.now) self.now }
     {
+        self.is_valid();
         lookup::index_of_app(self.apps.as_slice(), id)
     }
 

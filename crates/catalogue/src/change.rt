@@ -75,6 +75,7 @@ fn place(releases: &mut Items<Release>, release: Release) -> Result<(), AllocErr
 }
 
 fn index_of_app(apps: &Items<App>, id: &Text) -> Option<usize>
+    requires { IsValid apps.now }
     ensures { result ≡ position (is_app id.now) apps.now }
 {
     lookup::index_of_app(apps.as_slice(), id.as_str())
@@ -108,6 +109,7 @@ pub(crate) fn add_cohort_to(
     id: &Text,
     cohort: Cohort,
 ) -> Result<(), AllocError>
+    requires { IsValid apps.old }
     ensures { OnOk result (apps.new ≡ change (is_app id.now) (with_cohort cohort) apps.old) }
 {
     if let Some(index) = index_of_app(apps, id) {
@@ -169,6 +171,7 @@ fn set_mark_in(cohorts: &mut Items<Cohort>, name: &Text, mark: Mark)
 }
 
 pub(crate) fn set_mark_of(apps: &mut Items<App>, id: &Text, cohort: &Text, mark: Mark)
+    requires { IsValid apps.old }
     ensures { apps.new ≡ change (is_app id.now) (in_cohort cohort.now (with_mark mark)) apps.old }
 {
     if let Some(index) = index_of_app(apps, id) {

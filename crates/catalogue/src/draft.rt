@@ -81,7 +81,8 @@ impl Draft {
     }
 
     fn add_cohort(&mut self, edit: &AddCohort) -> Result<(), AllocError>
-        requires { IsIndexed self.old }
+        requires indexed { IsIndexed self.old }
+        requires valid { IsValid self.old.apps }
         ensures { OnOk result (Becomes self.new (after self.old.apps (edits.AddCohort edit.now))) }
     {
         let cohort = added_cohort(edit)?;
@@ -90,7 +91,8 @@ impl Draft {
     }
 
     fn set_mark(&mut self, id: &Text, cohort: &Text, mark: Mark)
-        requires { IsIndexed self.old }
+        requires indexed { IsIndexed self.old }
+        requires valid { IsValid self.old.apps }
         ensures { Becomes
             self.new
             (change (is_app id.now) (in_cohort cohort.now (with_mark mark)) self.old.apps) }
@@ -99,7 +101,8 @@ impl Draft {
     }
 
     fn set_target(&mut self, edit: &SetTarget)
-        requires { IsIndexed self.old }
+        requires indexed { IsIndexed self.old }
+        requires valid { IsValid self.old.apps }
         ensures { Becomes self.new (after self.old.apps (edits.SetTarget edit.now)) }
     {
         let targets = targets_of(edit);
@@ -107,14 +110,16 @@ impl Draft {
     }
 
     fn set_share(&mut self, edit: &SetShare)
-        requires { IsIndexed self.old }
+        requires indexed { IsIndexed self.old }
+        requires valid { IsValid self.old.apps }
         ensures { Becomes self.new (after self.old.apps (edits.SetShare edit.now)) }
     {
         self.set_mark(&edit.app, &edit.cohort, Mark::Share(edit.share));
     }
 
     fn set_open(&mut self, edit: &SetOpen)
-        requires { IsIndexed self.old }
+        requires indexed { IsIndexed self.old }
+        requires valid { IsValid self.old.apps }
         ensures { Becomes self.new (after self.old.apps (edits.SetOpen edit.now)) }
     {
         self.set_mark(&edit.app, &edit.cohort, Mark::Open(edit.on));

@@ -6,25 +6,28 @@ ghost use Rattle.std.specs.List.{list_any};
 ghost use Rattle.catalogue.specs.Changes.{place_of};
 ghost use Rattle.catalogue.specs.Lookups.{app_of, has_hash, is_app, is_cohort, is_release};
 ghost use Rattle.catalogue.specs.Faults.{has_cohort, has_release};
-ghost use Rattle.catalogue.specs.Validity.{ascend, is_release_below};
+ghost use Rattle.catalogue.specs.Validity.{IsValid, ascend, is_release_below};
 
 use crate::content::{App, Cohort, Release};
 use crate::form::is_same_id;
 use values::Items;
 use version::Version;
 
-/// The index of the app of an identifier.
+/// The index of the app of an identifier, sought from the last app on.
 pub(crate) fn index_of_app(apps: &[App], id: &str) -> Option<usize>
+    requires { IsValid apps.now }
     ensures { result ≡ position (is_app id.now) apps.now }
 {
-    apps.iter().position(|app| is_same_id(id, app.id.as_str()))
+    apps.iter().rposition(|app| is_same_id(id, app.id.as_str()))
 }
 
-/// The app of an identifier.
+/// The app of an identifier, sought from the last app on.
 pub(crate) fn find_app<'a>(apps: &'a [App], id: &str) -> Option<&'a App>
+    requires { IsValid apps.now }
     ensures { option_copied result ≡ app_of apps.now id.now }
 {
-    apps.iter().find(|app| is_same_id(id, app.id.as_str()))
+    let index = index_of_app(apps, id)?;
+    Some(&apps[index])
 }
 
 /// Where a release of a version stands among releases by ascending version, found by halves.

@@ -24,6 +24,7 @@ const MOST_COHORTS: usize = 32;
 const MOST_SHARE: u64 = 1000;
 
 fn fault_of_add_app(draft: &Draft, edit: &AddApp) -> Option<Fault>
+    requires { IsValid draft.now.apps }
     ensures { result ≡ first_fault (tests_of_add_app draft.now.apps edit.now) }
 {
     let apps = draft.apps.as_slice();
@@ -79,6 +80,7 @@ fn fault_of_add_release(draft: &Draft, edit: &AddRelease) -> Option<Fault>
 }
 
 fn fault_of_add_cohort(draft: &Draft, edit: &AddCohort) -> Option<Fault>
+    requires { IsValid draft.now.apps }
     ensures { result ≡ first_fault (tests_of_add_cohort draft.now.apps edit.now) }
 {
     let Some(app) = find_app(draft.apps.as_slice(), edit.app.as_str()) else {
@@ -137,6 +139,7 @@ fn fault_of_set_target(draft: &Draft, edit: &SetTarget) -> Option<Fault>
 }
 
 fn fault_of_set_share(draft: &Draft, edit: &SetShare) -> Option<Fault>
+    requires { IsValid draft.now.apps }
     ensures { result ≡ first_fault (tests_of_set_share draft.now.apps edit.now) }
 {
     let Some(app) = find_app(draft.apps.as_slice(), edit.app.as_str()) else {
@@ -152,6 +155,7 @@ fn fault_of_set_share(draft: &Draft, edit: &SetShare) -> Option<Fault>
 }
 
 fn fault_of_set_open(draft: &Draft, edit: &SetOpen) -> Option<Fault>
+    requires { IsValid draft.now.apps }
     ensures { result ≡ first_fault (tests_of_set_open draft.now.apps edit.now) }
 {
     let Some(app) = find_app(draft.apps.as_slice(), edit.app.as_str()) else {

@@ -17,7 +17,7 @@ returns c =
     record {
       content = content;
       indexed = λ name.
-          c.requires name
+          c.requires.indexed name
           ∙ sym (declared_of-kept edit.app new (λ app. refl) apps name)
           ∙ sym (ap (λ (content : List App). declared_of content name) content);
     }

@@ -10,7 +10,7 @@ pub returns : goal.returns
 returns c = record {
   content = c.set_mark_of.ensures;
   indexed = λ name.
-      c.requires name
+      c.requires.indexed name
       ∙ sym (declared_of-kept c.args.id.now (in_cohort c.args.cohort.now (with_mark c.args.mark)) (λ app. refl) c.args.self.now.apps name)
       ∙ sym (ap (λ (apps : List App). declared_of apps name) c.set_mark_of.ensures);
 }
