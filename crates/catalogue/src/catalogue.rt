@@ -92,7 +92,7 @@ impl Catalogue {
     }
 
     /// Tells a caller's proof what is true of every catalogue; it does nothing when it runs.
-    pub fn is_valid(&self)
+    pub fn validity(&self)
         ensures { IsValid self.now }
     {
         let _ = &self.apps;
@@ -100,7 +100,7 @@ impl Catalogue {
 
     /// Tells a caller's proof that a catalogue has nothing that no edit makes; it does nothing when
     /// it runs.
-    pub fn is_plain(&self)
+    pub fn plainness(&self)
         ensures { IsPlain self.now }
     {
         let _ = &self.apps;
@@ -142,7 +142,7 @@ impl Catalogue {
     pub fn app(&self, id: &str) -> Option<usize>
         ensures { result ≡ position (is_app id.now) self.now }
     {
-        self.is_valid();
+        self.validity();
         lookup::index_of_app(self.apps.as_slice(), id)
     }
 
@@ -151,7 +151,7 @@ impl Catalogue {
         requires { app < length self.now }
         ensures { result ≡ position (is_release version.now) (releases_at self.now app) }
     {
-        self.is_valid();
+        self.validity();
         lookup::index_of_release(self.releases(app), version)
     }
 

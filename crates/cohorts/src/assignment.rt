@@ -34,7 +34,7 @@ fn cohort_of(catalogue: &Catalogue, app: usize, ask: &AppAsk) -> usize
     ensures cohort { result ≡ cohort_of (cohorts_at catalogue.now app) ask.now }
     ensures within { result < length (cohorts_at catalogue.now app) }
 {
-    catalogue.is_valid();
+    catalogue.validity();
     let hinted = hinted_cohort(catalogue.cohorts(app), ask.hint.as_str());
     let sent = sent_cohort(catalogue, app, ask.cohort.as_str());
     hinted.or(sent).unwrap_or(0)
