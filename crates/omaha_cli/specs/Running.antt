@@ -97,7 +97,7 @@ Fails words held before after =
     × ((refusal : Failure) × Responds (once_of words) held before after (Err refusal))
 
 -- a run that is refused: help was asked for, and could not be shown; right words are answered with a
--- failure; or nothing was written, for want of memory
+-- failure; or nothing was written, as for want of memory, which no clause can name
 abbrev pub EndsRefused : List Text → Option (List ℕ) → Option (List ℕ) → Option (List ℕ) → Type 0
 EndsRefused words held before after =
     AsksHelp (faults_of words) ⊎ Fails words held before after ⊎ (after ≡ before)
