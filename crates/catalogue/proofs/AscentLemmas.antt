@@ -7,9 +7,8 @@ use Rattle.version.specs.Laws.{BelowIsTotal, BelowIsTransitive}
 use Rattle.version.specs.Versions.{is_below}
 use Rattle.catalogue.proofs.InsertedLemmas.{list_all-Inserts, list_all-weaker}
 use Rattle.catalogue.proofs.InsertionLemmas.{Inserts, Inserts-insert}
-use Rattle.catalogue.specs.Changes.{place_of, placed}
-use Rattle.catalogue.specs.Faults.{has_release}
-use Rattle.catalogue.specs.Lookups.{is_release}
+use Rattle.catalogue.specs.Changes.{placed}
+use Rattle.catalogue.specs.Lookups.{has_release, is_release, place_of}
 use Rattle.catalogue.specs.Validity.{ascend, is_release_below}
 use Rattle.catalogue.specs.declared.content.Release.{Release}
 

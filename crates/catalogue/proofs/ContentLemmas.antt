@@ -17,20 +17,22 @@ use Rattle.catalogue.proofs.LastReleaseLemmas.{added, declared_of-before, has_re
 use Rattle.catalogue.proofs.MakingLemmas.{Makes-each, Makes-each_one, Makes-one, Makes-same, outcome_from-Makes}
 use Rattle.catalogue.proofs.SpellingLemmas.{hash_named-encode_lower, hash_of-encode_lower, is_misspelled-spelling_of, is_none-spells, is_unreleased-spelling_of, lenient_version_of-spells, option_map-spelling_of}
 use Rattle.catalogue.proofs.SplitLemmas.{AllByRecursion-at, ascend-before, change-at_item, length-before, list_all-at, list_any-at, list_any-before, split_next}
-use Rattle.catalogue.proofs.ValidAppLemmas.{GoodCohort, GoodCohort-from_test}
+use Rattle.catalogue.proofs.GoodCohortLemmas.{GoodCohort, GoodCohort-from_test}
 use Rattle.catalogue.specs.Batches.{outcome}
-use Rattle.catalogue.specs.Changes.{change, in_cohort, new_cohort, new_release, with_cohort, with_open, with_release, with_share, with_targets, with_targets_of}
+use Rattle.catalogue.specs.Changes.{change, in_cohort, new_cohort, new_release, with_cohort, with_release, with_setting}
 use Rattle.catalogue.specs.Contents.{IsPlain, IsPlainApp, IsPlainCohort, IsPlainRelease, default_name, edit_of_cohort, edit_of_release, edit_of_share, edits_of_app, edits_of_content, edits_of_marks, edits_of_open, edits_of_targets, spelling_of}
-use Rattle.catalogue.specs.Faults.{has_cohort, most_apps, most_cohorts, most_releases}
+use Rattle.catalogue.specs.Edits.CohortSettings.{setting_of_set_target}
 use Rattle.catalogue.specs.Forms.{is_hash, is_package_name, is_size}
-use Rattle.catalogue.specs.Lookups.{has_hash, is_app, is_cohort, packages_of}
+use Rattle.catalogue.specs.Limits.{max_apps, max_cohorts, max_releases}
+use Rattle.catalogue.specs.Lookups.{has_cohort, has_hash, is_app, is_cohort, packages_of}
 use Rattle.catalogue.specs.Validity.{IsOnce, IsValid, IsValidApp, is_good_audience, is_good_release, is_package, is_release_below, spells}
 use Rattle.catalogue.specs.declared.content.App.{App}
 use Rattle.catalogue.specs.declared.content.Cohort.{Cohort}
 use Rattle.catalogue.specs.declared.content.Diff.{Diff}
 use Rattle.catalogue.specs.declared.content.Release.{Release}
 use Rattle.catalogue.specs.declared.edit.Edit.TheVariants as edit
-use Rattle.catalogue.specs.declared.edit.SetTarget.{SetTarget}
+use Rattle.catalogue.specs.declared.edits.cohort_settings.CohortSetting.TheVariants as setting
+use Rattle.catalogue.specs.declared.edits.cohort_settings.SetTarget.{SetTarget}
 
 -- a cohort as it is when it is added
 abbrev bare : Cohort → Cohort
@@ -68,7 +70,7 @@ GoodRelease-from_test cohorts release good =
     record { spelled = named.0; named = named.1; sized = sized.1; hashed = hashed.1 }
 
 -- an app that is valid and plain, behind others that have not its identifier
-module _ (irreflexive : BelowIsIrreflexive) (agrees : LenientAgrees) (front : List App) (app : App) (back : List App) (fresh : list_any (is_app app.id) front ≡ false) (room : length front < most_apps) (once : IsOnce is_package (packages_of (front ++ app ∷ back))) (valid : IsValidApp app) (plain : IsPlainApp app) where
+module _ (irreflexive : BelowIsIrreflexive) (agrees : LenientAgrees) (front : List App) (app : App) (back : List App) (fresh : list_any (is_app app.id) front ≡ false) (room : length front < max_apps) (once : IsOnce is_package (packages_of (front ++ app ∷ back))) (valid : IsValidApp app) (plain : IsPlainApp app) where
   -- the content whose last app has these cohorts and releases
   abbrev stands : List Cohort → List Release → List App
   stands cohorts releases = front ++ grown app cohorts releases ∷ []
@@ -94,8 +96,8 @@ module _ (irreflexive : BelowIsIrreflexive) (agrees : LenientAgrees) (front : Li
     Makes-each_one (λ before behind. stands (map bare before) []) (edit_of_cohort app) (default ∷ others)
         (λ before cohort behind cut.
         let at = is ∙ cut in
-        let few : length (before ++ cohort ∷ behind) ≤ most_cohorts = rw at at valid.few_cohorts in
-        let there_before = length-before before cohort behind most_cohorts few in
+        let few : length (before ++ cohort ∷ behind) ≤ max_cohorts = rw at at valid.few_cohorts in
+        let there_before = length-before before cohort behind max_cohorts few in
         let as_many = length-bare before in (
           accepts_cohort front app.id fresh (grown app (map bare before) []) refl cohort.name (good_cohort before cohort behind at).named
               (has_cohort-bare cohort.name before ∙ new_name before cohort behind at) (omega arith),
@@ -120,7 +122,7 @@ module _ (irreflexive : BelowIsIrreflexive) (agrees : LenientAgrees) (front : Li
             (ap (λ (v : List ℕ). list_any (λ (r : Release). bytes_eq v r.version) below) (lenient_version_of-spells agrees release.spelled release.version good.spelled) ∙ has_release-below irreflexive release below lower)
             (ap (λ (h : List ℕ). list_any (has_hash h) below) (hash_named-encode_lower release.hash good.hashed) ∙ list_any-before has_hash below release above (rw cut at valid.hashes_once) release.hash (bytes_eq-same release.hash))
             (declared_of-before front app back below release above partial cut once refl refl)
-            (length-before below release above most_releases (rw cut at valid.few_releases)),
+            (length-before below release above max_releases (rw cut at valid.few_releases)),
         change-last front app.id fresh (with_release (new_release (added app.id release))) partial refl
             ∙ ap (λ (r : Release). front ++ with_release r partial ∷ []) made
             ∙ ap (stands cohorts) (placed-last release below lower),
@@ -144,10 +146,10 @@ module _ (irreflexive : BelowIsIrreflexive) (agrees : LenientAgrees) (front : Li
 
     -- the cohort with its targets, then with its share
     abbrev targeted : Cohort
-    targeted = with_targets cohort.target cohort.held (bare cohort)
+    targeted = with_setting (setting.Targets cohort.target cohort.held) (bare cohort)
 
     abbrev shared : Cohort
-    shared = with_share cohort.share targeted
+    shared = with_setting (setting.Share cohort.share) targeted
 
     makes_targets : Makes (edits_of_targets app cohort) (marked (bare cohort)) (marked targeted)
     makes_targets = cases (is_some cohort.target || is_some cohort.held) refl
@@ -172,21 +174,21 @@ module _ (irreflexive : BelowIsIrreflexive) (agrees : LenientAgrees) (front : Li
             (accepts_targets front app.id fresh (grown app (before ++ bare cohort ∷ map bare behind) app.releases) refl cohort.name e.target e.held (marked_there (bare cohort) refl)
             (is_misspelled-spelling_of agrees app.releases spelled cohort.target good.target) (is_misspelled-spelling_of agrees app.releases spelled cohort.held good.held)
             (is_unreleased-spelling_of agrees app.releases spelled cohort.target good.target) (is_unreleased-spelling_of agrees app.releases spelled cohort.held good.held))
-            (marked-set (with_targets_of e) (bare cohort) refl
-            ∙ ap (λ (t : Option (List ℕ)). marked (with_targets t (option_map lenient_version_of e.held) (bare cohort))) (option_map-spelling_of agrees app.releases spelled cohort.target good.target)
-            ∙ ap (λ (h : Option (List ℕ)). marked (with_targets cohort.target h (bare cohort))) (option_map-spelling_of agrees app.releases spelled cohort.held good.held))
+            (marked-set (with_setting (setting_of_set_target e)) (bare cohort) refl
+            ∙ ap (λ (t : Option (List ℕ)). marked (with_setting (setting.Targets t (option_map lenient_version_of e.held)) (bare cohort))) (option_map-spelling_of agrees app.releases spelled cohort.target good.target)
+            ∙ ap (λ (h : Option (List ℕ)). marked (with_setting (setting.Targets cohort.target h) (bare cohort))) (option_map-spelling_of agrees app.releases spelled cohort.held good.held))
         cases false given =
             let none = or_parts (is_some cohort.target) (is_some cohort.held) given in
             let no_target = None-from_not_some cohort.target none.0 in
             let no_held = None-from_not_some cohort.held none.1 in
-            ap (λ (t : Option (List ℕ)). marked (with_targets t cohort.held (bare cohort))) no_target
-            ∙ ap (λ (h : Option (List ℕ)). marked (with_targets None h (bare cohort))) no_held
+            ap (λ (t : Option (List ℕ)). marked (with_setting (setting.Targets t cohort.held) (bare cohort))) no_target
+            ∙ ap (λ (h : Option (List ℕ)). marked (with_setting (setting.Targets None h) (bare cohort))) no_held
 
     makes_share : Makes (edit_of_share app cohort ∷ []) (marked targeted) (marked shared)
     makes_share =
         Makes-one (edit_of_share app cohort) (marked targeted) (marked shared)
         (accepts_share front app.id fresh (grown app (before ++ targeted ∷ map bare behind) app.releases) refl cohort.name cohort.share (marked_there targeted refl) (good_cohort before cohort behind cut).shared)
-        (marked-set (with_share cohort.share) targeted refl)
+        (marked-set (with_setting (setting.Share cohort.share)) targeted refl)
 
     makes_open : Makes (edits_of_open app cohort) (marked shared) (marked cohort)
     makes_open = cases cohort.hintable refl
@@ -198,7 +200,7 @@ module _ (irreflexive : BelowIsIrreflexive) (agrees : LenientAgrees) (front : Li
         cases true on =
             Makes-one (edit.SetOpen (record { app = app.id; cohort = cohort.name; on = true })) (marked shared) (marked cohort)
             (accepts_open front app.id fresh (grown app (before ++ shared ∷ map bare behind) app.releases) refl cohort.name true (marked_there shared refl))
-            (marked-set (with_open true) shared refl ∙ ap marked (cohort_of_parts cohort false true (sym not_led_down) (sym on)))
+            (marked-set (with_setting (setting.Open true)) shared refl ∙ ap marked (cohort_of_parts cohort false true (sym not_led_down) (sym on)))
         cases false off = ap marked (sym (cohort_of_parts cohort false false (sym not_led_down) (sym off)))
 
     makes_marks : Makes (edits_of_marks app cohort) (marked (bare cohort)) (marked cohort)
@@ -231,7 +233,7 @@ outcome-edits_of_content irreflexive agrees apps valid plain =
     (λ front app back cut.
     makes_app irreflexive agrees front app back
     (list_any-before is_app front app back (rw cut at valid.ids_once) app.id (bytes_eq-same (lowered app.id)))
-    (length-before front app back most_apps (rw cut at valid.few_apps))
+    (length-before front app back max_apps (rw cut at valid.few_apps))
     (rw cut at valid.names_once)
     (AllByRecursion-at IsValidApp front app back (rw cut at valid.apps_valid))
     (AllByRecursion-at IsPlainApp front app back (rw cut at plain))) [] apps refl)

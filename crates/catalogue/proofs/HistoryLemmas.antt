@@ -5,8 +5,7 @@ use Rattle.std.proofs.Math.Bool.{or-false, or_assoc}
 use Rattle.std.specs.List.{list_any}
 use Rattle.std.specs.Option.{unwrap_or}
 use Rattle.catalogue.specs.Batches.{outcome, outcome_from, run, then_run, unless_refused}
-use Rattle.catalogue.specs.Changes.{after}
-use Rattle.catalogue.specs.Faults.{fault_of}
+use Rattle.catalogue.specs.Edits.{after, fault_of}
 use Rattle.catalogue.specs.Histories.{edits_of, last_set}
 use Rattle.catalogue.specs.declared.content.App.{App}
 use Rattle.catalogue.specs.declared.edit.Edit.{Edit}

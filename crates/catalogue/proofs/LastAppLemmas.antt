@@ -10,29 +10,34 @@ use Rattle.catalogue.proofs.AppLemmas.{lowered}
 use Rattle.catalogue.proofs.MakingLemmas.{None-from_NoneHold}
 use Rattle.catalogue.proofs.SplitLemmas.{change-at_item, find-at, find-nowhere}
 use Rattle.catalogue.specs.Changes.{change}
-use Rattle.catalogue.specs.Faults.{fault_of, has_cohort, has_release, is_misspelled, is_unreleased, most_apps, most_cohorts, most_releases, most_share, tests_of_add_app, tests_of_add_cohort, tests_of_add_release, tests_of_set_open, tests_of_set_share, tests_of_set_target}
+use Rattle.catalogue.specs.Edits.{fault_of}
+use Rattle.catalogue.specs.Edits.Apps.{tests_of_add_app}
+use Rattle.catalogue.specs.Edits.CohortSettings.{is_misspelled, is_unreleased, tests_of_set_open, tests_of_set_share, tests_of_set_target}
+use Rattle.catalogue.specs.Edits.Cohorts.{tests_of_add_cohort}
+use Rattle.catalogue.specs.Edits.Releases.{tests_of_add_release}
 use Rattle.catalogue.specs.Forms.{hash_named, hash_of, is_app_id, is_cohort_name, is_package_name, is_size}
-use Rattle.catalogue.specs.Lookups.{app_of, declared_of, has_hash, is_app}
+use Rattle.catalogue.specs.Limits.{max_apps, max_cohorts, max_releases, max_share}
+use Rattle.catalogue.specs.Lookups.{app_of, declared_of, has_cohort, has_hash, has_release, is_app}
 use Rattle.catalogue.specs.declared.content.App.{App}
 use Rattle.catalogue.specs.declared.content.Declared.{Declared}
-use Rattle.catalogue.specs.declared.edit.AddApp.{AddApp}
-use Rattle.catalogue.specs.declared.edit.AddCohort.{AddCohort}
-use Rattle.catalogue.specs.declared.edit.AddRelease.{AddRelease}
 use Rattle.catalogue.specs.declared.edit.Edit.TheVariants as edit
-use Rattle.catalogue.specs.declared.edit.SetOpen.{SetOpen}
-use Rattle.catalogue.specs.declared.edit.SetShare.{SetShare}
-use Rattle.catalogue.specs.declared.edit.SetTarget.{SetTarget}
+use Rattle.catalogue.specs.declared.edits.apps.AddApp.{AddApp}
+use Rattle.catalogue.specs.declared.edits.cohort_settings.SetOpen.{SetOpen}
+use Rattle.catalogue.specs.declared.edits.cohort_settings.SetShare.{SetShare}
+use Rattle.catalogue.specs.declared.edits.cohort_settings.SetTarget.{SetTarget}
+use Rattle.catalogue.specs.declared.edits.cohorts.AddCohort.{AddCohort}
+use Rattle.catalogue.specs.declared.edits.releases.AddRelease.{AddRelease}
 
 -- a text is equal to itself
 pub bytes_eq-same : (text : List ℕ) → bytes_eq text text ≡ true
 bytes_eq-same text = (bytes_eq-Decides text text).1 refl
 
 -- an app is added behind others
-pub accepts_app : (front : List App) (e : AddApp) → is_app_id e.app ≡ true → is_cohort_name e.default ≡ true → list_any (is_app e.app) front ≡ false → length front < most_apps → fault_of front (edit.AddApp e) ≡ None
+pub accepts_app : (front : List App) (e : AddApp) → is_app_id e.app ≡ true → is_cohort_name e.default ≡ true → list_any (is_app e.app) front ≡ false → length front < max_apps → fault_of front (edit.AddApp e) ≡ None
 accepts_app front e identified named fresh room =
     let absent = find-nowhere (is_app e.app) front fresh in
     None-from_NoneHold (tests_of_add_app front e)
-    (not_from_true _ identified, (not_from_true _ named, (ap (λ (o : Option App). is_some o) absent, (lt-leb most_apps (length front) room, tt))))
+    (not_from_true _ identified, (not_from_true _ named, (ap (λ (o : Option App). is_some o) absent, (lt-leb max_apps (length front) room, tt))))
 
 module _ (front : List App) (id : List ℕ) (fresh : list_any (is_app id) front ≡ false) where
   -- the last app is found where none before it has its identifier
@@ -43,7 +48,7 @@ module _ (front : List App) (id : List ℕ) (fresh : list_any (is_app id) front 
   pub change-last : (f : App → App) (app : App) → app.id ≡ id → change (is_app id) f (front ++ app ∷ []) ≡ front ++ f app ∷ []
   change-last f app same = change-at_item (is_app id) f front app [] fresh (ap (λ (other : List ℕ). bytes_eq (lowered id) (lowered other)) same ∙ bytes_eq-same (lowered id))
 
-  pub accepts_release : (app : App) → app.id ≡ id → (version name sha256 : List ℕ) (size : ℕ) → is_none (version_of version) ≡ false → is_none (hash_of sha256) ≡ false → is_size size ≡ true → is_package_name name ≡ true → has_release app.releases (lenient_version_of version) ≡ false → list_any (has_hash (hash_named sha256)) app.releases ≡ false → declared_of (front ++ app ∷ []) name ≡ None → length app.releases < most_releases → fault_of (front ++ app ∷ []) (edit.AddRelease (record { app = id; version = version; name = name; size = size; sha256 = sha256 })) ≡ None
+  pub accepts_release : (app : App) → app.id ≡ id → (version name sha256 : List ℕ) (size : ℕ) → is_none (version_of version) ≡ false → is_none (hash_of sha256) ≡ false → is_size size ≡ true → is_package_name name ≡ true → has_release app.releases (lenient_version_of version) ≡ false → list_any (has_hash (hash_named sha256)) app.releases ≡ false → declared_of (front ++ app ∷ []) name ≡ None → length app.releases < max_releases → fault_of (front ++ app ∷ []) (edit.AddRelease (record { app = id; version = version; name = name; size = size; sha256 = sha256 })) ≡ None
   accepts_release app same version name sha256 size spelled hashed sized named new_version new_hash new_name room =
       let apps = front ++ app ∷ [] in
       let e : AddRelease = record { app = id; version = version; name = name; size = size; sha256 = sha256 } in
@@ -65,7 +70,7 @@ module _ (front : List App) (id : List ℕ) (fresh : list_any (is_app id) front 
                     ap (λ (o : Option App). list_any (has_hash (hash_named sha256)) (releases o)) found ∙ new_hash,
                     (
                       ap (λ (o : Option Declared). is_some o) new_name,
-                      (ap (λ (o : Option App). nat_le most_releases (length (releases o))) found ∙ lt-leb most_releases (length app.releases) room, tt),
+                      (ap (λ (o : Option App). nat_le max_releases (length (releases o))) found ∙ lt-leb max_releases (length app.releases) room, tt),
                     ),
                   ),
                 ),
@@ -75,7 +80,7 @@ module _ (front : List App) (id : List ℕ) (fresh : list_any (is_app id) front 
         ),
       )
 
-  pub accepts_cohort : (app : App) → app.id ≡ id → (name : List ℕ) → is_cohort_name name ≡ true → has_cohort app.cohorts name ≡ false → length app.cohorts < most_cohorts → fault_of (front ++ app ∷ []) (edit.AddCohort (record { app = id; cohort = name })) ≡ None
+  pub accepts_cohort : (app : App) → app.id ≡ id → (name : List ℕ) → is_cohort_name name ≡ true → has_cohort app.cohorts name ≡ false → length app.cohorts < max_cohorts → fault_of (front ++ app ∷ []) (edit.AddCohort (record { app = id; cohort = name })) ≡ None
   accepts_cohort app same name named new_name room =
       let apps = front ++ app ∷ [] in
       let e : AddCohort = record { app = id; cohort = name } in
@@ -86,7 +91,7 @@ module _ (front : List App) (id : List ℕ) (fresh : list_any (is_app id) front 
           not_from_true _ named,
           (
             ap (λ (o : Option App). has_cohort (option_map_or (λ a. a.cohorts) o []) name) found ∙ new_name,
-            (ap (λ (o : Option App). nat_le most_cohorts (length (option_map_or (λ a. a.cohorts) o []))) found ∙ lt-leb most_cohorts (length app.cohorts) room, tt),
+            (ap (λ (o : Option App). nat_le max_cohorts (length (option_map_or (λ a. a.cohorts) o []))) found ∙ lt-leb max_cohorts (length app.cohorts) room, tt),
           ),
         ),
       )
@@ -117,7 +122,7 @@ module _ (front : List App) (id : List ℕ) (fresh : list_any (is_app id) front 
         ),
       )
 
-  pub accepts_share : (app : App) → app.id ≡ id → (name : List ℕ) (share : ℕ) → has_cohort app.cohorts name ≡ true → nat_le share most_share ≡ true → fault_of (front ++ app ∷ []) (edit.SetShare (record { app = id; cohort = name; share = share })) ≡ None
+  pub accepts_share : (app : App) → app.id ≡ id → (name : List ℕ) (share : ℕ) → has_cohort app.cohorts name ≡ true → nat_le share max_share ≡ true → fault_of (front ++ app ∷ []) (edit.SetShare (record { app = id; cohort = name; share = share })) ≡ None
   accepts_share app same name share there within =
       let apps = front ++ app ∷ [] in
       let e : SetShare = record { app = id; cohort = name; share = share } in

@@ -16,14 +16,13 @@ use Rattle.catalogue.proofs.SplitLemmas.{list_any-before, lookup-nowhere}
 use Rattle.catalogue.proofs.SpellingLemmas.{hash_named-encode_lower, lenient_version_of-spells}
 use Rattle.catalogue.specs.Changes.{new_release, placed}
 use Rattle.catalogue.specs.Contents.{IsPlainRelease}
-use Rattle.catalogue.specs.Faults.{has_release}
 use Rattle.catalogue.specs.Forms.{is_hash}
-use Rattle.catalogue.specs.Lookups.{declared_of, diff_package, full_package, is_release, packages_in, packages_of}
+use Rattle.catalogue.specs.Lookups.{declared_of, diff_package, full_package, has_release, is_release, packages_in, packages_of}
 use Rattle.catalogue.specs.Validity.{IsOnce, is_package, is_release_below, spells}
 use Rattle.catalogue.specs.declared.content.App.{App}
 use Rattle.catalogue.specs.declared.content.Declared.{Declared}
 use Rattle.catalogue.specs.declared.content.Release.{Release}
-use Rattle.catalogue.specs.declared.edit.AddRelease.{AddRelease}
+use Rattle.catalogue.specs.declared.edits.releases.AddRelease.{AddRelease}
 
 -- a release above all others goes to the end
 pub placed-last : (release : Release) (releases : List Release) → list_all (λ r. is_release_below r release) releases ≡ true → placed release releases ≡ releases ++ release ∷ []

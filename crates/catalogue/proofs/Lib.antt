@@ -1,3 +1,4 @@
+mod Accepted
 mod AcceptedLemmas
 mod AdditionLemmas
 mod AppLemmas
@@ -5,6 +6,8 @@ mod AscentLemmas
 mod ChangeLemmas
 mod ChangedLemmas
 mod ContentLemmas
+mod FitLemmas
+mod GoodCohortLemmas
 mod HashLemmas
 mod HistoryLemmas
 mod IndexLemmas
@@ -14,11 +17,11 @@ mod LastAppLemmas
 mod LastReleaseLemmas
 mod LookupLemmas
 mod MakingLemmas
-mod MarkLemmas
 mod OnceLemmas
 mod PackageLemmas
 mod PlaceLemmas
 mod PlainLemmas
+mod SettingLemmas
 mod SplitLemmas
 mod SpellingLemmas
 mod ValidAppLemmas

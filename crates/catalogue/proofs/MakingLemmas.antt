@@ -6,11 +6,11 @@ use Rattle.catalogue.proofs.AcceptedLemmas.{NoneHold}
 use Rattle.catalogue.proofs.HistoryLemmas.{Makes, Makes-append}
 use Rattle.catalogue.proofs.SplitLemmas.{split_next}
 use Rattle.catalogue.specs.Batches.{outcome_from, unless_refused}
-use Rattle.catalogue.specs.Changes.{after}
-use Rattle.catalogue.specs.Faults.{fault_of, first_fault}
+use Rattle.catalogue.specs.Faults.{first_fault}
 use Rattle.catalogue.specs.declared.content.App.{App}
 use Rattle.catalogue.specs.declared.edit.Edit.{Edit}
 use Rattle.catalogue.specs.declared.fault.Fault.{Fault}
+use Rattle.catalogue.specs.Edits.{after, fault_of}
 
 -- no fault is told where no test is true
 pub None-from_NoneHold : (tests : List (Bool × Fault)) → NoneHold tests → first_fault tests ≡ None

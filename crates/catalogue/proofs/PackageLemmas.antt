@@ -3,17 +3,18 @@ use Rattle.std.proofs.Common.{◌≡◌, ℕ, cond, List, map, Option, Some, Non
 use Rattle.std.specs.Map.{lookup}
 use Rattle.std.specs.Str.{bytes_eq}
 use Rattle.catalogue.proofs.InsertionLemmas.{Inserts, Inserts-append_after, Inserts-flat_map_change, Inserts-insert, Inserts-map, flat_map-change, lookup-Inserts}
-use Rattle.catalogue.proofs.AcceptedLemmas.{TakesRelease-from_no_fault}
-use Rattle.catalogue.specs.Changes.{change, new_release, place_of, placed, with_release}
+use Rattle.catalogue.proofs.Accepted.Releases.{TakesRelease-from_no_fault}
+use Rattle.catalogue.specs.Changes.{change, new_release, placed, with_release}
 use Rattle.catalogue.specs.Draft.{Indexes}
-use Rattle.catalogue.specs.Faults.{first_fault, tests_of_add_release}
+use Rattle.catalogue.specs.Faults.{first_fault}
 use Rattle.catalogue.specs.PackageIndex.{found_in}
-use Rattle.catalogue.specs.declared.edit.AddRelease.{AddRelease}
+use Rattle.catalogue.specs.declared.edits.releases.AddRelease.{AddRelease}
 use Rattle.catalogue.specs.declared.package_index.PackageIndex.{PackageIndex}
-use Rattle.catalogue.specs.Lookups.{app_of, declared_of, diff_package, full_package, is_app, packages_in, packages_of}
+use Rattle.catalogue.specs.Lookups.{app_of, declared_of, diff_package, full_package, is_app, packages_in, packages_of, place_of}
 use Rattle.catalogue.specs.declared.content.App.{App}
 use Rattle.catalogue.specs.declared.content.Declared.{Declared}
 use Rattle.catalogue.specs.declared.content.Release.{Release}
+use Rattle.catalogue.specs.Edits.Releases.{tests_of_add_release}
 
 -- a release that is added to an app adds its full package
 pub Inserts-packages_of : (apps : List App) (id : List ℕ) (release : Release) (app : App) → app_of apps id ≡ Some app → Inserts (full_package release) (packages_of apps) (packages_of (change (is_app id) (with_release release) apps))

@@ -12,9 +12,7 @@ use Rattle.std.proofs.lemmas.Option.{get_or_from_slice_get, slice_get_within}
 use Rattle.std.proofs.lemmas.Slice.Eq.{bytes_eq-Decides}
 use Rattle.version.specs.Laws.{BelowIsIrreflexive, BelowIsTransitive}
 use Rattle.version.specs.Versions.{is_below}
-use Rattle.catalogue.specs.Changes.{place_of}
-use Rattle.catalogue.specs.Faults.{has_release}
-use Rattle.catalogue.specs.Lookups.{app_of, is_app, is_release, releases_at}
+use Rattle.catalogue.specs.Lookups.{app_of, has_release, is_app, is_release, place_of, releases_at}
 use Rattle.catalogue.specs.Validity.{IsValid, IsValidApp, ascend, is_release_below}
 use Rattle.catalogue.specs.declared.content.App.{App}
 use Rattle.catalogue.specs.declared.content.Release.{Release}

@@ -1,18 +1,19 @@
--- Every accepted edit keeps a content plain.
+-- Every change keeps a content plain.
 use Rattle.std.proofs.Common.{◌≡◌, ℕ, Bool, true, false, cond, List, [], ◌∷◌, ◌++◌, None, refl, sym, subst}
 use Rattle.std.specs.List.{AllByRecursion}
 use Rattle.catalogue.proofs.AscentLemmas.{Inserts-placed}
 use Rattle.catalogue.proofs.ChangedLemmas.{AllByRecursion-push}
 use Rattle.catalogue.proofs.HistoryLemmas.{Makes, holds-Makes}
 use Rattle.catalogue.proofs.InsertionLemmas.{Inserts}
-use Rattle.catalogue.specs.Changes.{after, change, in_cohort, new_app, new_cohort, new_release, placed, with_cohort, with_open, with_release, with_share, with_targets_of}
+use Rattle.catalogue.specs.Changes.{Change, NewApp, NewCohort, NewRelease, SetsCohort, change, changed, in_cohort, new_app, new_cohort, new_release, placed, with_cohort, with_release, with_setting}
 use Rattle.catalogue.specs.Contents.{IsPlain, IsPlainApp, IsPlainCohort, IsPlainRelease}
-use Rattle.catalogue.specs.Faults.{fault_of}
+use Rattle.catalogue.specs.Edits.{after, change_of, fault_of}
 use Rattle.catalogue.specs.Lookups.{is_app, is_cohort}
 use Rattle.catalogue.specs.declared.content.App.{App}
 use Rattle.catalogue.specs.declared.content.Cohort.{Cohort}
 use Rattle.catalogue.specs.declared.edit.Edit.{Edit}
-use Rattle.catalogue.specs.declared.edit.Edit.TheVariants as edit
+use Rattle.catalogue.specs.declared.edits.cohort_settings.CohortSetting.{CohortSetting}
+use Rattle.catalogue.specs.declared.edits.cohort_settings.CohortSetting.TheVariants as setting
 
 -- what a change keeps of each item holds of all items after it
 all-change : {A : Type 0} (P : A → Type 0) (p : A → Bool) (f : A → A) → ((x : A) → P x → P (f x)) → (xs : List A) → AllByRecursion P xs → AllByRecursion P (change p f xs)
@@ -40,30 +41,37 @@ IsPlainApp-in_cohort f keeps app name plain = record {
   no_diffs = plain.no_diffs;
 }
 
-pub IsPlain-after : (apps : List App) (e : Edit) → fault_of apps e ≡ None → IsPlain apps → IsPlain (after apps e)
-IsPlain-after apps (edit.AddApp e) accepted plain =
-    AllByRecursion-push IsPlainApp apps (new_app e) plain (record { cohorts_plain = (refl, tt); releases_plain = tt; no_diffs = refl })
-IsPlain-after apps (edit.AddRelease e) accepted plain =
-    all-change IsPlainApp (is_app e.app) (with_release (new_release e))
+-- no setting that an edit makes is the rollback flag
+IsPlainCohort-with_setting :
+    (new : CohortSetting) (cohort : Cohort) → IsPlainCohort cohort → IsPlainCohort (with_setting new cohort)
+IsPlainCohort-with_setting (setting.Targets target held) cohort plain = plain
+IsPlainCohort-with_setting (setting.Share share) cohort plain = plain
+IsPlainCohort-with_setting (setting.Open on) cohort plain = plain
+
+IsPlain-changed : (apps : List App) (c : Change) → IsPlain apps → IsPlain (changed c apps)
+IsPlain-changed apps (NewApp e) plain =
+    AllByRecursion-push IsPlainApp apps (new_app e) plain
+    (record { cohorts_plain = (refl, tt); releases_plain = tt; no_diffs = refl })
+IsPlain-changed apps (NewRelease e) plain =
+    let new = new_release e in
+    all-change IsPlainApp (is_app e.app) (with_release new)
     (λ app p. record {
       cohorts_plain = p.cohorts_plain;
-      releases_plain = all-Inserts IsPlainRelease (new_release e) app.releases (placed (new_release e) app.releases) (Inserts-placed (new_release e) app.releases) (record { no_stone = refl; not_withdrawn = refl; open_to_all = refl }) p.releases_plain;
+      releases_plain = all-Inserts IsPlainRelease new app.releases (placed new app.releases) (Inserts-placed new app.releases)
+          (record { no_stone = refl; not_withdrawn = refl; open_to_all = refl }) p.releases_plain;
       no_diffs = p.no_diffs;
     }) apps plain
-IsPlain-after apps (edit.AddCohort e) accepted plain =
+IsPlain-changed apps (NewCohort e) plain =
     all-change IsPlainApp (is_app e.app) (with_cohort (new_cohort e.cohort))
     (λ app p. record {
       cohorts_plain = AllByRecursion-push IsPlainCohort app.cohorts (new_cohort e.cohort) p.cohorts_plain refl;
       releases_plain = p.releases_plain;
       no_diffs = p.no_diffs;
     }) apps plain
-IsPlain-after apps (edit.SetTarget e) accepted plain =
-    all-change IsPlainApp (is_app e.app) (in_cohort e.cohort (with_targets_of e)) (λ app. IsPlainApp-in_cohort (with_targets_of e) (λ cohort p. p) app e.cohort) apps plain
-IsPlain-after apps (edit.SetShare e) accepted plain =
-    all-change IsPlainApp (is_app e.app) (in_cohort e.cohort (with_share e.share)) (λ app. IsPlainApp-in_cohort (with_share e.share) (λ cohort p. p) app e.cohort) apps plain
-IsPlain-after apps (edit.SetOpen e) accepted plain =
-    all-change IsPlainApp (is_app e.app) (in_cohort e.cohort (with_open e.on)) (λ app. IsPlainApp-in_cohort (with_open e.on) (λ cohort p. p) app e.cohort) apps plain
+IsPlain-changed apps (SetsCohort id name new) plain =
+    all-change IsPlainApp (is_app id) (in_cohort name (with_setting new))
+    (λ app. IsPlainApp-in_cohort (with_setting new) (IsPlainCohort-with_setting new) app name) apps plain
 
 -- what accepted edits make of a plain content
 pub IsPlain-Makes : (edits : List Edit) (apps made : List App) → Makes edits apps made → IsPlain apps → IsPlain made
-IsPlain-Makes = holds-Makes IsPlain IsPlain-after
+IsPlain-Makes = holds-Makes IsPlain (λ apps e accepted. IsPlain-changed apps (change_of e))

@@ -11,11 +11,11 @@ use Rattle.hex.proofs.HexLemmas.{decode_sized-encode_lower}
 use Rattle.version.specs.Laws.{LenientAgrees}
 use Rattle.version.specs.Versions.{lenient_version_of, version_of}
 use Rattle.catalogue.specs.Contents.{spelling_of}
-use Rattle.catalogue.specs.Faults.{has_release, is_misspelled, is_unreleased}
 use Rattle.catalogue.specs.Forms.{hash_named, hash_of, is_hash, is_hash_digit}
-use Rattle.catalogue.specs.Lookups.{is_release}
+use Rattle.catalogue.specs.Lookups.{has_release, is_release}
 use Rattle.catalogue.specs.Validity.{is_released, spells}
 use Rattle.catalogue.specs.declared.content.Release.{Release}
+use Rattle.catalogue.specs.Edits.CohortSettings.{is_misspelled, is_unreleased}
 
 -- the text is read as the version
 pub record IsRead (text version : List ℕ) : Type 0 where

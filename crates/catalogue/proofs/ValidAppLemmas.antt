@@ -6,42 +6,27 @@ use Rattle.std.proofs.lemmas.Bool.{and_from, and_parts}
 use Rattle.std.proofs.lemmas.Slice.Eq.{bytes_eq-Decides}
 use Rattle.version.specs.Laws.{BelowIsTotal, BelowIsTransitive, LenientAgrees}
 use Rattle.version.specs.Versions.{is_below, lenient_version_of, version_of}
-use Rattle.catalogue.proofs.AcceptedLemmas.{Some-from_not_none, TakesApp, TakesCohort, TakesRelease}
+use Rattle.catalogue.proofs.Accepted.Apps.{TakesApp}
+use Rattle.catalogue.proofs.Accepted.Cohorts.{TakesCohort}
+use Rattle.catalogue.proofs.Accepted.Releases.{TakesRelease}
+use Rattle.catalogue.proofs.AcceptedLemmas.{Some-from_not_none}
+use Rattle.catalogue.proofs.GoodCohortLemmas.{GoodCohort-from_test, is_good_cohort-from_parts}
 use Rattle.catalogue.proofs.AscentLemmas.{Inserts-placed, ascend-placed}
 use Rattle.catalogue.proofs.ChangedLemmas.{count_by-change, count_by-cons, length-change, list_all-change, list_any-change}
 use Rattle.catalogue.proofs.HashLemmas.{is_hash-hash_named}
 use Rattle.catalogue.proofs.InsertedLemmas.{IsOnce-Inserts, count_by-none, length-Inserts, list_all-Inserts, list_all-weaker, list_any-kept}
 use Rattle.catalogue.proofs.InsertionLemmas.{Inserts-push}
-use Rattle.catalogue.specs.Changes.{change, in_cohort, new_app, new_cohort, new_release, placed, with_cohort, with_release, with_share, with_targets_of}
-use Rattle.catalogue.specs.Faults.{has_cohort, has_release, most_share}
+use Rattle.catalogue.specs.Changes.{change, in_cohort, new_app, new_cohort, new_release, placed, with_cohort, with_release}
 use Rattle.catalogue.specs.Forms.{is_cohort_name, is_hash, is_package_name, is_size}
-use Rattle.catalogue.specs.Lookups.{has_hash, is_cohort, is_release}
+use Rattle.catalogue.specs.Lookups.{has_cohort, has_hash, has_release, is_cohort, is_release}
 use Rattle.catalogue.specs.Validity.{IsValidApp, is_good_audience, is_good_cohort, is_good_diff, is_good_release, is_released, spells}
 use Rattle.catalogue.specs.declared.content.App.{App}
 use Rattle.catalogue.specs.declared.content.Cohort.{Cohort}
 use Rattle.catalogue.specs.declared.content.Diff.{Diff}
 use Rattle.catalogue.specs.declared.content.Release.{Release}
-use Rattle.catalogue.specs.declared.edit.AddApp.{AddApp}
-use Rattle.catalogue.specs.declared.edit.AddCohort.{AddCohort}
-use Rattle.catalogue.specs.declared.edit.AddRelease.{AddRelease}
-use Rattle.catalogue.specs.declared.edit.SetTarget.{SetTarget}
-
--- what is known of a good cohort
-pub record GoodCohort (releases : List Release) (cohort : Cohort) : Type 0 where
-  pub named : is_cohort_name cohort.name ≡ true
-  pub shared : nat_le cohort.share most_share ≡ true
-  pub target : is_released releases cohort.target ≡ true
-  pub held : is_released releases cohort.held ≡ true
-
-pub GoodCohort-from_test : (releases : List Release) (cohort : Cohort) → is_good_cohort releases cohort ≡ true → GoodCohort releases cohort
-GoodCohort-from_test releases cohort good =
-    let rest = and_parts (is_cohort_name cohort.name && nat_le cohort.share most_share && is_released releases cohort.target) (is_released releases cohort.held) good in
-    let front = and_parts (is_cohort_name cohort.name && nat_le cohort.share most_share) (is_released releases cohort.target) rest.0 in
-    let named = and_parts (is_cohort_name cohort.name) (nat_le cohort.share most_share) front.0 in
-    record { named = named.0; shared = named.1; target = front.1; held = rest.1 }
-
-pub is_good_cohort-from_parts : (releases : List Release) (cohort : Cohort) → GoodCohort releases cohort → is_good_cohort releases cohort ≡ true
-is_good_cohort-from_parts releases cohort good = and_from _ _ (and_from _ _ (and_from _ _ good.named good.shared) good.target) good.held
+use Rattle.catalogue.specs.declared.edits.apps.AddApp.{AddApp}
+use Rattle.catalogue.specs.declared.edits.cohorts.AddCohort.{AddCohort}
+use Rattle.catalogue.specs.declared.edits.releases.AddRelease.{AddRelease}
 
 -- what is released stays released when a release is added
 has_release-placed : (release : Release) (releases : List Release) (version : List ℕ) → has_release releases version ≡ true → has_release (placed release releases) version ≡ true
@@ -133,16 +118,6 @@ IsValidApp-in_cohort name f app kept keeps_good valid =
       diffs_ascend = valid.diffs_ascend;
       diffs_good = valid.diffs_good;
     }
-
-pub is_good_cohort-with_targets_of : (e : SetTarget) (releases : List Release) → is_released releases (option_map lenient_version_of e.target) ≡ true → is_released releases (option_map lenient_version_of e.held) ≡ true → (cohort : Cohort) → is_good_cohort releases cohort ≡ true → is_good_cohort releases (with_targets_of e cohort) ≡ true
-is_good_cohort-with_targets_of e releases target held cohort good =
-    let before = GoodCohort-from_test releases cohort good in
-    is_good_cohort-from_parts releases (with_targets_of e cohort) (record { named = before.named; shared = before.shared; target = target; held = held })
-
-pub is_good_cohort-with_share : (share : ℕ) (releases : List Release) → nat_le share most_share ≡ true → (cohort : Cohort) → is_good_cohort releases cohort ≡ true → is_good_cohort releases (with_share share cohort) ≡ true
-is_good_cohort-with_share share releases within cohort good =
-    let before = GoodCohort-from_test releases cohort good in
-    is_good_cohort-from_parts releases (with_share share cohort) (record { named = before.named; shared = within; target = before.target; held = before.held })
 
 -- a new cohort is good
 is_good_cohort-new_cohort : (releases : List Release) (name : List ℕ) → is_cohort_name name ≡ true → is_good_cohort releases (new_cohort name) ≡ true

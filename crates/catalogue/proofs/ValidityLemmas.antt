@@ -6,24 +6,25 @@ use Rattle.std.proofs.lemmas.Grind.{flat_map-append}
 use Rattle.std.proofs.lemmas.List.{append-nil}
 use Rattle.std.proofs.lemmas.Slice.Eq.{bytes_eq-Decides}
 use Rattle.version.specs.Laws.{BelowIsTotal, BelowIsTransitive, LenientAgrees}
-use Rattle.catalogue.proofs.AcceptedLemmas.{NamesCohort, NamesCohort-from_no_fault, TakesApp, TakesApp-from_no_fault, TakesCohort-from_no_fault, TakesRelease, TakesRelease-from_no_fault, TakesShare-from_no_fault, TakesTargets-from_no_fault}
+use Rattle.catalogue.proofs.Accepted.Apps.{TakesApp}
+use Rattle.catalogue.proofs.Accepted.Releases.{TakesRelease}
 use Rattle.catalogue.proofs.ChangedLemmas.{AllByRecursion-change, AllByRecursion-push, count_by-change, length-change}
+use Rattle.catalogue.proofs.FitLemmas.{Fits, Fits-accepted}
+use Rattle.catalogue.proofs.GoodCohortLemmas.{name-with_setting}
 use Rattle.catalogue.proofs.HistoryLemmas.{Makes, holds-Makes}
 use Rattle.catalogue.proofs.InsertedLemmas.{IsOnce-Inserts, count_by-none, length-Inserts, list_any-find, list_any-lookup}
 use Rattle.catalogue.proofs.InsertionLemmas.{Inserts-push, flat_map-change}
 use Rattle.catalogue.proofs.PackageLemmas.{Inserts-packages_of}
-use Rattle.catalogue.proofs.ValidAppLemmas.{IsValidApp-in_cohort, IsValidApp-new_app, IsValidApp-with_cohort, IsValidApp-with_release, is_good_cohort-with_share, is_good_cohort-with_targets_of}
-use Rattle.catalogue.specs.Changes.{after, change, in_cohort, new_app, new_cohort, new_release, with_cohort, with_open, with_release, with_share, with_targets_of}
-use Rattle.catalogue.specs.Faults.{fault_of}
+use Rattle.catalogue.proofs.ValidAppLemmas.{IsValidApp-in_cohort, IsValidApp-new_app, IsValidApp-with_cohort, IsValidApp-with_release}
+use Rattle.catalogue.specs.Changes.{Change, NewApp, NewCohort, NewRelease, SetsCohort, change, changed, in_cohort, new_app, new_cohort, new_release, with_cohort, with_release, with_setting}
+use Rattle.catalogue.specs.Edits.{after, change_of, fault_of}
 use Rattle.catalogue.specs.Forms.{same_id}
 use Rattle.catalogue.specs.Lookups.{app_of, full_package, is_app, packages_in, packages_of}
-use Rattle.catalogue.specs.Validity.{IsValid, IsValidApp, is_good_cohort, is_package}
+use Rattle.catalogue.specs.Validity.{IsValid, IsValidApp, is_package}
 use Rattle.catalogue.specs.declared.content.App.{App}
-use Rattle.catalogue.specs.declared.content.Cohort.{Cohort}
-use Rattle.catalogue.specs.declared.edit.AddApp.{AddApp}
-use Rattle.catalogue.specs.declared.edit.AddRelease.{AddRelease}
 use Rattle.catalogue.specs.declared.edit.Edit.{Edit}
-use Rattle.catalogue.specs.declared.edit.Edit.TheVariants as edit
+use Rattle.catalogue.specs.declared.edits.apps.AddApp.{AddApp}
+use Rattle.catalogue.specs.declared.edits.releases.AddRelease.{AddRelease}
 
 -- identifiers that name one app count the same apps
 count_by-is_app : (left right : List ℕ) → same_id left right ≡ true → (apps : List App) → count_by (is_app left) apps ≡ count_by (is_app right) apps
@@ -66,11 +67,6 @@ IsValid-change id f apps app found kept same keeps_valid valid = record {
   apps_valid = AllByRecursion-change (is_app id) f IsValidApp apps app found valid.apps_valid keeps_valid;
 }
 
--- a change of a cohort that keeps its name and keeps it good
-IsValid-in_cohort : (apps : List App) (id name : List ℕ) (names : NamesCohort apps id name) (f : Cohort → Cohort) → ((cohort : Cohort) → (f cohort).name ≡ cohort.name) → ((cohort : Cohort) → is_good_cohort names.app.releases cohort ≡ true → is_good_cohort names.app.releases (f cohort) ≡ true) → IsValid apps → IsValid (change (is_app id) (in_cohort name f) apps)
-IsValid-in_cohort apps id name names f kept keeps_good valid =
-    IsValid-change id (in_cohort name f) apps names.app names.found (λ app. refl) (λ app. refl) (IsValidApp-in_cohort name f names.app kept keeps_good) valid
-
 -- the empty content
 pub IsValid-empty : IsValid []
 IsValid-empty = record {
@@ -81,22 +77,25 @@ IsValid-empty = record {
 }
 
 module _ (transitive : BelowIsTransitive) (total : BelowIsTotal) (agrees : LenientAgrees) where
-  pub IsValid-after : (apps : List App) (e : Edit) → fault_of apps e ≡ None → IsValid apps → IsValid (after apps e)
-  IsValid-after apps (edit.AddApp e) accepted valid = IsValid-add_app apps e (TakesApp-from_no_fault apps e accepted) valid
-  IsValid-after apps (edit.AddRelease e) accepted valid =
-      IsValid-add_release transitive total agrees apps e (TakesRelease-from_no_fault apps e accepted) valid
-  IsValid-after apps (edit.AddCohort e) accepted valid =
-      let takes = TakesCohort-from_no_fault apps e accepted in
-      IsValid-change e.app (with_cohort (new_cohort e.cohort)) apps takes.app takes.found (λ app. refl) (λ app. refl) (IsValidApp-with_cohort apps e takes) valid
-  IsValid-after apps (edit.SetTarget e) accepted valid =
-      let takes = TakesTargets-from_no_fault apps e accepted in
-      IsValid-in_cohort apps e.app e.cohort takes.names (with_targets_of e) (λ cohort. refl) (is_good_cohort-with_targets_of e takes.names.app.releases takes.target_released takes.held_released) valid
-  IsValid-after apps (edit.SetShare e) accepted valid =
-      let takes = TakesShare-from_no_fault apps e accepted in
-      IsValid-in_cohort apps e.app e.cohort takes.names (with_share e.share) (λ cohort. refl) (is_good_cohort-with_share e.share takes.names.app.releases takes.within) valid
-  IsValid-after apps (edit.SetOpen e) accepted valid =
-      IsValid-in_cohort apps e.app e.cohort (NamesCohort-from_no_fault apps e accepted) (with_open e.on) (λ cohort. refl) (λ cohort good. good) valid
+  IsValid-changed :
+      (apps : List App) (c : Change) → Fits apps c → IsValid apps → IsValid (changed c apps)
+  IsValid-changed apps (NewApp e) takes valid = IsValid-add_app apps e takes valid
+  IsValid-changed apps (NewRelease e) takes valid =
+      IsValid-add_release transitive total agrees apps e takes valid
+  IsValid-changed apps (NewCohort e) takes valid =
+      IsValid-change e.app (with_cohort (new_cohort e.cohort)) apps takes.app takes.found (λ app. refl) (λ app. refl)
+      (IsValidApp-with_cohort apps e takes) valid
+  IsValid-changed apps (SetsCohort id name new) takes valid =
+      let names = takes.names in
+      IsValid-change id (in_cohort name (with_setting new)) apps names.app names.found (λ app. refl) (λ app. refl)
+      (IsValidApp-in_cohort name (with_setting new) names.app (name-with_setting new) takes.keeps) valid
+
+  pub IsValid-after :
+      (apps : List App) (e : Edit) → fault_of apps e ≡ None → IsValid apps → IsValid (after apps e)
+  IsValid-after apps e accepted valid =
+      IsValid-changed apps (change_of e) (Fits-accepted apps e accepted) valid
 
   -- what accepted edits make of a valid content
-  pub IsValid-Makes : (edits : List Edit) (apps made : List App) → Makes edits apps made → IsValid apps → IsValid made
+  pub IsValid-Makes :
+      (edits : List Edit) (apps made : List App) → Makes edits apps made → IsValid apps → IsValid made
   IsValid-Makes = holds-Makes IsValid IsValid-after

@@ -1,8 +1,7 @@
 -- What a batch of edits makes of a content: each edit is accepted after those before it, or the
 -- whole batch counts for nothing; this project's profile.
 use Rattle.std.specs.Prelude.{ℕ, ◌+◌, ◌≡◌, List, [], ◌∷◌, Option, Some, None, Result, Ok, Err}
-use Rattle.catalogue.specs.Changes.{after}
-use Rattle.catalogue.specs.Faults.{fault_of}
+use Rattle.catalogue.specs.Edits.{after, fault_of}
 use Rattle.catalogue.specs.declared.content.App.{App}
 use Rattle.catalogue.specs.declared.edit.Edit.{Edit}
 use Rattle.catalogue.specs.declared.fault.ApplyError.{ApplyError}
@@ -25,7 +24,7 @@ outcome_from index (e ∷ edits) apps =
 abbrev pub outcome : List Edit → List App → Result (List App) Refused
 outcome batch apps = outcome_from 0 batch apps
 
--- the content after a history, the list of its batches, where each was accepted; else the first
+-- the content after a history, the list of its batches, if each was accepted; else the first
 -- refusal
 abbrev pub then_run : (List App → Result (List App) Refused) → Result (List App) Refused → Result (List App) Refused
 then_run run_on (Ok apps) = run_on apps
@@ -35,7 +34,7 @@ abbrev pub run : List (List Edit) → List App → Result (List App) Refused
 run [] apps = Ok apps
 run (batch ∷ batches) apps = then_run (run batches) (outcome batch apps)
 
--- a refusal is the outcome's, or want of memory
+-- a refusal is the outcome's, or memory ran out
 abbrev pub Explains : ApplyError → Result (List App) Refused → Type 0
 Explains (error.Refused refused) result = result ≡ Err refused
 Explains error.Memory result = Unit {0}

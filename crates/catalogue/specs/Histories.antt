@@ -1,5 +1,5 @@
 -- What holds of a content after a whole history of accepted batches: each item is there because
--- some edit added it, and a mark is that of the last edit that set it; this project's profile.
+-- some edit added it, and a setting is that of the last edit that set it; this project's profile.
 use Rattle.std.specs.Prelude.{◌≡◌, ℕ, ◌==◌, ◌&&◌, ◌++◌, Bool, false, List, [], ◌∷◌, if◌then◌else◌, find, option_map, Option, None, Some, Ok, unwrap_or}
 use Rattle.std.specs.List.{list_any, flat_map}
 use Rattle.std.specs.Option.{option_map_or}
@@ -7,9 +7,8 @@ use Rattle.std.specs.Str.{bytes_eq}
 use Rattle.version.specs.Versions.{lenient_version_of}
 use Rattle.catalogue.specs.Batches.{outcome, run}
 use Rattle.catalogue.specs.Changes.{new_release}
-use Rattle.catalogue.specs.Faults.{has_cohort}
 use Rattle.catalogue.specs.Forms.{same_id}
-use Rattle.catalogue.specs.Lookups.{cohorts_of, is_app, is_cohort, releases_of}
+use Rattle.catalogue.specs.Lookups.{cohorts_of, has_cohort, is_app, is_cohort, releases_of}
 use Rattle.catalogue.specs.Validity.{IsValid}
 use Rattle.catalogue.specs.declared.content.App.{App}
 use Rattle.catalogue.specs.declared.content.Cohort.{Cohort}
@@ -32,11 +31,7 @@ LeadsTo history apps = run history [] ≡ Ok apps
 -- the edit adds an app of the identifier
 abbrev pub adds_app : List ℕ → Edit → Bool
 adds_app id (edit.AddApp e) = same_id id e.app
-adds_app id (edit.AddRelease e) = false
-adds_app id (edit.AddCohort e) = false
-adds_app id (edit.SetTarget e) = false
-adds_app id (edit.SetShare e) = false
-adds_app id (edit.SetOpen e) = false
+adds_app id e = false
 
 -- an app is there exactly where some edit of the history added it
 abbrev pub AppsWereAdded : Type 0
@@ -55,12 +50,8 @@ same_release left right =
 
 -- the edit adds such a release to the app of the identifier
 abbrev pub adds_release : List ℕ → Release → Edit → Bool
-adds_release id release (edit.AddApp e) = false
 adds_release id release (edit.AddRelease e) = same_id id e.app && same_release release (new_release e)
-adds_release id release (edit.AddCohort e) = false
-adds_release id release (edit.SetTarget e) = false
-adds_release id release (edit.SetShare e) = false
-adds_release id release (edit.SetOpen e) = false
+adds_release id release e = false
 
 -- a release is there, with its version, spelling, name, size and hash, exactly where some edit of
 -- the history added it
@@ -73,11 +64,8 @@ ReleasesWereAdded =
 -- the edit adds a cohort of the name to the app of the identifier: an app comes with its default
 abbrev pub adds_cohort : List ℕ → List ℕ → Edit → Bool
 adds_cohort id name (edit.AddApp e) = same_id id e.app && bytes_eq name e.default
-adds_cohort id name (edit.AddRelease e) = false
 adds_cohort id name (edit.AddCohort e) = same_id id e.app && bytes_eq name e.cohort
-adds_cohort id name (edit.SetTarget e) = false
-adds_cohort id name (edit.SetShare e) = false
-adds_cohort id name (edit.SetOpen e) = false
+adds_cohort id name e = false
 
 -- a cohort is there exactly where some edit of the history added it
 abbrev pub CohortsWereAdded : Type 0
@@ -85,7 +73,7 @@ CohortsWereAdded =
     (history : History) (apps : List App) → LeadsTo history apps →
     (id name : List ℕ) → has_cohort (cohorts_of apps id) name ≡ list_any (adds_cohort id name) (edits_of history)
 
--- what is read of the cohort of a name, or the value where there is no such cohort
+-- what is read of the cohort of a name, or the value if there is no such cohort
 abbrev pub read_cohort : {A : Type 0} → (Cohort → A) → A → List App → List ℕ → List ℕ → A
 read_cohort read none apps id name = option_map_or read (find (is_cohort name) (cohorts_of apps id)) none
 
@@ -93,50 +81,38 @@ read_cohort read none apps id name = option_map_or read (find (is_cohort name) (
 abbrev pub names_cohort : List ℕ → List ℕ → List ℕ → List ℕ → Bool
 names_cohort id name edit_app edit_cohort = same_id id edit_app && bytes_eq name edit_cohort
 
--- the target and the held target of a cohort, none where there is no such cohort
+-- the target and the held target of a cohort, none if there is no such cohort
 abbrev pub Targets : Type 0
 Targets = Option (List ℕ) × Option (List ℕ)
 
 abbrev pub targets_of : List App → List ℕ → List ℕ → Targets
 targets_of = read_cohort (λ cohort. (cohort.target, cohort.held)) (None, None)
 
--- the share of a cohort, all clients where there is no such cohort
+-- the share of a cohort, all clients if there is no such cohort
 abbrev pub share_of : List App → List ℕ → List ℕ → ℕ
 share_of = read_cohort (λ cohort. cohort.share) 1000
 
--- the open mark of a cohort, off where there is no such cohort
+-- the open flag of a cohort, off if there is no such cohort
 abbrev pub is_open : List App → List ℕ → List ℕ → Bool
 is_open = read_cohort (λ cohort. cohort.hintable) false
 
 -- the targets that the edit sets for the cohort, if it sets them
 abbrev pub sets_targets : List ℕ → List ℕ → Edit → Option Targets
-sets_targets id name (edit.AddApp e) = None
-sets_targets id name (edit.AddRelease e) = None
-sets_targets id name (edit.AddCohort e) = None
 sets_targets id name (edit.SetTarget e) =
     if names_cohort id name e.app e.cohort
     then Some (option_map lenient_version_of e.target, option_map lenient_version_of e.held)
     else None
-sets_targets id name (edit.SetShare e) = None
-sets_targets id name (edit.SetOpen e) = None
+sets_targets id name e = None
 
 -- the share that the edit sets for the cohort, if it sets it
 abbrev pub sets_share : List ℕ → List ℕ → Edit → Option ℕ
-sets_share id name (edit.AddApp e) = None
-sets_share id name (edit.AddRelease e) = None
-sets_share id name (edit.AddCohort e) = None
-sets_share id name (edit.SetTarget e) = None
 sets_share id name (edit.SetShare e) = if names_cohort id name e.app e.cohort then Some e.share else None
-sets_share id name (edit.SetOpen e) = None
+sets_share id name e = None
 
--- the open mark that the edit sets for the cohort, if it sets it
+-- the open flag that the edit sets for the cohort, if it sets it
 abbrev pub sets_open : List ℕ → List ℕ → Edit → Option Bool
-sets_open id name (edit.AddApp e) = None
-sets_open id name (edit.AddRelease e) = None
-sets_open id name (edit.AddCohort e) = None
-sets_open id name (edit.SetTarget e) = None
-sets_open id name (edit.SetShare e) = None
 sets_open id name (edit.SetOpen e) = if names_cohort id name e.app e.cohort then Some e.on else None
+sets_open id name e = None
 
 -- what the last of the edits set, or the value before them
 abbrev pub last_set : {A : Type 0} → (Edit → Option A) → A → List Edit → A
@@ -155,9 +131,9 @@ SharesAreTheLastSet =
     (history : History) (apps : List App) → LeadsTo history apps →
     (id name : List ℕ) → share_of apps id name ≡ last_set (sets_share id name) 1000 (edits_of history)
 
--- a cohort's open mark is that of the last edit of the history that set it, else off
-abbrev pub OpenMarksAreTheLastSet : Type 0
-OpenMarksAreTheLastSet =
+-- a cohort's open flag is that of the last edit of the history that set it, else off
+abbrev pub OpenFlagsAreTheLastSet : Type 0
+OpenFlagsAreTheLastSet =
     (history : History) (apps : List App) → LeadsTo history apps →
     (id name : List ℕ) → is_open apps id name ≡ last_set (sets_open id name) false (edits_of history)
 

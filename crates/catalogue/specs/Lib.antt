@@ -3,12 +3,13 @@ pub mod Changes
 pub mod ContentExamples
 pub mod Contents
 pub mod Draft
+pub mod Edits
 pub mod Faults
 pub mod FaultTexts
 pub mod Forms
 pub mod Histories
+pub mod Limits
 pub mod Lookups
-pub mod Marks
 pub mod Mirrors
 pub mod PackageIndex
 pub mod Soundness

@@ -1,9 +1,10 @@
 -- What a catalogue's content, the list of its apps, has under a name; this project's profile.
-use Rattle.std.specs.Prelude.{ℕ, Bool, List, [], ◌++◌, map, find, Option, slice_get}
+use Rattle.std.specs.Prelude.{ℕ, Bool, not, List, [], ◌++◌, map, find, Option, slice_get}
 use Rattle.std.specs.Option.{option_map_or}
-use Rattle.std.specs.List.{flat_map}
+use Rattle.std.specs.List.{flat_map, list_any, position_or_len}
 use Rattle.std.specs.Map.{lookup}
 use Rattle.std.specs.Str.{bytes_eq}
+use Rattle.version.specs.Versions.{is_below}
 use Rattle.catalogue.specs.Forms.{same_id}
 use Rattle.catalogue.specs.declared.content.App.{App}
 use Rattle.catalogue.specs.declared.content.Cohort.{Cohort}
@@ -27,15 +28,27 @@ has_hash hash release = bytes_eq hash release.hash
 abbrev pub is_cohort : List ℕ → Cohort → Bool
 is_cohort name cohort = bytes_eq name cohort.name
 
+-- there is a release of the version
+abbrev pub has_release : List Release → List ℕ → Bool
+has_release releases version = list_any (is_release version) releases
+
+-- there is a cohort of the name
+abbrev pub has_cohort : List Cohort → List ℕ → Bool
+has_cohort cohorts name = list_any (is_cohort name) cohorts
+
+-- the place of a version among releases by ascending version: before the first that is not below it
+abbrev pub place_of : List ℕ → List Release → ℕ
+place_of version releases = position_or_len (λ release. not (is_below release.version version)) releases
+
 -- the app of an identifier
 abbrev pub app_of : List App → List ℕ → Option App
 app_of apps id = find (is_app id) apps
 
--- the releases of the app of an identifier, none where there is no such app
+-- the releases of the app of an identifier, none if there is no such app
 abbrev pub releases_of : List App → List ℕ → List Release
 releases_of apps id = option_map_or (λ app. app.releases) (app_of apps id) []
 
--- the cohorts of the app of an identifier, none where there is no such app
+-- the cohorts of the app of an identifier, none if there is no such app
 abbrev pub cohorts_of : List App → List ℕ → List Cohort
 cohorts_of apps id = option_map_or (λ app. app.cohorts) (app_of apps id) []
 

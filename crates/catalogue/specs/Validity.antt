@@ -4,18 +4,14 @@ use Rattle.std.specs.List.{AllByRecursion, list_all}
 use Rattle.std.specs.Option.{option_map_or}
 use Rattle.std.specs.Str.{bytes_eq}
 use Rattle.version.specs.Versions.{is_below, version_of}
-use Rattle.catalogue.specs.Faults.{has_cohort, has_release, most_apps, most_cohorts, most_releases, most_share}
 use Rattle.catalogue.specs.Forms.{is_app_id, is_cohort_name, is_hash, is_package_name, is_size}
-use Rattle.catalogue.specs.Lookups.{has_hash, is_app, is_cohort, packages_of}
+use Rattle.catalogue.specs.Limits.{max_apps, max_cohorts, max_diffs, max_releases, max_share}
+use Rattle.catalogue.specs.Lookups.{has_cohort, has_hash, has_release, is_app, is_cohort, packages_of}
 use Rattle.catalogue.specs.declared.content.App.{App}
 use Rattle.catalogue.specs.declared.content.Cohort.{Cohort}
 use Rattle.catalogue.specs.declared.content.Declared.{Declared}
 use Rattle.catalogue.specs.declared.content.Diff.{Diff}
 use Rattle.catalogue.specs.declared.content.Release.{Release}
-
--- differentials of one app at most
-abbrev pub most_diffs : ℕ
-most_diffs = 16384
 
 -- at most one item of the list has each key
 abbrev pub IsOnce : {K A : Type 0} → (K → A → Bool) → List A → Type 0
@@ -29,12 +25,12 @@ is_package name named = bytes_eq name named.0
 abbrev pub is_release_below : Release → Release → Bool
 is_release_below lower upper = is_below lower.version upper.version
 
--- a differential stands before another: by the release that it starts at, then by the other
+-- a differential comes before another: by the release that it starts at, then by the other
 abbrev pub is_diff_before : Diff → Diff → Bool
 is_diff_before first second =
     is_below first.from second.from || (bytes_eq first.from second.from && is_below first.to second.to)
 
--- each item stands before all those after it
+-- each item comes before all those after it
 abbrev pub ascend : {A : Type 0} → (A → A → Bool) → List A → Bool
 ascend before [] = true
 ascend before (x ∷ xs) = list_all (before x) xs && ascend before xs
@@ -43,7 +39,7 @@ ascend before (x ∷ xs) = list_all (before x) xs && ascend before xs
 abbrev pub spells : List ℕ → List ℕ → Bool
 spells text version = option_map_or (λ read. bytes_eq read.0 version) (version_of text) false
 
--- there is a release of the version, where one is given
+-- there is a release of the version, if one is given
 abbrev pub is_released : List Release → Option (List ℕ) → Bool
 is_released releases None = true
 is_released releases (Some version) = has_release releases version
@@ -52,11 +48,11 @@ is_released releases (Some version) = has_release releases version
 abbrev pub is_good_cohort : List Release → Cohort → Bool
 is_good_cohort releases cohort =
     is_cohort_name cohort.name
-    && nat_le cohort.share most_share
+    && nat_le cohort.share max_share
     && is_released releases cohort.target
     && is_released releases cohort.held
 
--- each name of an audience is that of a cohort, where there is an audience
+-- each name of an audience is that of a cohort, if there is an audience
 abbrev pub is_good_audience : List Cohort → Option (List (List ℕ)) → Bool
 is_good_audience cohorts None = true
 is_good_audience cohorts (Some names) = list_all (has_cohort cohorts) names
@@ -84,20 +80,20 @@ is_good_diff releases diff =
 pub record IsValidApp (app : App) : Type 0 where
   pub identified : is_app_id app.id ≡ true
   pub some_cohort : 1 ≤ length app.cohorts
-  pub few_cohorts : length app.cohorts ≤ most_cohorts
+  pub few_cohorts : length app.cohorts ≤ max_cohorts
   pub cohorts_once : IsOnce is_cohort app.cohorts
   pub cohorts_good : list_all (is_good_cohort app.releases) app.cohorts ≡ true
-  pub few_releases : length app.releases ≤ most_releases
+  pub few_releases : length app.releases ≤ max_releases
   pub releases_ascend : ascend is_release_below app.releases ≡ true
   pub hashes_once : IsOnce has_hash app.releases
   pub releases_good : list_all (is_good_release app.cohorts) app.releases ≡ true
-  pub few_diffs : length app.diffs ≤ most_diffs
+  pub few_diffs : length app.diffs ≤ max_diffs
   pub diffs_ascend : ascend is_diff_before app.diffs ≡ true
   pub diffs_good : list_all (is_good_diff app.releases) app.diffs ≡ true
 
 -- a content
 pub record IsValid (apps : List App) : Type 0 where
-  pub few_apps : length apps ≤ most_apps
+  pub few_apps : length apps ≤ max_apps
   pub ids_once : IsOnce is_app apps
   pub names_once : IsOnce is_package (packages_of apps)
   pub apps_valid : AllByRecursion IsValidApp apps

@@ -1,14 +1,15 @@
-// What an accepted edit does to the apps of a content.
+//! What an accepted edit does to the apps of a content.
 
 ghost use Rattle.std.specs.Prelude.{◌≡◌, ◌&&◌, ◌++◌, ◌∷◌, [], List, ℕ, None, true, IfOk, OnOk, option_map, position};
-ghost use Rattle.version.specs.Versions.{lenient_version_of};
-ghost use Rattle.catalogue.specs.Changes.{change, in_cohort, new_app, new_cohort, new_release, placed, with_cohort, with_release, with_targets_of};
+ghost use Rattle.catalogue.specs.Changes.{change, in_cohort, new_app, new_cohort, new_release, placed, with_cohort, with_release, with_setting};
 ghost use Rattle.catalogue.specs.Lookups.{is_app, is_cohort};
-ghost use Rattle.catalogue.specs.Marks.{with_mark};
 ghost use Rattle.catalogue.specs.Validity.{IsValid, ascend, is_release_below};
 
 use crate::content::{App, Cohort, Release};
-use crate::edit::{AddApp, AddCohort, AddRelease, SetTarget};
+use crate::edits::apps::AddApp;
+use crate::edits::cohort_settings::CohortSetting;
+use crate::edits::cohorts::AddCohort;
+use crate::edits::releases::AddRelease;
 use crate::form::hash_named;
 use crate::lookup;
 use std::alloc::{AllocError, Global};
@@ -119,63 +120,21 @@ pub(crate) fn add_cohort_to(
     Ok(())
 }
 
-/// What an edit sets of a cohort.
-#[derive(Clone, Copy, Debug)]
-pub(crate) enum Mark {
-    Targets {
-        target: Option<Version>,
-        held: Option<Version>,
-    },
-    Share(u64),
-    Open(bool),
-}
-
-fn version_named(text: &Option<Text>) -> Option<Version>
-    ensures { result ≡ option_map lenient_version_of text.now }
-{
-    match text {
-        None => None,
-        Some(text) => Some(Version::lenient(text.as_str())),
-    }
-}
-
-pub(crate) fn targets_of(edit: &SetTarget) -> Mark
-    ensures { with_mark result ≡ with_targets_of edit.now }
-{
-    Mark::Targets {
-        target: version_named(&edit.target),
-        held: version_named(&edit.held),
-    }
-}
-
-fn set_mark(cohort: &mut Cohort, mark: Mark)
-    ensures { cohort.new ≡ with_mark mark cohort.old }
-{
-    match mark {
-        Mark::Targets { target, held } => {
-            cohort.target = target;
-            cohort.held = held;
-        }
-        Mark::Share(share) => cohort.share = share,
-        Mark::Open(on) => cohort.hintable = on,
-    }
-}
-
-fn set_mark_in(cohorts: &mut Items<Cohort>, name: &Text, mark: Mark)
-    ensures { cohorts.new ≡ change (is_cohort name.now) (with_mark mark) cohorts.old }
+fn set_in_cohorts(cohorts: &mut Items<Cohort>, name: &Text, setting: CohortSetting)
+    ensures { cohorts.new ≡ change (is_cohort name.now) (with_setting setting) cohorts.old }
 {
     if let Some(index) = index_of_cohort(cohorts, name) {
         let cohort = cohorts.item_mut(index);
-        set_mark(cohort, mark);
+        setting.set(cohort);
     }
 }
 
-pub(crate) fn set_mark_of(apps: &mut Items<App>, id: &Text, cohort: &Text, mark: Mark)
+pub(crate) fn set_in_apps(apps: &mut Items<App>, id: &Text, cohort: &Text, setting: CohortSetting)
     requires { IsValid apps.old }
-    ensures { apps.new ≡ change (is_app id.now) (in_cohort cohort.now (with_mark mark)) apps.old }
+    ensures { apps.new ≡ change (is_app id.now) (in_cohort cohort.now (with_setting setting)) apps.old }
 {
     if let Some(index) = index_of_app(apps, id) {
         let app = apps.item_mut(index);
-        set_mark_in(&mut app.cohorts, cohort, mark);
+        set_in_cohorts(&mut app.cohorts, cohort, setting);
     }
 }

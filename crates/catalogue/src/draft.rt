@@ -1,25 +1,41 @@
-// A content that a batch is being applied to, with the index of its packages.
+//! A content that a batch is being applied to, with the index of its packages.
 
-ghost use Rattle.std.specs.Prelude.{◌≡◌, None, Ok, OnOk, IfOk, IfErr};
+ghost use Rattle.std.specs.Prelude.{◌≡◌, None, Ok, Some, true, false, OnOk, OnErr, IfOk, IfErr};
 ghost use Rattle.catalogue.specs.Batches.{Explains, outcome};
-ghost use Rattle.catalogue.specs.Changes.{after, change, in_cohort};
+ghost use Rattle.catalogue.specs.Changes.{NewApp, NewCohort, NewRelease, SetsCohort, changed};
 ghost use Rattle.catalogue.specs.Draft.{Becomes, Indexes, IsIndexed};
-ghost use Rattle.catalogue.specs.Faults.{fault_of};
-ghost use Rattle.catalogue.specs.Lookups.{is_app};
-ghost use Rattle.catalogue.specs.Marks.{with_mark};
-ghost use Rattle.catalogue.specs.Validity.{IsValid};
-ghost use Rattle.catalogue.specs.declared.edit.Edit.TheVariants as edits;
+ghost use Rattle.catalogue.specs.Edits.{after, fault_of};
+ghost use Rattle.catalogue.specs.Edits.Releases.{tests_of_add_release};
+ghost use Rattle.catalogue.specs.Faults.{first_fault};
+ghost use Rattle.catalogue.specs.Lookups.{app_of, has_cohort};
+ghost use Rattle.catalogue.specs.Validity.{IsValid, ascend, is_release_below};
+ghost use Rattle.catalogue.specs.declared.fault.Fault.TheVariants.{UnknownApp, UnknownCohort};
 
-use crate::change::{
-    Mark, add_cohort_to, added_cohort, new_app, new_release, place_in, set_mark_of, targets_of,
-};
+use crate::change::{add_cohort_to, added_cohort, new_app, new_release, place_in, set_in_apps};
 use crate::content::{App, Declared};
-use crate::edit::{AddApp, AddCohort, AddRelease, Edit, SetOpen, SetShare, SetTarget};
-use crate::fault::{ApplyError, Refused};
+use crate::edit::Edit;
+use crate::edits::apps::AddApp;
+use crate::edits::cohort_settings::CohortSetting;
+use crate::edits::cohorts::AddCohort;
+use crate::edits::releases::AddRelease;
+use crate::fault::{ApplyError, Fault, Refused};
+use crate::lookup;
 use crate::package_index::PackageIndex;
-use crate::refusal;
 use std::alloc::{AllocError, Global};
 use values::{Items, Text};
+
+/// Tests that an app has a cohort of the name, else returns `UnknownCohort`.
+pub(crate) fn named_cohort(app: &App, name: &Text) -> Result<(), Fault>
+    ensures ok { OnOk result (has_cohort app.now.cohorts name.now ≡ true) }
+    ensures refused { IfErr result (λ fault. fault ≡ UnknownCohort) }
+    ensures err { OnErr result (has_cohort app.now.cohorts name.now ≡ false) }
+{
+    if lookup::has_cohort(app.cohorts.as_slice(), name.as_str()) {
+        Ok(())
+    } else {
+        Err(Fault::UnknownCohort)
+    }
+}
 
 /// A content and its index; after a refused allocation the two may differ.
 #[derive(Debug, Drop)]
@@ -54,9 +70,23 @@ impl Draft {
         })
     }
 
+    /// Finds the app of an identifier, else returns `UnknownApp`.
+    pub(crate) fn named_app(&self, id: &Text) -> Result<&App, Fault>
+        requires { IsValid self.now.apps }
+        ensures ok { IfOk result (λ app. app_of self.now.apps id.now ≡ Some app.now) }
+        ensures ascending { IfOk result (λ app. ascend is_release_below app.now.releases ≡ true) }
+        ensures refused { IfErr result (λ fault. fault ≡ UnknownApp) }
+        ensures err { OnErr result (app_of self.now.apps id.now ≡ None) }
+    {
+        match lookup::find_app(self.apps.as_slice(), id.as_str()) {
+            Some(app) => Ok(app),
+            None => Err(Fault::UnknownApp),
+        }
+    }
+
     fn add_app(&mut self, edit: &AddApp) -> Result<(), AllocError>
         requires { IsIndexed self.old }
-        ensures { OnOk result (Becomes self.new (after self.old.apps (edits.AddApp edit.now))) }
+        ensures { OnOk result (Becomes self.new (changed (NewApp edit.now) self.old.apps)) }
     {
         let app = new_app(self.alloc, edit)?;
         self.apps.push(app)
@@ -65,8 +95,8 @@ impl Draft {
     fn add_release(&mut self, edit: &AddRelease) -> Result<(), AllocError>
         requires indexed { IsIndexed self.old }
         requires valid { IsValid self.old.apps }
-        requires accepted { fault_of self.old.apps (edits.AddRelease edit.now) ≡ None }
-        ensures { OnOk result (Becomes self.new (after self.old.apps (edits.AddRelease edit.now))) }
+        requires accepted { first_fault (tests_of_add_release self.old.apps edit.now) ≡ None }
+        ensures { OnOk result (Becomes self.new (changed (NewRelease edit.now) self.old.apps)) }
     {
         let release = new_release(edit)?;
         let name = String::from_str(self.alloc, edit.name.as_str())?;
@@ -83,46 +113,21 @@ impl Draft {
     fn add_cohort(&mut self, edit: &AddCohort) -> Result<(), AllocError>
         requires indexed { IsIndexed self.old }
         requires valid { IsValid self.old.apps }
-        ensures { OnOk result (Becomes self.new (after self.old.apps (edits.AddCohort edit.now))) }
+        ensures { OnOk result (Becomes self.new (changed (NewCohort edit.now) self.old.apps)) }
     {
         let cohort = added_cohort(edit)?;
         add_cohort_to(&mut self.apps, &edit.app, cohort)?;
         Ok(())
     }
 
-    fn set_mark(&mut self, id: &Text, cohort: &Text, mark: Mark)
+    fn set(&mut self, id: &Text, cohort: &Text, setting: CohortSetting)
         requires indexed { IsIndexed self.old }
         requires valid { IsValid self.old.apps }
         ensures { Becomes
             self.new
-            (change (is_app id.now) (in_cohort cohort.now (with_mark mark)) self.old.apps) }
+            (changed (SetsCohort id.now cohort.now setting) self.old.apps) }
     {
-        set_mark_of(&mut self.apps, id, cohort, mark);
-    }
-
-    fn set_target(&mut self, edit: &SetTarget)
-        requires indexed { IsIndexed self.old }
-        requires valid { IsValid self.old.apps }
-        ensures { Becomes self.new (after self.old.apps (edits.SetTarget edit.now)) }
-    {
-        let targets = targets_of(edit);
-        self.set_mark(&edit.app, &edit.cohort, targets);
-    }
-
-    fn set_share(&mut self, edit: &SetShare)
-        requires indexed { IsIndexed self.old }
-        requires valid { IsValid self.old.apps }
-        ensures { Becomes self.new (after self.old.apps (edits.SetShare edit.now)) }
-    {
-        self.set_mark(&edit.app, &edit.cohort, Mark::Share(edit.share));
-    }
-
-    fn set_open(&mut self, edit: &SetOpen)
-        requires indexed { IsIndexed self.old }
-        requires valid { IsValid self.old.apps }
-        ensures { Becomes self.new (after self.old.apps (edits.SetOpen edit.now)) }
-    {
-        self.set_mark(&edit.app, &edit.cohort, Mark::Open(edit.on));
+        set_in_apps(&mut self.apps, id, cohort, setting);
     }
 
     fn perform(&mut self, edit: &Edit) -> Result<(), AllocError>
@@ -132,22 +137,18 @@ impl Draft {
         ensures { OnOk result (Becomes self.new (after self.old.apps edit.now)) }
     {
         match edit {
-            Edit::AddApp(edit) => self.add_app(edit),
-            Edit::AddRelease(edit) => self.add_release(edit),
-            Edit::AddCohort(edit) => self.add_cohort(edit),
-            Edit::SetTarget(edit) => {
-                self.set_target(edit);
-                Ok(())
-            }
+            Edit::AddApp(edit) => self.add_app(edit)?,
+            Edit::AddRelease(edit) => self.add_release(edit)?,
+            Edit::AddCohort(edit) => self.add_cohort(edit)?,
+            Edit::SetTarget(edit) => self.set(&edit.app, &edit.cohort, edit.setting()),
             Edit::SetShare(edit) => {
-                self.set_share(edit);
-                Ok(())
+                self.set(&edit.app, &edit.cohort, CohortSetting::Share(edit.share))
             }
             Edit::SetOpen(edit) => {
-                self.set_open(edit);
-                Ok(())
+                self.set(&edit.app, &edit.cohort, CohortSetting::Open(edit.on))
             }
         }
+        Ok(())
     }
 
     /// Performs edits in order, up to the first that is refused.
@@ -164,7 +165,7 @@ impl Draft {
         version::laws::order();
         version::laws::spellings();
         for (index, edit) in edits.iter().enumerate() {
-            if let Some(fault) = refusal::fault_of(self, edit) {
+            if let Err(fault) = edit.check(self) {
                 return Err(ApplyError::Refused(Refused { index, fault }));
             }
             self.perform(edit)?;

@@ -1,77 +1,18 @@
-ghost use Rattle.std.specs.Prelude.{◌≡◌, length, IfOk};
+ghost use Rattle.std.specs.Prelude.{◌≡◌, IfOk};
+ghost use Rattle.std.specs.Result.{result_err};
+ghost use Rattle.catalogue.specs.Draft.{IsIndexed};
+ghost use Rattle.catalogue.specs.Edits.{fault_of};
+ghost use Rattle.catalogue.specs.Validity.{IsValid};
 
+use crate::draft::Draft;
+use crate::edits::apps::AddApp;
+use crate::edits::cohort_settings::{SetOpen, SetShare, SetTarget};
+use crate::edits::cohorts::AddCohort;
+use crate::edits::releases::AddRelease;
+use crate::fault::Fault;
 use std::alloc::AllocError;
 use std::marker::Model;
-use values::{Items, Text};
-
-/// Adds an app with its default cohort.
-#[derive(Clone, Debug, Drop)]
-pub struct AddApp {
-    /// The app's identifier: 1 to 256 bytes from 0x21 to 0x7e.
-    pub app: Text,
-    /// The name of its default cohort: 1 to 32 bytes of `a-z`, `0-9`, `-`.
-    pub default: Text,
-}
-
-/// Adds a release to an app.
-#[derive(Clone, Debug, Drop)]
-pub struct AddRelease {
-    /// The app's identifier, in any case.
-    pub app: Text,
-    /// The release's version: 1 to 4 decimal components without leading zeros.
-    pub version: Text,
-    /// The name of its full package: at most 128 ASCII letters, digits, `.`, `_` and `-`, at least one,
-    /// and no `.` at the front.
-    pub name: Text,
-    /// The bytes of its full package, 1 to 2^40.
-    pub size: u64,
-    /// The SHA-256 of its full package: 64 lower-case hexadecimal digits.
-    pub sha256: Text,
-}
-
-/// Adds a cohort to an app, behind its others, at the first values of a cohort.
-#[derive(Clone, Debug, Drop)]
-pub struct AddCohort {
-    /// The app's identifier, in any case.
-    pub app: Text,
-    /// The cohort's name: 1 to 32 bytes of `a-z`, `0-9`, `-`.
-    pub cohort: Text,
-}
-
-/// Sets the target and the held target of a cohort; both are replaced.
-#[derive(Clone, Debug, Drop)]
-pub struct SetTarget {
-    /// The app's identifier, in any case.
-    pub app: Text,
-    /// The cohort's name.
-    pub cohort: Text,
-    /// The version of the cohort's target from then on, or none.
-    pub target: Option<Text>,
-    /// The version of the cohort's held target from then on, or none.
-    pub held: Option<Text>,
-}
-
-/// Sets how many of 1000 clients of a cohort have its target.
-#[derive(Clone, Debug, Drop)]
-pub struct SetShare {
-    /// The app's identifier, in any case.
-    pub app: Text,
-    /// The cohort's name.
-    pub cohort: Text,
-    /// The cohort's share from then on, 0 to 1000.
-    pub share: u64,
-}
-
-/// Sets whether a client's hint may name a cohort.
-#[derive(Clone, Debug, Drop)]
-pub struct SetOpen {
-    /// The app's identifier, in any case.
-    pub app: Text,
-    /// The cohort's name.
-    pub cohort: Text,
-    /// Whether a hint may name it from then on.
-    pub on: bool,
-}
+use values::Items;
 
 /// One change of a catalogue.
 #[derive(Clone, Debug, Drop)]
@@ -86,11 +27,29 @@ pub enum Edit {
     SetTarget(SetTarget),
     /// The share of a cohort.
     SetShare(SetShare),
-    /// The open mark of a cohort.
+    /// The open flag of a cohort.
     SetOpen(SetOpen),
 }
 
-/// A list of edits that a catalogue takes whole or not at all.
+impl Edit {
+    /// Returns the edit's first fault against the draft, if it has one.
+    pub(crate) fn check(&self, draft: &Draft) -> Result<(), Fault>
+        requires indexed { IsIndexed draft.now }
+        requires valid { IsValid draft.now.apps }
+        ensures { result_err result ≡ fault_of draft.now.apps self.now }
+    {
+        match self {
+            Edit::AddApp(edit) => edit.check(draft),
+            Edit::AddRelease(edit) => edit.check(draft),
+            Edit::AddCohort(edit) => edit.check(draft),
+            Edit::SetTarget(edit) => edit.check(draft),
+            Edit::SetShare(edit) => edit.check(draft),
+            Edit::SetOpen(edit) => edit.check(draft),
+        }
+    }
+}
+
+/// A list of edits that a catalogue applies whole or not at all.
 #[derive(Clone, Debug, Drop)]
 pub struct Batch {
     edits: Items<Edit>,

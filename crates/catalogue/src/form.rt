@@ -1,4 +1,4 @@
-// The forms of texts and numbers that edits are tested for.
+//! The forms of texts and numbers that edits are tested for.
 
 ghost use Rattle.std.specs.Prelude.{◌≡◌, ◌&&◌, ◌==◌, nat_le, slice_index};
 ghost use Rattle.std.specs.Char.{is_ascii_graphic};

@@ -3,20 +3,21 @@
 
 ghost use Rattle.catalogue.specs.ContentExamples.{SmallContentHasItsEdits};
 ghost use Rattle.catalogue.specs.Contents.{ContentsAreMade, HistoriesArePlain};
-ghost use Rattle.catalogue.specs.Histories.{AppsWereAdded, CohortsWereAdded, HistoriesAreValid, HistoriesGrow, OpenMarksAreTheLastSet, ReleasesWereAdded, SharesAreTheLastSet, TargetsAreTheLastSet};
+ghost use Rattle.catalogue.specs.Histories.{AppsWereAdded, CohortsWereAdded, HistoriesAreValid, HistoriesGrow, OpenFlagsAreTheLastSet, ReleasesWereAdded, SharesAreTheLastSet, TargetsAreTheLastSet};
 
-/// States that an item is there exactly where some edit of the history added it.
+/// States that an item is there exactly if some edit of the history added it.
 pub fn additions()
     ensures apps { AppsWereAdded }
     ensures releases { ReleasesWereAdded }
     ensures cohorts { CohortsWereAdded }
 {}
 
-/// States that a mark is that of the last edit of the history that set it, else its first value.
-pub fn marks()
+/// States that a cohort's targets, share and open flag are those of the last edit of the history that
+/// set them, else their first values.
+pub fn settings()
     ensures targets { TargetsAreTheLastSet }
     ensures shares { SharesAreTheLastSet }
-    ensures open_marks { OpenMarksAreTheLastSet }
+    ensures open_flags { OpenFlagsAreTheLastSet }
 {}
 
 /// States that a batch that is accepted after a history makes a longer history.
@@ -32,7 +33,7 @@ pub fn validity()
     version::laws::spellings();
 }
 
-/// States that what a history leads to has no stones, withdrawn releases, audiences, rollback marks
+/// States that what a history leads to has no stones, withdrawn releases, audiences, rollback flags
 /// and differentials, which no edit makes.
 pub fn plainness()
     ensures { HistoriesArePlain }

@@ -1,11 +1,9 @@
-// Items of a content by their names.
+//! Items of a content by their names.
 
 ghost use Rattle.std.specs.Prelude.{◌≡◌, ◌≤◌, true, length, position};
 ghost use Rattle.std.specs.Option.{option_copied};
 ghost use Rattle.std.specs.List.{list_any};
-ghost use Rattle.catalogue.specs.Changes.{place_of};
-ghost use Rattle.catalogue.specs.Lookups.{app_of, has_hash, is_app, is_cohort, is_release};
-ghost use Rattle.catalogue.specs.Faults.{has_cohort, has_release};
+ghost use Rattle.catalogue.specs.Lookups.{app_of, has_cohort, has_hash, has_release, is_app, is_cohort, is_release, place_of};
 ghost use Rattle.catalogue.specs.Validity.{IsValid, ascend, is_release_below};
 
 use crate::content::{App, Cohort, Release};

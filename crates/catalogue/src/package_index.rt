@@ -1,4 +1,4 @@
-// The packages of a catalogue by name, found in logarithmic time.
+//! The packages of a catalogue by name, found in logarithmic time.
 
 ghost use Rattle.std.specs.Prelude.{◌≡◌, List, ℕ, IfOk, OnOk, None, Some, string_bytes, if◌then◌else◌};
 ghost use Rattle.std.specs.Str.{bytes_eq};

@@ -1,7 +1,7 @@
 use Rattle.std.proofs.Common.{◌∙◌, Bool, cond, sym, ap, Some, None}
 use Rattle.catalogue.proofs.PlaceLemmas.{position-at_place}
-use Rattle.catalogue.specs.Changes.{place_of}
 use Rattle.catalogue.proofs.lookup.index_of_release.Goals as goal
+use Rattle.catalogue.specs.Lookups.{place_of}
 
 pub returns-then-has_release : goal.returns-then-has_release
 returns-then-has_release c =

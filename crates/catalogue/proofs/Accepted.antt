@@ -1,0 +1,5 @@
+-- What is known of each kind of edit that has no fault.
+pub mod Apps
+pub mod CohortSettings
+pub mod Cohorts
+pub mod Releases

@@ -1,0 +1,27 @@
+-- What is known of the change of an accepted edit, by the kind of change; a line an edit.
+use Rattle.std.proofs.Common.{◌≡◌, List, None}
+use Rattle.catalogue.proofs.Accepted.Apps.{TakesApp, TakesApp-from_no_fault}
+use Rattle.catalogue.proofs.Accepted.CohortSettings.{TakesSetting, TakesSetting-set_open, TakesSetting-set_share, TakesSetting-set_target}
+use Rattle.catalogue.proofs.Accepted.Cohorts.{TakesCohort, TakesCohort-from_no_fault}
+use Rattle.catalogue.proofs.Accepted.Releases.{TakesRelease, TakesRelease-from_no_fault}
+use Rattle.catalogue.specs.Changes.{Change, NewApp, NewCohort, NewRelease, SetsCohort}
+use Rattle.catalogue.specs.Edits.{change_of, fault_of}
+use Rattle.catalogue.specs.declared.content.App.{App}
+use Rattle.catalogue.specs.declared.edit.Edit.{Edit}
+use Rattle.catalogue.specs.declared.edit.Edit.TheVariants as edit
+
+-- the content takes the change
+abbrev pub Fits : List App → Change → Type 0
+Fits apps (NewApp e) = TakesApp apps e
+Fits apps (NewRelease e) = TakesRelease apps e
+Fits apps (NewCohort e) = TakesCohort apps e
+Fits apps (SetsCohort id name new) = TakesSetting apps id name new
+
+pub Fits-accepted :
+    (apps : List App) (e : Edit) → fault_of apps e ≡ None → Fits apps (change_of e)
+Fits-accepted apps (edit.AddApp e) h = TakesApp-from_no_fault apps e h
+Fits-accepted apps (edit.AddRelease e) h = TakesRelease-from_no_fault apps e h
+Fits-accepted apps (edit.AddCohort e) h = TakesCohort-from_no_fault apps e h
+Fits-accepted apps (edit.SetTarget e) h = TakesSetting-set_target apps e h
+Fits-accepted apps (edit.SetShare e) h = TakesSetting-set_share apps e h
+Fits-accepted apps (edit.SetOpen e) h = TakesSetting-set_open apps e h

@@ -1,0 +1,42 @@
+-- The edits: each one's first fault against a content, and what it changes if it has none; a line
+-- an edit. The tests of each kind stand in a file of their own beside this one.
+pub mod Apps
+pub mod CohortSettings
+pub mod Cohorts
+pub mod Releases
+use Rattle.std.specs.Prelude.{List, Option}
+use Rattle.catalogue.specs.Changes.{Change, NewApp, NewCohort, NewRelease, SetsCohort, changed}
+use Rattle.catalogue.specs.Edits.Apps.{tests_of_add_app}
+use Rattle.catalogue.specs.Edits.CohortSettings.{setting_of_set_target, tests_of_set_open, tests_of_set_share, tests_of_set_target}
+use Rattle.catalogue.specs.Edits.Cohorts.{tests_of_add_cohort}
+use Rattle.catalogue.specs.Edits.Releases.{tests_of_add_release}
+use Rattle.catalogue.specs.Faults.{first_fault}
+use Rattle.catalogue.specs.declared.content.App.{App}
+use Rattle.catalogue.specs.declared.edit.Edit.{Edit}
+use Rattle.catalogue.specs.declared.edit.Edit.TheVariants as edit
+use Rattle.catalogue.specs.declared.edits.cohort_settings.CohortSetting.TheVariants as setting
+use Rattle.catalogue.specs.declared.fault.Fault.{Fault}
+
+-- rule: Faults of an edit, in order
+-- the first fault of an edit against a content, or none if the edit is accepted
+abbrev pub fault_of : List App → Edit → Option Fault
+fault_of apps (edit.AddApp e) = first_fault (tests_of_add_app apps e)
+fault_of apps (edit.AddRelease e) = first_fault (tests_of_add_release apps e)
+fault_of apps (edit.AddCohort e) = first_fault (tests_of_add_cohort apps e)
+fault_of apps (edit.SetTarget e) = first_fault (tests_of_set_target apps e)
+fault_of apps (edit.SetShare e) = first_fault (tests_of_set_share apps e)
+fault_of apps (edit.SetOpen e) = first_fault (tests_of_set_open apps e)
+
+-- rule: What an edit changes
+-- what an accepted edit changes
+abbrev pub change_of : Edit → Change
+change_of (edit.AddApp e) = NewApp e
+change_of (edit.AddRelease e) = NewRelease e
+change_of (edit.AddCohort e) = NewCohort e
+change_of (edit.SetTarget e) = SetsCohort e.app e.cohort (setting_of_set_target e)
+change_of (edit.SetShare e) = SetsCohort e.app e.cohort (setting.Share e.share)
+change_of (edit.SetOpen e) = SetsCohort e.app e.cohort (setting.Open e.on)
+
+-- the content after an accepted edit
+abbrev pub after : List App → Edit → List App
+after apps e = changed (change_of e) apps
