@@ -2,4 +2,6 @@
 pub mod Apps
 pub mod CohortSettings
 pub mod Cohorts
+pub mod Diffs
+pub mod ReleaseSettings
 pub mod Releases

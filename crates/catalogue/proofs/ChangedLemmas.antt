@@ -1,13 +1,23 @@
 -- Tests, counts and lengths of a list of which the first item that passes was changed.
-use Rattle.std.proofs.Common.{◌≡◌, ◌+◌, ◌||◌, Bool, true, false, cond, List, [], ◌∷◌, length, Some, find, count_by, suc, ◌++◌, refl, ap, sym, ◌∙◌, arith}
+use Rattle.std.proofs.Common.{◌≡◌, ◌+◌, ◌||◌, Bool, true, false, cond, List, [], ◌∷◌, length, map, Some, find, count_by, suc, ◌++◌, refl, ap, sym, ◌∙◌, arith}
 use Rattle.std.specs.List.{AllByRecursion, list_all, list_any}
 use Rattle.std.proofs.lemmas.Bool.{and_from, and_parts}
 use Rattle.std.proofs.lemmas.List.Sums.{sum_by-append}
 use Rattle.catalogue.specs.Changes.{change}
+use Rattle.catalogue.specs.Ordered.{ascend}
 
 -- one more is counted where the first item passes
 pub count_by-cons : {A : Type 0} (q : A → Bool) (x : A) (xs : List A) → count_by q (x ∷ xs) ≡ cond (q x) 1 0 + count_by q xs
 count_by-cons q x xs = let joined = sum_by-append (λ y. cond (q y) 1 0) (x ∷ []) xs in omega arith
+
+-- all pass a test that gives the same
+list_all-same :
+    {A : Type 0} (p q : A → Bool) → ((x : A) → q x ≡ p x) → (xs : List A) → list_all p xs ≡ true →
+    list_all q xs ≡ true
+list_all-same p q same [] all = refl
+list_all-same p q same (x ∷ xs) all =
+    let parts = and_parts (p x) (list_all p xs) all in
+    and_from (q x) (list_all q xs) (same x ∙ parts.0) (list_all-same p q same xs parts.1)
 
 module _ {A : Type 0} (p : A → Bool) (f : A → A) where
   pub length-change : (xs : List A) → length (change p f xs) ≡ length xs
@@ -61,6 +71,35 @@ module _ {A : Type 0} (p : A → Bool) (f : A → A) where
           let kept = rw same at keeps in
           (kept all.0, all.1)
       cases false later others = (all.0, others later)
+
+  -- what each item gives stays, if the change leaves what an item gives
+  pub map-change : {B : Type 0} (g : A → B) → ((x : A) → g (f x) ≡ g x) → (xs : List A) → map g (change p f xs) ≡ map g xs
+  map-change g same [] = refl
+  map-change {B} g same (x ∷ xs) = cases (p x) (map-change g same xs)
+    where
+      cases :
+          (b : Bool) → map g (change p f xs) ≡ map g xs →
+          map g (cond b (f x ∷ xs) (x ∷ change p f xs)) ≡ g x ∷ map g xs
+      cases true others = ap (λ (y : B). y ∷ map g xs) (same x)
+      cases false others = ap (λ ys. g x ∷ ys) others
+
+  -- ascending items still ascend, if the change leaves how an item compares
+  pub ascend-change :
+      (before : A → A → Bool) → ((x y : A) → before (f x) y ≡ before x y) →
+      ((x y : A) → before x (f y) ≡ before x y) → (xs : List A) → ascend before xs ≡ true →
+      ascend before (change p f xs) ≡ true
+  ascend-change before left right [] ascending = refl
+  ascend-change before left right (x ∷ xs) ascending =
+      let parts = and_parts (list_all (before x) xs) (ascend before xs) ascending in
+      cases (p x) parts.0 parts.1 (ascend-change before left right xs parts.1)
+    where
+      cases :
+          (b : Bool) → list_all (before x) xs ≡ true → ascend before xs ≡ true →
+          ascend before (change p f xs) ≡ true →
+          ascend before (cond b (f x ∷ xs) (x ∷ change p f xs)) ≡ true
+      cases true after rest changed = and_from _ _ (list_all-same (before x) (before (f x)) (λ y. left x y) xs after) rest
+      cases false after rest changed =
+          and_from _ _ (list_all-change (before x) (λ y here. right x y ∙ here) xs after) changed
 
 pub AllByRecursion-push : {A : Type 0} (P : A → Type 0) (xs : List A) (x : A) → AllByRecursion P xs → P x → AllByRecursion P (xs ++ x ∷ [])
 AllByRecursion-push P [] x all here = (here, tt)

@@ -32,4 +32,5 @@ pub name-with_setting :
     (new : CohortSetting) (cohort : Cohort) → (with_setting new cohort).name ≡ cohort.name
 name-with_setting (setting.Targets target held) cohort = refl
 name-with_setting (setting.Share share) cohort = refl
+name-with_setting (setting.Rollback on) cohort = refl
 name-with_setting (setting.Open on) cohort = refl

@@ -71,3 +71,19 @@ run-append (first ∷ batches) batch apps middle made h accepted =
     cases : (o : Result (List App) Refused) → then_run (run batches) o ≡ Ok middle → ((next : List App) → run batches next ≡ Ok middle → run (batches ++ batch ∷ []) next ≡ Ok made) → then_run (run (batches ++ batch ∷ [])) o ≡ Ok made
     cases (Ok next) others appended = appended next others
     cases (Err refused) others appended = absurd cc
+
+-- what a history leads to, its first batches lead to something
+pub run-prefix :
+    (history more : List (List Edit)) (apps made : List App) → run (history ++ more) apps ≡ Ok made →
+    (before : List App) × (run history apps ≡ Ok before)
+run-prefix [] more apps made h = (apps, refl)
+run-prefix (batch ∷ batches) more apps made h =
+    cases (outcome batch apps) h (λ middle. run-prefix batches more middle made)
+  where
+    cases :
+        (o : Result (List App) Refused) → then_run (run (batches ++ more)) o ≡ Ok made →
+        ((middle : List App) → run (batches ++ more) middle ≡ Ok made →
+        (before : List App) × (run batches middle ≡ Ok before)) →
+        (before : List App) × (then_run (run batches) o ≡ Ok before)
+    cases (Ok middle) others prefix = prefix middle others
+    cases (Err refused) others prefix = absurd cc

@@ -1,6 +1,7 @@
 -- Edits that are accepted one after the other, and a content that grows item by item.
-use Rattle.std.proofs.Common.{◌≡◌, ℕ, ◌+◌, Bool, List, [], ◌∷◌, ◌++◌, map, Option, None, Ok, refl, ap, sym, subst, ◌∙◌}
+use Rattle.std.proofs.Common.{◌≡◌, ℕ, ◌+◌, Bool, true, false, cond, List, [], ◌∷◌, ◌++◌, map, Option, Some, None, Ok, refl, ap, sym, subst, ◌∙◌}
 use Rattle.std.specs.List.{flat_map}
+use Rattle.std.specs.Option.{is_some}
 use Rattle.std.proofs.lemmas.List.{append-nil}
 use Rattle.catalogue.proofs.AcceptedLemmas.{NoneHold}
 use Rattle.catalogue.proofs.HistoryLemmas.{Makes, Makes-append}
@@ -56,3 +57,19 @@ Makes-each_one state edit whole step front (x ∷ back) cut =
       Makes-from_same (map edit back) (after (state front (x ∷ back)) (edit x)) (state (front ++ x ∷ []) back) (state whole []) first.1
           (Makes-each_one state edit whole step (front ++ x ∷ []) back (cut ∙ split_next front x back)),
     )
+
+-- a flag is set if it is on; `state` is the content by the flag's value
+pub Makes-flag :
+    (on : Bool) (edit : Edit) (state : Bool → List App) → fault_of (state false) edit ≡ None →
+    after (state false) edit ≡ state true → Makes (cond on (edit ∷ []) []) (state false) (state on)
+Makes-flag true edit state accepted same = Makes-one edit (state false) (state true) accepted same
+Makes-flag false edit state accepted same = refl
+
+-- an optional value is set if there is one
+pub Makes-option :
+    {A : Type 0} (value : Option A) (edit : Edit) (state : Option A → List App) →
+    ((x : A) → value ≡ Some x → (fault_of (state None) edit ≡ None) × (after (state None) edit ≡ state value)) →
+    Makes (cond (is_some value) (edit ∷ []) []) (state None) (state value)
+Makes-option None edit state step = refl
+Makes-option (Some x) edit state step =
+    let one = step x refl in Makes-one edit (state None) (state (Some x)) one.0 one.1

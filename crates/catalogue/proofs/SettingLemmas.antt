@@ -1,4 +1,4 @@
--- What is read of a cohort after an accepted edit: its targets, its share, its open flag.
+-- What is read of a cohort after an accepted edit: its targets, its share, its rollback and open flags.
 use Rattle.std.proofs.Common.{◌≡◌, ℕ, Bool, true, false, cond, ◌&&◌, List, [], ◌∷◌, ◌++◌, find, Option, Some, None, refl, ap, sym, ◌∙◌}
 use Rattle.std.specs.Option.{option_map, option_map_or, option_or, unwrap_or}
 use Rattle.std.specs.Str.{bytes_eq}
@@ -10,11 +10,11 @@ use Rattle.catalogue.proofs.AppLemmas.{read_app-change, read_app-kept, read_app-
 use Rattle.catalogue.proofs.FitLemmas.{Fits-accepted}
 use Rattle.catalogue.proofs.GoodCohortLemmas.{name-with_setting}
 use Rattle.catalogue.proofs.LookupLemmas.{Some-from_list_any, find-change}
-use Rattle.catalogue.specs.Changes.{Change, NewApp, NewCohort, NewRelease, SetsCohort, change, changed, in_cohort, new_app, new_cohort, new_release, with_cohort, with_release, with_setting}
+use Rattle.catalogue.specs.Changes.{Change, NewApp, NewCohort, NewDiff, NewRelease, SetsCohort, SetsRelease, change, changed, in_cohort, in_release, new_app, new_cohort, new_diff, new_release, with_cohort, with_diff, with_release, with_release_setting, with_setting}
 use Rattle.catalogue.specs.Edits.{after, change_of, fault_of}
 use Rattle.catalogue.specs.Edits.CohortSettings.{setting_of_set_target}
 use Rattle.catalogue.specs.Forms.{same_id}
-use Rattle.catalogue.specs.Histories.{Targets, is_open, names_cohort, read_cohort, sets_open, sets_share, sets_targets, share_of, targets_of}
+use Rattle.catalogue.specs.Histories.{Targets, has_rollback, is_open, names_cohort, read_cohort, sets_open, sets_rollback, sets_share, sets_targets, share_of, targets_of}
 use Rattle.catalogue.specs.Lookups.{cohorts_of, is_app, is_cohort}
 use Rattle.catalogue.specs.declared.content.App.{App}
 use Rattle.catalogue.specs.declared.content.Cohort.{Cohort}
@@ -98,6 +98,10 @@ module _ {A : Type 0} (read : Cohort → A) (none : A) (first : (name : List ℕ
       read_cohort-kept (with_release (new_release e)) (λ app. refl) name (λ app. refl) apps id e.app
   read_cohort-left (NewCohort e) left apps id name =
       read_cohort-kept (with_cohort (new_cohort e.cohort)) (λ app. refl) name (λ app. read_in-push name e.cohort app.cohorts) apps id e.app
+  read_cohort-left (NewDiff e) left apps id name =
+      read_cohort-kept (with_diff (new_diff e)) (λ app. refl) name (λ app. refl) apps id e.app
+  read_cohort-left (SetsRelease changed_id version new) left apps id name =
+      read_cohort-kept (in_release version (with_release_setting new)) (λ app. refl) name (λ app. refl) apps id changed_id
   read_cohort-left (SetsCohort changed_id changed_name new) left apps id name =
       read_cohort-kept (in_cohort changed_name (with_setting new)) (λ app. refl) name
       (λ app. read_in-kept (with_setting new) (name-with_setting new) left name changed_name app.cohorts) apps id changed_id
@@ -167,6 +171,20 @@ share_of-after id name apps (edit.SetShare e) accepted =
     apps id name e.app e.cohort (Fits-accepted apps (edit.SetShare e) accepted)
 share_of-after id name apps e accepted =
     read_cohort-left share 1000 (λ new. refl) (change_of e) (λ cohort. refl) apps id name
+
+-- the rollback flag of a cohort
+abbrev rollback_flag : Cohort → Bool
+rollback_flag cohort = cohort.rollback
+
+-- a cohort's rollback flag is the one that the edit sets for it, else the one that it had
+pub has_rollback-after :
+    (id name : List ℕ) (apps : List App) (e : Edit) → fault_of apps e ≡ None →
+    has_rollback (after apps e) id name ≡ unwrap_or (sets_rollback id name e) (has_rollback apps id name)
+has_rollback-after id name apps (edit.SetRollback e) accepted =
+    read_cohort-set rollback_flag false (λ new. refl) (setting.Rollback e.on) e.on (λ cohort. refl)
+    apps id name e.app e.cohort (Fits-accepted apps (edit.SetRollback e) accepted)
+has_rollback-after id name apps e accepted =
+    read_cohort-left rollback_flag false (λ new. refl) (change_of e) (λ cohort. refl) apps id name
 
 -- the open flag of a cohort
 abbrev open_flag : Cohort → Bool

@@ -7,7 +7,8 @@ use Rattle.std.proofs.lemmas.List.Folds.{list_all-append}
 use Rattle.std.proofs.lemmas.List.Sums.{sum_by-append}
 use Rattle.catalogue.proofs.ChangedLemmas.{count_by-cons}
 use Rattle.catalogue.specs.Changes.{change}
-use Rattle.catalogue.specs.Validity.{IsOnce, ascend}
+use Rattle.catalogue.specs.Ordered.{ascend}
+use Rattle.catalogue.specs.Validity.{IsOnce}
 
 -- where nothing is counted, nothing passes
 list_any-not_counted : {A : Type 0} (p : A → Bool) (xs : List A) → count_by p xs ≡ 0 → list_any p xs ≡ false

@@ -1,60 +1,77 @@
 -- An edit keeps an app valid.
-use Rattle.std.proofs.Common.{◌≡◌, ℕ, ◌≤◌, ◌&&◌, Bool, true, false, cond, nat_le, List, [], ◌∷◌, ◌++◌, Option, Some, None, count_by, option_map, refl, ap, sym, ◌∙◌, arith}
+use Rattle.std.proofs.Common.{◌≡◌, ℕ, ◌≤◌, ◌&&◌, Bool, true, false, cond, List, [], ◌∷◌, ◌++◌, Option, Some, None, count_by, refl, ap, sym, ◌∙◌, arith}
 use Rattle.std.specs.Option.{is_none, option_map_or}
 use Rattle.std.specs.Str.{bytes_eq}
 use Rattle.std.proofs.lemmas.Bool.{and_from, and_parts}
 use Rattle.std.proofs.lemmas.Slice.Eq.{bytes_eq-Decides}
-use Rattle.version.specs.Laws.{BelowIsTotal, BelowIsTransitive, LenientAgrees}
+use Rattle.version.specs.Laws.{LenientAgrees}
 use Rattle.version.specs.Versions.{is_below, lenient_version_of, version_of}
 use Rattle.catalogue.proofs.Accepted.Apps.{TakesApp}
 use Rattle.catalogue.proofs.Accepted.Cohorts.{TakesCohort}
+use Rattle.catalogue.proofs.Accepted.Diffs.{TakesDiff}
 use Rattle.catalogue.proofs.Accepted.Releases.{TakesRelease}
 use Rattle.catalogue.proofs.AcceptedLemmas.{Some-from_not_none}
+use Rattle.catalogue.proofs.ChangedLemmas.{ascend-change, count_by-change, count_by-cons, length-change, list_all-change, list_any-change}
 use Rattle.catalogue.proofs.GoodCohortLemmas.{GoodCohort-from_test, is_good_cohort-from_parts}
-use Rattle.catalogue.proofs.AscentLemmas.{Inserts-placed, ascend-placed}
-use Rattle.catalogue.proofs.ChangedLemmas.{count_by-change, count_by-cons, length-change, list_all-change, list_any-change}
+use Rattle.catalogue.proofs.GoodDiffLemmas.{GoodDiff-from_test, is_good_diff-from_parts}
 use Rattle.catalogue.proofs.HashLemmas.{is_hash-hash_named}
 use Rattle.catalogue.proofs.InsertedLemmas.{IsOnce-Inserts, count_by-none, length-Inserts, list_all-Inserts, list_all-weaker, list_any-kept}
-use Rattle.catalogue.proofs.InsertionLemmas.{Inserts-push}
-use Rattle.catalogue.specs.Changes.{change, in_cohort, new_app, new_cohort, new_release, placed, with_cohort, with_release}
+use Rattle.catalogue.proofs.InsertionLemmas.{Inserts, Inserts-push}
+use Rattle.catalogue.proofs.KeyLemmas.{IsOrder-pairs, IsOrder-versions, VersionLaws}
+use Rattle.catalogue.proofs.OrderedLemmas.{Inserts-put_in, ascend-put_in}
+use Rattle.catalogue.specs.Changes.{change, in_cohort, in_release, new_app, new_cohort, new_diff, new_release, placed, placed_diff, with_cohort, with_diff, with_release}
 use Rattle.catalogue.specs.Forms.{is_cohort_name, is_hash, is_package_name, is_size}
-use Rattle.catalogue.specs.Lookups.{has_cohort, has_hash, has_release, is_cohort, is_release}
-use Rattle.catalogue.specs.Validity.{IsValidApp, is_good_audience, is_good_cohort, is_good_diff, is_good_release, is_released, spells}
+use Rattle.catalogue.specs.Lookups.{has_cohort, has_hash, has_release, is_cohort, is_pair_below, is_release, pair_of, same_pair}
+use Rattle.catalogue.specs.Validity.{IsValidApp, is_good_audience, is_good_cohort, is_good_diff, is_good_release, is_release_below, is_released, spells}
 use Rattle.catalogue.specs.declared.content.App.{App}
 use Rattle.catalogue.specs.declared.content.Cohort.{Cohort}
 use Rattle.catalogue.specs.declared.content.Diff.{Diff}
 use Rattle.catalogue.specs.declared.content.Release.{Release}
 use Rattle.catalogue.specs.declared.edits.apps.AddApp.{AddApp}
 use Rattle.catalogue.specs.declared.edits.cohorts.AddCohort.{AddCohort}
+use Rattle.catalogue.specs.declared.edits.diffs.AddDiff.{AddDiff}
 use Rattle.catalogue.specs.declared.edits.releases.AddRelease.{AddRelease}
 
+-- a release put in its place is one more
+Inserts-placed : (release : Release) (releases : List Release) → Inserts release releases (placed release releases)
+Inserts-placed release releases = Inserts-put_in is_below bytes_eq (λ (r : Release). r.version) release releases
+
+-- a cohort and a differential stay good if each released version stays released
+module _ (old new : List Release) (kept : (version : List ℕ) → has_release old version ≡ true → has_release new version ≡ true) where
+  is_released-kept :
+      (version : Option (List ℕ)) → is_released old version ≡ true → is_released new version ≡ true
+  is_released-kept None there = refl
+  is_released-kept (Some version) there = kept version there
+
+  is_good_cohort-kept :
+      (cohort : Cohort) → is_good_cohort old cohort ≡ true → is_good_cohort new cohort ≡ true
+  is_good_cohort-kept cohort good =
+      let before = GoodCohort-from_test old cohort good in
+      is_good_cohort-from_parts new cohort (record {
+        named = before.named;
+        shared = before.shared;
+        target = is_released-kept cohort.target before.target;
+        held = is_released-kept cohort.held before.held;
+      })
+
+  is_good_diff-kept : (diff : Diff) → is_good_diff old diff ≡ true → is_good_diff new diff ≡ true
+  is_good_diff-kept diff good =
+      let before = GoodDiff-from_test old diff good in
+      is_good_diff-from_parts new diff (record {
+        upward = before.upward;
+        starts = kept diff.from before.starts;
+        ends = kept diff.to before.ends;
+        named = before.named;
+        sized = before.sized;
+        hashed = before.hashed;
+      })
+
 -- what is released stays released when a release is added
-has_release-placed : (release : Release) (releases : List Release) (version : List ℕ) → has_release releases version ≡ true → has_release (placed release releases) version ≡ true
-has_release-placed release releases version = list_any-kept (is_release version) release releases (placed release releases) (Inserts-placed release releases)
-
-is_released-placed : (release : Release) (releases : List Release) (version : Option (List ℕ)) → is_released releases version ≡ true → is_released (placed release releases) version ≡ true
-is_released-placed release releases None there = refl
-is_released-placed release releases (Some version) there = has_release-placed release releases version there
-
-is_good_cohort-placed : (release : Release) (releases : List Release) (cohort : Cohort) → is_good_cohort releases cohort ≡ true → is_good_cohort (placed release releases) cohort ≡ true
-is_good_cohort-placed release releases cohort good =
-    let before = GoodCohort-from_test releases cohort good in
-    is_good_cohort-from_parts (placed release releases) cohort (record {
-      named = before.named;
-      shared = before.shared;
-      target = is_released-placed release releases cohort.target before.target;
-      held = is_released-placed release releases cohort.held before.held;
-    })
-
-is_good_diff-placed : (release : Release) (releases : List Release) (diff : Diff) → is_good_diff releases diff ≡ true → is_good_diff (placed release releases) diff ≡ true
-is_good_diff-placed release releases diff good =
-    let hashed = and_parts (is_below diff.from diff.to && has_release releases diff.from && has_release releases diff.to && is_package_name diff.name && is_size diff.size) (is_hash diff.hash) good in
-    let sized = and_parts (is_below diff.from diff.to && has_release releases diff.from && has_release releases diff.to && is_package_name diff.name) (is_size diff.size) hashed.0 in
-    let named = and_parts (is_below diff.from diff.to && has_release releases diff.from && has_release releases diff.to) (is_package_name diff.name) sized.0 in
-    let leads = and_parts (is_below diff.from diff.to && has_release releases diff.from) (has_release releases diff.to) named.0 in
-    let starts = and_parts (is_below diff.from diff.to) (has_release releases diff.from) leads.0 in
-    let ends = and_from _ _ (and_from _ _ starts.0 (has_release-placed release releases diff.from starts.1)) (has_release-placed release releases diff.to leads.1) in
-    and_from _ _ (and_from _ _ (and_from _ _ ends named.1) sized.1) hashed.1
+has_release-placed :
+    (release : Release) (releases : List Release) (version : List ℕ) →
+    has_release releases version ≡ true → has_release (placed release releases) version ≡ true
+has_release-placed release releases version =
+    list_any-kept (is_release version) release releases (placed release releases) (Inserts-placed release releases)
 
 -- the spelling of an accepted version spells what a client's text would
 spells-lenient : LenientAgrees → (text : List ℕ) → is_none (version_of text) ≡ false → spells text (lenient_version_of text) ≡ true
@@ -64,7 +81,7 @@ spells-lenient agrees text spelled =
     ap (λ o. option_map_or (λ (r : List ℕ × ℕ). bytes_eq r.0 (lenient_version_of text)) o false) some.1
     ∙ (bytes_eq-Decides read.0 (lenient_version_of text)).1 (sym (agrees text read.0 read.1 some.1))
 
-module _ (transitive : BelowIsTransitive) (total : BelowIsTotal) (agrees : LenientAgrees) where
+module _ (laws : VersionLaws) (agrees : LenientAgrees) where
   pub IsValidApp-with_release : (apps : List App) (e : AddRelease) (takes : TakesRelease apps e) → IsValidApp takes.app → IsValidApp (with_release (new_release e) takes.app)
   IsValidApp-with_release apps e takes valid =
       let app = takes.app in
@@ -75,19 +92,81 @@ module _ (transitive : BelowIsTransitive) (total : BelowIsTotal) (agrees : Lenie
         some_cohort = valid.some_cohort;
         few_cohorts = valid.few_cohorts;
         cohorts_once = valid.cohorts_once;
-        cohorts_good = list_all-weaker (is_good_cohort app.releases) (is_good_cohort (placed release app.releases)) (is_good_cohort-placed release app.releases) app.cohorts valid.cohorts_good;
+        cohorts_good = list_all-weaker (is_good_cohort app.releases) (is_good_cohort (placed release app.releases))
+            (is_good_cohort-kept app.releases (placed release app.releases) (has_release-placed release app.releases)) app.cohorts valid.cohorts_good;
         few_releases = omega (arith, takes.room, length-Inserts release app.releases (placed release app.releases) among);
-        releases_ascend = ascend-placed transitive total release app.releases valid.releases_ascend takes.new_version;
+        releases_ascend = ascend-put_in is_below bytes_eq (λ (r : Release). r.version) (IsOrder-versions laws) release app.releases valid.releases_ascend takes.new_version;
         hashes_once = IsOnce-Inserts has_hash release app.releases (placed release app.releases) among valid.hashes_once
             (λ hash same. ap (λ h. count_by (has_hash h) app.releases) ((bytes_eq-Decides hash release.hash).0 same) ∙ count_by-none (has_hash release.hash) app.releases takes.new_hash);
         releases_good = list_all-Inserts (is_good_release app.cohorts) release app.releases (placed release app.releases) among valid.releases_good
             (and_from _ _ (and_from _ _ (and_from _ _ (and_from _ _ (spells-lenient agrees e.version takes.spelled) takes.named) takes.sized) (is_hash-hash_named e.sha256 takes.hashed)) refl);
         few_diffs = valid.few_diffs;
         diffs_ascend = valid.diffs_ascend;
-        diffs_good = list_all-weaker (is_good_diff app.releases) (is_good_diff (placed release app.releases)) (is_good_diff-placed release app.releases) app.diffs valid.diffs_good;
+        diffs_good = list_all-weaker (is_good_diff app.releases) (is_good_diff (placed release app.releases))
+            (is_good_diff-kept app.releases (placed release app.releases) (has_release-placed release app.releases)) app.diffs valid.diffs_good;
       }
 
--- an audience stays good where each cohort's name stays
+  pub IsValidApp-with_diff :
+      (apps : List App) (e : AddDiff) (takes : TakesDiff apps e) → IsValidApp takes.app →
+      IsValidApp (with_diff (new_diff e) takes.app)
+  IsValidApp-with_diff apps e takes valid =
+      let app = takes.app in
+      let diff = new_diff e in
+      let among = Inserts-put_in is_pair_below same_pair pair_of diff app.diffs in
+      record {
+        identified = valid.identified;
+        some_cohort = valid.some_cohort;
+        few_cohorts = valid.few_cohorts;
+        cohorts_once = valid.cohorts_once;
+        cohorts_good = valid.cohorts_good;
+        few_releases = valid.few_releases;
+        releases_ascend = valid.releases_ascend;
+        hashes_once = valid.hashes_once;
+        releases_good = valid.releases_good;
+        few_diffs = omega (arith, takes.room, length-Inserts diff app.diffs (placed_diff diff app.diffs) among);
+        diffs_ascend = ascend-put_in is_pair_below same_pair pair_of (IsOrder-pairs laws) diff app.diffs valid.diffs_ascend takes.new_pair;
+        diffs_good = list_all-Inserts (is_good_diff app.releases) diff app.diffs (placed_diff diff app.diffs) among valid.diffs_good
+            (is_good_diff-from_parts app.releases diff (record {
+              upward = takes.upward;
+              starts = takes.starts;
+              ends = takes.ends;
+              named = takes.named;
+              sized = takes.sized;
+              hashed = is_hash-hash_named e.sha256 takes.hashed;
+            }));
+      }
+
+-- a change of a release that keeps its version and its hash and keeps it good
+pub IsValidApp-in_release :
+    (version : List ℕ) (f : Release → Release) (app : App) →
+    ((release : Release) → (f release).version ≡ release.version) →
+    ((release : Release) → (f release).hash ≡ release.hash) →
+    ((release : Release) → is_good_release app.cohorts release ≡ true → is_good_release app.cohorts (f release) ≡ true) →
+    IsValidApp app → IsValidApp (in_release version f app)
+IsValidApp-in_release version f app kept kept_hash keeps_good valid =
+    let releases = change (is_release version) f app.releases in
+    let released =
+    λ (key : List ℕ) (there : has_release app.releases key ≡ true).
+    list_any-change (is_release version) f (is_release key) (λ r. ap (bytes_eq key) (kept r)) app.releases ∙ there in
+    record {
+      identified = valid.identified;
+      some_cohort = valid.some_cohort;
+      few_cohorts = valid.few_cohorts;
+      cohorts_once = valid.cohorts_once;
+      cohorts_good = list_all-weaker (is_good_cohort app.releases) (is_good_cohort releases)
+          (is_good_cohort-kept app.releases releases released) app.cohorts valid.cohorts_good;
+      few_releases = rw (length-change (is_release version) f app.releases) valid.few_releases;
+      releases_ascend = ascend-change (is_release version) f is_release_below
+          (λ x y. ap (λ (v : List ℕ). is_below v y.version) (kept x)) (λ x y. ap (is_below x.version) (kept y)) app.releases valid.releases_ascend;
+      hashes_once = λ key. rw (count_by-change (is_release version) f (has_hash key) (λ r. ap (bytes_eq key) (kept_hash r)) app.releases) (valid.hashes_once key);
+      releases_good = list_all-change (is_release version) f (is_good_release app.cohorts) keeps_good app.releases valid.releases_good;
+      few_diffs = valid.few_diffs;
+      diffs_ascend = valid.diffs_ascend;
+      diffs_good = list_all-weaker (is_good_diff app.releases) (is_good_diff releases)
+          (is_good_diff-kept app.releases releases released) app.diffs valid.diffs_good;
+    }
+
+-- an audience stays good if each cohort's name stays
 is_good_audience-kept : (old new : List Cohort) → ((name : List ℕ) → has_cohort old name ≡ true → has_cohort new name ≡ true) → (audience : Option (List (List ℕ))) → is_good_audience old audience ≡ true → is_good_audience new audience ≡ true
 is_good_audience-kept old new kept None good = refl
 is_good_audience-kept old new kept (Some names) good = list_all-weaker (has_cohort old) (has_cohort new) kept names good

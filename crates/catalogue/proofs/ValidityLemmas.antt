@@ -5,25 +5,29 @@ use Rattle.std.specs.Str.{bytes_eq}
 use Rattle.std.proofs.lemmas.Grind.{flat_map-append}
 use Rattle.std.proofs.lemmas.List.{append-nil}
 use Rattle.std.proofs.lemmas.Slice.Eq.{bytes_eq-Decides}
-use Rattle.version.specs.Laws.{BelowIsTotal, BelowIsTransitive, LenientAgrees}
+use Rattle.version.specs.Laws.{LenientAgrees}
 use Rattle.catalogue.proofs.Accepted.Apps.{TakesApp}
+use Rattle.catalogue.proofs.Accepted.Diffs.{TakesDiff}
 use Rattle.catalogue.proofs.Accepted.Releases.{TakesRelease}
 use Rattle.catalogue.proofs.ChangedLemmas.{AllByRecursion-change, AllByRecursion-push, count_by-change, length-change}
 use Rattle.catalogue.proofs.FitLemmas.{Fits, Fits-accepted}
 use Rattle.catalogue.proofs.GoodCohortLemmas.{name-with_setting}
+use Rattle.catalogue.proofs.GoodReleaseLemmas.{hash-with_release_setting, version-with_release_setting}
 use Rattle.catalogue.proofs.HistoryLemmas.{Makes, holds-Makes}
 use Rattle.catalogue.proofs.InsertedLemmas.{IsOnce-Inserts, count_by-none, length-Inserts, list_any-find, list_any-lookup}
 use Rattle.catalogue.proofs.InsertionLemmas.{Inserts-push, flat_map-change}
-use Rattle.catalogue.proofs.PackageLemmas.{Inserts-packages_of}
-use Rattle.catalogue.proofs.ValidAppLemmas.{IsValidApp-in_cohort, IsValidApp-new_app, IsValidApp-with_cohort, IsValidApp-with_release}
-use Rattle.catalogue.specs.Changes.{Change, NewApp, NewCohort, NewRelease, SetsCohort, change, changed, in_cohort, new_app, new_cohort, new_release, with_cohort, with_release, with_setting}
+use Rattle.catalogue.proofs.KeyLemmas.{VersionLaws}
+use Rattle.catalogue.proofs.PackageLemmas.{Inserts-packages_of, Inserts-packages_of-diff, packages_in-in_release}
+use Rattle.catalogue.proofs.ValidAppLemmas.{IsValidApp-in_cohort, IsValidApp-in_release, IsValidApp-new_app, IsValidApp-with_cohort, IsValidApp-with_diff, IsValidApp-with_release}
+use Rattle.catalogue.specs.Changes.{Change, NewApp, NewCohort, NewDiff, NewRelease, SetsCohort, SetsRelease, change, changed, in_cohort, in_release, new_app, new_cohort, new_diff, new_release, with_cohort, with_diff, with_release, with_release_setting, with_setting}
 use Rattle.catalogue.specs.Edits.{after, change_of, fault_of}
 use Rattle.catalogue.specs.Forms.{same_id}
-use Rattle.catalogue.specs.Lookups.{app_of, full_package, is_app, packages_in, packages_of}
+use Rattle.catalogue.specs.Lookups.{app_of, diff_package, full_package, is_app, packages_in, packages_of}
 use Rattle.catalogue.specs.Validity.{IsValid, IsValidApp, is_package}
 use Rattle.catalogue.specs.declared.content.App.{App}
 use Rattle.catalogue.specs.declared.edit.Edit.{Edit}
 use Rattle.catalogue.specs.declared.edits.apps.AddApp.{AddApp}
+use Rattle.catalogue.specs.declared.edits.diffs.AddDiff.{AddDiff}
 use Rattle.catalogue.specs.declared.edits.releases.AddRelease.{AddRelease}
 
 -- identifiers that name one app count the same apps
@@ -44,8 +48,10 @@ IsValid-add_app apps e takes valid =
       apps_valid = AllByRecursion-push IsValidApp apps new valid.apps_valid (IsValidApp-new_app apps e takes);
     }
 
-IsValid-add_release : BelowIsTransitive → BelowIsTotal → LenientAgrees → (apps : List App) (e : AddRelease) → TakesRelease apps e → IsValid apps → IsValid (change (is_app e.app) (with_release (new_release e)) apps)
-IsValid-add_release transitive total agrees apps e takes valid =
+IsValid-add_release :
+    VersionLaws → LenientAgrees → (apps : List App) (e : AddRelease) → TakesRelease apps e → IsValid apps →
+    IsValid (change (is_app e.app) (with_release (new_release e)) apps)
+IsValid-add_release laws agrees apps e takes valid =
     let release = new_release e in
     let changed = with_release release in
     record {
@@ -55,7 +61,23 @@ IsValid-add_release transitive total agrees apps e takes valid =
           (λ name same.
           ap (λ (n : List ℕ). count_by (is_package n) (packages_of apps)) ((bytes_eq-Decides name release.name).0 same)
           ∙ count_by-none (is_package release.name) (packages_of apps) (list_any-lookup (bytes_eq release.name) (packages_of apps) takes.new_name));
-      apps_valid = AllByRecursion-change (is_app e.app) changed IsValidApp apps takes.app takes.found valid.apps_valid (IsValidApp-with_release transitive total agrees apps e takes);
+      apps_valid = AllByRecursion-change (is_app e.app) changed IsValidApp apps takes.app takes.found valid.apps_valid (IsValidApp-with_release laws agrees apps e takes);
+    }
+
+IsValid-add_diff :
+    VersionLaws → LenientAgrees → (apps : List App) (e : AddDiff) → TakesDiff apps e → IsValid apps →
+    IsValid (change (is_app e.app) (with_diff (new_diff e)) apps)
+IsValid-add_diff laws agrees apps e takes valid =
+    let diff = new_diff e in
+    let changed = with_diff diff in
+    record {
+      few_apps = rw (length-change (is_app e.app) changed apps) valid.few_apps;
+      ids_once = λ id. rw (count_by-change (is_app e.app) changed (is_app id) (λ app. refl) apps) (valid.ids_once id);
+      names_once = IsOnce-Inserts is_package (diff_package diff) (packages_of apps) _ (Inserts-packages_of-diff apps e.app diff takes.app takes.found) valid.names_once
+          (λ name same.
+          ap (λ (n : List ℕ). count_by (is_package n) (packages_of apps)) ((bytes_eq-Decides name diff.name).0 same)
+          ∙ count_by-none (is_package diff.name) (packages_of apps) (list_any-lookup (bytes_eq diff.name) (packages_of apps) takes.new_name));
+      apps_valid = AllByRecursion-change (is_app e.app) changed IsValidApp apps takes.app takes.found valid.apps_valid (IsValidApp-with_diff laws agrees apps e takes);
     }
 
 -- a change of an app that keeps its identifier and its packages and keeps it valid
@@ -76,15 +98,22 @@ IsValid-empty = record {
   apps_valid = tt;
 }
 
-module _ (transitive : BelowIsTransitive) (total : BelowIsTotal) (agrees : LenientAgrees) where
+module _ (laws : VersionLaws) (agrees : LenientAgrees) where
   IsValid-changed :
       (apps : List App) (c : Change) → Fits apps c → IsValid apps → IsValid (changed c apps)
   IsValid-changed apps (NewApp e) takes valid = IsValid-add_app apps e takes valid
   IsValid-changed apps (NewRelease e) takes valid =
-      IsValid-add_release transitive total agrees apps e takes valid
+      IsValid-add_release laws agrees apps e takes valid
   IsValid-changed apps (NewCohort e) takes valid =
       IsValid-change e.app (with_cohort (new_cohort e.cohort)) apps takes.app takes.found (λ app. refl) (λ app. refl)
       (IsValidApp-with_cohort apps e takes) valid
+  IsValid-changed apps (NewDiff e) takes valid = IsValid-add_diff laws agrees apps e takes valid
+  IsValid-changed apps (SetsRelease id version new) takes valid =
+      let f = with_release_setting new in
+      let names = takes.names in
+      IsValid-change id (in_release version f) apps names.app names.found (λ app. refl)
+      (packages_in-in_release version new)
+      (IsValidApp-in_release version f names.app (version-with_release_setting new) (hash-with_release_setting new) takes.keeps) valid
   IsValid-changed apps (SetsCohort id name new) takes valid =
       let names = takes.names in
       IsValid-change id (in_cohort name (with_setting new)) apps names.app names.found (λ app. refl) (λ app. refl)

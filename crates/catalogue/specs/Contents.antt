@@ -1,14 +1,14 @@
 -- The edits that make a content anew, in the order of a profile; this project's profile.
-use Rattle.std.specs.Prelude.{◌≡◌, ℕ, ◌||◌, true, false, List, [], ◌∷◌, ◌++◌, drop, find, map, if◌then◌else◌, None, is_some, option_map, Ok}
-use Rattle.std.specs.List.{AllByRecursion, flat_map}
+use Rattle.std.specs.Prelude.{◌≡◌, ℕ, ◌||◌, true, List, [], ◌∷◌, ◌++◌, drop, find, map, if◌then◌else◌, is_some, option_map, Ok}
+use Rattle.std.specs.List.{flat_map}
 use Rattle.std.specs.Option.{option_map_or}
 use Rattle.hex.specs.Hex.{encode_lower}
 use Rattle.catalogue.specs.Batches.{outcome}
-use Rattle.catalogue.specs.Histories.{History, LeadsTo}
 use Rattle.catalogue.specs.Lookups.{is_release}
 use Rattle.catalogue.specs.Validity.{IsValid}
 use Rattle.catalogue.specs.declared.content.App.{App}
 use Rattle.catalogue.specs.declared.content.Cohort.{Cohort}
+use Rattle.catalogue.specs.declared.content.Diff.{Diff}
 use Rattle.catalogue.specs.declared.content.Release.{Release}
 use Rattle.catalogue.specs.declared.edit.Edit.{Edit}
 use Rattle.catalogue.specs.declared.edit.Edit.TheVariants as edit
@@ -38,7 +38,47 @@ edit_of_release app release =
       sha256 = encode_lower release.hash;
     })
 
--- a cohort's targets are set, where it has one
+-- a release's stone flag is set, if it is on
+abbrev pub edits_of_stone : App → Release → List Edit
+edits_of_stone app release =
+    if release.stone then edit.SetStone (record { app = app.id; version = release.spelled; on = true }) ∷ [] else []
+
+-- a release's withdrawn flag is set, if it is on
+abbrev pub edits_of_withdrawn : App → Release → List Edit
+edits_of_withdrawn app release =
+    if release.withdrawn
+    then edit.SetWithdrawn (record { app = app.id; version = release.spelled; on = true }) ∷ []
+    else []
+
+-- a release's audience is set, if it has one
+abbrev pub edits_of_audience : App → Release → List Edit
+edits_of_audience app release =
+    if is_some release.audience
+    then edit.SetAudience
+    (record { app = app.id; version = release.spelled; cohorts = release.audience })
+    ∷ []
+    else []
+
+-- a release is added, and then its settings are set
+abbrev pub edits_of_release : App → Release → List Edit
+edits_of_release app release =
+    edit_of_release app release
+    ∷ edits_of_stone app release ++ edits_of_withdrawn app release ++ edits_of_audience app release
+
+-- a differential is added; its versions are spelled as their releases are
+abbrev pub edit_of_diff : App → Diff → Edit
+edit_of_diff app diff =
+    edit.AddDiff
+    (record {
+      app = app.id;
+      from = spelling_of app.releases diff.from;
+      to = spelling_of app.releases diff.to;
+      name = diff.name;
+      size = diff.size;
+      sha256 = encode_lower diff.hash;
+    })
+
+-- a cohort's targets are set, if it has one
 abbrev pub edits_of_targets : App → Cohort → List Edit
 edits_of_targets app cohort =
     if is_some cohort.target || is_some cohort.held
@@ -56,52 +96,35 @@ edits_of_targets app cohort =
 abbrev pub edit_of_share : App → Cohort → Edit
 edit_of_share app cohort = edit.SetShare (record { app = app.id; cohort = cohort.name; share = cohort.share })
 
--- a cohort's open mark is set, where it is on
+-- a cohort's rollback flag is set, if it is on
+abbrev pub edits_of_rollback : App → Cohort → List Edit
+edits_of_rollback app cohort =
+    if cohort.rollback then edit.SetRollback (record { app = app.id; cohort = cohort.name; on = true }) ∷ [] else []
+
+-- a cohort's open flag is set, if it is on
 abbrev pub edits_of_open : App → Cohort → List Edit
 edits_of_open app cohort =
     if cohort.hintable then edit.SetOpen (record { app = app.id; cohort = cohort.name; on = true }) ∷ [] else []
 
--- all marks of a cohort
-abbrev pub edits_of_marks : App → Cohort → List Edit
-edits_of_marks app cohort = edits_of_targets app cohort ++ edit_of_share app cohort ∷ edits_of_open app cohort
+-- all settings of a cohort
+abbrev pub edits_of_settings : App → Cohort → List Edit
+edits_of_settings app cohort =
+    edits_of_targets app cohort ++ edit_of_share app cohort ∷ edits_of_rollback app cohort ++ edits_of_open app cohort
 
--- an app: with its default cohort, then its other cohorts, its releases, the marks of its cohorts
+-- an app: with its default cohort, then its other cohorts, its releases, each with its settings, its
+-- differentials, the settings of its cohorts
 abbrev pub edits_of_app : App → List Edit
 edits_of_app app =
     edit.AddApp (record { app = app.id; default = default_name app.cohorts })
     ∷ map (edit_of_cohort app) (drop 1 app.cohorts)
-    ++ map (edit_of_release app) app.releases
-    ++ flat_map (edits_of_marks app) app.cohorts
+    ++ flat_map (edits_of_release app) app.releases
+    ++ map (edit_of_diff app) app.diffs
+    ++ flat_map (edits_of_settings app) app.cohorts
 
 -- a content: its apps in order
 abbrev pub edits_of_content : List App → List Edit
 edits_of_content apps = flat_map edits_of_app apps
 
--- a release without what no edit makes: no stone, not withdrawn, open to all cohorts
-pub record IsPlainRelease (release : Release) : Type 0 where
-  pub no_stone : release.stone ≡ false
-  pub not_withdrawn : release.withdrawn ≡ false
-  pub open_to_all : release.audience ≡ None
-
--- a cohort without what no edit makes: its clients are not led down
-abbrev pub IsPlainCohort : Cohort → Type 0
-IsPlainCohort cohort = cohort.rollback ≡ false
-
--- an app without what no edit makes: no differentials
-pub record IsPlainApp (app : App) : Type 0 where
-  pub cohorts_plain : AllByRecursion IsPlainCohort app.cohorts
-  pub releases_plain : AllByRecursion IsPlainRelease app.releases
-  pub no_diffs : app.diffs ≡ []
-
--- a content without what no edit makes
-abbrev pub IsPlain : List App → Type 0
-IsPlain apps = AllByRecursion IsPlainApp apps
-
--- what a history leads to is plain
-abbrev pub HistoriesArePlain : Type 0
-HistoriesArePlain = (history : History) (apps : List App) → LeadsTo history apps → IsPlain apps
-
--- the edits of a valid and plain content are accepted from the empty one on, and make that content
+-- the edits of a valid content are accepted from the empty one on, and make that content
 abbrev pub ContentsAreMade : Type 0
-ContentsAreMade =
-    (apps : List App) → IsValid apps → IsPlain apps → outcome (edits_of_content apps) [] ≡ Ok apps
+ContentsAreMade = (apps : List App) → IsValid apps → outcome (edits_of_content apps) [] ≡ Ok apps

@@ -1,17 +1,18 @@
 -- What holds of a content after a whole history of accepted batches: each item is there because
 -- some edit added it, and a setting is that of the last edit that set it; this project's profile.
 use Rattle.std.specs.Prelude.{◌≡◌, ℕ, ◌==◌, ◌&&◌, ◌++◌, Bool, false, List, [], ◌∷◌, if◌then◌else◌, find, option_map, Option, None, Some, Ok, unwrap_or}
-use Rattle.std.specs.List.{list_any, flat_map}
+use Rattle.std.specs.List.{list_any, flat_map, slice_get}
 use Rattle.std.specs.Option.{option_map_or}
 use Rattle.std.specs.Str.{bytes_eq}
 use Rattle.version.specs.Versions.{lenient_version_of}
 use Rattle.catalogue.specs.Batches.{outcome, run}
-use Rattle.catalogue.specs.Changes.{new_release}
+use Rattle.catalogue.specs.Changes.{new_diff, new_release}
 use Rattle.catalogue.specs.Forms.{same_id}
-use Rattle.catalogue.specs.Lookups.{cohorts_of, has_cohort, is_app, is_cohort, releases_of}
+use Rattle.catalogue.specs.Lookups.{cohorts_of, diffs_of, has_cohort, is_app, is_cohort, is_release, pair_of, releases_of, same_pair}
 use Rattle.catalogue.specs.Validity.{IsValid}
 use Rattle.catalogue.specs.declared.content.App.{App}
 use Rattle.catalogue.specs.declared.content.Cohort.{Cohort}
+use Rattle.catalogue.specs.declared.content.Diff.{Diff}
 use Rattle.catalogue.specs.declared.content.Release.{Release}
 use Rattle.catalogue.specs.declared.edit.Edit.{Edit}
 use Rattle.catalogue.specs.declared.edit.Edit.TheVariants as edit
@@ -61,6 +62,27 @@ ReleasesWereAdded =
     (id : List ℕ) (release : Release) →
     list_any (same_release release) (releases_of apps id) ≡ list_any (adds_release id release) (edits_of history)
 
+-- two differentials have the same pair, name, size and hash
+abbrev pub same_diff : Diff → Diff → Bool
+same_diff left right =
+    same_pair (pair_of left) (pair_of right)
+    && bytes_eq left.name right.name
+    && left.size == right.size
+    && bytes_eq left.hash right.hash
+
+-- the edit adds such a differential to the app of the identifier
+abbrev pub adds_diff : List ℕ → Diff → Edit → Bool
+adds_diff id diff (edit.AddDiff e) = same_id id e.app && same_diff diff (new_diff e)
+adds_diff id diff e = false
+
+-- a differential is there, with its pair, name, size and hash, exactly if some edit of the history
+-- added it
+abbrev pub DiffsWereAdded : Type 0
+DiffsWereAdded =
+    (history : History) (apps : List App) → LeadsTo history apps →
+    (id : List ℕ) (diff : Diff) →
+    list_any (same_diff diff) (diffs_of apps id) ≡ list_any (adds_diff id diff) (edits_of history)
+
 -- the edit adds a cohort of the name to the app of the identifier: an app comes with its default
 abbrev pub adds_cohort : List ℕ → List ℕ → Edit → Bool
 adds_cohort id name (edit.AddApp e) = same_id id e.app && bytes_eq name e.default
@@ -92,6 +114,10 @@ targets_of = read_cohort (λ cohort. (cohort.target, cohort.held)) (None, None)
 abbrev pub share_of : List App → List ℕ → List ℕ → ℕ
 share_of = read_cohort (λ cohort. cohort.share) 1000
 
+-- the rollback flag of a cohort, off if there is no such cohort
+abbrev pub has_rollback : List App → List ℕ → List ℕ → Bool
+has_rollback = read_cohort (λ cohort. cohort.rollback) false
+
 -- the open flag of a cohort, off if there is no such cohort
 abbrev pub is_open : List App → List ℕ → List ℕ → Bool
 is_open = read_cohort (λ cohort. cohort.hintable) false
@@ -109,10 +135,55 @@ abbrev pub sets_share : List ℕ → List ℕ → Edit → Option ℕ
 sets_share id name (edit.SetShare e) = if names_cohort id name e.app e.cohort then Some e.share else None
 sets_share id name e = None
 
+-- the rollback flag that the edit sets for the cohort, if it sets it
+abbrev pub sets_rollback : List ℕ → List ℕ → Edit → Option Bool
+sets_rollback id name (edit.SetRollback e) =
+    if names_cohort id name e.app e.cohort then Some e.on else None
+sets_rollback id name e = None
+
 -- the open flag that the edit sets for the cohort, if it sets it
 abbrev pub sets_open : List ℕ → List ℕ → Edit → Option Bool
 sets_open id name (edit.SetOpen e) = if names_cohort id name e.app e.cohort then Some e.on else None
 sets_open id name e = None
+
+-- what is read of the release of a version, or the value if there is no such release
+abbrev pub read_release : {A : Type 0} → (Release → A) → A → List App → List ℕ → List ℕ → A
+read_release read none apps id version =
+    option_map_or read (find (is_release version) (releases_of apps id)) none
+
+-- the edit names the release
+abbrev pub names_release : List ℕ → List ℕ → List ℕ → List ℕ → Bool
+names_release id version edit_app edit_version = same_id id edit_app && bytes_eq version edit_version
+
+-- the stone flag of a release, off if there is no such release
+abbrev pub is_stone : List App → List ℕ → List ℕ → Bool
+is_stone = read_release (λ release. release.stone) false
+
+-- the withdrawn flag of a release, off if there is no such release
+abbrev pub is_withdrawn : List App → List ℕ → List ℕ → Bool
+is_withdrawn = read_release (λ release. release.withdrawn) false
+
+-- the audience of a release, all cohorts if there is no such release
+abbrev pub audience_of : List App → List ℕ → List ℕ → Option (List (List ℕ))
+audience_of = read_release (λ release. release.audience) None
+
+-- the stone flag that the edit sets for the release, if it sets it
+abbrev pub sets_stone : List ℕ → List ℕ → Edit → Option Bool
+sets_stone id version (edit.SetStone e) =
+    if names_release id version e.app (lenient_version_of e.version) then Some e.on else None
+sets_stone id version e = None
+
+-- the withdrawn flag that the edit sets for the release, if it sets it
+abbrev pub sets_withdrawn : List ℕ → List ℕ → Edit → Option Bool
+sets_withdrawn id version (edit.SetWithdrawn e) =
+    if names_release id version e.app (lenient_version_of e.version) then Some e.on else None
+sets_withdrawn id version e = None
+
+-- the audience that the edit sets for the release, if it sets it
+abbrev pub sets_audience : List ℕ → List ℕ → Edit → Option (Option (List (List ℕ)))
+sets_audience id version (edit.SetAudience e) =
+    if names_release id version e.app (lenient_version_of e.version) then Some e.cohorts else None
+sets_audience id version e = None
 
 -- what the last of the edits set, or the value before them
 abbrev pub last_set : {A : Type 0} → (Edit → Option A) → A → List Edit → A
@@ -137,6 +208,32 @@ OpenFlagsAreTheLastSet =
     (history : History) (apps : List App) → LeadsTo history apps →
     (id name : List ℕ) → is_open apps id name ≡ last_set (sets_open id name) false (edits_of history)
 
+-- a cohort's rollback flag is that of the last edit of the history that set it, else off
+abbrev pub RollbackFlagsAreTheLastSet : Type 0
+RollbackFlagsAreTheLastSet =
+    (history : History) (apps : List App) → LeadsTo history apps →
+    (id name : List ℕ) → has_rollback apps id name ≡ last_set (sets_rollback id name) false (edits_of history)
+
+-- a release's stone flag is that of the last edit of the history that set it, else off
+abbrev pub StonesAreTheLastSet : Type 0
+StonesAreTheLastSet =
+    (history : History) (apps : List App) → LeadsTo history apps →
+    (id version : List ℕ) → is_stone apps id version ≡ last_set (sets_stone id version) false (edits_of history)
+
+-- a release's withdrawn flag is that of the last edit of the history that set it, else off
+abbrev pub WithdrawalsAreTheLastSet : Type 0
+WithdrawalsAreTheLastSet =
+    (history : History) (apps : List App) → LeadsTo history apps →
+    (id version : List ℕ) →
+    is_withdrawn apps id version ≡ last_set (sets_withdrawn id version) false (edits_of history)
+
+-- a release's audience is that of the last edit of the history that set it, else all cohorts
+abbrev pub AudiencesAreTheLastSet : Type 0
+AudiencesAreTheLastSet =
+    (history : History) (apps : List App) → LeadsTo history apps →
+    (id version : List ℕ) →
+    audience_of apps id version ≡ last_set (sets_audience id version) None (edits_of history)
+
 -- a batch that is accepted after a history makes a longer one
 abbrev pub HistoriesGrow : Type 0
 HistoriesGrow =
@@ -146,3 +243,30 @@ HistoriesGrow =
 -- what a history leads to is valid
 abbrev pub HistoriesAreValid : Type 0
 HistoriesAreValid = (history : History) (apps : List App) → LeadsTo history apps → IsValid apps
+
+-- a prefix of an accepted history is accepted
+abbrev pub PrefixesAreAccepted : Type 0
+PrefixesAreAccepted =
+    (history more : History) (apps : List App) → LeadsTo (history ++ more) apps →
+    (before : List App) × LeadsTo history before
+
+-- the identifier of the app that the edit names
+abbrev pub app_named : Edit → List ℕ
+app_named (edit.AddApp e) = e.app
+app_named (edit.AddRelease e) = e.app
+app_named (edit.AddDiff e) = e.app
+app_named (edit.SetStone e) = e.app
+app_named (edit.SetWithdrawn e) = e.app
+app_named (edit.SetAudience e) = e.app
+app_named (edit.AddCohort e) = e.app
+app_named (edit.SetTarget e) = e.app
+app_named (edit.SetShare e) = e.app
+app_named (edit.SetRollback e) = e.app
+app_named (edit.SetOpen e) = e.app
+
+-- a batch leaves an app that none of its edits names as it is, with its index
+abbrev pub BatchesKeepOtherApps : Type 0
+BatchesKeepOtherApps =
+    (batch : List Edit) (apps made : List App) → outcome batch apps ≡ Ok made →
+    (index : ℕ) (app : App) → slice_get apps index ≡ Some app →
+    list_any (λ e. same_id (app_named e) app.id) batch ≡ false → slice_get made index ≡ Some app

@@ -11,6 +11,7 @@ pub mod Histories
 pub mod Limits
 pub mod Lookups
 pub mod Mirrors
+pub mod Ordered
 pub mod PackageIndex
 pub mod Soundness
 pub mod Validity

@@ -1,11 +1,12 @@
 -- What a catalogue's content, the list of its apps, has under a name; this project's profile.
-use Rattle.std.specs.Prelude.{ℕ, Bool, not, List, [], ◌++◌, map, find, Option, slice_get}
+use Rattle.std.specs.Prelude.{ℕ, Bool, ◌&&◌, ◌||◌, List, [], ◌++◌, map, find, Option, slice_get}
 use Rattle.std.specs.Option.{option_map_or}
-use Rattle.std.specs.List.{flat_map, list_any, position_or_len}
+use Rattle.std.specs.List.{flat_map, list_any}
 use Rattle.std.specs.Map.{lookup}
 use Rattle.std.specs.Str.{bytes_eq}
 use Rattle.version.specs.Versions.{is_below}
 use Rattle.catalogue.specs.Forms.{same_id}
+use Rattle.catalogue.specs.Ordered.{place_in}
 use Rattle.catalogue.specs.declared.content.App.{App}
 use Rattle.catalogue.specs.declared.content.Cohort.{Cohort}
 use Rattle.catalogue.specs.declared.content.Declared.{Declared}
@@ -36,9 +37,37 @@ has_release releases version = list_any (is_release version) releases
 abbrev pub has_cohort : List Cohort → List ℕ → Bool
 has_cohort cohorts name = list_any (is_cohort name) cohorts
 
--- the place of a version among releases by ascending version: before the first that is not below it
+-- the place of a version among releases by ascending version
 abbrev pub place_of : List ℕ → List Release → ℕ
-place_of version releases = position_or_len (λ release. not (is_below release.version version)) releases
+place_of version releases = place_in is_below (λ release. release.version) version releases
+
+-- a differential's pair: the version that it starts at, and the one that it leads to
+abbrev pub Pair : Type 0
+Pair = List ℕ × List ℕ
+
+abbrev pub pair_of : Diff → Pair
+pair_of diff = (diff.from, diff.to)
+
+-- pairs compare by the first version, then by the second
+abbrev pub is_pair_below : Pair → Pair → Bool
+is_pair_below lower upper =
+    is_below lower.0 upper.0 || (bytes_eq lower.0 upper.0 && is_below lower.1 upper.1)
+
+-- two pairs are equal
+abbrev pub same_pair : Pair → Pair → Bool
+same_pair left right = bytes_eq left.0 right.0 && bytes_eq left.1 right.1
+
+-- the differential has the pair
+abbrev pub is_diff : Pair → Diff → Bool
+is_diff pair diff = same_pair pair (pair_of diff)
+
+-- there is a differential of the pair
+abbrev pub has_diff : List Diff → Pair → Bool
+has_diff diffs pair = list_any (is_diff pair) diffs
+
+-- the place of a pair among differentials by ascending pair
+abbrev pub place_of_pair : Pair → List Diff → ℕ
+place_of_pair pair diffs = place_in is_pair_below pair_of pair diffs
 
 -- the app of an identifier
 abbrev pub app_of : List App → List ℕ → Option App
@@ -51,6 +80,10 @@ releases_of apps id = option_map_or (λ app. app.releases) (app_of apps id) []
 -- the cohorts of the app of an identifier, none if there is no such app
 abbrev pub cohorts_of : List App → List ℕ → List Cohort
 cohorts_of apps id = option_map_or (λ app. app.cohorts) (app_of apps id) []
+
+-- the differentials of the app of an identifier, none if there is no such app
+abbrev pub diffs_of : List App → List ℕ → List Diff
+diffs_of apps id = option_map_or (λ app. app.diffs) (app_of apps id) []
 
 -- the releases of the app at an index
 abbrev pub releases_at : List App → ℕ → List Release

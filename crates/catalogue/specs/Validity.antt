@@ -6,7 +6,8 @@ use Rattle.std.specs.Str.{bytes_eq}
 use Rattle.version.specs.Versions.{is_below, version_of}
 use Rattle.catalogue.specs.Forms.{is_app_id, is_cohort_name, is_hash, is_package_name, is_size}
 use Rattle.catalogue.specs.Limits.{max_apps, max_cohorts, max_diffs, max_releases, max_share}
-use Rattle.catalogue.specs.Lookups.{has_cohort, has_hash, has_release, is_app, is_cohort, packages_of}
+use Rattle.catalogue.specs.Lookups.{has_cohort, has_hash, has_release, is_app, is_cohort, is_pair_below, packages_of, pair_of}
+use Rattle.catalogue.specs.Ordered.{ascend}
 use Rattle.catalogue.specs.declared.content.App.{App}
 use Rattle.catalogue.specs.declared.content.Cohort.{Cohort}
 use Rattle.catalogue.specs.declared.content.Declared.{Declared}
@@ -27,13 +28,7 @@ is_release_below lower upper = is_below lower.version upper.version
 
 -- a differential comes before another: by the release that it starts at, then by the other
 abbrev pub is_diff_before : Diff → Diff → Bool
-is_diff_before first second =
-    is_below first.from second.from || (bytes_eq first.from second.from && is_below first.to second.to)
-
--- each item comes before all those after it
-abbrev pub ascend : {A : Type 0} → (A → A → Bool) → List A → Bool
-ascend before [] = true
-ascend before (x ∷ xs) = list_all (before x) xs && ascend before xs
+is_diff_before first second = is_pair_below (pair_of first) (pair_of second)
 
 -- the text spells the version
 abbrev pub spells : List ℕ → List ℕ → Bool

@@ -1,8 +1,7 @@
 ghost use Rattle.std.specs.Prelude.{◌≡◌, ◌<◌, [], length, slice_get, IfOk, IfErr, OnOk, OnErr, Some, Ok, position};
 ghost use Rattle.catalogue.specs.Batches.{Explains, outcome};
-ghost use Rattle.catalogue.specs.Contents.{IsPlain};
 ghost use Rattle.catalogue.specs.Validity.{IsValid};
-ghost use Rattle.catalogue.specs.Lookups.{cohorts_at, declared_of, diffs_at, has_hash, is_app, is_cohort, is_release, releases_at};
+ghost use Rattle.catalogue.specs.Lookups.{cohorts_at, declared_of, diffs_at, has_hash, is_app, is_cohort, is_diff, is_release, releases_at};
 
 use crate::content::{App, Cohort, Declared, Diff, Release};
 use crate::draft::Draft;
@@ -98,14 +97,6 @@ impl Catalogue {
         let _ = &self.apps;
     }
 
-    /// Tells a caller's proof that a catalogue has nothing that no edit makes; it does nothing when
-    /// it runs.
-    pub fn plainness(&self)
-        ensures { IsPlain self.now }
-    {
-        let _ = &self.apps;
-    }
-
     /// Borrows the apps, in the order of their addition.
     pub fn apps(&self) -> &[App]
         ensures { result.now ≡ self.now }
@@ -153,6 +144,16 @@ impl Catalogue {
     {
         self.validity();
         lookup::index_of_release(self.releases(app), version)
+    }
+
+    /// Finds the index of an app's differential by the versions that it starts at and leads to, in
+    /// logarithmic time.
+    pub fn find_diff(&self, app: usize, from: &Version, to: &Version) -> Option<usize>
+        requires { app < length self.now }
+        ensures { result ≡ position (is_diff (from.now, to.now)) (diffs_at self.now app) }
+    {
+        self.validity();
+        lookup::index_of_diff(self.diffs(app), from, to)
     }
 
     /// Finds the index of an app's release by the SHA-256 of its full package.

@@ -1,14 +1,17 @@
 //! What an accepted edit does to the apps of a content.
 
 ghost use Rattle.std.specs.Prelude.{◌≡◌, ◌&&◌, ◌++◌, ◌∷◌, [], List, ℕ, None, true, IfOk, OnOk, option_map, position};
-ghost use Rattle.catalogue.specs.Changes.{change, in_cohort, new_app, new_cohort, new_release, placed, with_cohort, with_release, with_setting};
-ghost use Rattle.catalogue.specs.Lookups.{is_app, is_cohort};
-ghost use Rattle.catalogue.specs.Validity.{IsValid, ascend, is_release_below};
+ghost use Rattle.catalogue.specs.Changes.{change, in_cohort, in_release, new_app, new_cohort, new_diff, new_release, placed, placed_diff, with_cohort, with_diff, with_release, with_release_setting, with_setting};
+ghost use Rattle.catalogue.specs.Lookups.{is_app, is_cohort, is_release};
+ghost use Rattle.catalogue.specs.Ordered.{ascend};
+ghost use Rattle.catalogue.specs.Validity.{IsValid, is_diff_before, is_release_below};
 
-use crate::content::{App, Cohort, Release};
+use crate::content::{App, Cohort, Diff, Release};
 use crate::edits::apps::AddApp;
 use crate::edits::cohort_settings::CohortSetting;
 use crate::edits::cohorts::AddCohort;
+use crate::edits::diffs::AddDiff;
+use crate::edits::release_settings::ReleaseSetting;
 use crate::edits::releases::AddRelease;
 use crate::form::hash_named;
 use crate::lookup;
@@ -61,6 +64,20 @@ pub(crate) fn new_release(edit: &AddRelease) -> Result<Release, AllocError>
     })
 }
 
+pub(crate) fn new_diff(edit: &AddDiff) -> Result<Diff, AllocError>
+    ensures { IfOk result (λ diff. diff ≡ new_diff edit.now) }
+{
+    let name = edit.name.clone()?;
+    let hash = hash_named(edit.sha256.as_str());
+    Ok(Diff {
+        from: Version::lenient(edit.from.as_str()),
+        to: Version::lenient(edit.to.as_str()),
+        name,
+        size: edit.size,
+        hash,
+    })
+}
+
 pub(crate) fn added_cohort(edit: &AddCohort) -> Result<Cohort, AllocError>
     ensures { IfOk result (λ cohort. cohort ≡ new_cohort edit.now.cohort) }
 {
@@ -73,6 +90,14 @@ fn place(releases: &mut Items<Release>, release: Release) -> Result<(), AllocErr
 {
     let index = lookup::place_of(releases.as_slice(), &release.version);
     releases.insert(index, release)
+}
+
+fn place_diff(diffs: &mut Items<Diff>, diff: Diff) -> Result<(), AllocError>
+    requires { ascend is_diff_before diffs.old ≡ true }
+    ensures { OnOk result (diffs.new ≡ placed_diff diff diffs.old) }
+{
+    let index = lookup::place_of_pair(diffs.as_slice(), &diff.from, &diff.to);
+    diffs.insert(index, diff)
 }
 
 fn index_of_app(apps: &Items<App>, id: &Text) -> Option<usize>
@@ -99,6 +124,17 @@ pub(crate) fn place_in(apps: &mut Items<App>, id: &Text, release: Release) -> Re
     Ok(())
 }
 
+pub(crate) fn place_diff_in(apps: &mut Items<App>, id: &Text, diff: Diff) -> Result<(), AllocError>
+    requires { IsValid apps.old }
+    ensures { OnOk result (apps.new ≡ change (is_app id.now) (with_diff diff) apps.old) }
+{
+    if let Some(index) = index_of_app(apps, id) {
+        let app = apps.item_mut(index);
+        place_diff(&mut app.diffs, diff)?;
+    }
+    Ok(())
+}
+
 fn push_cohort(cohorts: &mut Items<Cohort>, cohort: Cohort) -> Result<(), AllocError>
     ensures { OnOk result (cohorts.new ≡ cohorts.old ++ cohort ∷ []) }
 {
@@ -120,6 +156,40 @@ pub(crate) fn add_cohort_to(
     Ok(())
 }
 
+fn index_of_release(releases: &Items<Release>, version: &Version) -> Option<usize>
+    requires { ascend is_release_below releases.now ≡ true }
+    ensures { result ≡ position (is_release version.now) releases.now }
+{
+    lookup::index_of_release(releases.as_slice(), version)
+}
+
+fn set_in_releases(releases: &mut Items<Release>, version: &Version, setting: ReleaseSetting)
+    requires { ascend is_release_below releases.old ≡ true }
+    ensures { releases.new
+        ≡ change (is_release version.now) (with_release_setting setting) releases.old }
+{
+    if let Some(index) = index_of_release(releases, version) {
+        let release = releases.item_mut(index);
+        setting.set(release);
+    }
+}
+
+pub(crate) fn set_release_in_apps(
+    apps: &mut Items<App>,
+    id: &Text,
+    version: &Version,
+    setting: ReleaseSetting,
+)
+    requires { IsValid apps.old }
+    ensures { apps.new
+        ≡ change (is_app id.now) (in_release version.now (with_release_setting setting)) apps.old }
+{
+    if let Some(index) = index_of_app(apps, id) {
+        let app = apps.item_mut(index);
+        set_in_releases(&mut app.releases, version, setting);
+    }
+}
+
 fn set_in_cohorts(cohorts: &mut Items<Cohort>, name: &Text, setting: CohortSetting)
     ensures { cohorts.new ≡ change (is_cohort name.now) (with_setting setting) cohorts.old }
 {
@@ -129,7 +199,7 @@ fn set_in_cohorts(cohorts: &mut Items<Cohort>, name: &Text, setting: CohortSetti
     }
 }
 
-pub(crate) fn set_in_apps(apps: &mut Items<App>, id: &Text, cohort: &Text, setting: CohortSetting)
+pub(crate) fn set_cohort_in_apps(apps: &mut Items<App>, id: &Text, cohort: &Text, setting: CohortSetting)
     requires { IsValid apps.old }
     ensures { apps.new ≡ change (is_app id.now) (in_cohort cohort.now (with_setting setting)) apps.old }
 {

@@ -6,8 +6,10 @@ ghost use Rattle.catalogue.specs.Validity.{IsValid};
 
 use crate::draft::Draft;
 use crate::edits::apps::AddApp;
-use crate::edits::cohort_settings::{SetOpen, SetShare, SetTarget};
+use crate::edits::cohort_settings::{SetOpen, SetRollback, SetShare, SetTarget};
 use crate::edits::cohorts::AddCohort;
+use crate::edits::diffs::AddDiff;
+use crate::edits::release_settings::{SetAudience, SetStone, SetWithdrawn};
 use crate::edits::releases::AddRelease;
 use crate::fault::Fault;
 use std::alloc::AllocError;
@@ -15,20 +17,52 @@ use std::marker::Model;
 use values::Items;
 
 /// One change of a catalogue.
-#[derive(Clone, Debug, Drop)]
+#[derive(Debug, Drop)]
 pub enum Edit {
     /// An app, with its default cohort and no release.
     AddApp(AddApp),
     /// A release of an app.
     AddRelease(AddRelease),
+    /// A differential of an app.
+    AddDiff(AddDiff),
+    /// The stone flag of a release.
+    SetStone(SetStone),
+    /// The withdrawn flag of a release.
+    SetWithdrawn(SetWithdrawn),
+    /// The audience of a release.
+    SetAudience(SetAudience),
     /// A cohort of an app, without targets, open to no hint.
     AddCohort(AddCohort),
     /// The two targets of a cohort.
     SetTarget(SetTarget),
     /// The share of a cohort.
     SetShare(SetShare),
+    /// The rollback flag of a cohort.
+    SetRollback(SetRollback),
     /// The open flag of a cohort.
     SetOpen(SetOpen),
+}
+
+impl Clone for Edit {
+    ghost use Rattle.std.specs.Prelude.{◌≡◌};
+
+    ghost is_clone = { λ edit copy. copy ≡ edit };
+
+    fn clone(&self) -> Result<Edit, AllocError> {
+        match self {
+            Edit::AddApp(edit) => Ok(Edit::AddApp(edit.clone()?)),
+            Edit::AddRelease(edit) => Ok(Edit::AddRelease(edit.clone()?)),
+            Edit::AddDiff(edit) => Ok(Edit::AddDiff(edit.clone()?)),
+            Edit::SetStone(edit) => Ok(Edit::SetStone(edit.clone()?)),
+            Edit::SetWithdrawn(edit) => Ok(Edit::SetWithdrawn(edit.clone()?)),
+            Edit::SetAudience(edit) => Ok(Edit::SetAudience(edit.clone()?)),
+            Edit::AddCohort(edit) => Ok(Edit::AddCohort(edit.clone()?)),
+            Edit::SetTarget(edit) => Ok(Edit::SetTarget(edit.clone()?)),
+            Edit::SetShare(edit) => Ok(Edit::SetShare(edit.clone()?)),
+            Edit::SetRollback(edit) => Ok(Edit::SetRollback(edit.clone()?)),
+            Edit::SetOpen(edit) => Ok(Edit::SetOpen(edit.clone()?)),
+        }
+    }
 }
 
 impl Edit {
@@ -41,9 +75,14 @@ impl Edit {
         match self {
             Edit::AddApp(edit) => edit.check(draft),
             Edit::AddRelease(edit) => edit.check(draft),
+            Edit::AddDiff(edit) => edit.check(draft),
+            Edit::SetStone(edit) => edit.check(draft),
+            Edit::SetWithdrawn(edit) => edit.check(draft),
+            Edit::SetAudience(edit) => edit.check(draft),
             Edit::AddCohort(edit) => edit.check(draft),
             Edit::SetTarget(edit) => edit.check(draft),
             Edit::SetShare(edit) => edit.check(draft),
+            Edit::SetRollback(edit) => edit.check(draft),
             Edit::SetOpen(edit) => edit.check(draft),
         }
     }

@@ -4,4 +4,6 @@
 pub(crate) mod apps;
 pub(crate) mod cohort_settings;
 pub(crate) mod cohorts;
+pub(crate) mod diffs;
+pub(crate) mod release_settings;
 pub(crate) mod releases;

@@ -2,27 +2,47 @@
 //! function that does nothing when it runs.
 
 ghost use Rattle.catalogue.specs.ContentExamples.{SmallContentHasItsEdits};
-ghost use Rattle.catalogue.specs.Contents.{ContentsAreMade, HistoriesArePlain};
-ghost use Rattle.catalogue.specs.Histories.{AppsWereAdded, CohortsWereAdded, HistoriesAreValid, HistoriesGrow, OpenFlagsAreTheLastSet, ReleasesWereAdded, SharesAreTheLastSet, TargetsAreTheLastSet};
+ghost use Rattle.catalogue.specs.Contents.{ContentsAreMade};
+ghost use Rattle.catalogue.specs.Histories.{AppsWereAdded, AudiencesAreTheLastSet, BatchesKeepOtherApps, CohortsWereAdded, DiffsWereAdded, HistoriesAreValid, HistoriesGrow, OpenFlagsAreTheLastSet, PrefixesAreAccepted, ReleasesWereAdded, RollbackFlagsAreTheLastSet, SharesAreTheLastSet, StonesAreTheLastSet, TargetsAreTheLastSet, WithdrawalsAreTheLastSet};
 
 /// States that an item is there exactly if some edit of the history added it.
 pub fn additions()
     ensures apps { AppsWereAdded }
     ensures releases { ReleasesWereAdded }
+    ensures diffs { DiffsWereAdded }
     ensures cohorts { CohortsWereAdded }
 {}
 
-/// States that a cohort's targets, share and open flag are those of the last edit of the history that
-/// set them, else their first values.
-pub fn settings()
+/// States that a cohort's targets, share and flags are those of the last edit of the history that set
+/// them, else their first values.
+pub fn cohort_settings()
     ensures targets { TargetsAreTheLastSet }
     ensures shares { SharesAreTheLastSet }
+    ensures rollback_flags { RollbackFlagsAreTheLastSet }
     ensures open_flags { OpenFlagsAreTheLastSet }
+{}
+
+/// States that a release's flags and audience are those of the last edit of the history that set them,
+/// else their first values.
+pub fn release_settings()
+    ensures stones { StonesAreTheLastSet }
+    ensures withdrawals { WithdrawalsAreTheLastSet }
+    ensures audiences { AudiencesAreTheLastSet }
 {}
 
 /// States that a batch that is accepted after a history makes a longer history.
 pub fn growth()
     ensures { HistoriesGrow }
+{}
+
+/// States that a prefix of an accepted history is accepted.
+pub fn prefixes()
+    ensures { PrefixesAreAccepted }
+{}
+
+/// States that a batch leaves the apps that none of its edits names as they are, with their indexes.
+pub fn other_apps()
+    ensures { BatchesKeepOtherApps }
 {}
 
 /// States that what a history leads to is valid.
@@ -33,14 +53,8 @@ pub fn validity()
     version::laws::spellings();
 }
 
-/// States that what a history leads to has no stones, withdrawn releases, audiences, rollback flags
-/// and differentials, which no edit makes.
-pub fn plainness()
-    ensures { HistoriesArePlain }
-{}
-
-/// States that the edits of a valid and plain content, in the order of a profile, are accepted from
-/// the empty content on and make that content.
+/// States that the edits of a valid content, in the order of a profile, are accepted from the empty
+/// content on and make that content.
 pub fn contents()
     ensures { ContentsAreMade }
 {

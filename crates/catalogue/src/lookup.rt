@@ -3,10 +3,11 @@
 ghost use Rattle.std.specs.Prelude.{◌≡◌, ◌≤◌, true, length, position};
 ghost use Rattle.std.specs.Option.{option_copied};
 ghost use Rattle.std.specs.List.{list_any};
-ghost use Rattle.catalogue.specs.Lookups.{app_of, has_cohort, has_hash, has_release, is_app, is_cohort, is_release, place_of};
-ghost use Rattle.catalogue.specs.Validity.{IsValid, ascend, is_release_below};
+ghost use Rattle.catalogue.specs.Lookups.{app_of, has_cohort, has_diff, has_hash, has_release, is_app, is_cohort, is_diff, is_pair_below, is_release, pair_of, place_of, place_of_pair};
+ghost use Rattle.catalogue.specs.Ordered.{ascend};
+ghost use Rattle.catalogue.specs.Validity.{IsValid, is_diff_before, is_release_below};
 
-use crate::content::{App, Cohort, Release};
+use crate::content::{App, Cohort, Diff, Release};
 use crate::form::is_same_id;
 use values::Items;
 use version::Version;
@@ -28,7 +29,7 @@ pub(crate) fn find_app<'a>(apps: &'a [App], id: &str) -> Option<&'a App>
     Some(&apps[index])
 }
 
-/// Where a release of a version stands among releases by ascending version, found by halves.
+/// The place of a version among releases by ascending version, found by halves.
 pub(crate) fn place_of(releases: &[Release], version: &Version) -> usize
     requires { ascend is_release_below releases.now ≡ true }
     ensures value { result ≡ place_of version.now releases.now }
@@ -58,6 +59,53 @@ pub(crate) fn index_of_release(releases: &[Release], version: &Version) -> Optio
     version::laws::order();
     if has_release(releases, version) {
         Some(place_of(releases, version))
+    } else {
+        None
+    }
+}
+
+fn is_diff_below(diff: &Diff, from: &Version, to: &Version) -> bool
+    ensures { result ≡ is_pair_below (pair_of diff.now) (from.now, to.now) }
+{
+    diff.from.is_below(from) || (diff.from.is_equal(from) && diff.to.is_below(to))
+}
+
+fn is_diff(diff: &Diff, from: &Version, to: &Version) -> bool
+    ensures { result ≡ is_diff (from.now, to.now) diff.now }
+{
+    from.is_equal(&diff.from) && to.is_equal(&diff.to)
+}
+
+/// The place of a pair among differentials by ascending pair, found by halves.
+pub(crate) fn place_of_pair(diffs: &[Diff], from: &Version, to: &Version) -> usize
+    requires { ascend is_diff_before diffs.now ≡ true }
+    ensures value { result ≡ place_of_pair (from.now, to.now) diffs.now }
+    ensures bound { result ≤ length diffs.now }
+{
+    version::laws::order();
+    diffs.partition_point(|diff| is_diff_below(diff, from, to))
+}
+
+/// Whether there is a differential of a pair among differentials by ascending pair.
+pub(crate) fn has_diff(diffs: &[Diff], from: &Version, to: &Version) -> bool
+    requires { ascend is_diff_before diffs.now ≡ true }
+    ensures { result ≡ has_diff diffs.now (from.now, to.now) }
+{
+    version::laws::order();
+    match diffs.get(place_of_pair(diffs, from, to)) {
+        Some(diff) => is_diff(diff, from, to),
+        None => false,
+    }
+}
+
+/// The index of the differential of a pair among differentials by ascending pair.
+pub(crate) fn index_of_diff(diffs: &[Diff], from: &Version, to: &Version) -> Option<usize>
+    requires { ascend is_diff_before diffs.now ≡ true }
+    ensures { result ≡ position (is_diff (from.now, to.now)) diffs.now }
+{
+    version::laws::order();
+    if has_diff(diffs, from, to) {
+        Some(place_of_pair(diffs, from, to))
     } else {
         None
     }

@@ -6,7 +6,7 @@ use Rattle.version.specs.Versions.{lenient_version_of}
 use Rattle.catalogue.proofs.AcceptedLemmas.{NoneHold-first_fault, Some-from_not_none, true-from_not}
 use Rattle.catalogue.proofs.GoodCohortLemmas.{GoodCohort-from_test, is_good_cohort-from_parts}
 use Rattle.catalogue.specs.Changes.{with_setting}
-use Rattle.catalogue.specs.Edits.CohortSettings.{is_unreleased, setting_of_set_target, tests_of_set_open, tests_of_set_share, tests_of_set_target}
+use Rattle.catalogue.specs.Edits.CohortSettings.{is_unreleased, setting_of_set_target, tests_of_set_open, tests_of_set_rollback, tests_of_set_share, tests_of_set_target}
 use Rattle.catalogue.specs.Faults.{first_fault}
 use Rattle.catalogue.specs.Limits.{max_share}
 use Rattle.catalogue.specs.Lookups.{app_of, cohorts_of, has_cohort}
@@ -17,6 +17,7 @@ use Rattle.catalogue.specs.declared.content.Release.{Release}
 use Rattle.catalogue.specs.declared.edits.cohort_settings.CohortSetting.{CohortSetting}
 use Rattle.catalogue.specs.declared.edits.cohort_settings.CohortSetting.TheVariants as setting
 use Rattle.catalogue.specs.declared.edits.cohort_settings.SetOpen.{SetOpen}
+use Rattle.catalogue.specs.declared.edits.cohort_settings.SetRollback.{SetRollback}
 use Rattle.catalogue.specs.declared.edits.cohort_settings.SetShare.{SetShare}
 use Rattle.catalogue.specs.declared.edits.cohort_settings.SetTarget.{SetTarget}
 
@@ -85,6 +86,13 @@ TakesSetting-set_share apps e h =
             held = before.held;
           });
     }
+
+pub TakesSetting-set_rollback :
+    (apps : List App) (e : SetRollback) → first_fault (tests_of_set_rollback apps e) ≡ None →
+    TakesSetting apps e.app e.cohort (setting.Rollback e.on)
+TakesSetting-set_rollback apps e h =
+    let tests = NoneHold-first_fault (tests_of_set_rollback apps e) h in
+    record { names = NamesCohort-from_tests apps e.app e.cohort tests.0 tests.1.0; keeps = λ cohort good. good }
 
 pub TakesSetting-set_open :
     (apps : List App) (e : SetOpen) → first_fault (tests_of_set_open apps e) ≡ None →

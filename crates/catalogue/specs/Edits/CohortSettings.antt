@@ -9,6 +9,7 @@ use Rattle.catalogue.specs.declared.content.Release.{Release}
 use Rattle.catalogue.specs.declared.edits.cohort_settings.CohortSetting.{CohortSetting}
 use Rattle.catalogue.specs.declared.edits.cohort_settings.CohortSetting.TheVariants as setting
 use Rattle.catalogue.specs.declared.edits.cohort_settings.SetOpen.{SetOpen}
+use Rattle.catalogue.specs.declared.edits.cohort_settings.SetRollback.{SetRollback}
 use Rattle.catalogue.specs.declared.edits.cohort_settings.SetShare.{SetShare}
 use Rattle.catalogue.specs.declared.edits.cohort_settings.SetTarget.{SetTarget}
 use Rattle.catalogue.specs.declared.fault.Fault.{Fault}
@@ -53,6 +54,9 @@ abbrev pub tests_of_set_share : List App → SetShare → List (Bool × Fault)
 tests_of_set_share apps e =
     tests_of_setting apps e.app e.cohort ((not (nat_le e.share max_share), fault.BadShare) ∷ [])
 
--- an open flag: nothing more
+-- a rollback flag, an open flag: nothing more
+abbrev pub tests_of_set_rollback : List App → SetRollback → List (Bool × Fault)
+tests_of_set_rollback apps e = tests_of_setting apps e.app e.cohort []
+
 abbrev pub tests_of_set_open : List App → SetOpen → List (Bool × Fault)
 tests_of_set_open apps e = tests_of_setting apps e.app e.cohort []

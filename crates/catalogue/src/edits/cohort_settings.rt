@@ -1,13 +1,14 @@
-//! What is set of a cohort that is there: its targets, its share, its open flag.
+//! What is set of a cohort that is there: its targets, its share, its rollback and open flags.
 
 ghost use Rattle.std.specs.Prelude.{◌≡◌, true, option_map};
 ghost use Rattle.std.specs.Option.{option_copied};
 ghost use Rattle.std.specs.Result.{result_err};
 ghost use Rattle.version.specs.Versions.{lenient_version_of};
 ghost use Rattle.catalogue.specs.Changes.{with_setting};
-ghost use Rattle.catalogue.specs.Edits.CohortSettings.{is_misspelled, is_unreleased, setting_of_set_target, tests_of_set_open, tests_of_set_share, tests_of_set_target};
+ghost use Rattle.catalogue.specs.Edits.CohortSettings.{is_misspelled, is_unreleased, setting_of_set_target, tests_of_set_open, tests_of_set_rollback, tests_of_set_share, tests_of_set_target};
 ghost use Rattle.catalogue.specs.Faults.{first_fault};
-ghost use Rattle.catalogue.specs.Validity.{IsValid, ascend, is_release_below};
+ghost use Rattle.catalogue.specs.Ordered.{ascend};
+ghost use Rattle.catalogue.specs.Validity.{IsValid, is_release_below};
 
 use crate::content::{Cohort, Release};
 use crate::draft::{Draft, named_cohort};
@@ -42,6 +43,17 @@ pub struct SetShare {
     pub share: u64,
 }
 
+/// Sets whether a cohort's clients may be downgraded to its target.
+#[derive(Clone, Debug, Drop)]
+pub struct SetRollback {
+    /// The app's identifier, in any case.
+    pub app: Text,
+    /// The cohort's name.
+    pub cohort: Text,
+    /// Whether its clients may be downgraded from then on, if they allow it themselves.
+    pub on: bool,
+}
+
 /// Sets whether a client's hint may name a cohort.
 #[derive(Clone, Debug, Drop)]
 pub struct SetOpen {
@@ -61,6 +73,7 @@ pub(crate) enum CohortSetting {
         held: Option<Version>,
     },
     Share(u64),
+    Rollback(bool),
     Open(bool),
 }
 
@@ -75,6 +88,7 @@ impl CohortSetting {
                 cohort.held = held;
             }
             CohortSetting::Share(share) => cohort.share = share,
+            CohortSetting::Rollback(on) => cohort.rollback = on,
             CohortSetting::Open(on) => cohort.hintable = on,
         }
     }
@@ -144,6 +158,16 @@ impl SetShare {
             return Err(Fault::BadShare);
         }
         Ok(())
+    }
+}
+
+impl SetRollback {
+    /// Returns the edit's first fault against the draft, if it has one.
+    pub(crate) fn check(&self, draft: &Draft) -> Result<(), Fault>
+        requires { IsValid draft.now.apps }
+        ensures { result_err result ≡ first_fault (tests_of_set_rollback draft.now.apps self.now) }
+    {
+        named_cohort(draft.named_app(&self.app)?, &self.cohort)
     }
 }
 

@@ -5,12 +5,11 @@ ghost use Rattle.catalogue.specs.Edits.Releases.{tests_of_add_release};
 ghost use Rattle.catalogue.specs.Faults.{first_fault};
 ghost use Rattle.catalogue.specs.Validity.{IsValid};
 
-use crate::draft::Draft;
+use crate::draft::{Draft, spelled_version};
 use crate::fault::Fault;
 use crate::form::{hash_named, hash_of, is_package_name, is_size};
 use crate::lookup::{has_hash, has_release};
 use values::Text;
-use version::Version;
 
 const MAX_RELEASES: usize = 512;
 
@@ -38,9 +37,7 @@ impl AddRelease {
         ensures { result_err result ≡ first_fault (tests_of_add_release draft.now.apps self.now) }
     {
         let releases = draft.named_app(&self.app)?.releases.as_slice();
-        if Version::parse(self.version.as_str()).is_none() {
-            return Err(Fault::BadVersion);
-        }
+        let version = spelled_version(&self.version)?;
         if hash_of(self.sha256.as_str()).is_none() {
             return Err(Fault::BadHash);
         }
@@ -50,7 +47,7 @@ impl AddRelease {
         if !is_package_name(self.name.as_str()) {
             return Err(Fault::BadName);
         }
-        if has_release(releases, &Version::lenient(self.version.as_str())) {
+        if has_release(releases, &version) {
             return Err(Fault::ReleaseExists);
         }
         if has_hash(releases, &hash_named(self.sha256.as_str())) {

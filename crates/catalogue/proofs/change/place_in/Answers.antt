@@ -1,7 +1,7 @@
 use Rattle.std.proofs.Common.{sym, ap, List}
 use Rattle.std.proofs.lemmas.List.Quantifiers.{position-Some}
 use Rattle.catalogue.proofs.ChangeLemmas.{change-Some, change-None}
-use Rattle.catalogue.proofs.PlaceLemmas.{ascend-item}
+use Rattle.catalogue.proofs.PlaceLemmas.{IsValidApp-item}
 use Rattle.catalogue.specs.Changes.{with_release}
 use Rattle.catalogue.specs.Lookups.{is_app}
 use Rattle.catalogue.specs.declared.content.Release.{Release}
@@ -20,4 +20,4 @@ pub place-requires : goal.place-requires
 place-requires c =
     let app = c.item_mut-app.result.now in
     let at = position-Some (is_app c.args.id.now) c.args.apps.now c.in-Some.index app (sym c.in-Some.ensures) in
-    ascend-item c.args.apps.now c.in-Some.index app at.0 c.item_mut-app.ensures.value c.requires
+    (IsValidApp-item c.args.apps.now c.in-Some.index app at.0 c.item_mut-app.ensures.value c.requires).releases_ascend

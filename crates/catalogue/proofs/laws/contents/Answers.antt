@@ -1,7 +1,13 @@
--- The edits of a content add each item at the end of what stands.
+-- The edits of a content add each item at the end of what is there.
 use Rattle.catalogue.proofs.ContentLemmas.{outcome-edits_of_content}
+use Rattle.catalogue.proofs.KeyLemmas.{VersionLaws}
 use Rattle.catalogue.proofs.laws.contents.Goals as goal
 
 pub returns : goal.returns
-returns c = λ apps valid plain.
-    outcome-edits_of_content c.order.ensures.irreflexive c.spellings.ensures apps valid plain
+returns c =
+    let laws : VersionLaws = record {
+      irreflexive = c.order.ensures.irreflexive;
+      transitive = c.order.ensures.transitive;
+      total = c.order.ensures.total;
+    } in
+    λ apps valid. outcome-edits_of_content laws c.spellings.ensures apps valid

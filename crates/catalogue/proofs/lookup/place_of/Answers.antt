@@ -1,12 +1,21 @@
 use Rattle.std.proofs.Common.{rules}
 use Rattle.std.proofs.lemmas.List.Sorted.{IsPartitionPoint-from_clause}
-use Rattle.catalogue.proofs.PlaceLemmas.{IsPartitionedBy-ascend, is_under, place_of-from_point}
+use Rattle.std.specs.Str.{bytes_eq}
+use Rattle.version.specs.Versions.{is_below}
+use Rattle.catalogue.proofs.KeyLemmas.{IsOrder-versions, VersionLaws}
+use Rattle.catalogue.proofs.OrderedLemmas.{IsPartitionedBy-ascend, place_in-from_point, under}
+use Rattle.catalogue.specs.declared.content.Release.{Release}
 use Rattle.catalogue.proofs.lookup.place_of.Goals as goal
 
 pub returns-clause-value : goal.returns-clause-value
 returns-clause-value c =
+    let key = λ (release : Release). release.version in
     let version = c.args.version.now in
-    let releases = c.args.releases.now in
-    let parted = IsPartitionedBy-ascend c.order.ensures.transitive version releases c.requires in
-    place_of-from_point version releases c.partition_point.result c.partition_point.ensures.bound
-    (IsPartitionPoint-from_clause (is_under version) releases c.partition_point.result c.partition_point.ensures.partitioned parted (λ a r q k. search rules))
+    let laws : VersionLaws = record {
+      irreflexive = c.order.ensures.irreflexive;
+      transitive = c.order.ensures.transitive;
+      total = c.order.ensures.total;
+    } in
+    let parted = IsPartitionedBy-ascend is_below bytes_eq key (IsOrder-versions laws) version c.args.releases.now c.requires in
+    place_in-from_point is_below bytes_eq key version c.args.releases.now c.partition_point.result c.partition_point.ensures.bound
+    (IsPartitionPoint-from_clause (under is_below bytes_eq key version) c.args.releases.now c.partition_point.result c.partition_point.ensures.partitioned parted (λ a r q k. search rules))

@@ -3,7 +3,7 @@ use Rattle.catalogue.proofs.ChangeLemmas.{change-Some, change-None}
 use Rattle.catalogue.specs.Lookups.{is_app}
 use Rattle.catalogue.specs.Changes.{in_cohort, with_setting}
 use Rattle.catalogue.specs.declared.content.Cohort.{Cohort}
-use Rattle.catalogue.proofs.change.set_in_apps.Goals as goal
+use Rattle.catalogue.proofs.change.set_cohort_in_apps.Goals as goal
 
 pub returns-in-Some : goal.returns-in-Some
 returns-in-Some c =

@@ -1,0 +1,24 @@
+use Rattle.std.proofs.Common.{sym, ap, List}
+use Rattle.std.proofs.lemmas.List.Quantifiers.{position-Some}
+use Rattle.catalogue.proofs.ChangeLemmas.{change-Some, change-None}
+use Rattle.catalogue.proofs.PlaceLemmas.{IsValidApp-item}
+use Rattle.catalogue.specs.Changes.{in_release, with_release_setting}
+use Rattle.catalogue.specs.Lookups.{is_app}
+use Rattle.catalogue.specs.declared.content.Release.{Release}
+use Rattle.catalogue.proofs.change.set_release_in_apps.Goals as goal
+
+pub returns-in-Some : goal.returns-in-Some
+returns-in-Some c =
+    let app = c.item_mut-app.result.now in
+    change-Some (is_app c.args.id.now) (in_release c.args.version.now (with_release_setting c.args.setting)) c.args.apps.now c.in-Some.index app _ (sym c.in-Some.ensures) c.item_mut-app.ensures.value
+    (ap (λ (releases : List Release). record app { releases = releases }) c.set_in_releases.ensures)
+
+pub returns-in_default : goal.returns-in_default
+returns-in_default c =
+    change-None (is_app c.args.id.now) (in_release c.args.version.now (with_release_setting c.args.setting)) c.args.apps.now (sym c.in_default.ensures)
+
+pub set_in_releases-requires : goal.set_in_releases-requires
+set_in_releases-requires c =
+    let app = c.item_mut-app.result.now in
+    let at = position-Some (is_app c.args.id.now) c.args.apps.now c.in-Some.index app (sym c.in-Some.ensures) in
+    (IsValidApp-item c.args.apps.now c.in-Some.index app at.0 c.item_mut-app.ensures.value c.requires).releases_ascend

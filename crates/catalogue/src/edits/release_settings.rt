@@ -1,0 +1,137 @@
+//! What is set of a release that is there: its stone and withdrawn flags, its audience.
+
+ghost use Rattle.std.specs.Prelude.{◌≡◌, IfOk};
+ghost use Rattle.std.specs.List.{list_all};
+ghost use Rattle.std.specs.Option.{option_copied};
+ghost use Rattle.std.specs.Result.{result_err};
+ghost use Rattle.catalogue.specs.Changes.{with_release_setting};
+ghost use Rattle.catalogue.specs.Edits.ReleaseSettings.{tests_of_set_audience, tests_of_set_stone, tests_of_set_withdrawn};
+ghost use Rattle.catalogue.specs.Faults.{first_fault};
+ghost use Rattle.catalogue.specs.Lookups.{has_cohort};
+ghost use Rattle.catalogue.specs.Validity.{IsValid, is_good_audience};
+ghost use Rattle.catalogue.specs.declared.edits.release_settings.ReleaseSetting.TheVariants as setting;
+
+use crate::content::{Cohort, Release};
+use crate::draft::{Draft, named_release, spelled_version};
+use crate::fault::Fault;
+use crate::lookup::has_cohort;
+use std::alloc::AllocError;
+use values::{Items, Text};
+
+/// Sets whether a release is a stepping stone, which no package may jump over.
+#[derive(Clone, Debug, Drop)]
+pub struct SetStone {
+    /// The app's identifier, in any case.
+    pub app: Text,
+    /// The release's version.
+    pub version: Text,
+    /// Whether it is a stone from then on.
+    pub on: bool,
+}
+
+/// Sets whether a release is withdrawn, so that it is offered to nobody.
+#[derive(Clone, Debug, Drop)]
+pub struct SetWithdrawn {
+    /// The app's identifier, in any case.
+    pub app: Text,
+    /// The release's version.
+    pub version: Text,
+    /// Whether it is withdrawn from then on.
+    pub on: bool,
+}
+
+/// Sets the cohorts that a release is open to.
+#[derive(Clone, Debug, Drop)]
+pub struct SetAudience {
+    /// The app's identifier, in any case.
+    pub app: Text,
+    /// The release's version.
+    pub version: Text,
+    /// The names of the cohorts that it is open to from then on, read by membership; the empty list
+    /// opens it to nobody, `None` to all cohorts, later ones too.
+    pub cohorts: Option<Items<Text>>,
+}
+
+/// What one edit sets of a release.
+#[derive(Drop)]
+pub(crate) enum ReleaseSetting {
+    Stone(bool),
+    Withdrawn(bool),
+    Audience(Option<Items<Text>>),
+}
+
+impl ReleaseSetting {
+    /// Sets it of a release.
+    pub(crate) fn set(self, release: &mut Release)
+        ensures { release.new ≡ with_release_setting self release.old }
+    {
+        match self {
+            ReleaseSetting::Stone(on) => release.stone = on,
+            ReleaseSetting::Withdrawn(on) => release.withdrawn = on,
+            ReleaseSetting::Audience(names) => release.audience = names,
+        }
+    }
+}
+
+impl SetStone {
+    /// Returns the edit's first fault against the draft, if it has one.
+    pub(crate) fn check(&self, draft: &Draft) -> Result<(), Fault>
+        requires { IsValid draft.now.apps }
+        ensures { result_err result ≡ first_fault (tests_of_set_stone draft.now.apps self.now) }
+    {
+        let app = draft.named_app(&self.app)?;
+        let version = spelled_version(&self.version)?;
+        named_release(app, &version)
+    }
+}
+
+impl SetWithdrawn {
+    /// Returns the edit's first fault against the draft, if it has one.
+    pub(crate) fn check(&self, draft: &Draft) -> Result<(), Fault>
+        requires { IsValid draft.now.apps }
+        ensures { result_err result ≡ first_fault (tests_of_set_withdrawn draft.now.apps self.now) }
+    {
+        let app = draft.named_app(&self.app)?;
+        let version = spelled_version(&self.version)?;
+        named_release(app, &version)
+    }
+}
+
+fn are_cohorts(cohorts: &[Cohort], names: &[Text]) -> bool
+    ensures { result ≡ list_all (has_cohort cohorts.now) names.now }
+{
+    names.iter().all(|name| has_cohort(cohorts, name.as_str()))
+}
+
+fn is_audience(cohorts: &[Cohort], names: Option<&Items<Text>>) -> bool
+    ensures { result ≡ is_good_audience cohorts.now (option_copied names.entry) }
+{
+    match names {
+        None => true,
+        Some(names) => are_cohorts(cohorts, names.as_slice()),
+    }
+}
+
+impl SetAudience {
+    /// What the edit sets, in new memory.
+    pub(crate) fn setting(&self) -> Result<ReleaseSetting, AllocError>
+        ensures { IfOk result (λ new. new ≡ setting.Audience self.now.cohorts) }
+    {
+        let cohorts = self.cohorts.clone()?;
+        Ok(ReleaseSetting::Audience(cohorts))
+    }
+
+    /// Returns the edit's first fault against the draft, if it has one.
+    pub(crate) fn check(&self, draft: &Draft) -> Result<(), Fault>
+        requires { IsValid draft.now.apps }
+        ensures { result_err result ≡ first_fault (tests_of_set_audience draft.now.apps self.now) }
+    {
+        let app = draft.named_app(&self.app)?;
+        let version = spelled_version(&self.version)?;
+        named_release(app, &version)?;
+        if !is_audience(app.cohorts.as_slice(), self.cohorts.as_ref()) {
+            return Err(Fault::UnknownCohort);
+        }
+        Ok(())
+    }
+}
