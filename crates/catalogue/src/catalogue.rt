@@ -15,7 +15,7 @@ use values::Items;
 use version::Version;
 
 /// The apps of a vendor, which contracts see as their list.
-#[derive(Debug, Drop)]
+#[derive(Drop)]
 pub struct Catalogue {
     alloc: Global,
     apps: Items<App>,

@@ -6,7 +6,7 @@ use values::{Items, Text};
 use version::Version;
 
 /// An app with all that the catalogue holds of it.
-#[derive(Debug, Drop)]
+#[derive(Drop)]
 pub struct App {
     /// Its identifier, as it was added; identifiers compare without regard to ASCII case.
     pub id: Text,
@@ -70,7 +70,7 @@ impl App {
 }
 
 /// A release of an app, with its full package.
-#[derive(Clone, Debug, Drop)]
+#[derive(Clone, Drop)]
 pub struct Release {
     /// Its version, used once in the app.
     pub version: Version,
@@ -91,7 +91,7 @@ pub struct Release {
 }
 
 /// A differential package, which leads from one release of an app to a higher one.
-#[derive(Clone, Debug, Drop)]
+#[derive(Clone, Drop)]
 pub struct Diff {
     /// The version of the release that it starts at.
     pub from: Version,
@@ -106,7 +106,7 @@ pub struct Diff {
 }
 
 /// A group of an app's clients that is served alike.
-#[derive(Clone, Debug, Drop)]
+#[derive(Clone, Drop)]
 pub struct Cohort {
     /// Its name, used once in the app.
     pub name: Text,

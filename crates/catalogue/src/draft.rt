@@ -48,7 +48,7 @@ pub(crate) fn named_cohort(app: &App, name: &Text) -> Result<(), Fault>
 }
 
 /// A content and its index; after a refused allocation the two may differ.
-#[derive(Debug, Drop)]
+#[derive(Drop)]
 pub(crate) struct Draft {
     pub(crate) alloc: Global,
     pub(crate) apps: Items<App>,

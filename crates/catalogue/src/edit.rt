@@ -17,7 +17,7 @@ use std::marker::Model;
 use values::Items;
 
 /// One change of a catalogue.
-#[derive(Debug, Drop)]
+#[derive(Drop)]
 pub enum Edit {
     /// An app, with its default cohort and no release.
     AddApp(AddApp),
@@ -89,7 +89,7 @@ impl Edit {
 }
 
 /// A list of edits that a catalogue applies whole or not at all.
-#[derive(Clone, Debug, Drop)]
+#[derive(Clone, Drop)]
 pub struct Batch {
     edits: Items<Edit>,
 }

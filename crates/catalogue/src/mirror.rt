@@ -8,7 +8,7 @@ use values::Text;
 const MOST_BUDGET: u64 = 1 << 60;
 
 /// A server that clients download packages from.
-#[derive(Clone, Debug, Drop)]
+#[derive(Clone, Drop)]
 pub struct Mirror {
     /// Its name, which has the form of a cohort's and is used once.
     pub name: Text,

@@ -9,7 +9,7 @@ use std::alloc::{AllocError, Global};
 use std::collections::BTreeMap;
 
 /// What is declared of each package, by the package's name.
-#[derive(Debug, Drop)]
+#[derive(Drop)]
 pub(crate) struct PackageIndex {
     declared: BTreeMap<String, Declared>,
 }

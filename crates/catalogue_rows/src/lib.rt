@@ -1,18 +1,21 @@
-//! Worked rows of the catalogue: batches, what they are refused with, and what they leave.
+//! Worked rows of the catalogue: batches, the errors that they are rejected with, and the contents that
+//! they make.
 //!
-//! It has tests alone, so that `catalogue` itself is proved once.
+//! Edits stand in texts, a line an edit. It has tests alone, so that `catalogue` itself is proved once.
 
 #![tactic(auto)]
 
 #[cfg(test)]
-mod cohort_tests;
+mod contents;
 #[cfg(test)]
-mod edits;
+mod finders;
 #[cfg(test)]
-mod limit_tests;
+mod limits;
 #[cfg(test)]
-mod mirror_tests;
+mod lines;
+#[cfg(test)]
+mod mirrors;
 #[cfg(test)]
 mod refusals;
 #[cfg(test)]
-mod tests;
+mod shown;

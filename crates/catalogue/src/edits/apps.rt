@@ -13,7 +13,7 @@ use values::Text;
 const MAX_APPS: usize = 64;
 
 /// Adds an app with its default cohort.
-#[derive(Clone, Debug, Drop)]
+#[derive(Clone, Drop)]
 pub struct AddApp {
     /// The app's identifier: 1 to 256 bytes from 0x21 to 0x7e.
     pub app: Text,

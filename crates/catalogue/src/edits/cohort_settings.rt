@@ -20,7 +20,7 @@ use version::Version;
 const MAX_SHARE: u64 = 1000;
 
 /// Sets the target and the held target of a cohort; both are replaced.
-#[derive(Clone, Debug, Drop)]
+#[derive(Clone, Drop)]
 pub struct SetTarget {
     /// The app's identifier, in any case.
     pub app: Text,
@@ -33,7 +33,7 @@ pub struct SetTarget {
 }
 
 /// Sets how many of 1000 clients of a cohort have its target.
-#[derive(Clone, Debug, Drop)]
+#[derive(Clone, Drop)]
 pub struct SetShare {
     /// The app's identifier, in any case.
     pub app: Text,
@@ -44,7 +44,7 @@ pub struct SetShare {
 }
 
 /// Sets whether a cohort's clients may be downgraded to its target.
-#[derive(Clone, Debug, Drop)]
+#[derive(Clone, Drop)]
 pub struct SetRollback {
     /// The app's identifier, in any case.
     pub app: Text,
@@ -55,7 +55,7 @@ pub struct SetRollback {
 }
 
 /// Sets whether a client's hint may name a cohort.
-#[derive(Clone, Debug, Drop)]
+#[derive(Clone, Drop)]
 pub struct SetOpen {
     /// The app's identifier, in any case.
     pub app: Text,

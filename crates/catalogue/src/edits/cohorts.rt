@@ -13,7 +13,7 @@ use values::Text;
 const MAX_COHORTS: usize = 32;
 
 /// Adds a cohort to an app, after its others, at the first values of a cohort.
-#[derive(Clone, Debug, Drop)]
+#[derive(Clone, Drop)]
 pub struct AddCohort {
     /// The app's identifier, in any case.
     pub app: Text,

@@ -14,7 +14,7 @@ use values::Text;
 const MAX_DIFFS: usize = 16384;
 
 /// Adds a differential package to an app, from one of its releases to a higher one.
-#[derive(Clone, Debug, Drop)]
+#[derive(Clone, Drop)]
 pub struct AddDiff {
     /// The app's identifier, in any case.
     pub app: Text,

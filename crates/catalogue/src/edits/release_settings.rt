@@ -19,7 +19,7 @@ use std::alloc::AllocError;
 use values::{Items, Text};
 
 /// Sets whether a release is a stepping stone, which no package may jump over.
-#[derive(Clone, Debug, Drop)]
+#[derive(Clone, Drop)]
 pub struct SetStone {
     /// The app's identifier, in any case.
     pub app: Text,
@@ -30,7 +30,7 @@ pub struct SetStone {
 }
 
 /// Sets whether a release is withdrawn, so that it is offered to nobody.
-#[derive(Clone, Debug, Drop)]
+#[derive(Clone, Drop)]
 pub struct SetWithdrawn {
     /// The app's identifier, in any case.
     pub app: Text,
@@ -41,7 +41,7 @@ pub struct SetWithdrawn {
 }
 
 /// Sets the cohorts that a release is open to.
-#[derive(Clone, Debug, Drop)]
+#[derive(Clone, Drop)]
 pub struct SetAudience {
     /// The app's identifier, in any case.
     pub app: Text,

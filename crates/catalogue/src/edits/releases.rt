@@ -14,7 +14,7 @@ use values::Text;
 const MAX_RELEASES: usize = 512;
 
 /// Adds a release to an app.
-#[derive(Clone, Debug, Drop)]
+#[derive(Clone, Drop)]
 pub struct AddRelease {
     /// The app's identifier, in any case.
     pub app: Text,

@@ -1,12 +1,29 @@
-// Which mirrors have the form of one.
+// Which mirrors are valid.
 
-use crate::edits::mirror;
+use catalogue::Mirror;
+use std::alloc::{AllocError, Global};
 use std::test::Fail;
+use values::Text;
 
 const BASE: &str = "http://m0.example/p/";
 
+fn mirror(
+    alloc: Global,
+    name: &str,
+    codebase: &str,
+    budget: u64,
+) -> Result<Mirror, AllocError> {
+    let name = Text::copy_of(alloc, name)?;
+    let codebase = Text::copy_of(alloc, codebase)?;
+    Ok(Mirror {
+        name,
+        codebase,
+        budget,
+    })
+}
+
 #[test]
-fn tells_the_form_of_a_mirror(rt: HostRuntime) -> Result<(), Fail> {
+fn says_which_mirrors_are_valid(rt: HostRuntime) -> Result<(), Fail> {
     let alloc = rt.alloc();
     let rows = [
         (true, "m0", BASE, 1000000),
