@@ -20,6 +20,7 @@ outcome_from index [] apps = Ok apps
 outcome_from index (e ∷ edits) apps =
     unless_refused index (fault_of apps e) (outcome_from (index + 1) edits (after apps e))
 
+-- rule: Batch
 -- the content after a batch, or its first refused edit
 abbrev pub outcome : List Edit → List App → Result (List App) Refused
 outcome batch apps = outcome_from 0 batch apps

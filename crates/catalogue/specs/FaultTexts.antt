@@ -7,6 +7,7 @@ use Rattle.catalogue.specs.declared.fault.Refused.{Refused}
 use Rattle.catalogue.specs.declared.fault.ApplyError.{ApplyError}
 use Rattle.catalogue.specs.declared.fault.ApplyError.TheVariants as error
 
+-- rule: Printed fault of an edit
 -- a fault's code and name
 abbrev pub fault_text : Fault → List ℕ
 fault_text fault.UnknownApp = codes "C1 UnknownApp"

@@ -17,6 +17,7 @@ use Rattle.catalogue.specs.declared.content.Release.{Release}
 abbrev pub is_app : List ℕ → App → Bool
 is_app id app = same_id id app.id
 
+-- rule: Release of a version
 -- the release has the version
 abbrev pub is_release : List ℕ → Release → Bool
 is_release version release = bytes_eq version release.version
@@ -57,6 +58,7 @@ is_pair_below lower upper =
 abbrev pub same_pair : Pair → Pair → Bool
 same_pair left right = bytes_eq left.0 right.0 && bytes_eq left.1 right.1
 
+-- rule: Differential of a pair
 -- the differential has the pair
 abbrev pub is_diff : Pair → Diff → Bool
 is_diff pair diff = same_pair pair (pair_of diff)
@@ -113,6 +115,7 @@ packages_in app = map full_package app.releases ++ map diff_package app.diffs
 abbrev pub packages_of : List App → List (List ℕ × Declared)
 packages_of apps = flat_map packages_in apps
 
+-- rule: Package of a name
 -- what is declared of the package of a name
 abbrev pub declared_of : List App → List ℕ → Option Declared
 declared_of apps name = lookup (bytes_eq name) (packages_of apps)

@@ -21,6 +21,7 @@ is_codebase text =
 abbrev pub most_budget : ℕ
 most_budget = 2 ^ 60
 
+-- rule: Mirror
 -- a mirror: its name has the form of a cohort's
 abbrev pub is_mirror : Mirror → Bool
 is_mirror mirror =

@@ -47,6 +47,7 @@ impl Catalogue {
         }
     }
 
+    // rule: Batch
     /// Applies a batch whole, or refuses it whole.
     ///
     /// Refuses with the first refused edit, each edit being tested against the content that those
@@ -62,6 +63,7 @@ impl Catalogue {
         Ok(())
     }
 
+    // rule: Batch
     /// Makes the catalogue that a batch leads to, and leaves this one as it is.
     ///
     /// Refuses as `apply` does.
@@ -137,6 +139,7 @@ impl Catalogue {
         lookup::index_of_app(self.apps.as_slice(), id)
     }
 
+    // rule: Release of a version
     /// Finds the index of an app's release by its version, in logarithmic time.
     pub fn find_release(&self, app: usize, version: &Version) -> Option<usize>
         requires { app < length self.now }
@@ -146,6 +149,7 @@ impl Catalogue {
         lookup::index_of_release(self.releases(app), version)
     }
 
+    // rule: Differential of a pair
     /// Finds the index of an app's differential by the versions that it starts at and leads to, in
     /// logarithmic time.
     pub fn find_diff(&self, app: usize, from: &Version, to: &Version) -> Option<usize>
@@ -172,6 +176,7 @@ impl Catalogue {
         lookup::index_of_cohort(self.cohorts(app), name)
     }
 
+    // rule: Package of a name
     /// Finds what is declared of the package of a name, in logarithmic time.
     pub fn package(&self, name: &str) -> Option<Declared>
         ensures { result ≡ declared_of self.now name.now }

@@ -197,6 +197,7 @@ impl Draft {
         set_cohort_in_apps(&mut self.apps, id, cohort, setting);
     }
 
+    // rule: What an edit changes
     fn perform(&mut self, edit: &Edit) -> Result<(), AllocError>
         requires indexed { IsIndexed self.old }
         requires valid { IsValid self.old.apps }

@@ -66,6 +66,7 @@ impl Clone for Edit {
 }
 
 impl Edit {
+    // rule: Faults of an edit, in order
     /// Returns the edit's first fault against the draft, if it has one.
     pub(crate) fn check(&self, draft: &Draft) -> Result<(), Fault>
         requires indexed { IsIndexed draft.now }

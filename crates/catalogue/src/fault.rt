@@ -62,6 +62,7 @@ pub enum ApplyError {
     Memory,
 }
 
+// rule: Printed fault of an edit
 impl fmt::Display for Fault {
     ghost output = { λ f. Some (fault_text f) };
 

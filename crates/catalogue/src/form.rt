@@ -22,6 +22,7 @@ fn are_visible(text: &str) -> bool
     text.as_bytes().iter().all(|byte| byte.is_ascii_graphic())
 }
 
+// rule: App identifier
 /// Whether a text is an app's identifier.
 pub(crate) fn is_app_id(text: &str) -> bool
     ensures { result ≡ is_app_id text.now }
@@ -29,6 +30,7 @@ pub(crate) fn is_app_id(text: &str) -> bool
     has_length(text, 1, 256) && are_visible(text)
 }
 
+// rule: Same app
 /// Whether two identifiers name one app.
 pub(crate) fn is_same_id(left: &str, right: &str) -> bool
     ensures { result ≡ same_id left.now right.now }
@@ -48,6 +50,7 @@ fn are_cohort_bytes(text: &str) -> bool
     text.as_bytes().iter().all(|byte| is_cohort_byte(*byte))
 }
 
+// rule: Cohort name
 /// Whether a text is a cohort's name: 1 to 32 bytes of `a-z`, `0-9` and `-`.
 pub fn is_cohort_name(text: &str) -> bool
     ensures { result ≡ is_cohort_name text.now }
@@ -73,6 +76,7 @@ fn has_dot_first(text: &str) -> bool
     matches!(text.as_bytes(), [b'.', ..])
 }
 
+// rule: Package name
 /// Whether a text is a package's name.
 pub(crate) fn is_package_name(text: &str) -> bool
     ensures { result ≡ is_package_name text.now }
@@ -92,6 +96,7 @@ fn are_hash_digits(text: &str) -> bool
     text.as_bytes().iter().all(|byte| is_hash_digit(*byte))
 }
 
+// rule: Hash
 /// Reads a hash of 64 lower-case hexadecimal digits.
 #[tactic(auto, unfolding(crate::specs::Forms::hash_of))]
 pub(crate) fn hash_of(text: &str) -> Option<[u8; 32]>
@@ -110,6 +115,7 @@ pub(crate) fn hash_named(text: &str) -> [u8; 32]
     hash_of(text).unwrap_or([0; 32])
 }
 
+// rule: Size
 /// Whether a number is that of a package's bytes.
 pub(crate) fn is_size(size: u64) -> bool
     ensures { result ≡ is_size size }

@@ -49,6 +49,7 @@ fn is_codebase(text: &str) -> bool
 }
 
 impl Mirror {
+    // rule: Mirror
     /// Whether its name, its codebase and its budget have their forms: a name of 1 to 32 bytes of
     /// `a-z`, `0-9`, `-`; a codebase of 9 to 256 bytes from 0x21 to 0x7e but for `"`, `#`, `?` and
     /// `\`, which begins `http://` and ends `/`; a budget of at most 2^60.

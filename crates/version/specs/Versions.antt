@@ -60,15 +60,18 @@ components_of form text =
     option_map (λ numbers. (padded numbers, length numbers)) (numbers_of form (parts_of text))
     else None
 
+-- rule: Version of a publisher's string
 -- the version that a publisher's text spells, and how many components the text writes
 unfoldable pub version_of : List ℕ → Option (List ℕ × ℕ)
 version_of text = components_of Plain text
 
+-- rule: Version of a client's string
 -- the version that a client's text counts as: `0` where it spells none
 unfoldable pub lenient_version_of : List ℕ → List ℕ
 lenient_version_of text =
     unwrap_or (option_map (λ read. read.0) (components_of Lenient text)) (replicate 16 0)
 
+-- rule: Order of versions
 -- whether a version is below another: the first numbers that differ decide
 abbrev pub is_below : List ℕ → List ℕ → Bool
 is_below lower upper = is_lt (slice_cmp nat_cmp lower upper)
@@ -81,6 +84,7 @@ zeros_at_end version = length (take_while (λ number. number == 0) (reverse vers
 abbrev pub shown_components : List ℕ → List ℕ
 shown_components version = take (max (length version - zeros_at_end version) 2) version
 
+-- rule: Printed version
 -- a version as text
 unfoldable pub printed : List ℕ → List ℕ
 printed version = join_with_byte 46 (map decimal (shown_components version))

@@ -26,6 +26,7 @@ impl Model for Version {
 }
 
 impl Version {
+    // rule: Version of a publisher's string
     /// Reads a version as a publisher writes it, and counts its components.
     ///
     /// A text is 1 to 4 components joined by dots. Each is a decimal number of 0 to 4294967295
@@ -39,6 +40,7 @@ impl Version {
         Some((Version { components }, count))
     }
 
+    // rule: Version of a client's string
     /// Reads a version as a client sends it, and takes any text.
     ///
     /// Leading zeros are taken, and up to 16 components. A text that spells no version so counts
@@ -52,6 +54,7 @@ impl Version {
         Version { components }
     }
 
+    // rule: Order of versions
     /// Whether this version is below another, by the first component that differs.
     pub fn is_below(&self, other: &Version) -> bool
         ensures { result ≡ is_below self.now other.now }
@@ -68,6 +71,7 @@ impl Version {
     }
 }
 
+// rule: Printed version
 impl fmt::Display for Version {
     ghost output = { λ version. Some (printed version) };
 
