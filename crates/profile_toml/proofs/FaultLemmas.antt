@@ -1,166 +1,254 @@
--- Faults of keys, of lists of tables and of releases, which print as one line.
-use Rattle.std.proofs.Common.{◌≡◌, ℕ, ◌+◌, List, [], Bool, true, false, cond, Option, Some, None, Result, Ok, Err, codes, refl}
+-- The faults of profiles and of scripts, which print as one line.
+use Rattle.std.proofs.Common.{◌≡◌, ℕ, ◌+◌, ◌==◌, nat_le, List, [], ◌∷◌, ◌++◌, length, Bool, true, false, cond, Option, Some, None, Result, Ok, Err, codes, decimal, refl}
+use Rattle.std.specs.List.{list_any}
 use Rattle.std.specs.Option.{ok_or, option_map_or}
-use Rattle.toml.specs.Data.{Data, Items, no_items, item, Members, no_members, member, get_member, as_array, as_str, as_table}
+use Rattle.toml.specs.Data.{Items, no_items, item, Members, as_bool, as_str}
+use Rattle.catalogue.specs.declared.edit.Edit.{Edit}
+use Rattle.catalogue.specs.declared.mirror.Mirror.{Mirror}
+use Rattle.toml_tables.specs.Fields.{◌>>=◌, as_natural, required}
+use Rattle.toml_tables.specs.Laws.{IsOneLine}
+use Rattle.toml_tables.specs.Lists.{element}
+use Rattle.toml_tables.specs.Paths.{bad_key}
+use Rattle.toml_tables.specs.Tables.{PlacedList, PlacedTable, document}
+use Rattle.toml_tables.specs.declared.path.BadEntry.{BadEntry}
+use Rattle.toml_tables.proofs.FaultLemmas.{HasLine, HasLine-cond, HasLine-err, HasLine-ok, HasLine-ok_or, HasLine-then, Tells, each_element, knows, needs, needs_list, reads_each, takes, takes_list}
+use Rattle.toml_tables.proofs.LineLemmas.{IsOneLine-append, IsOneLine-decimal}
+use Rattle.toml_tables.proofs.PathLemmas.{IsOneLine-path_of}
+use Rattle.profile_toml.specs.Apps.{app_keys, app_of}
+use Rattle.profile_toml.specs.Cohorts.{cohort_keys, cohort_of, cohorts_after, cohorts_of, is_named, new_name}
+use Rattle.profile_toml.specs.Documents.{check_schema, document_of, entries, is_schema_1}
 use Rattle.profile_toml.specs.FaultTexts.{fault_text}
-use Rattle.profile_toml.specs.Fields.{◌>>=◌, as_natural, bad_entry, if_given, known, optional, required}
-use Rattle.profile_toml.specs.Laws.{IsOneLine}
-use Rattle.profile_toml.specs.Lists.{all_tables, each, element, optional_tables, required_tables, tables_of}
-use Rattle.profile_toml.specs.Places.{has_key, indexed, path_of}
-use Rattle.profile_toml.specs.Profiles.{has_schema, release_in, schema}
+use Rattle.profile_toml.specs.Mirrors.{bad_mirror, good_mirrors, mirror_keys, mirror_of}
+use Rattle.profile_toml.specs.Profiles.{profile_keys, profile_of}
+use Rattle.profile_toml.specs.Reading.{profile_of_text, script_of_text}
+use Rattle.profile_toml.specs.Releases.{release_in, release_keys, release_of}
+use Rattle.profile_toml.specs.Scripts.{app_added, cohort_added, edit_in, edit_of, few_edits, keys_of_edit, max_edits, open_set, release_added, script_keys, script_of, share_set, target_set, verb_named, verb_of}
+use Rattle.profile_toml.specs.declared.cohort.CohortEntry.{CohortEntry}
 use Rattle.profile_toml.specs.declared.fault.ProfileFault.{ProfileFault}
-use Rattle.profile_toml.specs.declared.fault.ProfileFault.TheVariants.{BadSchema, BadEntry}
-use Rattle.profile_toml.specs.declared.place.Place.{Place}
-use Rattle.profile_toml.specs.declared.shape.Shape.{Shape}
-use Rattle.profile_toml.proofs.LineLemmas.{IsOneLine-append, IsOneLine-indexed}
-use Rattle.profile_toml.proofs.PathLemmas.{IsOneLine-path_of}
+use Rattle.profile_toml.specs.declared.fault.ProfileFault.TheVariants as fault
+use Rattle.profile_toml.specs.declared.script.Verb.{Verb}
+use Rattle.profile_toml.specs.declared.script.Verb.TheVariants as verb
+
+Tells-mirror_of : Tells mirror_of
+unfolding mirror_of
+Tells-mirror_of = λ table at.
+    knows mirror_keys table _ at (λ all_known.
+    needs as_str (codes "name") table _ at (λ name.
+    needs as_str (codes "codebase") table _ at (λ codebase.
+    needs as_natural (codes "budget") table _ at (λ budget. HasLine-ok _))))
+
+Tells-release_in : Tells release_in
+unfolding release_in
+Tells-release_in = λ table at.
+    needs as_str (codes "version") table _ at (λ version.
+    needs as_str (codes "name") table _ at (λ name.
+    needs as_natural (codes "size") table _ at (λ size.
+    needs as_str (codes "sha256") table _ at (λ sha256. HasLine-ok _))))
+
+Tells-release_of : Tells release_of
+unfolding release_of
+Tells-release_of = λ table at.
+    knows release_keys table _ at (λ all_known. Tells-release_in table at)
+
+Tells-new_name : (before : List CohortEntry) → Tells (new_name before)
+unfolding new_name
+Tells-new_name before = λ table at.
+    needs as_str (codes "name") table _ at (λ name.
+    HasLine-cond (list_any (is_named name) before)
+    (Err (bad_key table.place (codes "name"))) (Ok name)
+    (HasLine-err _ (bad_key table.place (codes "name"))
+    (IsOneLine-path_of table.place (codes "name") at))
+    (HasLine-ok name))
+
+Tells-cohort_of : (before : List CohortEntry) → Tells (cohort_of before)
+unfolding cohort_of
+Tells-cohort_of before = λ table at.
+    knows cohort_keys table _ at (λ all_known.
+    HasLine-then (new_name before table) _ (Tells-new_name before table at) (λ name.
+    takes as_str (codes "target") table _ at (λ target.
+    takes as_str (codes "held") table _ at (λ held.
+    takes as_natural (codes "share") table _ at (λ share.
+    takes as_bool (codes "open") table _ at (λ opened. HasLine-ok _))))))
+
+HasLine-cohorts_after : (before : List CohortEntry) (list : List ℕ) (index : ℕ) (items : Items)
+    → IsOneLine list → HasLine (cohorts_after before list index items)
+HasLine-cohorts_after before list index no_items of_list = HasLine-ok before
+HasLine-cohorts_after before list index (item value values) of_list =
+    each_element list index value _ of_list (λ table at.
+    HasLine-then (cohort_of before table) _ (Tells-cohort_of before table at) (λ cohort.
+    HasLine-cohorts_after (before ++ cohort ∷ []) list (index + 1) values of_list))
+
+Tells-app_of : Tells app_of
+unfolding app_of
+Tells-app_of = λ table at.
+    knows app_keys table _ at (λ all_known.
+    needs as_str (codes "id") table _ at (λ id.
+    needs as_str (codes "default") table _ at (λ default.
+    takes_list (codes "cohort") table _ at (λ cohort_list at_cohorts.
+    takes_list (codes "release") table _ at (λ release_list at_releases.
+    HasLine-then (cohorts_of cohort_list) _
+    (HasLine-cohorts_after [] cohort_list.path 0 cohort_list.items at_cohorts) (λ cohorts.
+    reads_each release_of release_list _ Tells-release_of at_releases (λ releases.
+    HasLine-ok _)))))))
+
+Tells-profile_of : Tells profile_of
+unfolding profile_of
+Tells-profile_of = λ table at.
+    knows profile_keys table _ at (λ all_known.
+    needs_list (codes "mirror") table _ at (λ mirror_list at_mirrors.
+    takes_list (codes "app") table _ at (λ app_list at_apps.
+    reads_each mirror_of mirror_list _ Tells-mirror_of at_mirrors (λ mirrors.
+    reads_each app_of app_list _ Tells-app_of at_apps (λ apps. HasLine-ok _)))))
+
+Tells-verb_of : Tells verb_of
+unfolding verb_of
+Tells-verb_of = λ table at.
+    needs as_str (codes "do") table _ at (λ name.
+    HasLine-ok_or (verb_named name) (bad_key table.place (codes "do"))
+    (IsOneLine-path_of table.place (codes "do") at))
+
+-- what an edit of a script says
+Tells-edit_in : (kind : Verb) → Tells (edit_in kind)
+unfolding edit_in app_added release_added cohort_added target_set share_set open_set
+Tells-edit_in verb.AddApp = λ table at.
+    HasLine-then (app_added table) _
+    (knows (keys_of_edit verb.AddApp) table _ at (λ all_known.
+    needs as_str (codes "app") table _ at (λ app.
+    needs as_str (codes "default") table _ at (λ default. HasLine-ok _)))) (λ e. HasLine-ok _)
+Tells-edit_in verb.AddRelease = λ table at.
+    HasLine-then (release_added table) _
+    (knows (keys_of_edit verb.AddRelease) table _ at (λ all_known.
+    needs as_str (codes "app") table _ at (λ app.
+    HasLine-then (release_in table) _ (Tells-release_in table at) (λ release. HasLine-ok _))))
+    (λ e. HasLine-ok _)
+Tells-edit_in verb.AddCohort = λ table at.
+    HasLine-then (cohort_added table) _
+    (knows (keys_of_edit verb.AddCohort) table _ at (λ all_known.
+    needs as_str (codes "app") table _ at (λ app.
+    needs as_str (codes "cohort") table _ at (λ cohort. HasLine-ok _)))) (λ e. HasLine-ok _)
+Tells-edit_in verb.SetTarget = λ table at.
+    HasLine-then (target_set table) _
+    (knows (keys_of_edit verb.SetTarget) table _ at (λ all_known.
+    needs as_str (codes "app") table _ at (λ app.
+    needs as_str (codes "cohort") table _ at (λ cohort.
+    takes as_str (codes "target") table _ at (λ target.
+    takes as_str (codes "held") table _ at (λ held. HasLine-ok _)))))) (λ e. HasLine-ok _)
+Tells-edit_in verb.SetShare = λ table at.
+    HasLine-then (share_set table) _
+    (knows (keys_of_edit verb.SetShare) table _ at (λ all_known.
+    needs as_str (codes "app") table _ at (λ app.
+    needs as_str (codes "cohort") table _ at (λ cohort.
+    needs as_natural (codes "share") table _ at (λ share. HasLine-ok _))))) (λ e. HasLine-ok _)
+Tells-edit_in verb.SetOpen = λ table at.
+    HasLine-then (open_set table) _
+    (knows (keys_of_edit verb.SetOpen) table _ at (λ all_known.
+    needs as_str (codes "app") table _ at (λ app.
+    needs as_str (codes "cohort") table _ at (λ cohort.
+    needs as_bool (codes "on") table _ at (λ on. HasLine-ok _))))) (λ e. HasLine-ok _)
+
+Tells-edit_of : Tells edit_of
+unfolding edit_of
+Tells-edit_of = λ table at.
+    HasLine-then (verb_of table) _ (Tells-verb_of table at) (λ kind. Tells-edit_in kind table at)
+
+Tells-script_of : Tells script_of
+unfolding script_of
+Tells-script_of = λ table at.
+    knows script_keys table _ at (λ all_known.
+    needs as_natural (codes "base") table _ at (λ base.
+    takes_list (codes "edit") table _ at (λ edit_list at_edits.
+    reads_each edit_of edit_list _ Tells-edit_of at_edits (λ edits. HasLine-ok _))))
 
 -- if there is a fault, it prints as one line
-pub HasLine : {A : Type 0} → Result A ProfileFault → Type 0
-HasLine (Ok value) = Unit {0}
-HasLine (Err fault) = IsOneLine (fault_text fault)
+PrintsLine : {A : Type 0} → Result A ProfileFault → Type 0
+PrintsLine (Ok value) = Unit {0}
+PrintsLine (Err told) = IsOneLine (fault_text told)
 
-pub IsOneLine-told : {A : Type 0} (read : Result A ProfileFault) → HasLine read
-    → (fault : ProfileFault) → read ≡ Err fault → IsOneLine (fault_text fault)
-unfolding HasLine
-IsOneLine-told (Ok value) has fault same = absurd (cc)
-IsOneLine-told (Err told) has fault same = let this : told ≡ fault = cc (same) in rw (← this) has
+PrintsLine-then : {X Y : Type 0}
+    (first : Result X ProfileFault) (step : X → Result Y ProfileFault)
+    → PrintsLine first → ((x : X) → PrintsLine (step x)) → PrintsLine (first >>= step)
+unfolding PrintsLine
+PrintsLine-then (Ok x) step of_first of_step = of_step x
+PrintsLine-then (Err told) step of_first of_step = of_first
 
-pub HasLine-ok : {A : Type 0} (value : A) → HasLine {A = A} (Ok value)
-unfolding HasLine
-HasLine-ok value = tt
+PrintsLine-document : (found : Option Members) → PrintsLine (ok_or found fault.NotToml)
+unfolding PrintsLine
+PrintsLine-document (Some entry) = tt
+PrintsLine-document None = refl
 
-pub HasLine-err : (A : Type 0) (fault : ProfileFault) → IsOneLine (fault_text fault)
-    → HasLine {A = A} (Err fault)
-unfolding HasLine
-HasLine-err A fault line = line
-
-pub HasLine-then : {X Y : Type 0} (first : Result X ProfileFault) (step : X → Result Y ProfileFault)
-    → HasLine first → ((x : X) → HasLine (step x)) → HasLine (first >>= step)
-unfolding HasLine
-HasLine-then (Ok x) step of_first of_step = of_step x
-HasLine-then (Err fault) step of_first of_step = of_first
-
-pub HasLine-ok_or : {A : Type 0} (found : Option A) (fault : ProfileFault)
-    → IsOneLine (fault_text fault) → HasLine (ok_or found fault)
-unfolding HasLine
-HasLine-ok_or (Some value) fault line = tt
-HasLine-ok_or None fault line = line
-
-pub HasLine-cond : {A : Type 0} (test : Bool) (one other : Result A ProfileFault)
-    → HasLine one → HasLine other → HasLine (cond test one other)
-HasLine-cond true one other of_one of_other = of_one
-HasLine-cond false one other of_one of_other = of_other
-
-pub IsOneLine-entry : (here : Place) (key : List ℕ) → IsOneLine (fault_text (bad_entry here key))
-IsOneLine-entry here key =
-    IsOneLine-append (codes "F3 BadEntry ") (path_of here key) refl (IsOneLine-path_of here key)
-
-pub HasLine-element : (here : Place) (key : List ℕ) (index : ℕ) (value : Data)
-    → HasLine (element here key index value)
-HasLine-element here key index value =
-    let path = indexed (path_of here key) index in
-    let of_path = IsOneLine-indexed (path_of here key) index (IsOneLine-path_of here key) in
-    HasLine-ok_or (as_table value) (BadEntry path)
-    (IsOneLine-append (codes "F3 BadEntry ") path refl of_path)
-
-HasLine-known : (shape : Shape) (here : Place) (table : Members) → HasLine (known shape here table)
-HasLine-known shape here no_members = HasLine-ok tt
-HasLine-known shape here (member key value rest) =
-    HasLine-cond (has_key shape key) (known shape here rest) (Err (bad_entry here key))
-    (HasLine-known shape here rest) (HasLine-err _ (bad_entry here key) (IsOneLine-entry here key))
-
-HasLine-required : {A : Type 0} (reads : Data → Option A) (here : Place) (key : List ℕ) (table : Members)
-    → HasLine (required reads here key table)
-HasLine-required reads here key table =
-    HasLine-ok_or _ (bad_entry here key) (IsOneLine-entry here key)
-
-HasLine-given : {A : Type 0} (reads : Data → Option A) (here : Place) (key : List ℕ) (given : Option Data)
-    → HasLine (if_given reads (bad_entry here key) given)
-HasLine-given reads here key None = HasLine-ok None
-HasLine-given reads here key (Some value) =
-    HasLine-then (ok_or (reads value) (bad_entry here key)) (λ read. Ok (Some read))
-    (HasLine-ok_or (reads value) (bad_entry here key) (IsOneLine-entry here key))
-    (λ read. HasLine-ok (Some read))
-
-HasLine-optional : {A : Type 0} (reads : Data → Option A) (here : Place) (key : List ℕ) (table : Members)
-    → HasLine (optional reads here key table)
-HasLine-optional reads here key table = HasLine-given reads here key (get_member key table)
-
-pub needs : {A Y : Type 0} (reads : Data → Option A) (here : Place) (key : List ℕ) (table : Members)
-    (step : A → Result Y ProfileFault) → ((x : A) → HasLine (step x))
-    → HasLine (required reads here key table >>= step)
-needs reads here key table step of_step =
-    HasLine-then (required reads here key table) step
-    (HasLine-required reads here key table) of_step
-
-pub takes : {A Y : Type 0} (reads : Data → Option A) (here : Place) (key : List ℕ) (table : Members)
-    (step : Option A → Result Y ProfileFault) → ((x : Option A) → HasLine (step x))
-    → HasLine (optional reads here key table >>= step)
-takes reads here key table step of_step =
-    HasLine-then (optional reads here key table) step
-    (HasLine-optional reads here key table) of_step
-
-pub knows : {Y : Type 0} (shape : Shape) (here : Place) (table : Members)
-    (step : Unit {0} → Result Y ProfileFault) → ((x : Unit {0}) → HasLine (step x))
-    → HasLine (known shape here table >>= step)
-knows shape here table step of_step =
-    HasLine-then (known shape here table) step (HasLine-known shape here table) of_step
-
-pub HasLine-each : {A : Type 0} (here : Place) (key : List ℕ) (reads : ℕ → Members → Result A ProfileFault)
-    → ((index : ℕ) (table : Members) → HasLine (reads index table))
-    → (index : ℕ) (values : Items) → HasLine (each here key reads index values)
-HasLine-each here key reads of_reads index no_items = HasLine-ok []
-HasLine-each here key reads of_reads index (item value values) =
-    HasLine-then (element here key index value) _ (HasLine-element here key index value) (λ table.
-    HasLine-then (reads index table) _ (of_reads index table) (λ first.
-    HasLine-then (each here key reads (index + 1) values) _
-    (HasLine-each here key reads of_reads (index + 1) values) (λ rest. HasLine-ok _)))
-
-HasLine-all_tables : (here : Place) (key : List ℕ) (index : ℕ) (values : Items)
-    → HasLine (all_tables here key index values)
-HasLine-all_tables here key index no_items = HasLine-ok tt
-HasLine-all_tables here key index (item value values) =
-    HasLine-then (element here key index value) _ (HasLine-element here key index value) (λ table.
-    HasLine-all_tables here key (index + 1) values)
-
-HasLine-tables_of : (here : Place) (key : List ℕ) (value : Data)
-    → HasLine (tables_of here key value)
-unfolding tables_of
-HasLine-tables_of here key value =
-    HasLine-then (ok_or (as_array value) (bad_entry here key)) _
-    (HasLine-ok_or (as_array value) (bad_entry here key) (IsOneLine-entry here key)) (λ elements.
-    HasLine-then (all_tables here key 0 elements) _ (HasLine-all_tables here key 0 elements)
-    (λ all_are.
-    HasLine-ok elements))
-
-pub HasLine-required_tables : (here : Place) (key : List ℕ) (table : Members)
-    → HasLine (required_tables here key table)
-unfolding required_tables
-HasLine-required_tables here key table =
-    HasLine-then (ok_or (get_member key table) (bad_entry here key)) _
-    (HasLine-ok_or (get_member key table) (bad_entry here key) (IsOneLine-entry here key))
-    (HasLine-tables_of here key)
-
-pub HasLine-optional_tables : (here : Place) (key : List ℕ) (table : Members)
-    → HasLine (optional_tables here key table)
-unfolding optional_tables
-HasLine-optional_tables here key table = by_value (get_member key table)
+PrintsLine-check_schema : (table : PlacedTable) → PrintsLine (check_schema table)
+unfolding PrintsLine
+PrintsLine-check_schema table = by_read (required as_natural (codes "schema") table)
   where
-    by_value : (given : Option Data)
-        → HasLine (option_map_or (tables_of here key) given (Ok no_items))
-    by_value None = HasLine-ok no_items
-    by_value (Some value) = HasLine-tables_of here key value
+    by_test : (test : Bool)
+        → PrintsLine {A = Unit {0}} (cond test (Ok tt) (Err fault.BadSchema))
+    by_test true = tt
+    by_test false = refl
 
-pub HasLine-schema : (table : Members) → HasLine (schema table)
-HasLine-schema table =
-    HasLine-cond (has_schema table) (Ok tt) (Err BadSchema) (HasLine-ok tt)
-    (HasLine-err _ BadSchema refl)
+    by_read : (read : Result ℕ BadEntry) → PrintsLine (is_schema_1 read)
+    by_read (Ok number) = by_test (number == 1)
+    by_read (Err bad) = refl
 
-pub HasLine-release_in : (here : Place) (table : Members) → HasLine (release_in here table)
-unfolding release_in
-HasLine-release_in here table =
-    needs as_str here (codes "version") table _ (λ version.
-    needs as_str here (codes "name") table _ (λ name.
-    needs as_natural here (codes "size") table _ (λ size.
-    needs as_str here (codes "sha256") table _ (λ sha256. HasLine-ok _))))
+PrintsLine-entries : {A : Type 0} (read : Result A BadEntry) → HasLine read → PrintsLine (entries read)
+unfolding PrintsLine HasLine
+PrintsLine-entries (Ok value) line = tt
+PrintsLine-entries (Err bad) line = IsOneLine-append (codes "F3 BadEntry ") bad.path refl line
+
+PrintsLine-good_mirrors : (mirrors : List Mirror) → PrintsLine (good_mirrors mirrors)
+unfolding PrintsLine
+PrintsLine-good_mirrors mirrors = by_index (bad_mirror mirrors)
+  where
+    by_index : (bad : Option ℕ)
+        → PrintsLine (option_map_or (λ index. Err (fault.BadMirror index)) bad (Ok mirrors))
+    by_index None = tt
+    by_index (Some index) =
+        IsOneLine-append (codes "F4 BadMirror ") (decimal index) refl (IsOneLine-decimal index)
+
+PrintsLine-few_edits : (edits : List Edit) → PrintsLine (few_edits edits)
+unfolding PrintsLine
+PrintsLine-few_edits edits = by_test (nat_le (length edits) max_edits)
+  where
+    by_test : (test : Bool) → PrintsLine (cond test (Ok edits) (Err fault.TooManyEdits))
+    by_test true = tt
+    by_test false = refl
+
+PrintsLine-profile_of_text : (text : List ℕ) → PrintsLine (profile_of_text text)
+unfolding PrintsLine profile_of_text
+PrintsLine-profile_of_text text =
+    PrintsLine-then (ok_or (document_of text) fault.NotToml) _
+    (PrintsLine-document (document_of text)) (λ members.
+    PrintsLine-then (check_schema (document members)) _
+    (PrintsLine-check_schema (document members)) (λ schema_is_1.
+    PrintsLine-then (entries (profile_of (document members))) _
+    (PrintsLine-entries (profile_of (document members)) (Tells-profile_of (document members) refl))
+    (λ profile.
+    PrintsLine-then (good_mirrors profile.mirrors) _ (PrintsLine-good_mirrors profile.mirrors)
+    (λ mirrors. tt))))
+
+PrintsLine-script_of_text : (text : List ℕ) → PrintsLine (script_of_text text)
+unfolding PrintsLine script_of_text
+PrintsLine-script_of_text text =
+    PrintsLine-then (ok_or (document_of text) fault.NotToml) _
+    (PrintsLine-document (document_of text)) (λ members.
+    PrintsLine-then (check_schema (document members)) _
+    (PrintsLine-check_schema (document members)) (λ schema_is_1.
+    PrintsLine-then (entries (script_of (document members))) _
+    (PrintsLine-entries (script_of (document members)) (Tells-script_of (document members) refl))
+    (λ script.
+    PrintsLine-then (few_edits script.1) _ (PrintsLine-few_edits script.1) (λ edits. tt))))
+
+told_as : {A : Type 0} (read : Result A ProfileFault) → PrintsLine read
+    → (told : ProfileFault) → read ≡ Err told → IsOneLine (fault_text told)
+unfolding PrintsLine
+told_as (Ok value) line told same = absurd (cc)
+told_as (Err first) line told same = let this : first ≡ told = cc (same) in rw (← this) line
+
+pub IsOneLine-profile : (text : List ℕ) (told : ProfileFault)
+    → profile_of_text text ≡ Err told → IsOneLine (fault_text told)
+IsOneLine-profile text told same =
+    told_as (profile_of_text text) (PrintsLine-profile_of_text text) told same
+
+pub IsOneLine-script : (text : List ℕ) (told : ProfileFault)
+    → script_of_text text ≡ Err told → IsOneLine (fault_text told)
+IsOneLine-script text told same =
+    told_as (script_of_text text) (PrintsLine-script_of_text text) told same

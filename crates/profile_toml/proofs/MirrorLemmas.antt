@@ -1,5 +1,5 @@
 -- Mirrors among which there is no bad one, and the profiles that have them.
-use Rattle.std.proofs.Common.{◌≡◌, ℕ, ◌+◌, ◌≤◌, ◌||◌, not, nat_lt, List, [], ◌∷◌, ◌++◌, length, Bool, true, false, cond, Option, Some, None, Result, Ok, Err, codes, refl, ap, arith, append_assoc, append-nil, ltb-false}
+use Rattle.std.proofs.Common.{◌≡◌, ℕ, ◌+◌, ◌≤◌, ◌||◌, not, nat_lt, List, [], ◌∷◌, ◌++◌, length, Bool, true, false, cond, Option, Some, None, Result, Ok, Err, refl, ap, arith, append_assoc, append-nil, ltb-false}
 use Rattle.std.specs.List.{count_by, list_all, list_any}
 use Rattle.std.specs.Option.{ok_or, option_map_or}
 use Rattle.std.proofs.lemmas.List.Sums.{sum_by-append}
@@ -7,21 +7,16 @@ use Rattle.std.proofs.lemmas.Slice.Eq.{bytes_eq-Decides}
 use Rattle.catalogue.specs.Mirrors.{is_mirror}
 use Rattle.catalogue.specs.declared.edit.Edit.{Edit}
 use Rattle.catalogue.specs.declared.mirror.Mirror.{Mirror}
-use Rattle.profile_toml.specs.Documents.{document_of}
-use Rattle.profile_toml.specs.Expansion.{edits_of}
-use Rattle.toml.specs.Data.{Members}
-use Rattle.profile_toml.specs.Fields.{◌>>=◌, known}
-use Rattle.profile_toml.specs.Lists.{each, optional_tables, required_tables}
+use Rattle.toml_tables.specs.Fields.{◌>>=◌}
+use Rattle.toml_tables.specs.Tables.{document}
+use Rattle.profile_toml.specs.Apps.{edits_of}
+use Rattle.profile_toml.specs.Documents.{check_schema, document_of, entries}
 use Rattle.profile_toml.specs.Laws.{AreMirrors}
-use Rattle.profile_toml.specs.MirrorLists.{bad_mirror, first_bad_after, is_bad_after, is_named, most_mirrors}
-use Rattle.profile_toml.specs.Profiles.{app_of, good_mirrors, mirror_of, profile_of, schema}
+use Rattle.profile_toml.specs.Mirrors.{bad_mirror, first_bad_after, good_mirrors, is_bad_after, is_named, max_mirrors}
+use Rattle.profile_toml.specs.Profiles.{profile_of}
 use Rattle.profile_toml.specs.Reading.{profile_of_text}
 use Rattle.profile_toml.specs.declared.fault.ProfileFault.{ProfileFault}
 use Rattle.profile_toml.specs.declared.fault.ProfileFault.TheVariants.{NotToml, BadMirror}
-use Rattle.profile_toml.specs.declared.place.Place.TheVariants as place
-use Rattle.profile_toml.specs.declared.profile.AppEntry.{AppEntry}
-use Rattle.profile_toml.specs.declared.profile.Profile.{Profile}
-use Rattle.profile_toml.specs.declared.shape.Shape.TheVariants as shape
 
 count_by-cons : {A : Type 0} (q : A → Bool) (x : A) (xs : List A)
     → count_by q (x ∷ xs) ≡ cond (q x) 1 0 + count_by q xs
@@ -105,10 +100,10 @@ each_once name before (mirror ∷ mirrors) none once =
 AreMirrors-none : (mirrors : List Mirror) → bad_mirror mirrors ≡ None → AreMirrors mirrors
 AreMirrors-none [] none = absurd (cc)
 AreMirrors-none (mirror ∷ mirrors) none =
-    let apart = no_index (nat_lt most_mirrors (length (mirror ∷ mirrors))) most_mirrors (first_bad_after [] (mirror ∷ mirrors)) none in
+    let apart = no_index (nat_lt max_mirrors (length (mirror ∷ mirrors))) max_mirrors (first_bad_after [] (mirror ∷ mirrors)) none in
     record {
       some = omega arith;
-      few = ltb-false most_mirrors (length (mirror ∷ mirrors)) apart.0;
+      few = ltb-false max_mirrors (length (mirror ∷ mirrors)) apart.0;
       formed = all_formed [] (mirror ∷ mirrors) apart.1;
       once = λ name. each_once name [] (mirror ∷ mirrors) apart.1 (omega arith);
     }
@@ -129,30 +124,14 @@ bind-ok : {X Y : Type 0} (first : Result X ProfileFault) (step : X → Result Y 
 bind-ok (Ok x) step y given = (x, refl, given)
 bind-ok (Err fault) step y given = absurd (cc)
 
-abbrev whole_of : List Mirror → List AppEntry → Profile
-whole_of mirrors apps = record { mirrors = mirrors; apps = apps }
-
-AreMirrors-profile_of : (table : Members) (profile : Profile) → profile_of table ≡ Ok profile → AreMirrors profile.mirrors
-unfolding profile_of
-AreMirrors-profile_of table profile read =
-    let of_schema = bind-ok (schema table) _ profile read in
-    let of_keys = bind-ok (known shape.Profile place.Top table) _ profile of_schema.2 in
-    let of_mirrors = bind-ok (required_tables place.Top (codes "mirror") table) _ profile of_keys.2 in
-    let of_apps = bind-ok (optional_tables place.Top (codes "app") table) _ profile of_mirrors.2 in
-    let mirrors = bind-ok (each place.Top (codes "mirror") mirror_of 0 of_mirrors.0) _ profile of_apps.2 in
-    let apps = bind-ok (each place.Top (codes "app") app_of 0 of_apps.0) _ profile mirrors.2 in
-    let good = bind-ok (good_mirrors mirrors.0) _ profile apps.2 in
-    let whole : whole_of good.0 apps.0 ≡ profile = cc (good.2) in
-    let same : good.0 ≡ profile.mirrors = ap (λ (p : Profile). p.mirrors) whole in
-    rw (← same) (AreMirrors-good_mirrors mirrors.0 good.0 good.1)
-
 pub AreMirrors-profile_of_text : (text : List ℕ) (edits : List Edit) (mirrors : List Mirror)
     → profile_of_text text ≡ Ok (edits, mirrors) → AreMirrors mirrors
 unfolding profile_of_text
 AreMirrors-profile_of_text text edits mirrors read =
-    let of_table = bind-ok (ok_or (document_of text) NotToml) _ (edits, mirrors) read in
-    let of_profile = bind-ok (profile_of of_table.0) _ (edits, mirrors) of_table.2 in
-    let good = AreMirrors-profile_of of_table.0 of_profile.0 of_profile.1 in
-    let pairs : (edits_of of_profile.0.apps, of_profile.0.mirrors) ≡ (edits, mirrors) = cc (of_profile.2) in
-    let same : of_profile.0.mirrors ≡ mirrors = ap (λ (p : List Edit × List Mirror). p.1) pairs in
-    rw (← same) good
+    let members = bind-ok (ok_or (document_of text) NotToml) _ (edits, mirrors) read in
+    let schema = bind-ok (check_schema (document members.0)) _ (edits, mirrors) members.2 in
+    let profile = bind-ok (entries (profile_of (document members.0))) _ (edits, mirrors) schema.2 in
+    let good = bind-ok (good_mirrors profile.0.mirrors) _ (edits, mirrors) profile.2 in
+    let pairs : (edits_of profile.0.apps, good.0) ≡ (edits, mirrors) = cc (good.2) in
+    let same : good.0 ≡ mirrors = ap (λ (p : List Edit × List Mirror). p.1) pairs in
+    rw (← same) (AreMirrors-good_mirrors profile.0.mirrors good.0 good.1)

@@ -1,8 +1,31 @@
--- The table that a text is: UTF-8 and TOML, as the crate `toml` takes it.
-use Rattle.std.specs.Prelude.{ℕ, List, if◌then◌else◌, Option, None}
+-- What profiles and scripts have in common: UTF-8 and TOML, as the crate `toml` reads it, and the
+-- schema 1; this project's profile.
+use Rattle.std.specs.Prelude.{ℕ, ◌==◌, List, if◌then◌else◌, Option, None, Result, Ok, Err, codes}
 use Rattle.std.specs.Str.{is_utf8}
 use Rattle.toml.specs.Data.{Members}
 use Rattle.toml.specs.Parse.{parse_document}
+use Rattle.toml_tables.specs.Fields.{as_natural, required}
+use Rattle.toml_tables.specs.Tables.{PlacedTable}
+use Rattle.toml_tables.specs.declared.path.BadEntry.{BadEntry}
+use Rattle.profile_toml.specs.declared.fault.ProfileFault.{ProfileFault}
+use Rattle.profile_toml.specs.declared.fault.ProfileFault.TheVariants as fault
 
+-- rule: text of a profile
+-- the members of the document that a text is
 abbrev pub document_of : List ℕ → Option Members
 document_of text = if is_utf8 text then parse_document text else None
+
+-- the schema that was read is 1
+abbrev pub is_schema_1 : Result ℕ BadEntry → Result (Unit {0}) ProfileFault
+is_schema_1 (Ok number) = if number == 1 then Ok tt else Err fault.BadSchema
+is_schema_1 (Err bad) = Err fault.BadSchema
+
+-- rule: schema of a profile
+-- the key `schema` is the integer 1
+abbrev pub check_schema : PlacedTable → Result (Unit {0}) ProfileFault
+check_schema table = is_schema_1 (required as_natural (codes "schema") table)
+
+-- what is read of a document's entries; a bad one is the document's fault
+abbrev pub entries : {A : Type 0} → Result A BadEntry → Result A ProfileFault
+entries (Ok value) = Ok value
+entries (Err bad) = Err (fault.BadEntry bad.path)

@@ -1,4 +1,4 @@
--- How a refused profile or script is printed: the fault's code and name; this project's profile.
+-- How the fault of a profile or a script is printed: its code and name; this project's profile.
 use Rattle.std.specs.Prelude.{ℕ, List, ◌++◌, codes, decimal}
 use Rattle.profile_toml.specs.declared.fault.ProfileFault.{ProfileFault}
 use Rattle.profile_toml.specs.declared.fault.ProfileFault.TheVariants.{NotToml, BadSchema, BadEntry, BadMirror, TooManyEdits}

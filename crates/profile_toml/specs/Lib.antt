@@ -1,11 +1,11 @@
+pub mod Apps
+pub mod CohortNames
+pub mod Cohorts
 pub mod Documents
-pub mod Expansion
 pub mod FaultTexts
-pub mod Fields
 pub mod Laws
-pub mod Lists
-pub mod MirrorLists
-pub mod Places
+pub mod Mirrors
 pub mod Profiles
 pub mod Reading
+pub mod Releases
 pub mod Scripts

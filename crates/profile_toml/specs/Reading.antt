@@ -4,23 +4,34 @@ use Rattle.std.specs.Prelude.{ℕ, List, Result, Ok}
 use Rattle.std.specs.Option.{ok_or}
 use Rattle.catalogue.specs.declared.edit.Edit.{Edit}
 use Rattle.catalogue.specs.declared.mirror.Mirror.{Mirror}
-use Rattle.profile_toml.specs.Documents.{document_of}
-use Rattle.profile_toml.specs.Expansion.{edits_of}
-use Rattle.profile_toml.specs.Fields.{◌>>=◌}
+use Rattle.toml_tables.specs.Fields.{◌>>=◌}
+use Rattle.toml_tables.specs.Tables.{document}
+use Rattle.profile_toml.specs.Apps.{edits_of}
+use Rattle.profile_toml.specs.Documents.{check_schema, document_of, entries}
+use Rattle.profile_toml.specs.Mirrors.{good_mirrors}
 use Rattle.profile_toml.specs.Profiles.{profile_of}
-use Rattle.profile_toml.specs.Scripts.{script_of}
+use Rattle.profile_toml.specs.Scripts.{few_edits, script_of}
 use Rattle.profile_toml.specs.declared.fault.ProfileFault.{ProfileFault}
 use Rattle.profile_toml.specs.declared.fault.ProfileFault.TheVariants.{NotToml}
 
--- the edits that a profile stands for, and its mirrors
+-- rule: faults of a profile
+-- the edits that a profile stands for, and its mirrors: its schema is checked first, its mirrors
+-- last
 unfoldable pub profile_of_text : List ℕ → Result (List Edit × List Mirror) ProfileFault
 profile_of_text text = do
-  table ← ok_or (document_of text) NotToml
-  profile ← profile_of table
-  Ok (edits_of profile.apps, profile.mirrors)
+  members ← ok_or (document_of text) NotToml
+  schema_is_1 ← check_schema (document members)
+  profile ← entries (profile_of (document members))
+  mirrors ← good_mirrors profile.mirrors
+  Ok (edits_of profile.apps, mirrors)
 
--- the number of the edition that a script is written for, and its edits
+-- rule: faults of a script
+-- the number of the edition that a script is written for, and its edits: its schema is checked
+-- first, the number of its edits last
 unfoldable pub script_of_text : List ℕ → Result (ℕ × List Edit) ProfileFault
 script_of_text text = do
-  table ← ok_or (document_of text) NotToml
-  script_of table
+  members ← ok_or (document_of text) NotToml
+  schema_is_1 ← check_schema (document members)
+  script ← entries (script_of (document members))
+  edits ← few_edits script.1
+  Ok (script.0, edits)

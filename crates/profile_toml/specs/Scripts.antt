@@ -1,10 +1,11 @@
--- What a script's tables say: the edition that it is written for and its edits, or the first fault;
--- this project's profile, schema 1. Which keys an edit has depends on its `do`, so that is read
--- first; unknown keys follow, and then the known ones in the order of `keys_of_edit`.
+-- What a script's tables say: the edition that it is written for and its edits, or the first bad
+-- entry; this project's profile, schema 1. Which keys an edit has depends on its `do`, so that is
+-- read first; unknown keys follow, and then the known ones in the order of the edit's keys.
 use Rattle.std.specs.Prelude.{ℕ, nat_le, List, [], ◌∷◌, length, codes, if◌then◌else◌, Option, option_and_then, Result, Ok, Err}
 use Rattle.std.specs.Map.{lookup}
+use Rattle.std.specs.Option.{ok_or}
 use Rattle.std.specs.Str.{bytes_eq}
-use Rattle.toml.specs.Data.{Data, Members, as_str, as_bool}
+use Rattle.toml.specs.Data.{as_str, as_bool}
 use Rattle.catalogue.specs.declared.edit.AddApp.{AddApp}
 use Rattle.catalogue.specs.declared.edit.AddCohort.{AddCohort}
 use Rattle.catalogue.specs.declared.edit.AddRelease.{AddRelease}
@@ -13,17 +14,16 @@ use Rattle.catalogue.specs.declared.edit.SetShare.{SetShare}
 use Rattle.catalogue.specs.declared.edit.SetTarget.{SetTarget}
 use Rattle.catalogue.specs.declared.edit.Edit.{Edit}
 use Rattle.catalogue.specs.declared.edit.Edit.TheVariants as edit
-use Rattle.profile_toml.specs.Expansion.{added_to}
-use Rattle.profile_toml.specs.Fields.{◌>>=◌, as_natural, known, optional, required}
-use Rattle.profile_toml.specs.Lists.{each, optional_tables}
-use Rattle.profile_toml.specs.Profiles.{release_in, schema}
+use Rattle.toml_tables.specs.Fields.{◌>>=◌, as_natural, known, optional, required}
+use Rattle.toml_tables.specs.Lists.{each, optional_tables}
+use Rattle.toml_tables.specs.Paths.{bad_key}
+use Rattle.toml_tables.specs.Tables.{PlacedTable}
+use Rattle.toml_tables.specs.declared.path.BadEntry.{BadEntry}
+use Rattle.profile_toml.specs.Releases.{added_to, release_in}
 use Rattle.profile_toml.specs.declared.fault.ProfileFault.{ProfileFault}
 use Rattle.profile_toml.specs.declared.fault.ProfileFault.TheVariants.{TooManyEdits}
-use Rattle.profile_toml.specs.declared.place.Place.{Place}
-use Rattle.profile_toml.specs.declared.place.Place.TheVariants as place
-use Rattle.profile_toml.specs.declared.shape.Shape.TheVariants as shape
-use Rattle.profile_toml.specs.declared.shape.Verb.{Verb}
-use Rattle.profile_toml.specs.declared.shape.Verb.TheVariants as verb
+use Rattle.profile_toml.specs.declared.script.Verb.{Verb}
+use Rattle.profile_toml.specs.declared.script.Verb.TheVariants as verb
 
 -- the kinds of edit, by what `do` says
 abbrev pub verbs : List (List ℕ × Verb)
@@ -39,81 +39,104 @@ verbs =
 abbrev pub verb_named : List ℕ → Option Verb
 verb_named name = lookup (bytes_eq name) verbs
 
-abbrev pub as_verb : Data → Option Verb
-as_verb value = option_and_then verb_named (as_str value)
+-- the kind of an edit
+unfoldable pub verb_of : PlacedTable → Result Verb BadEntry
+verb_of table = do
+  name ← required as_str (codes "do") table
+  ok_or (verb_named name) (bad_key table.place (codes "do"))
 
--- the keys of each kind
-unfoldable pub app_added : Place → Members → Result AddApp ProfileFault
-app_added here table = do
-  app ← required as_str here (codes "app") table
-  default ← required as_str here (codes "default") table
+-- the keys of an edit, in the order in which they are read
+abbrev pub keys_of_edit : Verb → List (List ℕ)
+keys_of_edit verb.AddApp = codes "do" ∷ codes "app" ∷ codes "default" ∷ []
+keys_of_edit verb.AddRelease =
+    codes "do" ∷ codes "app" ∷ codes "version" ∷ codes "name" ∷ codes "size" ∷ codes "sha256" ∷ []
+keys_of_edit verb.AddCohort = codes "do" ∷ codes "app" ∷ codes "cohort" ∷ []
+keys_of_edit verb.SetTarget =
+    codes "do" ∷ codes "app" ∷ codes "cohort" ∷ codes "target" ∷ codes "held" ∷ []
+keys_of_edit verb.SetShare = codes "do" ∷ codes "app" ∷ codes "cohort" ∷ codes "share" ∷ []
+keys_of_edit verb.SetOpen = codes "do" ∷ codes "app" ∷ codes "cohort" ∷ codes "on" ∷ []
+
+-- what the keys of each kind say
+unfoldable pub app_added : PlacedTable → Result AddApp BadEntry
+app_added table = do
+  all_known ← known (keys_of_edit verb.AddApp) table
+  app ← required as_str (codes "app") table
+  default ← required as_str (codes "default") table
   Ok (record { app = app; default = default })
 
-unfoldable pub release_added : Place → Members → Result AddRelease ProfileFault
-release_added here table = do
-  app ← required as_str here (codes "app") table
-  release ← release_in here table
+unfoldable pub release_added : PlacedTable → Result AddRelease BadEntry
+release_added table = do
+  all_known ← known (keys_of_edit verb.AddRelease) table
+  app ← required as_str (codes "app") table
+  release ← release_in table
   Ok (added_to app release)
 
-unfoldable pub cohort_added : Place → Members → Result AddCohort ProfileFault
-cohort_added here table = do
-  app ← required as_str here (codes "app") table
-  cohort ← required as_str here (codes "cohort") table
+unfoldable pub cohort_added : PlacedTable → Result AddCohort BadEntry
+cohort_added table = do
+  all_known ← known (keys_of_edit verb.AddCohort) table
+  app ← required as_str (codes "app") table
+  cohort ← required as_str (codes "cohort") table
   Ok (record { app = app; cohort = cohort })
 
-unfoldable pub target_set : Place → Members → Result SetTarget ProfileFault
-target_set here table = do
-  app ← required as_str here (codes "app") table
-  cohort ← required as_str here (codes "cohort") table
-  target ← optional as_str here (codes "target") table
-  held ← optional as_str here (codes "held") table
+unfoldable pub target_set : PlacedTable → Result SetTarget BadEntry
+target_set table = do
+  all_known ← known (keys_of_edit verb.SetTarget) table
+  app ← required as_str (codes "app") table
+  cohort ← required as_str (codes "cohort") table
+  target ← optional as_str (codes "target") table
+  held ← optional as_str (codes "held") table
   Ok (record { app = app; cohort = cohort; target = target; held = held })
 
-unfoldable pub share_set : Place → Members → Result SetShare ProfileFault
-share_set here table = do
-  app ← required as_str here (codes "app") table
-  cohort ← required as_str here (codes "cohort") table
-  share ← required as_natural here (codes "share") table
+unfoldable pub share_set : PlacedTable → Result SetShare BadEntry
+share_set table = do
+  all_known ← known (keys_of_edit verb.SetShare) table
+  app ← required as_str (codes "app") table
+  cohort ← required as_str (codes "cohort") table
+  share ← required as_natural (codes "share") table
   Ok (record { app = app; cohort = cohort; share = share })
 
-unfoldable pub open_set : Place → Members → Result SetOpen ProfileFault
-open_set here table = do
-  app ← required as_str here (codes "app") table
-  cohort ← required as_str here (codes "cohort") table
-  on ← required as_bool here (codes "on") table
+unfoldable pub open_set : PlacedTable → Result SetOpen BadEntry
+open_set table = do
+  all_known ← known (keys_of_edit verb.SetOpen) table
+  app ← required as_str (codes "app") table
+  cohort ← required as_str (codes "cohort") table
+  on ← required as_bool (codes "on") table
   Ok (record { app = app; cohort = cohort; on = on })
 
 -- the edit of a kind
-unfoldable pub edit_in : Verb → Place → Members → Result Edit ProfileFault
-edit_in verb.AddApp here table = app_added here table >>= λ e. Ok (edit.AddApp e)
-edit_in verb.AddRelease here table = release_added here table >>= λ e. Ok (edit.AddRelease e)
-edit_in verb.AddCohort here table = cohort_added here table >>= λ e. Ok (edit.AddCohort e)
-edit_in verb.SetTarget here table = target_set here table >>= λ e. Ok (edit.SetTarget e)
-edit_in verb.SetShare here table = share_set here table >>= λ e. Ok (edit.SetShare e)
-edit_in verb.SetOpen here table = open_set here table >>= λ e. Ok (edit.SetOpen e)
+unfoldable pub edit_in : Verb → PlacedTable → Result Edit BadEntry
+edit_in verb.AddApp table = app_added table >>= λ e. Ok (edit.AddApp e)
+edit_in verb.AddRelease table = release_added table >>= λ e. Ok (edit.AddRelease e)
+edit_in verb.AddCohort table = cohort_added table >>= λ e. Ok (edit.AddCohort e)
+edit_in verb.SetTarget table = target_set table >>= λ e. Ok (edit.SetTarget e)
+edit_in verb.SetShare table = share_set table >>= λ e. Ok (edit.SetShare e)
+edit_in verb.SetOpen table = open_set table >>= λ e. Ok (edit.SetOpen e)
 
+-- rule: edit of a script
 -- an edit of a script
-unfoldable pub edit_of : ℕ → Members → Result Edit ProfileFault
-edit_of index table = do
-  let here = place.Edit index
-  kind ← required as_verb here (codes "do") table
-  all_known ← known (shape.Edit kind) here table
-  edit_in kind here table
+unfoldable pub edit_of : PlacedTable → Result Edit BadEntry
+edit_of table = do
+  kind ← verb_of table
+  edit_in kind table
 
--- a script's edits at most
-abbrev pub most_edits : ℕ
-most_edits = 4096
+-- the maximum of a script's edits
+abbrev pub max_edits : ℕ
+max_edits = 4096
 
+-- rule: number of a script's edits
 abbrev pub few_edits : List Edit → Result (List Edit) ProfileFault
-few_edits edits = if nat_le (length edits) most_edits then Ok edits else Err TooManyEdits
+few_edits edits = if nat_le (length edits) max_edits then Ok edits else Err TooManyEdits
 
--- a script: its schema first, the number of its edits last
-unfoldable pub script_of : Members → Result (ℕ × List Edit) ProfileFault
+-- the keys of a script, in the order in which they are read
+abbrev pub script_keys : List (List ℕ)
+script_keys = codes "schema" ∷ codes "base" ∷ codes "edit" ∷ []
+
+-- rule: tables of a script
+-- a script, of schema 1: the edition that it is written for, and its edits
+unfoldable pub script_of : PlacedTable → Result (ℕ × List Edit) BadEntry
 script_of table = do
-  schema_is_1 ← schema table
-  all_known ← known shape.Script place.Top table
-  base ← required as_natural place.Top (codes "base") table
-  edit_tables ← optional_tables place.Top (codes "edit") table
-  edits ← each place.Top (codes "edit") edit_of 0 edit_tables
-  few ← few_edits edits
-  Ok (base, few)
+  all_known ← known script_keys table
+  base ← required as_natural (codes "base") table
+  edit_list ← optional_tables (codes "edit") table
+  edits ← each edit_of edit_list
+  Ok (base, edits)

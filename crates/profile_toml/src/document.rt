@@ -1,16 +1,21 @@
+//! What profiles and scripts have in common.
+
 ghost use Rattle.std.specs.Option.{ok_or};
 ghost use Rattle.values.specs.Reading.{Reads};
 ghost use Rattle.toml.specs.View.{table_view};
-ghost use Rattle.profile_toml.specs.Documents.{document_of};
+ghost use Rattle.toml_tables.specs.Readers.{placed};
+ghost use Rattle.profile_toml.specs.Documents.{check_schema, document_of};
+ghost use Rattle.profile_toml.specs.declared.fault.ProfileFault.TheVariants.{NotToml};
 
 use crate::fault::ProfileFault;
 use std::alloc::Global;
 use toml::Table;
+use toml_tables::TableReader;
 use values::ReadError;
 
-/// Reads the table that a text is.
-pub(crate) fn read_table(alloc: Global, bytes: &[u8]) -> Result<Table, ReadError<ProfileFault>>
-    ensures { Reads table_view result (ok_or (document_of bytes.now) ProfileFault.NotToml) }
+/// Parses a TOML document, or returns `NotToml`.
+pub(crate) fn parse(alloc: Global, bytes: &[u8]) -> Result<Table, ReadError<ProfileFault>>
+    ensures { Reads table_view result (ok_or (document_of bytes.now) NotToml) }
 {
     match toml::table_from_slice(alloc, bytes) {
         Ok(table) => Ok(table),
@@ -20,5 +25,16 @@ pub(crate) fn read_table(alloc: Global, bytes: &[u8]) -> Result<Table, ReadError
             }
             Err(ReadError::Fault(ProfileFault::NotToml))
         }
+    }
+}
+
+/// Returns `BadSchema` unless the document is of schema 1.
+pub(crate) fn check_schema(document: &TableReader<'_>) -> Result<(), ReadError<ProfileFault>>
+    ensures { Reads (λ nothing. nothing) result (check_schema (placed document.now)) }
+{
+    match document.natural("schema") {
+        Ok(number) if number == 1 => Ok(()),
+        Err(ReadError::Memory) => Err(ReadError::Memory),
+        _ => Err(ReadError::Fault(ProfileFault::BadSchema)),
     }
 }

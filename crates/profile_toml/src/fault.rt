@@ -2,21 +2,21 @@ use std::error::Error;
 use std::fmt;
 use values::Text;
 
-/// Why a text is no profile, or no script.
+/// Why a document is no profile, or no script.
 ///
-/// An earlier variant is told before a later one.
+/// An earlier variant is reported before a later one.
 #[derive(Debug, Drop)]
 pub enum ProfileFault {
-    /// F1: the bytes are no UTF-8, or no TOML.
+    /// F1: the bytes are not UTF-8, or not TOML.
     NotToml,
-    /// F2: the text has no key `schema` with the integer 1.
+    /// F2: the document has no key `schema` with the integer 1.
     BadSchema,
     /// F3: the path of the first unknown key, missing key, value of a wrong type or negative
     /// integer, or of the name of a cohort that repeats an earlier one, as
     /// `app[0].release[2].size`.
     BadEntry(Text),
-    /// F4: the index of a mirror, from 0: 0 where there is none, 4 where there is a fifth, else
-    /// that of the first one that has not a mirror's form or has the name of an earlier one.
+    /// F4: the index of a mirror, from 0: 0 if there is none, 4 if there is a fifth, else that of
+    /// the first one that is invalid or has the name of an earlier one.
     BadMirror(usize),
     /// F5: a script has more than 4096 edits.
     TooManyEdits,

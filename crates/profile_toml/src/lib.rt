@@ -1,31 +1,27 @@
-//! Profiles and scripts: an operator's TOML texts, and the edits that they stand for.
+//! Profiles and scripts: an operator's TOML documents, and the edits that they stand for.
 //!
-//! A profile lists the mirrors and the apps of a vendor; `read_profile` gives the batch of edits
+//! A profile lists the mirrors and the apps of a vendor; `read_profile` returns the batch of edits
 //! that makes such a catalogue, and the mirrors. A script lists edits one by one, with the number
-//! of the edition that it is written for; `read_script` gives both. `specs/Reading.antt` says what
-//! a text is read as, or which `ProfileFault` it has: the first one. Read `specs/Profiles.antt` and
-//! `specs/Scripts.antt` for the keys, `specs/Expansion.antt` for a profile's edits in their order,
-//! and `laws` for what holds of every profile and every path.
+//! of the edition that it is written for; `read_script` returns both. `specs/Reading.antt` says
+//! what a document is read as, or which `ProfileFault` it has: the first one. Read `specs/Apps.antt`
+//! for a profile's edits in their order, `specs/Scripts.antt` for the edits of a script, and `laws`
+//! for what holds of every profile.
 //!
-//! It does not apply a batch, and does not judge what an edit says: that is `catalogue`. It does
-//! not write profiles.
+//! The keys of a table and their paths are read by `toml_tables`. This crate does not apply a batch
+//! and does not check what an edit says: that is `catalogue`. It does not write profiles.
 
 #![tactic(auto)]
 
+mod app;
+mod cohort;
 mod document;
-mod expansion;
 mod fault;
-mod field;
 pub mod laws;
-mod list;
-mod mirrors;
-mod path;
-mod place;
+mod mirror;
 mod profile;
-mod reading;
+mod release;
 mod script;
-mod shape;
-mod tables;
 
 pub use crate::fault::ProfileFault;
-pub use crate::reading::{read_profile, read_script};
+pub use crate::profile::read_profile;
+pub use crate::script::read_script;

@@ -1,54 +1,71 @@
-//! What a profile says, as plain records, before it is a batch of edits.
+//! Profiles.
 
-use catalogue::Mirror;
-use values::{Items, Text};
+ghost use Rattle.values.specs.Reading.{Reads};
+ghost use Rattle.toml_tables.specs.Readers.{placed};
+ghost use Rattle.profile_toml.specs.Documents.{entries};
+ghost use Rattle.profile_toml.specs.Profiles.{profile_of};
+ghost use Rattle.profile_toml.specs.Reading.{profile_of_text};
 
-/// A profile.
-#[derive(Debug, Drop)]
-pub(crate) struct Profile {
-    /// Its mirrors.
-    pub mirrors: Items<Mirror>,
-    /// Its apps.
-    pub apps: Items<AppEntry>,
+use crate::app::{AppEntry, AppTable, edits_of};
+use crate::document::{check_schema, parse};
+use crate::fault::ProfileFault;
+use crate::mirror::{MirrorTable, check_mirrors};
+use catalogue::{Batch, Mirror};
+use std::alloc::Global;
+use toml_tables::{BadEntry, TableReader};
+use values::{Items, ReadError};
+
+/// What a profile's tables say.
+#[derive(Drop)]
+struct Profile {
+    mirrors: Items<Mirror>,
+    apps: Items<AppEntry>,
 }
 
-/// An app's table.
-#[derive(Debug, Drop)]
-pub(crate) struct AppEntry {
-    /// The key `id`.
-    pub id: Text,
-    /// The key `default`, the name of the default cohort.
-    pub default: Text,
-    /// The tables `cohort`, each name once.
-    pub cohorts: Items<CohortEntry>,
-    /// The tables `release`.
-    pub releases: Items<ReleaseEntry>,
+// rule: tables of a profile
+#[tactic(auto, unfolding(crate::specs::Profiles::profile_of))]
+fn read_tables(document: &TableReader<'_>) -> Result<Profile, ReadError<BadEntry>>
+    ensures { Reads (λ profile. profile) result (profile_of (placed document.now)) }
+{
+    document.check_keys(&["schema", "mirror", "app"])?;
+    let mirrors = document.list("mirror")?;
+    let apps = document.optional_list("app")?;
+    Ok(Profile {
+        mirrors: mirrors.read::<MirrorTable>()?,
+        apps: apps.read::<AppTable>()?,
+    })
 }
 
-/// A cohort's table.
-#[derive(Debug, Drop)]
-pub(crate) struct CohortEntry {
-    /// The key `name`.
-    pub name: Text,
-    /// The key `target`, where it is given.
-    pub target: Option<Text>,
-    /// The key `held`, where it is given.
-    pub held: Option<Text>,
-    /// The key `share`, where it is given.
-    pub share: Option<u64>,
-    /// The key `open`, false where it is not given.
-    pub hintable: bool,
+fn read_entries(document: &TableReader<'_>) -> Result<Profile, ReadError<ProfileFault>>
+    ensures { Reads (λ profile. profile) result (entries (profile_of (placed document.now))) }
+{
+    match read_tables(document) {
+        Ok(profile) => Ok(profile),
+        Err(ReadError::Memory) => Err(ReadError::Memory),
+        Err(ReadError::Fault(bad)) => Err(ReadError::Fault(ProfileFault::BadEntry(bad.path))),
+    }
 }
 
-/// A release's table.
-#[derive(Debug, Drop)]
-pub(crate) struct ReleaseEntry {
-    /// The key `version`.
-    pub version: Text,
-    /// The key `name`, that of its full package.
-    pub name: Text,
-    /// The key `size`, in bytes.
-    pub size: u64,
-    /// The key `sha256`.
-    pub sha256: Text,
+// rule: faults of a profile
+/// Reads a profile of schema 1: the edits that make its catalogue, and its one to four mirrors.
+///
+/// Returns the first fault in the order of `ProfileFault`. Tables are read from the top: the
+/// profile's own keys, the mirrors, then each app with its cohorts and its releases. A table's
+/// unknown keys are reported before its others, the least of them in byte order. TOML is what the
+/// crate `toml` reads: version 1.1, integers of 64 bits, at most 80 levels. What the edits say is
+/// not checked.
+#[tactic(auto, unfolding(crate::specs::Reading::profile_of_text))]
+pub fn read_profile(
+    alloc: Global,
+    bytes: &[u8],
+) -> Result<(Batch, Vec<Mirror>), ReadError<ProfileFault>>
+    ensures { Reads (λ profile. (profile.0, profile.1.items)) result (profile_of_text bytes.now) }
+{
+    let document = parse(alloc, bytes)?;
+    let document = TableReader::new(alloc, &document);
+    check_schema(&document)?;
+    let Profile { mirrors, apps } = read_entries(&document)?;
+    let mirrors = check_mirrors(mirrors)?;
+    let edits = edits_of(alloc, apps)?;
+    Ok((Batch::new(edits.into_vec()), mirrors.into_vec()))
 }

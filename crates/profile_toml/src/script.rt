@@ -1,200 +1,211 @@
-//! From a script's tables to its edits.
+//! Scripts.
 
-ghost use Rattle.std.specs.Prelude.{◌≡◌, codes};
+ghost use Rattle.std.specs.Prelude.{◌≡◌};
 ghost use Rattle.values.specs.Reading.{Reads};
-ghost use Rattle.toml.specs.View.{items_view, table_view, view};
-ghost use Rattle.profile_toml.specs.Fields.{required};
-ghost use Rattle.profile_toml.specs.Lists.{each};
-ghost use Rattle.profile_toml.specs.Scripts.{app_added, as_verb, cohort_added, edit_in, edit_of, few_edits, open_set, release_added, script_of, share_set, target_set, verb_named};
-ghost use Rattle.profile_toml.specs.declared.place.Place.TheVariants as place;
+ghost use Rattle.toml_tables.specs.Readers.{placed};
+ghost use Rattle.profile_toml.specs.Documents.{entries};
+ghost use Rattle.profile_toml.specs.Reading.{script_of_text};
+ghost use Rattle.profile_toml.specs.Scripts.{app_added, cohort_added, edit_in, edit_of, few_edits, open_set, release_added, script_of, share_set, target_set, verb_named, verb_of};
 
-use crate::expansion::added_to;
+use crate::document::{check_schema, parse};
 use crate::fault::ProfileFault;
-use crate::field::{flag_at, known, natural_at, optional_text_at, text_at, value_at};
-use crate::list::{element, optional_tables};
-use crate::path::bad_entry;
-use crate::place::Place;
-use crate::shape::{Shape, Verb};
-use crate::tables::{release_in, schema};
-use catalogue::{AddApp, AddCohort, AddRelease, Edit, SetOpen, SetShare, SetTarget};
+use crate::release::{added_to, read_package};
+use catalogue::{AddApp, AddCohort, AddRelease, Batch, Edit, SetOpen, SetShare, SetTarget};
 use std::alloc::Global;
-use toml::{Table, Value};
+use toml_tables::{BadEntry, TableKind, TableReader};
 use values::{Items, ReadError};
 
-const MOST_EDITS: usize = 4096;
+const MAX_EDITS: usize = 4096;
 
-fn verb_named(name: &str) -> Option<Verb>
-    ensures { result ≡ verb_named name.now }
-{
-    match name {
-        "add_app" => Some(Verb::AddApp),
-        "add_release" => Some(Verb::AddRelease),
-        "add_cohort" => Some(Verb::AddCohort),
-        "set_target" => Some(Verb::SetTarget),
-        "set_share" => Some(Verb::SetShare),
-        "set_open" => Some(Verb::SetOpen),
-        _ => None,
+/// A kind of edit, which a script names by `do`.
+#[derive(Clone, Copy)]
+enum Verb {
+    AddApp,
+    AddRelease,
+    AddCohort,
+    SetTarget,
+    SetShare,
+    SetOpen,
+}
+
+impl Verb {
+    fn from_name(name: &str) -> Option<Verb>
+        ensures { result ≡ verb_named name.now }
+    {
+        match name {
+            "add_app" => Some(Verb::AddApp),
+            "add_release" => Some(Verb::AddRelease),
+            "add_cohort" => Some(Verb::AddCohort),
+            "set_target" => Some(Verb::SetTarget),
+            "set_share" => Some(Verb::SetShare),
+            "set_open" => Some(Verb::SetOpen),
+            _ => None,
+        }
     }
 }
 
-fn as_verb(value: &Value) -> Option<Verb>
-    ensures { result ≡ as_verb (view value.now) }
+#[tactic(auto, unfolding(crate::specs::Scripts::verb_of))]
+fn read_verb(table: &TableReader<'_>) -> Result<Verb, ReadError<BadEntry>>
+    ensures { Reads (λ verb. verb) result (verb_of (placed table.now)) }
 {
-    match value.as_str() {
-        Some(name) => verb_named(name),
-        None => None,
-    }
-}
-
-fn verb_at(alloc: Global, here: Place, table: &Table) -> Result<Verb, ReadError<ProfileFault>>
-    ensures { Reads (λ verb. verb) result
-        (required as_verb here (codes "do") (table_view table.now)) }
-{
-    match value_at(table, "do").and_then(as_verb) {
+    let name = table.text("do")?;
+    match Verb::from_name(name.as_str()) {
         Some(verb) => Ok(verb),
-        None => Err(ReadError::Fault(bad_entry(alloc, here, "do")?)),
+        None => Err(ReadError::Fault(table.bad_entry("do")?)),
     }
 }
 
 #[tactic(auto, unfolding(crate::specs::Scripts::app_added))]
-fn app_added(alloc: Global, here: Place, table: &Table) -> Result<AddApp, ReadError<ProfileFault>>
-    ensures { Reads (λ edit. edit) result (app_added here (table_view table.now)) }
+fn read_add_app(table: &TableReader<'_>) -> Result<AddApp, ReadError<BadEntry>>
+    ensures { Reads (λ edit. edit) result (app_added (placed table.now)) }
 {
-    let app = text_at(alloc, here, table, "app")?;
-    let default = text_at(alloc, here, table, "default")?;
-    Ok(AddApp { app, default })
+    table.check_keys(&["do", "app", "default"])?;
+    Ok(AddApp {
+        app: table.text("app")?,
+        default: table.text("default")?,
+    })
 }
 
 #[tactic(auto, unfolding(crate::specs::Scripts::release_added))]
-fn release_added(
-    alloc: Global,
-    here: Place,
-    table: &Table,
-) -> Result<AddRelease, ReadError<ProfileFault>>
-    ensures { Reads (λ edit. edit) result (release_added here (table_view table.now)) }
+fn read_add_release(table: &TableReader<'_>) -> Result<AddRelease, ReadError<BadEntry>>
+    ensures { Reads (λ edit. edit) result (release_added (placed table.now)) }
 {
-    let app = text_at(alloc, here, table, "app")?;
-    let release = release_in(alloc, here, table)?;
-    Ok(added_to(app, release))
+    table.check_keys(&["do", "app", "version", "name", "size", "sha256"])?;
+    let app = table.text("app")?;
+    Ok(added_to(app, read_package(table)?))
 }
 
 #[tactic(auto, unfolding(crate::specs::Scripts::cohort_added))]
-fn cohort_added(
-    alloc: Global,
-    here: Place,
-    table: &Table,
-) -> Result<AddCohort, ReadError<ProfileFault>>
-    ensures { Reads (λ edit. edit) result (cohort_added here (table_view table.now)) }
+fn read_add_cohort(table: &TableReader<'_>) -> Result<AddCohort, ReadError<BadEntry>>
+    ensures { Reads (λ edit. edit) result (cohort_added (placed table.now)) }
 {
-    let app = text_at(alloc, here, table, "app")?;
-    let cohort = text_at(alloc, here, table, "cohort")?;
-    Ok(AddCohort { app, cohort })
+    table.check_keys(&["do", "app", "cohort"])?;
+    Ok(AddCohort {
+        app: table.text("app")?,
+        cohort: table.text("cohort")?,
+    })
 }
 
 #[tactic(auto, unfolding(crate::specs::Scripts::target_set))]
-fn target_set(
-    alloc: Global,
-    here: Place,
-    table: &Table,
-) -> Result<SetTarget, ReadError<ProfileFault>>
-    ensures { Reads (λ edit. edit) result (target_set here (table_view table.now)) }
+fn read_set_target(table: &TableReader<'_>) -> Result<SetTarget, ReadError<BadEntry>>
+    ensures { Reads (λ edit. edit) result (target_set (placed table.now)) }
 {
-    let app = text_at(alloc, here, table, "app")?;
-    let cohort = text_at(alloc, here, table, "cohort")?;
-    let target = optional_text_at(alloc, here, table, "target")?;
-    let held = optional_text_at(alloc, here, table, "held")?;
+    table.check_keys(&["do", "app", "cohort", "target", "held"])?;
     Ok(SetTarget {
-        app,
-        cohort,
-        target,
-        held,
+        app: table.text("app")?,
+        cohort: table.text("cohort")?,
+        target: table.optional_text("target")?,
+        held: table.optional_text("held")?,
     })
 }
 
 #[tactic(auto, unfolding(crate::specs::Scripts::share_set))]
-fn share_set(alloc: Global, here: Place, table: &Table) -> Result<SetShare, ReadError<ProfileFault>>
-    ensures { Reads (λ edit. edit) result (share_set here (table_view table.now)) }
+fn read_set_share(table: &TableReader<'_>) -> Result<SetShare, ReadError<BadEntry>>
+    ensures { Reads (λ edit. edit) result (share_set (placed table.now)) }
 {
-    let app = text_at(alloc, here, table, "app")?;
-    let cohort = text_at(alloc, here, table, "cohort")?;
-    let share = natural_at(alloc, here, table, "share")?;
-    Ok(SetShare { app, cohort, share })
+    table.check_keys(&["do", "app", "cohort", "share"])?;
+    Ok(SetShare {
+        app: table.text("app")?,
+        cohort: table.text("cohort")?,
+        share: table.natural("share")?,
+    })
 }
 
 #[tactic(auto, unfolding(crate::specs::Scripts::open_set))]
-fn open_set(alloc: Global, here: Place, table: &Table) -> Result<SetOpen, ReadError<ProfileFault>>
-    ensures { Reads (λ edit. edit) result (open_set here (table_view table.now)) }
+fn read_set_open(table: &TableReader<'_>) -> Result<SetOpen, ReadError<BadEntry>>
+    ensures { Reads (λ edit. edit) result (open_set (placed table.now)) }
 {
-    let app = text_at(alloc, here, table, "app")?;
-    let cohort = text_at(alloc, here, table, "cohort")?;
-    let on = flag_at(alloc, here, table, "on")?;
-    Ok(SetOpen { app, cohort, on })
+    table.check_keys(&["do", "app", "cohort", "on"])?;
+    Ok(SetOpen {
+        app: table.text("app")?,
+        cohort: table.text("cohort")?,
+        on: table.flag("on")?,
+    })
 }
 
 #[tactic(auto, unfolding(crate::specs::Scripts::edit_in))]
-fn edit_in(
-    alloc: Global,
-    verb: Verb,
-    here: Place,
-    table: &Table,
-) -> Result<Edit, ReadError<ProfileFault>>
-    ensures { Reads (λ edit. edit) result (edit_in verb here (table_view table.now)) }
+fn read_edit_of(verb: Verb, table: &TableReader<'_>) -> Result<Edit, ReadError<BadEntry>>
+    ensures { Reads (λ edit. edit) result (edit_in verb (placed table.now)) }
 {
     match verb {
-        Verb::AddApp => Ok(Edit::AddApp(app_added(alloc, here, table)?)),
-        Verb::AddRelease => Ok(Edit::AddRelease(release_added(alloc, here, table)?)),
-        Verb::AddCohort => Ok(Edit::AddCohort(cohort_added(alloc, here, table)?)),
-        Verb::SetTarget => Ok(Edit::SetTarget(target_set(alloc, here, table)?)),
-        Verb::SetShare => Ok(Edit::SetShare(share_set(alloc, here, table)?)),
-        Verb::SetOpen => Ok(Edit::SetOpen(open_set(alloc, here, table)?)),
+        Verb::AddApp => Ok(Edit::AddApp(read_add_app(table)?)),
+        Verb::AddRelease => Ok(Edit::AddRelease(read_add_release(table)?)),
+        Verb::AddCohort => Ok(Edit::AddCohort(read_add_cohort(table)?)),
+        Verb::SetTarget => Ok(Edit::SetTarget(read_set_target(table)?)),
+        Verb::SetShare => Ok(Edit::SetShare(read_set_share(table)?)),
+        Verb::SetOpen => Ok(Edit::SetOpen(read_set_open(table)?)),
     }
 }
 
+// rule: edit of a script
 #[tactic(auto, unfolding(crate::specs::Scripts::edit_of))]
-fn edit_of(alloc: Global, index: usize, table: &Table) -> Result<Edit, ReadError<ProfileFault>>
-    ensures { Reads (λ edit. edit) result (edit_of index (table_view table.now)) }
+fn read_edit(table: &TableReader<'_>) -> Result<Edit, ReadError<BadEntry>>
+    ensures { Reads (λ edit. edit) result (edit_of (placed table.now)) }
 {
-    let here = Place::Edit(index);
-    let verb = verb_at(alloc, here, table)?;
-    known(alloc, Shape::Edit(verb), here, table)?;
-    edit_in(alloc, verb, here, table)
+    let verb = read_verb(table)?;
+    read_edit_of(verb, table)
 }
 
-fn edits_of(alloc: Global, values: &[Value]) -> Result<Items<Edit>, ReadError<ProfileFault>>
-    ensures { Reads (λ edits. edits) result
-        (each place.Top (codes "edit") edit_of 0 (items_view values.now)) }
-{
-    let mut edits = Items::empty(alloc);
-    for (index, value) in values.iter().enumerate() {
-        let table = element(alloc, Place::Top, "edit", index, value)?;
-        let edit = edit_of(alloc, index, table)?;
-        edits.push(edit)?;
+/// The tables `edit` of a script.
+struct EditTable;
+
+impl TableKind for EditTable {
+    ghost use Rattle.profile_toml.specs.Scripts.{edit_of};
+
+    type Record = Edit;
+
+    ghost reads = { edit_of };
+
+    fn read(table: &TableReader<'_>) -> Result<Edit, ReadError<BadEntry>> {
+        read_edit(table)
     }
-    Ok(edits)
 }
 
-fn few_edits(edits: Items<Edit>) -> Result<Items<Edit>, ReadError<ProfileFault>>
+// rule: number of a script's edits
+fn check_count(edits: Items<Edit>) -> Result<Items<Edit>, ReadError<ProfileFault>>
     ensures { Reads (λ edits. edits) result (few_edits edits) }
 {
-    if edits.len() > MOST_EDITS {
+    if edits.len() > MAX_EDITS {
         return Err(ReadError::Fault(ProfileFault::TooManyEdits));
     }
     Ok(edits)
 }
 
-/// Reads a script's table: the number of the edition that it is written for, and its edits.
+// rule: tables of a script
 #[tactic(auto, unfolding(crate::specs::Scripts::script_of))]
-pub(crate) fn script_of(
-    alloc: Global,
-    table: &Table,
-) -> Result<(u64, Items<Edit>), ReadError<ProfileFault>>
-    ensures { Reads (λ script. script) result (script_of (table_view table.now)) }
+fn read_tables(document: &TableReader<'_>) -> Result<(u64, Items<Edit>), ReadError<BadEntry>>
+    ensures { Reads (λ script. script) result (script_of (placed document.now)) }
 {
-    schema(table)?;
-    known(alloc, Shape::Script, Place::Top, table)?;
-    let base = natural_at(alloc, Place::Top, table, "base")?;
-    let edit_tables = optional_tables(alloc, Place::Top, table, "edit")?;
-    let edits = edits_of(alloc, edit_tables)?;
-    let edits = few_edits(edits)?;
-    Ok((base, edits))
+    document.check_keys(&["schema", "base", "edit"])?;
+    let base = document.natural("base")?;
+    let edits = document.optional_list("edit")?;
+    Ok((base, edits.read::<EditTable>()?))
+}
+
+fn read_entries(document: &TableReader<'_>) -> Result<(u64, Items<Edit>), ReadError<ProfileFault>>
+    ensures { Reads (λ script. script) result (entries (script_of (placed document.now))) }
+{
+    match read_tables(document) {
+        Ok(script) => Ok(script),
+        Err(ReadError::Memory) => Err(ReadError::Memory),
+        Err(ReadError::Fault(bad)) => Err(ReadError::Fault(ProfileFault::BadEntry(bad.path))),
+    }
+}
+
+// rule: faults of a script
+/// Reads a script of schema 1: the number of the edition that it is written for, and its edits.
+///
+/// Returns the first fault in the order of `ProfileFault`. Tables are read from the top. An edit's
+/// `do` is read before its other keys, of which unknown ones are reported first, the least in byte
+/// order. There are at most 4096 edits. What the edits say is not checked.
+#[tactic(auto, unfolding(crate::specs::Reading::script_of_text))]
+pub fn read_script(alloc: Global, bytes: &[u8]) -> Result<(u64, Batch), ReadError<ProfileFault>>
+    ensures { Reads (λ script. script) result (script_of_text bytes.now) }
+{
+    let document = parse(alloc, bytes)?;
+    let document = TableReader::new(alloc, &document);
+    check_schema(&document)?;
+    let (base, edits) = read_entries(&document)?;
+    let edits = check_count(edits)?;
+    Ok((base, Batch::new(edits.into_vec())))
 }

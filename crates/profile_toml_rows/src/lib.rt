@@ -1,8 +1,8 @@
 //! Rows of profiles and scripts whose edits and faults were worked out by hand.
 //!
-//! `profiles` has texts of profiles and `scripts` of scripts, hostile ones too; `worked` has whole
-//! profiles, and `limits` texts at the bounds, with what the catalogue says of them. It holds tests
-//! alone.
+//! `profiles` has rows of profiles and `scripts` of scripts, hostile ones too; `limits` has rows at
+//! the catalogue's limits, with what the catalogue reports of them. `shown` says how a row is
+//! written. It holds tests alone.
 
 #![tactic(auto)]
 
@@ -14,5 +14,3 @@ mod profiles;
 mod scripts;
 #[cfg(test)]
 mod shown;
-#[cfg(test)]
-mod worked;

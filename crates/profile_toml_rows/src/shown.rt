@@ -1,6 +1,10 @@
-// What a text is read as, as one line.
+// What a document is read as, as one line, and the rows that say so.
+//
+// A row is `WANT | DOCUMENT`; both are written with `~` for a line feed, and `%COUNT*PIECE%` for a
+// piece so many times, in which `#` is 1000 and the piece's index. A line `> FRONT` says what comes
+// before the documents of the rows below it.
 
-use catalogue::{AddRelease, Edit, Mirror, SetTarget};
+use catalogue::{AddRelease, App, Catalogue, Edit, Mirror, SetTarget};
 use profile_toml::{ProfileFault, read_profile, read_script};
 use std::alloc::{AllocError, Global};
 use values::{ReadError, Text};
@@ -89,8 +93,8 @@ pub(crate) fn profile(alloc: Global, text: &[u8]) -> Result<String, AllocError> 
     }
 }
 
-/// A script's base and edits, or its fault.
-pub(crate) fn script(alloc: Global, text: &[u8]) -> Result<String, AllocError> {
+// A script's base and edits, or its fault.
+fn script(alloc: Global, text: &[u8]) -> Result<String, AllocError> {
     match read_script(alloc, text) {
         Ok((base, batch)) => {
             let mut line = format!(in alloc; "on {base};")?;
@@ -101,62 +105,124 @@ pub(crate) fn script(alloc: Global, text: &[u8]) -> Result<String, AllocError> {
     }
 }
 
-/// Which of the two kinds of text is read.
+// How many apps there are, and how many releases and cohorts the last one has.
+fn counts(alloc: Global, apps: &[App]) -> Result<String, AllocError> {
+    let Some(last) = apps.last() else {
+        return String::from_str(alloc, "no app");
+    };
+    let releases = last.releases.as_slice().len();
+    let cohorts = last.cohorts.as_slice().len();
+    let count = apps.len();
+    format!(in alloc; "{count} apps, {releases} releases, {cohorts} cohorts")
+}
+
+// What the catalogue reports of a profile's edits, or the profile's fault.
+fn applied(alloc: Global, text: &[u8]) -> Result<String, AllocError> {
+    let batch = match read_profile(alloc, text) {
+        Ok((batch, _mirrors)) => batch,
+        Err(error) => return refusal(alloc, &error),
+    };
+    let mut catalogue = Catalogue::empty(alloc);
+    match catalogue.apply(&batch) {
+        Ok(()) => counts(alloc, catalogue.apps()),
+        Err(error) => format!(in alloc; "{error}"),
+    }
+}
+
+/// What is made of a document.
 #[derive(Clone, Copy)]
 pub(crate) enum Form {
     Profile,
     Script,
+    Applied,
 }
 
 fn told(alloc: Global, form: Form, text: &[u8]) -> Result<String, AllocError> {
     match form {
         Form::Profile => profile(alloc, text),
         Form::Script => script(alloc, text),
+        Form::Applied => applied(alloc, text),
     }
 }
 
-// The front, and a row's text, whose line feeds are written as `~`.
-fn whole(alloc: Global, front: &str, text: &str) -> Result<String, AllocError> {
-    let mut whole = String::from_str(alloc, front)?;
+fn push_lines(whole: &mut String, text: &str) -> Result<(), AllocError> {
+    let mut first = true;
     for line in text.split('~') {
+        if !first {
+            whole.push_str("\n")?;
+        }
         whole.push_str(line)?;
-        whole.push_str("\n")?;
+        first = false;
     }
-    Ok(whole)
+    Ok(())
 }
 
-/// The first row `WANT | TEXT` whose text, behind the front, is read otherwise.
-pub(crate) fn first_wrong(
+fn push_piece(
     alloc: Global,
-    form: Form,
-    front: &str,
-    rows: &str,
-) -> Result<String, AllocError> {
+    whole: &mut String,
+    piece: &str,
+    index: usize,
+) -> Result<(), AllocError> {
+    let mut first = true;
+    for part in piece.split('#') {
+        if !first {
+            let number = format!(in alloc; "1{index:03}")?;
+            whole.push_str(number.as_str())?;
+        }
+        push_lines(whole, part)?;
+        first = false;
+    }
+    Ok(())
+}
+
+fn push_part(alloc: Global, whole: &mut String, part: &str) -> Result<(), AllocError> {
+    let Some((count, piece)) = part.split_once('*') else {
+        return push_lines(whole, part);
+    };
+    let count = count.parse::<usize>().unwrap_or(0);
+    for index in 0..count {
+        push_piece(alloc, whole, piece, index)?;
+    }
+    Ok(())
+}
+
+fn push_expanded(alloc: Global, whole: &mut String, text: &str) -> Result<(), AllocError> {
+    for part in text.split('%') {
+        push_part(alloc, whole, part)?;
+    }
+    Ok(())
+}
+
+// What is wrong of a row: it is no row, or its document is read otherwise; else nothing.
+fn wrong_row(alloc: Global, form: Form, front: &str, row: &str) -> Result<String, AllocError> {
+    let Some((want, text)) = row.split_once(" | ") else {
+        return format!(in alloc; "no row: {row}");
+    };
+    let mut document = String::new(alloc);
+    push_expanded(alloc, &mut document, front)?;
+    push_expanded(alloc, &mut document, text)?;
+    document.push_str("\n")?;
+    let mut line = String::new(alloc);
+    push_expanded(alloc, &mut line, want)?;
+    let got = told(alloc, form, document.as_str().as_bytes())?;
+    if got.as_str() == line.as_str() {
+        return Ok(String::new(alloc));
+    }
+    format!(in alloc; "{got} in place of {row}")
+}
+
+/// The first row whose document is read otherwise, and what it is read as.
+pub(crate) fn first_wrong(alloc: Global, form: Form, rows: &str) -> Result<String, AllocError> {
+    let mut front = String::new(alloc);
     for row in rows.lines() {
-        let Some((want, text)) = row.split_once(" | ") else {
-            return format!(in alloc; "no row: {row}");
-        };
-        let text = whole(alloc, front, text)?;
-        let got = told(alloc, form, text.as_str().as_bytes())?;
-        if got.as_str() != want {
-            return format!(in alloc; "{got} in place of {row}");
+        if let Some(line) = row.strip_prefix("> ") {
+            front = String::from_str(alloc, line)?;
+        } else {
+            let wrong = wrong_row(alloc, form, front.as_str(), row)?;
+            if !wrong.is_empty() {
+                return Ok(wrong);
+            }
         }
     }
     Ok(String::new(alloc))
-}
-
-/// A text so many times, between two others.
-pub(crate) fn repeated(
-    alloc: Global,
-    front: &str,
-    text: &str,
-    count: usize,
-    back: &str,
-) -> Result<String, AllocError> {
-    let mut whole = String::from_str(alloc, front)?;
-    for _ in 0..count {
-        whole.push_str(text)?;
-    }
-    whole.push_str(back)?;
-    Ok(whole)
 }

@@ -1,6 +1,0 @@
-use Rattle.std.proofs.Common.{◌≡◌}
-use Rattle.profile_toml.specs.Expansion.{edits_of}
-use Rattle.profile_toml.proofs.expansion.edits_of.Given as goal
-
-abbrev pub invariant-loop-app : goal.invariant-loop-app
-invariant-loop-app l = l.edits ≡ edits_of l.yielded

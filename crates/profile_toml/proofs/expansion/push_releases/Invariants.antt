@@ -1,7 +1,0 @@
-use Rattle.std.proofs.Common.{◌≡◌, ◌++◌}
-use Rattle.std.specs.List.{flat_map}
-use Rattle.profile_toml.specs.Expansion.{release_edits}
-use Rattle.profile_toml.proofs.expansion.push_releases.Given as goal
-
-abbrev pub invariant-loop-release : goal.invariant-loop-release
-invariant-loop-release l = l.edits ≡ l.initial.edits ++ flat_map (release_edits l.app) l.yielded

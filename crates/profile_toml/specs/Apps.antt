@@ -1,0 +1,44 @@
+-- An app of a profile: its keys, and its edits: the app, its cohorts but for the default one, its
+-- releases, then what is set of its cohorts; this project's profile.
+use Rattle.std.specs.Prelude.{ℕ, List, [], ◌∷◌, ◌++◌, codes, Result, Ok}
+use Rattle.std.specs.List.{flat_map}
+use Rattle.toml.specs.Data.{as_str}
+use Rattle.catalogue.specs.declared.edit.Edit.{Edit}
+use Rattle.catalogue.specs.declared.edit.Edit.TheVariants as edit
+use Rattle.toml_tables.specs.Fields.{◌>>=◌, known, required}
+use Rattle.toml_tables.specs.Lists.{each, optional_tables}
+use Rattle.toml_tables.specs.Tables.{PlacedTable}
+use Rattle.toml_tables.specs.declared.path.BadEntry.{BadEntry}
+use Rattle.profile_toml.specs.Cohorts.{cohort_edits, cohorts_of, setting_edits}
+use Rattle.profile_toml.specs.Releases.{release_edits, release_of}
+use Rattle.profile_toml.specs.declared.app.AppEntry.{AppEntry}
+
+-- the keys of an app, in the order in which they are read
+abbrev pub app_keys : List (List ℕ)
+app_keys = codes "id" ∷ codes "default" ∷ codes "cohort" ∷ codes "release" ∷ []
+
+-- rule: app of a profile
+-- an app: its own keys, then its cohorts, then its releases
+unfoldable pub app_of : PlacedTable → Result AppEntry BadEntry
+app_of table = do
+  all_known ← known app_keys table
+  id ← required as_str (codes "id") table
+  default ← required as_str (codes "default") table
+  cohort_list ← optional_tables (codes "cohort") table
+  release_list ← optional_tables (codes "release") table
+  cohorts ← cohorts_of cohort_list
+  releases ← each release_of release_list
+  Ok (record { id = id; default = default; cohorts = cohorts; releases = releases })
+
+-- rule: edits of a profile
+-- the edits of an app
+abbrev pub app_edits : AppEntry → List Edit
+app_edits app =
+    (edit.AddApp (record { app = app.id; default = app.default }) ∷ [])
+    ++ flat_map (cohort_edits app.id app.default) app.cohorts
+    ++ flat_map (release_edits app.id) app.releases
+    ++ flat_map (setting_edits app.id) app.cohorts
+
+-- the edits of all apps
+abbrev pub edits_of : List AppEntry → List Edit
+edits_of apps = flat_map app_edits apps

@@ -1,0 +1,135 @@
+//! An app of a profile: what its table says, and its edits.
+
+ghost use Rattle.std.specs.Prelude.{◌≡◌, ◌++◌, IfOk, OnOk};
+ghost use Rattle.std.specs.List.{flat_map};
+ghost use Rattle.values.specs.Reading.{Reads};
+ghost use Rattle.toml_tables.specs.Readers.{placed};
+ghost use Rattle.profile_toml.specs.Apps.{app_edits, app_of, edits_of};
+ghost use Rattle.profile_toml.specs.Cohorts.{cohort_edits, setting_edits};
+ghost use Rattle.profile_toml.specs.Releases.{release_edits};
+
+use crate::cohort::{CohortEntry, push_cohort, push_settings, read_cohorts};
+use crate::release::{ReleaseEntry, ReleaseTable, push_release};
+use catalogue::{AddApp, Edit};
+use std::alloc::{AllocError, Global};
+use toml_tables::{BadEntry, TableKind, TableReader};
+use values::{Items, ReadError, Text};
+
+/// A table `app`.
+#[derive(Drop)]
+pub(crate) struct AppEntry {
+    /// The key `id`.
+    pub id: Text,
+    /// The key `default`, the name of the default cohort.
+    pub default: Text,
+    /// The tables `cohort`, each name once.
+    pub cohorts: Items<CohortEntry>,
+    /// The tables `release`.
+    pub releases: Items<ReleaseEntry>,
+}
+
+// rule: app of a profile
+#[tactic(auto, unfolding(crate::specs::Apps::app_of))]
+fn read_app(table: &TableReader<'_>) -> Result<AppEntry, ReadError<BadEntry>>
+    ensures { Reads (λ app. app) result (app_of (placed table.now)) }
+{
+    table.check_keys(&["id", "default", "cohort", "release"])?;
+    let id = table.text("id")?;
+    let default = table.text("default")?;
+    let cohorts = table.optional_list("cohort")?;
+    let releases = table.optional_list("release")?;
+    Ok(AppEntry {
+        id,
+        default,
+        cohorts: read_cohorts(table.alloc(), &cohorts)?,
+        releases: releases.read::<ReleaseTable>()?,
+    })
+}
+
+/// The tables `app` of a profile.
+pub(crate) struct AppTable;
+
+impl TableKind for AppTable {
+    ghost use Rattle.profile_toml.specs.Apps.{app_of};
+
+    type Record = AppEntry;
+
+    ghost reads = { app_of };
+
+    fn read(table: &TableReader<'_>) -> Result<AppEntry, ReadError<BadEntry>> {
+        read_app(table)
+    }
+}
+
+fn push_cohorts(
+    app: &Text,
+    default: &Text,
+    cohorts: &[CohortEntry],
+    edits: &mut Items<Edit>,
+) -> Result<(), AllocError>
+    ensures { OnOk result
+        (edits.new ≡ edits.old ++ flat_map (cohort_edits app.now default.now) cohorts.now) }
+{
+    for cohort in cohorts {
+        push_cohort(app, default, cohort, edits)?;
+    }
+    Ok(())
+}
+
+fn push_releases(
+    app: &Text,
+    releases: Items<ReleaseEntry>,
+    edits: &mut Items<Edit>,
+) -> Result<(), AllocError>
+    ensures { OnOk result
+        (edits.new ≡ edits.old ++ flat_map (release_edits app.now) releases) }
+{
+    for release in releases.into_vec() {
+        push_release(app, release, edits)?;
+    }
+    Ok(())
+}
+
+fn push_all_settings(
+    app: &Text,
+    cohorts: &[CohortEntry],
+    edits: &mut Items<Edit>,
+) -> Result<(), AllocError>
+    ensures { OnOk result
+        (edits.new ≡ edits.old ++ flat_map (setting_edits app.now) cohorts.now) }
+{
+    for cohort in cohorts {
+        push_settings(app, cohort, edits)?;
+    }
+    Ok(())
+}
+
+fn push_app(app: AppEntry, edits: &mut Items<Edit>) -> Result<(), AllocError>
+    ensures { OnOk result (edits.new ≡ edits.old ++ app_edits app) }
+{
+    let AppEntry {
+        id,
+        default,
+        cohorts,
+        releases,
+    } = app;
+    edits.push(Edit::AddApp(AddApp {
+        app: id.clone()?,
+        default: default.clone()?,
+    }))?;
+    push_cohorts(&id, &default, cohorts.as_slice(), edits)?;
+    push_releases(&id, releases, edits)?;
+    push_all_settings(&id, cohorts.as_slice(), edits)
+}
+
+// rule: edits of a profile
+/// Makes the edits of a profile's apps.
+pub(crate) fn edits_of(alloc: Global, apps: Items<AppEntry>) -> Result<Items<Edit>, AllocError>
+    ensures { IfOk result (λ edits. edits ≡ edits_of apps) }
+{
+    let mut edits = Items::empty(alloc);
+    for app in apps.into_vec() {
+        push_app(app, &mut edits)?;
+    }
+    Ok(edits)
+}

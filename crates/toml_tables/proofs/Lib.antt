@@ -1,0 +1,4 @@
+pub mod FaultLemmas
+pub mod LineLemmas
+mod ListLemmas
+pub mod PathLemmas

@@ -1,0 +1,6 @@
+pub mod Fields
+pub mod Laws
+pub mod Lists
+pub mod Paths
+pub mod Readers
+pub mod Tables
