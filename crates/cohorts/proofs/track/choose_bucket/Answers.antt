@@ -1,5 +1,5 @@
 use Rattle.std.proofs.Common.{sym}
-use Rattle.cohorts.proofs.assignment.bucket_of.Goals as goal
+use Rattle.cohorts.proofs.track.choose_bucket.Goals as goal
 
 pub returns-in-Some-clause-small : goal.returns-in-Some-clause-small
 returns-in-Some-clause-small c =

@@ -2,11 +2,11 @@ use Rattle.std.proofs.Common.{◌%◌, take, ap, ◌∙◌}
 use Rattle.std.specs.Int.{w32, from_be_bytes}
 use Rattle.cohorts.specs.Tracks.{session_bucket}
 use Rattle.cohorts.proofs.BucketLemmas.{from_be_bytes-take}
-use Rattle.cohorts.proofs.bucket.session_bucket.Goals as goal
+use Rattle.cohorts.proofs.session.hash_session.Goals as goal
 
-pub returns-clause-bucket : goal.returns-clause-bucket
+pub returns : goal.returns
 unfolding session_bucket
-returns-clause-bucket c =
+returns c =
     let digest = rw c.as_bytes.ensures.value at c.digest-digest.ensures in
     ap (λ number. number % 1000)
     (c.from_be_bytes-number.ensures
