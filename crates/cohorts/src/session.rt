@@ -54,6 +54,13 @@ impl<'a> Session<'a> {
         }
     }
 
+    /// Borrows the text.
+    pub fn as_str(&self) -> &'a str
+        ensures { result.now ≡ self.now }
+    {
+        self.text
+    }
+
     /// Returns the bucket if a client needed it, without hashing the text.
     pub fn known_bucket(&self) -> Option<u16>
         ensures { IfSome result (λ bucket. bucket ≡ session_bucket self.now) }

@@ -12,19 +12,16 @@
 
 #![tactic(auto)]
 
-mod choices;
 mod client;
 mod edition;
 mod fault;
-mod moment;
 mod payload;
 mod place;
 mod planning;
 mod rendering;
 
-pub use crate::choices::Plan;
 pub use crate::edition::Edition;
 pub use crate::fault::NextError;
-pub use crate::payload::{Choice, Payload};
+pub use crate::payload::{Choice, Payload, Plan};
 pub use crate::planning::plan;
 pub use crate::rendering::render;
