@@ -1,8 +1,8 @@
-//! Editions: histories of accepted batches with their catalogues, and what requests are answered.
+//! Editions: histories of accepted batches with their catalogues, and the replies to requests.
 //!
-//! An `Edition` is seen as its history, the list of its batches; `Edition::next` gives the edition
-//! with one more batch, or says why there is none. `plan` chooses a payload for each app of a
-//! request, and `render` writes the reply by the plan and what the mirrors granted. Read
+//! Contracts see an `Edition` as its history, the list of its batches; `Edition::next` returns the
+//! edition with one more batch, or the reason why there is none. `plan` chooses a payload for each
+//! app of a request, and `render` writes the reply by the plan and what the mirrors granted. Read
 //! `specs/Editions.antt` for editions, `specs/Clients.antt` for who asks, `specs/Places.antt` and
 //! `specs/Chains.antt` for what may be offered, `specs/Plans.antt` for what is chosen and
 //! `specs/Replies.antt` for the reply.

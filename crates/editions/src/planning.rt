@@ -29,6 +29,9 @@ fn has_open_check(ask: &AppAsk) -> bool
 
 // The full package of the target, if the client is below it.
 // rule: Permitted payload
+// rule: Chain
+// rule: No update
+// rule: Requested bytes
 fn choose_payload(catalogue: &Catalogue, client: &Client<'_>, place: &Place) -> Option<Choice>
     requires app { slice_get catalogue.now client.now.index ≡ Some client.now.app.now }
     requires within { IsWithin client.now.app.now place.now }

@@ -1,6 +1,6 @@
 use Rattle.std.proofs.Common.{◌<◌, ◌≤◌, ◌∙◌, length, sym, arith, rules}
 use Rattle.omaha_json.proofs.RequestLemmas.{asks_from-next, asks_from-refused, asks_from-end}
-use Rattle.omaha_json.proofs.request_reader.asks_from.Goals as goal
+use Rattle.omaha_json.proofs.request_reader.read_asks.Goals as goal
 
 pub returns-in_err-ask : goal.returns-in_err-ask
 returns-in_err-ask c =

@@ -2,7 +2,7 @@ use Rattle.std.proofs.Common.{◌≡◌, drop}
 use Rattle.serde_json.specs.View.{items_view}
 use Rattle.omaha_json.specs.RequestReading.{asks_from}
 use Rattle.omaha_json.proofs.RequestLemmas.{with_front}
-use Rattle.omaha_json.proofs.request_reader.asks_from.Given as goal
+use Rattle.omaha_json.proofs.request_reader.read_asks.Given as goal
 
 abbrev pub invariant-loop-index : goal.invariant-loop-index
 invariant-loop-index l =

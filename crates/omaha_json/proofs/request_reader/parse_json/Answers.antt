@@ -2,7 +2,7 @@ use Rattle.std.proofs.Common.{ap}
 use Rattle.std.specs.Option.{ok_or}
 use Rattle.omaha_json.specs.declared.fault.RequestFault.TheVariants.{NotJson}
 use Rattle.omaha_json.proofs.RequestLemmas.{json_of-read, json_of-refused}
-use Rattle.omaha_json.proofs.member.read_json.Goals as goal
+use Rattle.omaha_json.proofs.request_reader.parse_json.Goals as goal
 
 pub returns-in-Ok : goal.returns-in-Ok
 returns-in-Ok c =
