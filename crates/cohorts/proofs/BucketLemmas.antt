@@ -1,5 +1,5 @@
 -- What digits spell as a bucket, and the bucket of a session.
-use Rattle.std.proofs.Common.{◌≡◌, ℕ, zero, suc, ◌+◌, ◌*◌, ◌^◌, ◌<◌, ◌≤◌, true, false, List, [], ◌∷◌, length, get_or, take, Some, Result, refl, ap, ◌∙◌, arith}
+use Rattle.std.proofs.Common.{◌≡◌, ℕ, zero, suc, ◌+◌, ◌*◌, ◌^◌, ◌<◌, ◌≤◌, true, false, List, [], ◌∷◌, length, get_or, take, Option, None, Some, Result, refl, ap, ◌∙◌, arith}
 use Rattle.std.specs.Char.{is_ascii_digit}
 use Rattle.std.specs.Fmt.{decimal}
 use Rattle.std.specs.Int.{w32, from_be_bytes}
@@ -12,6 +12,7 @@ use Rattle.std.proofs.lemmas.Fmt.{decimal-digits_value, decimal_digit, decimal_n
 use Rattle.std.proofs.lemmas.List.{get_or-take}
 use Rattle.std.proofs.lemmas.Str.Parse.{IsNumeralModel, digits_value_short, numerals_by_value, parse_gives, tells_all_ascii_digits}
 use Rattle.cohorts.specs.CohortTexts.{bucket_of, has_leading_zero, is_bucket}
+use Rattle.cohorts.specs.Tracks.{IsBucketOf, session_bucket}
 
 -- the texts of ASCII digits are those of decimal digits
 numerals : IsNumeralModel (λ digits. list_all is_ascii_digit digits ≡ true) (digits_value 10)
@@ -85,3 +86,16 @@ from_be_bytes-take bytes =
       get_or-take 4 bytes 2 0 (omega arith),
       get_or-take 4 bytes 3 0 (omega arith),
     ) refl
+
+-- a session's bucket is at most 999
+pub session_bucket-small : (session : List ℕ) → session_bucket session < 1000
+unfolding session_bucket
+session_bucket-small session = omega arith
+
+-- a bucket that is known of a session is at most 999
+pub known_bucket-small : (session : List ℕ) (known : Option ℕ) (bucket : ℕ)
+    → IsBucketOf session known → known ≡ Some bucket → bucket < 1000
+known_bucket-small session None bucket of_session known = cc
+known_bucket-small session (Some hashed) bucket of_session known =
+    let same : hashed ≡ bucket = cc in
+    omega (arith, same, of_session, session_bucket-small session)

@@ -10,7 +10,7 @@ use Rattle.catalogue.specs.Forms.{has_length, is_cohort_name}
 abbrev pub is_colon : ℕ → Bool
 is_colon byte = byte == 58
 
--- a zero stands before further digits
+-- a zero before further digits
 abbrev pub has_leading_zero : List ℕ → Bool
 has_leading_zero digits = nat_lt 1 (length digits) && (slice_index digits 0 == 48)
 
@@ -23,13 +23,14 @@ is_bucket digits =
 abbrev pub bucket_of : List ℕ → Option ℕ
 bucket_of digits = if is_bucket digits then Some (digits_value 10 digits) else None
 
--- a cohort's name with the bucket that follows it, where both have their forms
+-- a cohort's name with the bucket that follows it, if both are well formed
 abbrev pub named : List ℕ → Option ℕ → Option (List ℕ × ℕ)
 named name None = None
 named name (Some bucket) = if is_cohort_name name then Some (name, bucket) else None
 
--- the cohort's name and the bucket that a text names: what stands before its first colon, and what
--- stands after it; none where the text hasn't that form
+-- rule: Cohort text
+-- the cohort's name and the bucket that a text names: what is before its first colon, and what is
+-- after it; none if the text is not well formed
 unfoldable pub parsed : List ℕ → Option (List ℕ × ℕ)
 parsed text = named (before_first is_colon text) (bucket_of (after_first is_colon text))
 

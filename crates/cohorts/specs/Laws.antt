@@ -9,7 +9,7 @@ PrintedIsParsed =
     (name : List ℕ) (bucket : ℕ) →
     is_cohort_name name ≡ true → bucket < 1000 → parsed (printed name bucket) ≡ Some (name, bucket)
 
--- what is read from a text has its form, and its text is that text
+-- what is read from a text is well formed, and prints as that text
 abbrev pub ParsedIsPrinted : Type 0
 ParsedIsPrinted =
     (text name : List ℕ) (bucket : ℕ) →

@@ -1,7 +1,7 @@
 -- Which track of an app a client is on: its cohort, its bucket, and what follows from them; this
 -- project's profile of the Omaha protocol's members `cohort` and `cohorthint`. The cohorts are
 -- those of the app, the default one first.
-use Rattle.std.specs.Prelude.{ℕ, ◌&&◌, ◌%◌, Bool, false, if◌then◌else◌, List, [], nat_lt, position, slice_get, take, Option, None, option_and_then, unwrap_or}
+use Rattle.std.specs.Prelude.{◌≡◌, ℕ, ◌&&◌, ◌%◌, Bool, false, if◌then◌else◌, List, [], nat_lt, position, slice_get, take, Option, None, Some, option_and_then, unwrap_or}
 use Rattle.std.specs.Int.{w32, from_be_bytes}
 use Rattle.std.specs.Option.{option_map_or, option_or}
 use Rattle.sha2.specs.Sha256.{sha256}
@@ -26,22 +26,30 @@ abbrev pub sent_cohort : List Cohort → List ℕ → Option ℕ
 sent_cohort cohorts text =
     option_and_then (λ named. position (is_cohort named.0) cohorts) (parsed text)
 
+-- rule: Cohort of a client
 -- a client's cohort: the one that its hint names, else the one that its text names, else the
 -- default one
 abbrev pub cohort_of : List Cohort → AppAsk → ℕ
 cohort_of cohorts ask =
     unwrap_or (option_or (hinted_cohort cohorts ask.hint) (sent_cohort cohorts ask.cohort)) 0
 
+-- rule: Bucket of a session
 -- the bucket of a session: the first four bytes of its SHA-256, the highest first, modulo 1000
 unfoldable pub session_bucket : List ℕ → ℕ
 session_bucket session = from_be_bytes w32 (take 4 (sha256 session)) % 1000
 
+-- a bucket that is known of a session, if any, is the session's
+abbrev pub IsBucketOf : List ℕ → Option ℕ → Type 0
+IsBucketOf session None = Unit {0}
+IsBucketOf session (Some bucket) = bucket ≡ session_bucket session
+
+-- rule: Bucket of a client
 -- a client's bucket: the one that its text names, whatever the cohort, else its session's
 abbrev pub bucket_of : AppAsk → List ℕ → ℕ
 bucket_of ask session =
     option_map_or (λ named. named.1) (parsed ask.cohort) (session_bucket session)
 
--- what stands for a cohort where there is none: no app has a track there
+-- the default of `cohort_at`: no track is in it
 abbrev pub no_cohort : Cohort
 no_cohort =
     record { name = []; target = None; held = None; share = 0; rollback = false; hintable = false }
@@ -50,20 +58,24 @@ no_cohort =
 abbrev pub cohort_at : List Cohort → ℕ → Cohort
 cohort_at cohorts index = unwrap_or (slice_get cohorts index) no_cohort
 
+-- rule: Lane
 -- the lane of a bucket: the target's below the cohort's share, else the held one
 abbrev pub lane_of : Cohort → ℕ → Lane
 lane_of cohort bucket = if nat_lt bucket cohort.share then Target else Held
 
+-- rule: Target of a lane
 -- the version that a lane is meant to have, if any
 abbrev pub target_of : Cohort → Lane → Option (List ℕ)
 target_of cohort Target = cohort.target
 target_of cohort Held = cohort.held
 
--- the client sent that it may be led down
+-- the client sent that it may be downgraded
 abbrev pub asks_rollback : AppAsk → Bool
 asks_rollback ask = option_map_or (λ check. check.rollback) ask.check false
 
--- the track of a bucket in the cohort at an index
+-- rule: Rollback of a track
+-- the track of a bucket in the cohort at an index; the client may be downgraded if the cohort and
+-- the client allow it
 abbrev pub track_in : Cohort → ℕ → ℕ → AppAsk → Track
 track_in cohort index bucket ask =
     record {

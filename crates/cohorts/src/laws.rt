@@ -1,8 +1,8 @@
-//! What holds of all cohort texts, each law as a clause of a function.
+//! Laws of cohort texts, each a clause of a function.
 
 ghost use Rattle.cohorts.specs.Laws.{ParsedIsPrinted, PrintedIsParsed};
 
-/// States that `CohortText::parse` and `CohortText::print` undo one another on texts of the form.
+/// States that `CohortText::parse` and `CohortText::print` undo one another on well-formed texts.
 pub fn cohort_texts()
     ensures printed { PrintedIsParsed }
     ensures parsed { ParsedIsPrinted }

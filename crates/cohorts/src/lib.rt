@@ -1,21 +1,21 @@
 //! Cohorts: which track of an app a client is on.
 //!
 //! A `Track` is the cohort that serves a client, its bucket of 1000, and what follows from them:
-//! the lane, the target, and whether the client may be led down. `assign` gives the track of an app
-//! of a request, and `CohortText` reads and prints the text by which a client names its cohort and
-//! its bucket. Read `specs/Tracks.antt` for the assignment, `specs/CohortTexts.antt` for the texts,
-//! and `laws` for what holds of them.
+//! the lane, the target, and whether the client may be downgraded. `assign` returns a client's
+//! track in an app, and `Session::assign` that of each client of one request, whose session is
+//! hashed at most once. `CohortText` reads and prints the text by which a client names its cohort
+//! and its bucket. Read `specs/Tracks.antt` for the assignment, `specs/CohortTexts.antt` for the
+//! texts, and `laws` for what holds of them.
 //!
 //! It does not decide what a client is offered on its track: crates above do.
 
 #![tactic(auto)]
 
-mod assignment;
-mod bucket;
 mod cohort_text;
 pub mod laws;
+mod session;
 mod track;
 
-pub use crate::assignment::assign;
 pub use crate::cohort_text::CohortText;
-pub use crate::track::{Lane, Track};
+pub use crate::session::Session;
+pub use crate::track::{Lane, Track, assign};

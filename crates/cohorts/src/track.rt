@@ -1,3 +1,14 @@
+// Tracks, and how a client is assigned to one.
+
+ghost use Rattle.std.specs.Prelude.{◌≡◌, ◌≤◌, ◌<◌, length, IfSome, position};
+ghost use Rattle.catalogue.specs.Lookups.{cohorts_at};
+ghost use Rattle.cohorts.specs.Tracks.{asks_rollback, bucket_of, cohort_of, hinted_cohort, lane_of, sent_cohort, target_of, track_of};
+
+use crate::cohort_text::CohortText;
+use crate::laws;
+use crate::session::Session;
+use catalogue::{Catalogue, Cohort};
+use omaha_json::AppAsk;
 use version::Version;
 
 /// Which of a cohort's two targets a client is meant to have.
@@ -9,7 +20,7 @@ pub enum Lane {
     Held,
 }
 
-/// Where a client stands in an app's cohorts.
+/// A client's cohort and bucket in an app, and what follows from them.
 #[derive(Clone, Copy, Debug, PartialEq, Eq)]
 pub struct Track {
     /// The index of the cohort that serves the client, in the app's cohorts.
@@ -18,8 +29,130 @@ pub struct Track {
     pub bucket: u16,
     /// The lane of the bucket in the cohort.
     pub lane: Lane,
-    /// Whether the client may be led down to a lower target: the cohort and the client allow it.
+    /// Whether the client may be downgraded: the cohort and the client allow it.
     pub rollback: bool,
     /// The version that the client is meant to have, if any.
     pub target: Option<Version>,
+}
+
+fn find_hinted(cohorts: &[Cohort], hint: &str) -> Option<usize>
+    ensures hinted { result ≡ hinted_cohort cohorts.now hint.now }
+    ensures within { IfSome result (λ index. index < length cohorts.now) }
+{
+    cohorts
+        .iter()
+        .position(|cohort| cohort.hintable && hint == cohort.name.as_str())
+}
+
+fn find_sent(catalogue: &Catalogue, app: usize, text: &str) -> Option<usize>
+    requires { app < length catalogue.now }
+    ensures sent { result ≡ sent_cohort (cohorts_at catalogue.now app) text.now }
+    ensures within { IfSome result (λ index. index < length (cohorts_at catalogue.now app)) }
+{
+    let (name, _) = CohortText::parse(text)?;
+    catalogue.find_cohort(app, name)
+}
+
+// The index of the cohort that serves a client.
+// rule: Cohort of a client
+fn find_serving(catalogue: &Catalogue, app: usize, ask: &AppAsk) -> usize
+    requires { app < length catalogue.now }
+    ensures cohort { result ≡ cohort_of (cohorts_at catalogue.now app) ask.now }
+    ensures within { result < length (cohorts_at catalogue.now app) }
+{
+    catalogue.validity();
+    let hinted = find_hinted(catalogue.cohorts(app), ask.hint.as_str());
+    let sent = find_sent(catalogue, app, ask.cohort.as_str());
+    hinted.or(sent).unwrap_or(0)
+}
+
+// rule: Bucket of a client
+fn choose_bucket(ask: &AppAsk, session: &mut Session<'_>) -> u16
+    ensures bucket { result ≡ bucket_of ask.now session.old }
+    ensures same { session.new ≡ session.old }
+    ensures small { result < 1000 }
+{
+    laws::cohort_texts();
+    match CohortText::parse(ask.cohort.as_str()) {
+        Some((_, bucket)) => bucket,
+        None => session.bucket(),
+    }
+}
+
+// rule: Lane
+fn choose_lane(cohort: &Cohort, bucket: u16) -> Lane
+    ensures { result ≡ lane_of cohort.now bucket }
+{
+    if u64::from(bucket) < cohort.share {
+        Lane::Target
+    } else {
+        Lane::Held
+    }
+}
+
+// rule: Target of a lane
+fn target_in(cohort: &Cohort, lane: Lane) -> Option<Version>
+    ensures { result ≡ target_of cohort.now lane }
+{
+    match lane {
+        Lane::Target => cohort.target,
+        Lane::Held => cohort.held,
+    }
+}
+
+fn allows_rollback(ask: &AppAsk) -> bool
+    ensures { result ≡ asks_rollback ask.now }
+{
+    match &ask.check {
+        Some(check) => check.rollback,
+        None => false,
+    }
+}
+
+impl<'a> Session<'a> {
+    /// Returns the track of one of the session's clients, in the app at an index.
+    ///
+    /// The index is in range. The session is hashed if the client needs its bucket and no client
+    /// before did; see `assign`.
+    // rule: Rollback of a track
+    pub fn assign(&mut self, catalogue: &Catalogue, app: usize, ask: &AppAsk) -> Track
+        requires { app < length catalogue.now }
+        ensures track { result ≡ track_of (cohorts_at catalogue.now app) ask.now self.old }
+        ensures same { self.new ≡ self.old }
+        ensures cohort { result.cohort < length (cohorts_at catalogue.now app) }
+        ensures bucket { result.bucket < 1000 }
+    {
+        let index = find_serving(catalogue, app, ask);
+        let cohort = &catalogue.cohorts(app)[index];
+        let bucket = choose_bucket(ask, self);
+        let lane = choose_lane(cohort, bucket);
+        Track {
+            cohort: index,
+            bucket,
+            lane,
+            rollback: cohort.rollback && allows_rollback(ask),
+            target: target_in(cohort, lane),
+        }
+    }
+}
+
+/// Returns the track of a client in the app at an index, which is in range.
+///
+/// - Cohort: the one that the hint names if it is open to hints; else the one that the cohort text
+///   names if the app has it; else the default one.
+/// - Bucket: the cohort text's if the text is well formed, else that of the session, which may be
+///   empty.
+/// - Lane: the target's if the bucket is below the cohort's share, else the held one. The track's
+///   target is the lane's.
+/// - The client may be downgraded if the cohort's rollback flag is set and the client allows it.
+///
+/// It allocates nothing. To assign several clients of one session, call `Session::assign`.
+pub fn assign(catalogue: &Catalogue, app: usize, ask: &AppAsk, session: &str) -> Track
+    requires { app < length catalogue.now }
+    ensures track { result ≡ track_of (cohorts_at catalogue.now app) ask.now session.now }
+    ensures cohort { result.cohort < length (cohorts_at catalogue.now app) }
+    ensures bucket { result.bucket < 1000 }
+{
+    let mut session = Session::new(session);
+    session.assign(catalogue, app, ask)
 }

@@ -17,7 +17,7 @@ use Rattle.editions.specs.declared.place.Place.TheVariants.{At}
 abbrev pub destination_of : Payload → ℕ
 destination_of (Full release) = release
 
--- the release that a payload leads to, none where the app has no such release
+-- the release that a payload leads to, none if the app has no such release
 abbrev pub release_by : App → Payload → Option Release
 release_by app payload = slice_get app.releases (destination_of payload)
 
@@ -35,6 +35,7 @@ abbrev pub permits_to : App → List ℕ → Place → Payload → Bool
 permits_to app target place payload =
     option_map_or (leads_up (version_at app place) target) (release_by app payload) false
 
+-- rule: Permitted payload
 -- the payload is permitted from the place; a track without a target permits nothing
 abbrev pub permits : App → Track → Place → Payload → Bool
 permits app track place payload =
@@ -49,6 +50,7 @@ target_of app track =
 abbrev pub IsAtTarget : App → Track → Place → Type 0
 IsAtTarget app track place = option_map (λ release. At release) (target_of app track) ≡ Some place
 
+-- rule: Chain
 -- a chain brings a client to the target: its first payload is permitted from the client's place, each
 -- later one from where the one before has led; at the target itself no payload is needed
 abbrev pub IsChain : App → Track → Place → List Payload → Type 0
@@ -66,6 +68,7 @@ abbrev pub Begins : App → Track → Place → Payload → Type 0
 Begins app track place payload =
     (others : List Payload) × IsChain app track place (payload ∷ others)
 
+-- rule: No update
 -- no chain leads on: none begins with a payload
 abbrev pub LeadsNowhere : App → Track → Place → Type 0
 LeadsNowhere app track place = (payload : Payload) → ¬ Begins app track place payload

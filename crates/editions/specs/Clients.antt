@@ -14,12 +14,14 @@ pub record Client : Type 0 where
   pub app : App
   pub track : Track
 
--- the client of a session that asks for an app, none where the app is unknown
+-- rule: Client of an app
+-- the client of a session that asks for an app, none if the app is unknown
 abbrev pub client_of : List App → List ℕ → AppAsk → Option Client
 client_of apps session ask =
     option_map (λ app. record { app = app; track = track_of app.cohorts ask session })
     (app_of apps ask.appid)
 
+-- rule: Cohort that a reply names
 -- the cohort that serves a client
 abbrev pub cohort_of : Client → Cohort
 cohort_of client = cohort_at client.app.cohorts client.track.cohort

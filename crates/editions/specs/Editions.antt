@@ -9,7 +9,8 @@ use Rattle.catalogue.specs.declared.fault.Refused.{Refused}
 use Rattle.editions.specs.declared.fault.NextError.{NextError}
 use Rattle.editions.specs.declared.fault.NextError.TheVariants as error
 
--- an edition's batches, at most
+-- rule: Room for 4096 batches
+-- an edition's maximal number of batches
 abbrev pub most_batches : ℕ
 most_batches = 4096
 
@@ -26,9 +27,11 @@ outcome_after history batch = then_run (outcome batch) (run history [])
 abbrev pub IsAccepted : History → List Edit → Type 0
 IsAccepted history batch = IsOk (outcome_after history batch)
 
--- what is answered to a batch after a history: the history with the batch at its end, where the
--- batch is accepted and there is room; the batch's refusal; that there is no room, where it would
--- have been accepted; or want of memory
+-- rule: The next edition
+-- rule: A batch's refusal before a full history
+-- what a batch makes of a history: the history with the batch at its end, if the batch is accepted
+-- and there is room; the batch's refusal; that there is no room, if it would have been accepted; or
+-- out of memory
 abbrev pub Continues : History → List Edit → Result History NextError → Type 0
 Continues history batch (Ok next) =
     IsAccepted history batch × (length history < most_batches) × (next ≡ history ++ batch ∷ [])

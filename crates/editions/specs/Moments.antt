@@ -1,4 +1,4 @@
--- Moments, counted in seconds since 1 January 1970, UTC, as replies tell them: the Omaha protocol's
+-- Timestamps, in seconds since 1 January 1970, UTC, as replies report them: the Omaha protocol's
 -- `daystart`.
 use Rattle.std.specs.Prelude.{ℕ, ◌-◌, ◌/◌, ◌%◌}
 
@@ -10,6 +10,7 @@ day = 86400
 abbrev pub days_before_2007 : ℕ
 days_before_2007 = 13514
 
+-- rule: Elapsed days and seconds
 -- whole days since 1 January 2007, and 0 before it
 abbrev pub elapsed_days : ℕ → ℕ
 elapsed_days moment = moment / day - days_before_2007

@@ -1,9 +1,9 @@
--- Where a client stands in an app: at a release, or outside of all at some version; this project's
+-- A client's place in an app: at a release, or outside of all at some version; this project's
 -- profile of the member `fp`.
-use Rattle.std.specs.Prelude.{ℕ, ◌<◌, ⊤, Bool, List, [], ◌++◌, codes, length, position, slice_get}
+use Rattle.std.specs.Prelude.{◌≡◌, ℕ, ◌<◌, ⊤, Bool, List, [], ◌++◌, codes, length, position, slice_get, Option, None, Some}
 use Rattle.std.specs.Option.{option_map_or}
 use Rattle.std.specs.Str.{bytes_eq}
-use Rattle.hex.specs.Hex.{encode_lower}
+use Rattle.hex.specs.Hex.{encode_lower, IsBytes}
 use Rattle.version.specs.Versions.{lenient_version_of}
 use Rattle.catalogue.specs.declared.content.App.{App}
 use Rattle.catalogue.specs.declared.content.Release.{Release}
@@ -11,15 +11,25 @@ use Rattle.omaha_json.specs.declared.request.AppAsk.{AppAsk}
 use Rattle.editions.specs.declared.place.Place.{Place}
 use Rattle.editions.specs.declared.place.Place.TheVariants.{At, Outside}
 
--- a release's fingerprint: `1.` and the hash of its full package in lower-case hexadecimal digits
+-- the fingerprint of a hash: `1.` and the hash in lower-case hexadecimal digits
+abbrev pub fingerprint_with : List ℕ → List ℕ
+fingerprint_with hash = codes "1." ++ encode_lower hash
+
+-- a release's fingerprint: that of the hash of its full package
 abbrev pub fingerprint_of : Release → List ℕ
-fingerprint_of release = codes "1." ++ encode_lower release.hash
+fingerprint_of release = fingerprint_with release.hash
 
 -- the release has the fingerprint
 abbrev pub has_fingerprint : List ℕ → Release → Bool
 has_fingerprint fp release = bytes_eq fp (fingerprint_of release)
 
--- where a client stands: at the release whose fingerprint it sent, whatever its version; else
+-- the text is the fingerprint of that hash of 32 bytes; without one, of no hash
+abbrev pub IsHashOf : List ℕ → Option (List ℕ) → Type 0
+IsHashOf fp None = (hash : List ℕ) → length hash ≡ 32 → IsBytes hash → ¬ (fp ≡ fingerprint_with hash)
+IsHashOf fp (Some hash) = (fp ≡ fingerprint_with hash) × IsBytes hash
+
+-- rule: Place
+-- a client's place: at the release whose fingerprint it sent, whatever its version; else
 -- outside, at its version
 abbrev pub place_of : App → AppAsk → Place
 place_of app ask =

@@ -17,26 +17,28 @@ use Rattle.editions.specs.declared.payload.Choice.{Choice}
 use Rattle.editions.specs.declared.payload.Payload.{Payload}
 use Rattle.editions.specs.declared.place.Place.{Place}
 
--- a wish for an update that isn't switched off and asks for no version of its own
+-- an update check that isn't disabled and asks for no version of its own
 abbrev pub is_open : Check → Bool
 is_open check = not check.disabled && (length check.prefix == 0)
 
+-- rule: App that wants an update
 -- the app wants an update
 abbrev pub wants_update : AppAsk → Bool
 wants_update ask = option_map_or is_open ask.check false
 
--- the client that wants an update, none where its app is unknown or it wants none
+-- the client that wants an update, none if its app is unknown or it wants none
 abbrev pub client_to_update : List App → List ℕ → AppAsk → Option Client
 client_to_update apps session ask = if wants_update ask then client_of apps session ask else None
 
+-- rule: Requested bytes
 -- what is chosen for a client that wants an update: a payload that begins a chain, with its bytes;
--- or nothing, where no chain leads on
+-- or nothing, if no chain leads on
 abbrev pub LeadsOn : App → Track → Place → Option Choice → Type 0
 LeadsOn app track place None = LeadsNowhere app track place
 LeadsOn app track place (Some choice) =
     Begins app track place choice.payload × (choice.bytes ≡ bytes_of app choice.payload)
 
--- what is chosen for an app of a session's request: nothing, where the app is unknown or wants no
+-- what is chosen for an app of a session's request: nothing if the app is unknown or wants no
 -- update
 abbrev pub IsChosen : List App → List ℕ → AppAsk → Option Choice → Type 0
 IsChosen apps session ask choice =
@@ -55,7 +57,7 @@ payload_in choice = option_map (λ chosen. chosen.payload) choice
 abbrev pub payloads_of : List (Option Choice) → List (Option Payload)
 payloads_of plan = map payload_in plan
 
--- the content, where there is one
+-- the content, if there is one
 abbrev pub content_or_none : Result (List App) Refused → List App
 content_or_none (Ok apps) = apps
 content_or_none (Err refused) = []

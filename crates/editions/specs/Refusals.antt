@@ -1,10 +1,10 @@
--- The refusal of an edition that a catalogue's refusal is.
+-- The error of an edition that a catalogue's error is.
 use Rattle.catalogue.specs.declared.fault.ApplyError.{ApplyError}
 use Rattle.catalogue.specs.declared.fault.ApplyError.TheVariants as apply
 use Rattle.editions.specs.declared.fault.NextError.{NextError}
 use Rattle.editions.specs.declared.fault.NextError.TheVariants as error
 
--- the same refused edit, or want of memory
+-- the same refused edit, or out of memory
 abbrev pub refusal_of : ApplyError → NextError
 refusal_of (apply.Refused refused) = error.Refused refused
 refusal_of apply.Memory = error.Memory

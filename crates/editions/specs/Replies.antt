@@ -1,6 +1,5 @@
--- What a request is answered, as a function of the catalogue's content, the payloads that were
--- chosen, the mirrors that granted them, and the moment: the Omaha protocol 3.1, this project's
--- profile.
+-- The reply to a request, as a function of the catalogue's content, the payloads that were chosen,
+-- the mirrors that granted them, and the timestamp: the Omaha protocol 3.1, this project's profile.
 use Rattle.std.specs.Prelude.{ℕ, ◌<◌, ⊤, List, [], map, IsSome, length, Option, Some, None, option_and_then, option_map, slice_get}
 use Rattle.std.specs.List.{AllZip, zip}
 use Rattle.std.specs.Option.{option_map_or}
@@ -44,7 +43,8 @@ offer_of codebase release =
       diff = None;
     }
 
--- the answer to a wish for an update: nothing was chosen, no mirror granted it, or the offer
+-- rule: Outcome of an update check
+-- the reply to an update check: nothing was chosen, no mirror granted it, or the offer
 abbrev pub check_reply : List Mirror → Option Release → Option ℕ → CheckReply
 check_reply mirrors None outcome = check.NoUpdate
 check_reply mirrors (Some release) None = check.Internal
@@ -56,12 +56,12 @@ check_reply mirrors (Some release) (Some mirror) =
 abbrev pub Decision : Type 0
 Decision = Option Payload × Option ℕ
 
--- the answer to a wish for an update of a known app
+-- the reply to an update check of a known app
 abbrev pub update_reply : List Mirror → App → Decision → CheckReply
 update_reply mirrors app decision =
     check_reply mirrors (option_and_then (release_by app) decision.0) decision.1
 
--- the answer for a client, with the answer to its wish for an update, if any
+-- the reply to a client, with the reply to its update check, if any
 abbrev pub with_check : Client → AppAsk → Option CheckReply → KnownApp
 with_check client ask check =
     record {
@@ -72,17 +72,17 @@ with_check client ask check =
       check = check;
     }
 
--- the answer for a client; an update is answered where there is a wish for one
+-- the reply to a client; its update check is replied to if there is one
 abbrev pub known_app : List Mirror → Client → AppAsk → Decision → KnownApp
 known_app mirrors client ask decision =
     with_check client ask (option_map (λ _. update_reply mirrors client.app decision) ask.check)
 
--- the state of an app: unknown, or known with its answer
+-- the state of an app: unknown, or known with its reply
 abbrev pub state_of : List Mirror → Option Client → AppAsk → Decision → AppState
 state_of mirrors None ask decision = state.Unknown
 state_of mirrors (Some client) ask decision = state.Known (known_app mirrors client ask decision)
 
--- the answer for one app of a session's request, under the client's spelling of its identifier
+-- the reply to one app of a session's request, under the client's spelling of its identifier
 abbrev pub app_reply : List App → List ℕ → List Mirror → AppAsk × Decision → AppReply
 app_reply apps session mirrors asked =
     record {
@@ -90,7 +90,8 @@ app_reply apps session mirrors asked =
       state = state_of mirrors (client_of apps session asked.0) asked.0 asked.1;
     }
 
--- the answer to a request: one for each of its apps, in its order, repeated ones too
+-- rule: Reply
+-- the reply to a request: one for each of its apps, in its order, repeated ones too
 abbrev pub reply_of : List App → Request → List (Option Payload) → List (Option ℕ)
     → List Mirror → ℕ → Reply
 reply_of apps request payloads outcomes mirrors moment =
@@ -102,7 +103,7 @@ reply_of apps request payloads outcomes mirrors moment =
           (zip request.apps (zip payloads outcomes));
     }
 
--- an outcome of a wish: no mirror, or one of the mirrors, where there was a wish
+-- an outcome of an update check: no mirror, or one of the mirrors if a payload was chosen
 abbrev pub IsOutcome : List Mirror → Option Choice → Option ℕ → Type 0
 IsOutcome mirrors choice None = ⊤
 IsOutcome mirrors choice (Some mirror) = IsSome choice × (mirror < length mirrors)

@@ -9,7 +9,7 @@ use std::alloc::{AllocError, Global};
 use std::marker::Model;
 use std::sync::Arc;
 
-const MOST_BATCHES: usize = 4096;
+const MAX_BATCHES: usize = 4096;
 
 /// A history of accepted batches with its catalogue, which contracts see as the history.
 ///
@@ -53,7 +53,7 @@ fn followed(
 }
 
 impl Edition {
-    /// Makes the edition of no batches, and takes no memory.
+    /// Makes the edition of no batches; it allocates nothing.
     pub fn empty(alloc: Global) -> Edition
         ensures { result ≡ [] }
     {
@@ -81,14 +81,17 @@ impl Edition {
 
     /// Makes the edition with one more batch, and leaves this one as it is.
     ///
-    /// Refuses with the batch's first refused edit where there is one, then with `HistoryFull`
-    /// where this edition holds 4096 batches.
+    /// Returns the batch's first refused edit if there is one, then `HistoryFull` if this edition
+    /// holds 4096 batches.
+    // rule: The next edition
+    // rule: Room for 4096 batches
+    // rule: A batch's refusal before a full history
     pub fn next(&self, batch: Batch) -> Result<Edition, NextError>
         ensures { Continues self.now batch result }
     {
         catalogue::laws::growth();
         let catalogue = self.catalogue.applied(&batch)?;
-        if self.batches.len() >= MOST_BATCHES {
+        if self.batches.len() >= MAX_BATCHES {
             return Err(NextError::HistoryFull);
         }
         let batches = followed(self.alloc, &self.batches, batch)?;

@@ -8,18 +8,18 @@ use std::fmt;
 
 /// Why an edition has no next one with a batch.
 ///
-/// The refusals stand in the order in which they are looked for; want of memory may come before
-/// any of them.
+/// The errors are in the order in which they are looked for; `Memory` may come before any of them.
 #[derive(Clone, Copy, Debug, PartialEq, Eq)]
 pub enum NextError {
     /// An edit of the batch was refused.
     Refused(Refused),
     /// The edition holds 4096 batches, as many as it may.
     HistoryFull,
-    /// An allocation was refused.
+    /// An allocation failed.
     Memory,
 }
 
+// rule: Printed error of a batch
 impl fmt::Display for NextError {
     ghost output = { λ e. Some (error_text e) };
 

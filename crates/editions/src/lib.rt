@@ -1,8 +1,8 @@
-//! Editions: histories of accepted batches with their catalogues, and what requests are answered.
+//! Editions: histories of accepted batches with their catalogues, and the replies to requests.
 //!
-//! An `Edition` is seen as its history, the list of its batches; `Edition::next` gives the edition
-//! with one more batch, or says why there is none. `plan` chooses a payload for each app of a
-//! request, and `render` writes the reply by the plan and what the mirrors granted. Read
+//! Contracts see an `Edition` as its history, the list of its batches; `Edition::next` returns the
+//! edition with one more batch, or the reason why there is none. `plan` chooses a payload for each
+//! app of a request, and `render` writes the reply by the plan and what the mirrors granted. Read
 //! `specs/Editions.antt` for editions, `specs/Clients.antt` for who asks, `specs/Places.antt` and
 //! `specs/Chains.antt` for what may be offered, `specs/Plans.antt` for what is chosen and
 //! `specs/Replies.antt` for the reply.
@@ -12,19 +12,16 @@
 
 #![tactic(auto)]
 
-mod choices;
 mod client;
 mod edition;
 mod fault;
-mod moment;
 mod payload;
 mod place;
 mod planning;
 mod rendering;
 
-pub use crate::choices::Plan;
 pub use crate::edition::Edition;
 pub use crate::fault::NextError;
-pub use crate::payload::{Choice, Payload};
+pub use crate::payload::{Choice, Payload, Plan};
 pub use crate::planning::plan;
 pub use crate::rendering::render;

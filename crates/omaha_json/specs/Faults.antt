@@ -1,8 +1,9 @@
--- How a refused request is printed: the fault's code and name, this project's own.
+-- How the fault of a request is printed: the fault's code and name, this project's own.
 use Rattle.std.specs.Prelude.{ℕ, List, ◌++◌, codes, decimal}
 use Rattle.omaha_json.specs.declared.fault.RequestFault.{RequestFault}
 use Rattle.omaha_json.specs.declared.fault.RequestFault.TheVariants.{NotJson, NoRequest, BadProtocol, BadApp, TooManyApps}
 
+-- rule: Printed fault of a request
 -- the fault's code, a space and its name; of a bad app also a space and its index in decimal
 abbrev pub fault_text : RequestFault → List ℕ
 fault_text NotJson = codes "J1 NotJson"

@@ -1,14 +1,15 @@
--- Members of a JSON object (RFC 8259). Where a member of another type than the asked one stands, or
--- the value is no object, the member counts as missing: this project's profile.
+-- Members of a JSON object (RFC 8259). A member of another type than the expected one, or of a value
+-- that is no object, counts as missing: this project's profile.
 use Rattle.std.specs.Prelude.{ℕ, List, [], Bool, false, Option, option_map, option_and_then, unwrap_or}
 use Rattle.serde_json.specs.Data.{Data}
 use Rattle.serde_json.specs.Find.{get, as_bool, as_str, as_object}
 
--- the member that is a text, else the empty text
+-- rule: Missing member
+-- the member that is a string, else the empty string
 abbrev pub text_at : List ℕ → Data → List ℕ
 text_at name json = unwrap_or (option_and_then as_str (get name json)) []
 
--- the value, where it is an object
+-- the value, if it is an object
 abbrev pub object_of : Data → Option Data
 object_of json = option_map (λ _. json) (as_object json)
 

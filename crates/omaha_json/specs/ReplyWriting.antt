@@ -1,5 +1,5 @@
--- Which text a reply has: the Omaha protocol 3.1, JSON form, behind the four bytes that keep a
--- browser from running it as a script. Members stand in byte order of their names.
+-- Which text a reply has: the Omaha protocol 3.1, JSON form, after the four bytes that keep a
+-- browser from running it as a script. Members are in byte order of their names.
 use Rattle.std.specs.Prelude.{ℕ, ◌==◌, List, [], ◌∷◌, ◌++◌, map, replicate, Option, Some, None, option_map, All, ⊤, Bool, if◌then◌else◌, codes}
 use Rattle.hex.specs.Hex.{encode_lower}
 use Rattle.serde_json.specs.Data.{Data, null, number, unsigned, string, array, object, Items, no_items, item, Members, no_members, member, put}
@@ -41,6 +41,7 @@ name_data part = string part.name
 abbrev pub size_data : Part → Data
 size_data part = number (unsigned part.size)
 
+-- rule: Offer
 -- the package: the full one, and beside it the differential's hash, name and size
 abbrev pub package_data : Offer → Data
 package_data offer = object
@@ -90,7 +91,7 @@ offer_data offer = object
     (member (codes "urls") (urls_data offer)
     no_members)))
 
--- the answer to a wish for an update; another status has no text here, and counts as `null`
+-- the reply to an update check; another status has no text here, and counts as `null`
 abbrev pub check_data : CheckReply → Data
 check_data check.NoUpdate = status_data (codes "noupdate")
 check_data check.Internal = status_data (codes "error-internal")
@@ -109,7 +110,7 @@ events_data events = if events == 0 then None else Some (acknowledgements events
 abbrev pub ping_data : Bool → Option Data
 ping_data asked = if asked then Some (status_data (codes "ok")) else None
 
--- the answer to a wish for an update, where there was one
+-- the reply to an update check, if there was one
 abbrev pub update_data : Option CheckReply → Option Data
 update_data check = option_map check_data check
 
@@ -146,7 +147,7 @@ app_data app = state_data app.appid app.state
 abbrev pub apps_data : List AppReply → Data
 apps_data apps = array (items_of (map app_data apps))
 
--- the moment of the answer
+-- the time of the reply
 abbrev pub daystart_data : Reply → Data
 daystart_data reply = object
     (member (codes "elapsed_days") (number (unsigned reply.days))
@@ -165,11 +166,12 @@ reply_data reply = object (member (codes "response") (object
 abbrev pub script_guard : List ℕ
 script_guard = codes ")]}'" ++ 10 ∷ []
 
+-- rule: Text of a reply
 -- the text of a reply: the guard, and the value with no space in it
 abbrev pub reply_text : Reply → List ℕ
 reply_text reply = script_guard ++ compact_text (reply_data reply)
 
--- the answer to a wish has a text
+-- the reply to an update check has a text
 abbrev pub IsCheckWritable : Option CheckReply → Type 0
 IsCheckWritable (Some check.Other) = ⊥
 IsCheckWritable _ = ⊤

@@ -21,6 +21,7 @@ abbrev pub ◌>>=◌ : {X Y : Type 0}
 Ok x >>= step = step x
 Err fault >>= step = Err fault
 
+-- rule: JSON of a text
 -- the JSON value that a text is, where it is UTF-8 and JSON as `serde_json` takes it
 abbrev pub json_of : List ℕ → Option Data
 json_of text = if is_utf8 text then read text else None
@@ -29,6 +30,7 @@ json_of text = if is_utf8 text then read text else None
 abbrev pub appid_from : List ℕ → Option (List ℕ)
 appid_from text = if nat_lt 0 (length text) && nat_le (length text) 256 then Some text else None
 
+-- rule: Identifier in a request
 -- the identifier that an element of `app` names
 abbrev pub appid_of : Data → Option (List ℕ)
 appid_of app = option_and_then appid_from (option_and_then as_str (get (codes "appid") app))
@@ -42,7 +44,7 @@ first_package app =
 abbrev pub fp_of : Data → List ℕ
 fp_of app = unwrap_or (option_map (text_at (codes "fp")) (first_package app)) []
 
--- what is said with a wish for an update
+-- what is said with an update check
 abbrev pub check_with : Data → Check
 check_with asked = record {
   disabled = true_at (codes "updatedisabled") asked;
@@ -50,7 +52,7 @@ check_with asked = record {
   prefix = text_at (codes "targetversionprefix") asked;
 }
 
--- the wish for an update, where `updatecheck` is an object
+-- the update check, if `updatecheck` is an object
 abbrev pub check_of : Data → Option Check
 check_of app = option_map check_with (object_at (codes "updatecheck") app)
 
@@ -59,6 +61,7 @@ abbrev pub event_count_of : Data → ℕ
 event_count_of app =
     unwrap_or (option_map items_len (option_and_then as_array (get (codes "event") app))) 0
 
+-- rule: Ask
 -- what is asked for the app of this identifier
 abbrev pub ask_with : Data → List ℕ → AppAsk
 ask_with app appid = record {
@@ -111,6 +114,7 @@ request_of json = do
   apps ← asks_of (get (codes "app") request)
   Ok (record { session = text_at (codes "sessionid") request; apps = apps })
 
+-- rule: Faults of a request
 -- the request that a text is, or its first fault
 unfoldable pub request_of_text : List ℕ → Result Request RequestFault
 request_of_text text = do

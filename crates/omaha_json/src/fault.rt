@@ -1,16 +1,16 @@
 use std::error::Error;
 use std::fmt;
 
-/// Why a text is no request of the Omaha protocol 3.1, JSON form.
+/// Why bytes are no request of the Omaha protocol 3.1, JSON form.
 ///
-/// The faults stand in the order in which they are looked for.
+/// The faults are in the order in which they are looked for.
 #[derive(Clone, Copy, Debug, Drop, PartialEq, Eq)]
 pub enum RequestFault {
-    /// The text is not JSON.
+    /// The bytes are not JSON.
     NotJson,
-    /// The text is no object, or its member `request` is missing or no object.
+    /// The JSON is no object, or its member `request` is missing or no object.
     NoRequest,
-    /// The member `protocol` is not the text `3.1`.
+    /// The member `protocol` is not the string `3.1`.
     BadProtocol,
     /// The member `app` is no list (index 0), or its element `index`, counted from 0, is no app.
     BadApp {
@@ -22,6 +22,7 @@ pub enum RequestFault {
 }
 
 /// Writes the fault's code and name, and after a space the index of a bad app.
+// rule: Printed fault of a request
 impl fmt::Display for RequestFault {
     ghost use Rattle.std.specs.Prelude.{Some};
     ghost use Rattle.omaha_json.specs.Faults.{fault_text};

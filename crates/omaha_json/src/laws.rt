@@ -1,4 +1,4 @@
-//! Whole texts with their records, which hold of the definitions alone.
+//! Whole requests and replies with their records, as laws of the definitions.
 //!
 //! Each function does nothing when it runs: its contract is the law.
 
@@ -8,12 +8,12 @@ ghost use Rattle.omaha_json.specs.ReplyExamples.{EmptyReplyWrites, EmptyReplyLen
 
 use crate::fault::RequestFault;
 
-/// Shows the record of a request that wishes for an update.
+/// Shows the record of a request with an update check.
 pub fn update_request_reads()
     ensures { UpdateRequestReads }
 {}
 
-/// Shows the record of a request that says all that is read.
+/// Shows the record of a request that has all members that are read.
 pub fn full_request_reads()
     ensures { FullRequestReads }
 {}
@@ -23,7 +23,7 @@ pub fn empty_request_reads()
     ensures { EmptyRequestReads }
 {}
 
-/// Shows a text of each fault but the fifth, which takes 257 apps.
+/// Shows a request with each fault but the fifth, which takes 257 apps.
 pub fn faulty_texts_are_refused()
     ensures not_json { IsRefused (codes "{") RequestFault.NotJson }
     ensures no_request { IsRefused (codes "[]") RequestFault.NoRequest }
@@ -33,23 +33,23 @@ pub fn faulty_texts_are_refused()
         (RequestFault.BadApp 0) }
 {}
 
-/// Shows the text of a reply to a request that asks for no app.
+/// Shows the bytes of a reply to a request that asks for no app.
 pub fn empty_reply_writes()
     ensures text { EmptyReplyWrites }
     ensures length { EmptyReplyLength }
 {}
 
-/// Shows the text of a reply that offers a full package.
+/// Shows the bytes of a reply that offers a full package.
 pub fn full_reply_writes()
     ensures { FullReplyWrites }
 {}
 
-/// Shows the text of a reply that offers a differential beside the full package.
+/// Shows the bytes of a reply that offers a differential beside the full package.
 pub fn diff_reply_writes()
     ensures { DiffReplyWrites }
 {}
 
-/// Shows the text of a reply to a ping, an unknown app and two events.
+/// Shows the bytes of a reply to a ping, an unknown app and two events.
 pub fn acknowledging_reply_writes()
     ensures { AcknowledgingReplyWrites }
 {}

@@ -1,18 +1,17 @@
-//! Requests and replies of the Omaha protocol 3.1, JSON form, and their texts.
+//! Requests and replies of the Omaha protocol 3.1, JSON form, and their bytes.
 //!
-//! A `Request` is what a client's text asks, a `Reply` what the server's text answers; both are
-//! plain records, which contracts compare by content. `specs/RequestReading.antt` says which
-//! record a request's text has, or its first fault, and `specs/ReplyWriting.antt` which text a
-//! reply has. `laws` has whole texts with their records.
+//! A `Request` is what a client asks, a `Reply` what the server replies; both are plain records,
+//! which contracts compare by content. `specs/RequestReading.antt` says which record the bytes of a
+//! request have, or their first fault, and `specs/ReplyWriting.antt` which bytes a reply has.
+//! `laws` has whole requests and replies with their records.
 //!
-//! It does not say what a request is answered: that is `editions`. It does not write requests or
-//! read replies.
+//! It does not decide the reply to a request: `editions` does. It does not write requests or read
+//! replies.
 
 #![tactic(auto)]
 
 mod fault;
 pub mod laws;
-mod member;
 mod reply;
 mod reply_writer;
 mod request;

@@ -1,22 +1,22 @@
 use values::{Items, Text};
 
-/// What one reply of the Omaha protocol 3.1, JSON form, answers.
+/// A reply of the Omaha protocol 3.1, JSON form.
 #[derive(Clone, Debug, Drop)]
 pub struct Reply {
     /// Whole days since 1 January 2007, UTC, the member `elapsed_days`.
     pub days: u64,
     /// Seconds since the day began, UTC, the member `elapsed_seconds`.
     pub seconds: u64,
-    /// The answers in the order of the request's apps.
+    /// The replies to the request's apps, in their order.
     pub apps: Items<AppReply>,
 }
 
-/// The answer for one app of a request.
+/// The reply to one app of a request.
 #[derive(Clone, Debug, Drop)]
 pub struct AppReply {
     /// The identifier as the client spelled it.
     pub appid: Text,
-    /// What is answered for that identifier.
+    /// The state of the app of that identifier.
     pub state: AppState,
 }
 
@@ -27,11 +27,11 @@ pub enum AppState {
     Known(KnownApp),
     /// The app is unknown, the status `error-unknownApplication`.
     Unknown,
-    /// Another status, which a server of ours never answers.
+    /// Another status, which this server never sends.
     Other,
 }
 
-/// The answer for an app that is known.
+/// The reply to an app that is known.
 #[derive(Clone, Debug, Drop)]
 pub struct KnownApp {
     /// The cohort text that the client sends back next time.
@@ -42,11 +42,11 @@ pub struct KnownApp {
     pub ping: bool,
     /// How many events are acknowledged.
     pub events: usize,
-    /// What is answered to the wish for an update, where there was one.
+    /// The reply to the update check, if there was one.
     pub check: Option<CheckReply>,
 }
 
-/// What is answered to the wish for an update.
+/// The reply to an update check.
 #[derive(Clone, Debug, Drop)]
 pub enum CheckReply {
     /// There is nothing to install, the status `noupdate`.
@@ -55,7 +55,7 @@ pub enum CheckReply {
     Internal,
     /// An update is offered, the status `ok`.
     Offered(Offer),
-    /// Another status, which a server of ours never answers.
+    /// Another status, which this server never sends.
     Other,
 }
 
@@ -68,7 +68,7 @@ pub struct Offer {
     pub fp: Text,
     /// The full package.
     pub full: Part,
-    /// The differential from what is installed, where one is offered.
+    /// The differential from what is installed, if one is offered.
     pub diff: Option<Part>,
 }
 

@@ -1,4 +1,4 @@
-//! From a reply's record to its text.
+//! Writes a reply: from its record to its bytes.
 
 ghost use Rattle.std.specs.Prelude.{◌≡◌, IfOk, OnOk, option_map};
 ghost use Rattle.serde_json.specs.Data.{string, put as with_member};
@@ -11,7 +11,7 @@ use std::alloc::{AllocError, Global};
 
 const SCRIPT_GUARD: &[u8; 5] = b")]}'\n";
 
-fn status_data(alloc: Global, status: &str) -> Result<Value, AllocError>
+fn status_value(alloc: Global, status: &str) -> Result<Value, AllocError>
     ensures { IfOk result (λ json. view json ≡ status_data status.now) }
 {
     json!(in alloc; { "status": status })
@@ -46,7 +46,8 @@ fn put_some(
     Ok(())
 }
 
-fn package_data(alloc: Global, offer: &Offer) -> Result<Value, AllocError>
+// rule: Offer
+fn package_value(alloc: Global, offer: &Offer) -> Result<Value, AllocError>
     ensures { IfOk result (λ json. view json ≡ package_data offer.now) }
 {
     let full = &offer.full;
@@ -70,14 +71,14 @@ fn package_data(alloc: Global, offer: &Offer) -> Result<Value, AllocError>
     }
 }
 
-fn manifest_data(alloc: Global, offer: &Offer) -> Result<Value, AllocError>
+fn manifest_value(alloc: Global, offer: &Offer) -> Result<Value, AllocError>
     ensures { IfOk result (λ json. view json ≡ manifest_data offer.now) }
 {
-    let package = package_data(alloc, offer)?;
+    let package = package_value(alloc, offer)?;
     json!(in alloc; { "packages": { "package": [package] }, "version": offer.version.as_str() })
 }
 
-fn urls_data(alloc: Global, offer: &Offer) -> Result<Value, AllocError>
+fn urls_value(alloc: Global, offer: &Offer) -> Result<Value, AllocError>
     ensures { IfOk result (λ json. view json ≡ urls_data offer.now) }
 {
     let codebase = offer.full.codebase.as_str();
@@ -89,69 +90,69 @@ fn urls_data(alloc: Global, offer: &Offer) -> Result<Value, AllocError>
     }
 }
 
-fn offer_data(alloc: Global, offer: &Offer) -> Result<Value, AllocError>
+fn offer_value(alloc: Global, offer: &Offer) -> Result<Value, AllocError>
     ensures { IfOk result (λ json. view json ≡ offer_data offer.now) }
 {
-    let manifest = manifest_data(alloc, offer)?;
-    let urls = urls_data(alloc, offer)?;
+    let manifest = manifest_value(alloc, offer)?;
+    let urls = urls_value(alloc, offer)?;
     json!(in alloc; { "manifest": manifest, "status": "ok", "urls": urls })
 }
 
-fn check_data(alloc: Global, check: &CheckReply) -> Result<Value, AllocError>
+fn check_value(alloc: Global, check: &CheckReply) -> Result<Value, AllocError>
     ensures { IfOk result (λ json. view json ≡ check_data check.now) }
 {
     match check {
-        CheckReply::NoUpdate => status_data(alloc, "noupdate"),
-        CheckReply::Internal => status_data(alloc, "error-internal"),
-        CheckReply::Offered(offer) => offer_data(alloc, offer),
+        CheckReply::NoUpdate => status_value(alloc, "noupdate"),
+        CheckReply::Internal => status_value(alloc, "error-internal"),
+        CheckReply::Offered(offer) => offer_value(alloc, offer),
         CheckReply::Other => Ok(Value::Null),
     }
 }
 
-fn acknowledgements(alloc: Global, events: usize) -> Result<Value, AllocError>
+fn acknowledge(alloc: Global, events: usize) -> Result<Value, AllocError>
     ensures { IfOk result (λ json. view json ≡ acknowledgements events) }
 {
-    let mut answers = Vec::new(alloc);
+    let mut answers = Vec::with_capacity(alloc, events)?;
     for _event in 0..events {
-        let answer = status_data(alloc, "ok")?;
-        answers.push(answer)?;
+        answers.push(status_value(alloc, "ok")?)?;
     }
     Ok(Value::Array(answers))
 }
 
-fn events_data(alloc: Global, events: usize) -> Result<Option<Value>, AllocError>
+fn events_value(alloc: Global, events: usize) -> Result<Option<Value>, AllocError>
     ensures { IfOk result (λ json. option_map view json ≡ events_data events) }
 {
     if events == 0 {
         return Ok(None);
     }
-    Ok(Some(acknowledgements(alloc, events)?))
+    Ok(Some(acknowledge(alloc, events)?))
 }
 
-fn ping_data(alloc: Global, asked: bool) -> Result<Option<Value>, AllocError>
+fn ping_value(alloc: Global, asked: bool) -> Result<Option<Value>, AllocError>
     ensures { IfOk result (λ json. option_map view json ≡ ping_data asked) }
 {
     if !asked {
         return Ok(None);
     }
-    Ok(Some(status_data(alloc, "ok")?))
+    Ok(Some(status_value(alloc, "ok")?))
 }
 
-fn update_data(alloc: Global, check: &Option<CheckReply>) -> Result<Option<Value>, AllocError>
-    ensures { IfOk result (λ json. option_map view json ≡ update_data check.now) }
+fn update_value(alloc: Global, check: Option<&CheckReply>) -> Result<Option<Value>, AllocError>
+    ensures { IfOk result (λ json. option_map view json
+        ≡ update_data (option_map (λ reply. reply.now) check.entry)) }
 {
     match check {
-        Some(check) => Ok(Some(check_data(alloc, check)?)),
+        Some(check) => Ok(Some(check_value(alloc, check)?)),
         None => Ok(None),
     }
 }
 
-fn known_data(alloc: Global, appid: &str, app: &KnownApp) -> Result<Value, AllocError>
+fn known_value(alloc: Global, appid: &str, app: &KnownApp) -> Result<Value, AllocError>
     ensures { IfOk result (λ json. view json ≡ known_data appid.now app.now) }
 {
-    let event = events_data(alloc, app.events)?;
-    let ping = ping_data(alloc, app.ping)?;
-    let update = update_data(alloc, &app.check)?;
+    let event = events_value(alloc, app.events)?;
+    let ping = ping_value(alloc, app.ping)?;
+    let update = update_value(alloc, app.check.as_ref())?;
     let mut answer = Map::new(alloc);
     put_text(&mut answer, alloc, "appid", appid)?;
     put_text(&mut answer, alloc, "cohort", app.cohort.as_str())?;
@@ -163,39 +164,38 @@ fn known_data(alloc: Global, appid: &str, app: &KnownApp) -> Result<Value, Alloc
     Ok(Value::Object(answer))
 }
 
-fn unknown_data(alloc: Global, appid: &str) -> Result<Value, AllocError>
+fn unknown_value(alloc: Global, appid: &str) -> Result<Value, AllocError>
     ensures { IfOk result (λ json. view json ≡ unknown_data appid.now) }
 {
     json!(in alloc; { "appid": appid, "status": "error-unknownApplication" })
 }
 
-fn app_data(alloc: Global, app: &AppReply) -> Result<Value, AllocError>
+fn app_value(alloc: Global, app: &AppReply) -> Result<Value, AllocError>
     ensures { IfOk result (λ json. view json ≡ app_data app.now) }
 {
     let appid = app.appid.as_str();
     match &app.state {
-        AppState::Known(known) => known_data(alloc, appid, known),
-        AppState::Unknown => unknown_data(alloc, appid),
+        AppState::Known(known) => known_value(alloc, appid, known),
+        AppState::Unknown => unknown_value(alloc, appid),
         AppState::Other => Ok(Value::Null),
     }
 }
 
-fn apps_data(alloc: Global, apps: &[AppReply]) -> Result<Value, AllocError>
+fn apps_value(alloc: Global, apps: &[AppReply]) -> Result<Value, AllocError>
     ensures { IfOk result (λ json. view json ≡ apps_data apps.now) }
 {
-    let mut answers = Vec::new(alloc);
+    let mut answers = Vec::with_capacity(alloc, apps.len())?;
     for app in apps {
-        let answer = app_data(alloc, app)?;
-        answers.push(answer)?;
+        answers.push(app_value(alloc, app)?)?;
     }
     Ok(Value::Array(answers))
 }
 
 #[tactic(auto, unfolding(crate::specs::ReplyWriting::reply_data))]
-fn reply_data(alloc: Global, reply: &Reply) -> Result<Value, AllocError>
+fn reply_value(alloc: Global, reply: &Reply) -> Result<Value, AllocError>
     ensures { IfOk result (λ json. view json ≡ reply_data reply.now) }
 {
-    let apps = apps_data(alloc, reply.apps.as_slice())?;
+    let apps = apps_value(alloc, reply.apps.as_slice())?;
     json!(in alloc; {
         "response": {
             "app": apps,
@@ -210,15 +210,19 @@ fn reply_data(alloc: Global, reply: &Reply) -> Result<Value, AllocError>
 
 /// Writes a reply of the Omaha protocol 3.1, JSON form.
 ///
-/// The text is the four bytes `)]}'`, a line feed and JSON with no space in it, its members in
-/// byte order of their names. No app and no answer to a wish may be `Other`, which has no text.
+/// The reply is the four bytes `)]}'`, a line feed and JSON with no space in it, its members in
+/// byte order of their names. No app and no reply to an update check may be `Other`, which has no
+/// JSON.
+// rule: Text of a reply
 pub fn write_reply(alloc: Global, reply: &Reply) -> Result<Vec<u8>, AllocError>
     requires { IsWritable reply.now }
     ensures { IfOk result (λ text. text.items ≡ reply_text reply.now) }
 {
-    let value = reply_data(alloc, reply)?;
+    let value = reply_value(alloc, reply)?;
     let json = value.to_vec(alloc)?;
-    let mut text = Vec::from_slice(alloc, SCRIPT_GUARD)?;
+    let size = SCRIPT_GUARD.len().saturating_add(json.len());
+    let mut text = Vec::with_capacity(alloc, size)?;
+    text.extend_from_slice(SCRIPT_GUARD)?;
     text.extend_from_slice(&json)?;
     Ok(text)
 }

@@ -3,7 +3,7 @@ use values::{Items, Text};
 /// What one request of the Omaha protocol 3.1, JSON form, asks.
 #[derive(Clone, Debug, Drop)]
 pub struct Request {
-    /// The member `sessionid`, empty where it is missing.
+    /// The member `sessionid`, empty if it is missing.
     pub session: Text,
     /// The elements of `app` in order, at most 256, repeated ones too.
     pub apps: Items<AppAsk>,
@@ -14,15 +14,15 @@ pub struct Request {
 pub struct AppAsk {
     /// The identifier as the client spells it, 1 to 256 bytes.
     pub appid: Text,
-    /// The installed version as the client spells it, empty where it is missing.
+    /// The installed version as the client spells it, empty if it is missing.
     pub version: Text,
-    /// The fingerprint of the first installed package, empty where it is missing.
+    /// The fingerprint of the first installed package, empty if it is missing.
     pub fp: Text,
-    /// The member `cohort`, empty where it is missing.
+    /// The member `cohort`, empty if it is missing.
     pub cohort: Text,
-    /// The member `cohorthint`, empty where it is missing.
+    /// The member `cohorthint`, empty if it is missing.
     pub hint: Text,
-    /// The member `updatecheck`, where there is one.
+    /// The update check: the member `updatecheck`, if there is one.
     pub check: Option<Check>,
     /// Whether there is a member `ping`.
     pub ping: bool,
@@ -30,13 +30,13 @@ pub struct AppAsk {
     pub events: usize,
 }
 
-/// What a client says with its wish for an update.
+/// An update check: what a client says when it asks for an update.
 #[derive(Clone, Debug, Drop)]
 pub struct Check {
-    /// Whether updates are switched off, the member `updatedisabled`.
+    /// Whether updates are disabled, the member `updatedisabled`.
     pub disabled: bool,
     /// Whether a lower version may be offered, the member `rollback_allowed`.
     pub rollback: bool,
-    /// The member `targetversionprefix`, empty where it is missing.
+    /// The member `targetversionprefix`, empty if it is missing.
     pub prefix: Text,
 }

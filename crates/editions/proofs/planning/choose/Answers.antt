@@ -1,25 +1,10 @@
-use Rattle.std.proofs.Common.{sym, ◌∙◌, ap}
-use Rattle.std.specs.Option.{option_map_or}
-use Rattle.editions.proofs.ChainLemmas.{Begins-target, IsTarget-target_of, LeadsNowhere-no_target, LeadsNowhere-not_below}
+use Rattle.std.proofs.Common.{sym, ◌∙◌}
+use Rattle.editions.proofs.PlanLemmas.{IsChosen-known}
 use Rattle.editions.proofs.planning.choose.Goals as goal
 
-pub returns-in_err-target : goal.returns-in_err-target
-returns-in_err-target c =
-    rw c.from_residual.ensures
-    (LeadsNowhere-no_target c.args.app.now c.args.track.now c.args.place (sym c.in_err-target.ensures))
-
-pub returns-then-not-is_below : goal.returns-then-not-is_below
-returns-then-not-is_below c =
-    let item = rw c.as_slice.ensures at c.index-as_slice-target.is in
-    let target = IsTarget-target_of c.args.app.now c.args.track.now c.in_ok-target.target c.index-as_slice-target.result (sym c.in_ok-target.ensures) item in
-    let not_below = rw c.version_at.ensures at (sym c.is_below.ensures ∙ c.if-not-is_below.true) in
-    LeadsNowhere-not_below c.order.ensures.irreflexive c.order.ensures.transitive c.order.ensures.total c.args.app.now c.args.track.now c.args.place c.in_ok-target.target c.index-as_slice-target.result target.0 target.1 not_below
-
-pub returns : goal.returns
-returns c =
-    let item = rw c.as_slice.ensures at c.index-as_slice-target.is in
-    let target = IsTarget-target_of c.args.app.now c.args.track.now c.in_ok-target.target c.index-as_slice-target.result (sym c.in_ok-target.ensures) item in
-    let below = rw c.version_at.ensures at (sym c.is_below.ensures ∙ c.if-not-is_below.false) in (
-      Begins-target c.order.ensures.irreflexive c.order.ensures.transitive c.order.ensures.total c.args.app.now c.args.track.now c.args.place c.in_ok-target.target c.index-as_slice-target.result target.0 target.1 (sym c.in_ok-target.ensures) below,
-      sym (ap (λ there. option_map_or (λ release. release.size) there 0) target.1.there),
-    )
+pub returns-clause-chosen : goal.returns-clause-chosen
+returns-clause-chosen c =
+    let wants = sym c.has_open_check.ensures ∙ c.if-not-has_open_check.false in
+    let known = sym c.in-Some.ensures.found in
+    let leads = rw c.find_place-place.ensures.place at c.choose_payload.ensures in
+    IsChosen-known c.args.catalogue.now c.args.session.now c.args.ask.now (record { app = c.in-Some.client.app.now; track = c.in-Some.client.track }) c.choose_payload.result wants known leads
