@@ -14,7 +14,7 @@ const MAX_BATCHES: usize = 4096;
 /// A history of accepted batches with its catalogue, which contracts see as the history.
 ///
 /// Its batches are shared with the editions before and after it.
-#[derive(Debug, Drop)]
+#[derive(Drop)]
 pub struct Edition {
     alloc: Global,
     batches: Vec<Arc<Batch>>,

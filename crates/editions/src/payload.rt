@@ -25,7 +25,7 @@ pub struct Choice {
 }
 
 // A session with its bucket, which took a hash of the whole session.
-#[derive(Debug, Drop)]
+#[derive(Drop)]
 struct KnownBucket {
     session: Text,
     bucket: u16,
@@ -37,7 +37,7 @@ struct KnownBucket {
 /// Nothing is chosen for an app that is unknown, that wants no update, or whose client no payload
 /// leads on. The plan also keeps the bucket of the request's session if a client needed it, so that
 /// the reply needs no second hash of the session.
-#[derive(Debug, Drop)]
+#[derive(Drop)]
 pub struct Plan {
     choices: Items<Option<Choice>>,
     known: Option<KnownBucket>,

@@ -6,7 +6,7 @@ use Rattle.std.specs.Str.{bytes_eq}
 use Rattle.toml.specs.Data.{Items, no_items, item, as_bool, as_str}
 use Rattle.catalogue.specs.declared.edit.Edit.{Edit}
 use Rattle.catalogue.specs.declared.edit.Edit.TheVariants as edit
-use Rattle.catalogue.specs.declared.edit.SetTarget.{SetTarget}
+use Rattle.catalogue.specs.declared.edits.cohort_settings.SetTarget.{SetTarget}
 use Rattle.toml_tables.specs.Fields.{◌>>=◌, as_natural, known, optional, required}
 use Rattle.toml_tables.specs.Lists.{element}
 use Rattle.toml_tables.specs.Paths.{bad_key}

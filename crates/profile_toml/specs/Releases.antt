@@ -1,7 +1,7 @@
 -- A release of a profile: its keys and its edit; this project's profile.
 use Rattle.std.specs.Prelude.{ℕ, List, [], ◌∷◌, codes, Result, Ok}
 use Rattle.toml.specs.Data.{as_str}
-use Rattle.catalogue.specs.declared.edit.AddRelease.{AddRelease}
+use Rattle.catalogue.specs.declared.edits.releases.AddRelease.{AddRelease}
 use Rattle.catalogue.specs.declared.edit.Edit.{Edit}
 use Rattle.catalogue.specs.declared.edit.Edit.TheVariants as edit
 use Rattle.toml_tables.specs.Fields.{◌>>=◌, as_natural, known, required}

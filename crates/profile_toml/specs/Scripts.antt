@@ -6,12 +6,12 @@ use Rattle.std.specs.Map.{lookup}
 use Rattle.std.specs.Option.{ok_or}
 use Rattle.std.specs.Str.{bytes_eq}
 use Rattle.toml.specs.Data.{as_str, as_bool}
-use Rattle.catalogue.specs.declared.edit.AddApp.{AddApp}
-use Rattle.catalogue.specs.declared.edit.AddCohort.{AddCohort}
-use Rattle.catalogue.specs.declared.edit.AddRelease.{AddRelease}
-use Rattle.catalogue.specs.declared.edit.SetOpen.{SetOpen}
-use Rattle.catalogue.specs.declared.edit.SetShare.{SetShare}
-use Rattle.catalogue.specs.declared.edit.SetTarget.{SetTarget}
+use Rattle.catalogue.specs.declared.edits.apps.AddApp.{AddApp}
+use Rattle.catalogue.specs.declared.edits.cohorts.AddCohort.{AddCohort}
+use Rattle.catalogue.specs.declared.edits.releases.AddRelease.{AddRelease}
+use Rattle.catalogue.specs.declared.edits.cohort_settings.SetOpen.{SetOpen}
+use Rattle.catalogue.specs.declared.edits.cohort_settings.SetShare.{SetShare}
+use Rattle.catalogue.specs.declared.edits.cohort_settings.SetTarget.{SetTarget}
 use Rattle.catalogue.specs.declared.edit.Edit.{Edit}
 use Rattle.catalogue.specs.declared.edit.Edit.TheVariants as edit
 use Rattle.toml_tables.specs.Fields.{◌>>=◌, as_natural, known, optional, required}
