@@ -4,6 +4,7 @@ use Rattle.streams.specs.Streams.{Known}
 use Rattle.streams.specs.declared.reading.ReadFailure.{ReadFailure}
 use Rattle.streams.specs.declared.reading.ReadFailure.TheVariants as failure
 
+-- rule: Reading up to a maximum
 -- all of the known bytes, and at most the maximum
 abbrev pub IsWhole : Known → ℕ → List ℕ → Type 0
 IsWhole known max bytes = IfSome known.bytes (λ held. bytes ≡ held) × (length bytes ≤ max)

@@ -8,6 +8,7 @@ abbrev pub AppendsPart : Option (List ℕ) → Option (List ℕ) → List ℕ �
 AppendsPart before after bytes =
     (count : ℕ) × (count < length bytes) × Appends before after (take count bytes)
 
+-- rule: Writing whole
 -- the writer failed before it took all of the bytes
 abbrev pub Breaks : Known → Known → List ℕ → Type 0
 Breaks old new bytes = AppendsPart old.bytes new.bytes bytes × (new.failed ≡ true)

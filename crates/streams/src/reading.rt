@@ -36,6 +36,7 @@ impl<R: Read> ReadWhole for R {
     }
 }
 
+// rule: Reading up to a maximum
 /// Reads a reader to its end, which may have `max` bytes.
 pub(crate) fn read_bounded<R: Read>(
     reader: &mut R,

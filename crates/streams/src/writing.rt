@@ -34,6 +34,7 @@ pub fn offer<W: WriteWhole>(writer: &mut W, bytes: &[u8])
     let _ = writer.write_whole(bytes);
 }
 
+// rule: Writing whole
 // Writes until all of the bytes are taken.
 fn put<W: Write>(writer: &mut W, bytes: &[u8]) -> io::Result<()>
     ensures ok { OnOk result (Appends (W.contents writer.old) (W.contents writer.new) bytes.now) }
