@@ -77,7 +77,10 @@ fn reports_what_is_wrong_with_the_profile(rt: HostRuntime) -> Result<(), Fail> {
         ("a\u{7f}", "omaha: file a%7F\n"),
         ("\u{80}\u{9f}", "omaha: file %C2%80%C2%9F\n"),
         ("\u{202a}\u{202e}", "omaha: file %E2%80%AA%E2%80%AE\n"),
-        ("a%20\u{a0}\u{e9}.toml", "omaha: file a%20\u{a0}\u{e9}.toml\n"),
+        (
+            "a%20\u{a0}\u{e9}.toml",
+            "omaha: file a%20\u{a0}\u{e9}.toml\n",
+        ),
     ];
     for (profile, line) in rows {
         // The reader fails too, but the profile is read first.
