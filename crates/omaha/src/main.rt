@@ -1,6 +1,6 @@
-//! The program `omaha`: it answers one Omaha 3.1 request from its standard input.
+//! The program `omaha`: it replies to one Omaha 3.1 request from its standard input.
 //!
-//! Everything that it does stands in `omaha_cli`, whose `run` it calls with the standard streams.
+//! Everything that it does is in `omaha_cli`, whose `run` it calls with the standard streams.
 
 #![tactic(auto)]
 
@@ -9,18 +9,18 @@ use std::process::ExitCode;
 use std::rt::Env;
 use std::{env, io};
 
-// The words behind the program's name.
-fn words<R: Env + AllocGlobal>(rt: &R) -> io::Result<Vec<String>> {
-    let words = env::args(rt)?.skip(1).collect(rt.alloc())?;
-    Ok(words)
+// The arguments after the program's name.
+fn arguments<R: Env + AllocGlobal>(rt: &R) -> io::Result<Vec<String>> {
+    let arguments = env::args(rt)?.skip(1).collect(rt.alloc())?;
+    Ok(arguments)
 }
 
 fn main(rt: HostRuntime) -> ExitCode {
     let mut input = rt.stdin();
     let mut output = rt.stdout();
-    let mut faults = rt.stderr();
-    ExitCode::from(match words(&rt) {
-        Ok(words) => run(&rt, &words, &mut input, &mut output, &mut faults),
-        Err(error) => refuse(&error, &mut faults),
+    let mut errors = rt.stderr();
+    ExitCode::from(match arguments(&rt) {
+        Ok(arguments) => run(&rt, &arguments, &mut input, &mut output, &mut errors),
+        Err(error) => refuse(&error, &mut errors),
     })
 }

@@ -9,7 +9,6 @@ use Rattle.clap.specs.Kinds.{or_else}
 use Rattle.clap.specs.Words.{App, FailsBy, HasKind, Kinds, Row, Text, fault_of, is_simple, is_simple_and_free, kind_of, subcommand_of}
 use Rattle.clap.specs.declared.error.Error.{Error}
 use Rattle.clap.specs.declared.error.kind.ErrorKind.TheVariants.{DisplayHelp, OutOfMemory}
-use Rattle.omaha_cli.specs.Running.{HasMistake}
 use Rattle.omaha_cli.specs.Commands.{faults_of, faults_of_once, moment_of, omaha_app}
 use Rattle.omaha_cli.specs.declared.command_line.Once.{Once}
 
@@ -66,8 +65,3 @@ fails_by_options app words options result found is none names named fails =
     subst (λ (a : App). is_simple a ≡ true → found ≡ subcommand_of a words) is names omaha_app-is_simple in
     let met = sym (ap (option_map (λ n. n.1)) entered) ∙ sym named in
     subst (λ (kinds : Kinds). FailsBy kinds result) (sym (ap₂ or_else nothing (options_of options (subcommand_of omaha_app words) met))) fails
-
--- an error that is neither want of memory nor help is a mistake of the words
-pub HasMistake-kind : (faults : Kinds) (error : Error) → HasKind faults error → kind_of error ≢ OutOfMemory → kind_of error ≢ DisplayHelp → HasMistake faults
-HasMistake-kind faults error (inl memory) other mistake = absurd (other memory)
-HasMistake-kind faults error (inr among) other mistake = (kind_of error, mistake, among)

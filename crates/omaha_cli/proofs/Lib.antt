@@ -1,5 +1,4 @@
 mod AnswerLemmas
 mod BuiltinLemmas
 mod CommandLemmas
-mod IntakeLemmas
-mod RunLemmas
+mod EndingLemmas

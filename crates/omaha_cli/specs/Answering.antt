@@ -1,5 +1,5 @@
 -- What the program answers to an input: the reply to the request that it is, from a catalogue at a
--- moment; or its first fault. This project's profile.
+-- time; or its first fault. This project's profile.
 use Rattle.std.specs.Prelude.{◌≡◌, ℕ, List, [], ◌∷◌, map, Option, Some, None, option_and_then, Result, Ok, Err}
 use Rattle.catalogue.specs.declared.mirror.Mirror.{Mirror}
 use Rattle.editions.specs.Plans.{IsPlan, content_of, payloads_of}
@@ -13,12 +13,12 @@ use Rattle.values.specs.Reading.{Explains}
 use Rattle.values.specs.declared.read_error.ReadError.{ReadError}
 use Rattle.omaha_cli.specs.declared.service.Service.{Service}
 
--- the first mirror, where there is one
+-- the first mirror, if there is one
 abbrev pub first_mirror : List Mirror → Option ℕ
 first_mirror [] = None
 first_mirror (mirror ∷ mirrors) = Some 0
 
--- every wish is granted by the first mirror
+-- every update is granted by the first mirror
 abbrev pub granted : List Mirror → List (Option Choice) → List (Option ℕ)
 granted mirrors plan = map (option_and_then (λ chosen. first_mirror mirrors)) plan
 
@@ -34,7 +34,8 @@ pub record IsReply (service : Service) (moment : ℕ) (request : Request) (text 
   pub planned : IsPlan (content_of service.edition) request plan
   pub written : text ≡ reply_by service moment plan request
 
--- the reply to the request that the input is; or the input's first fault, or want of memory
+-- rule: Answer of the program
+-- the reply to the request that the input is; or the input's first fault, or out of memory
 abbrev pub Answers : Service → ℕ → List ℕ → Result (List ℕ) (ReadError RequestFault) → Type 0
 Answers service moment input (Ok reply) =
     (request : Request) × (request_of_text input ≡ Ok request) × IsReply service moment request reply

@@ -1,5 +1,5 @@
--- The catalogue that is built into the program, by which it answers when it is given none: an app
--- with two releases, whose one cohort is meant to have the second; and its mirror.
+-- The catalogue that is built into the program, for runs without a profile: an app with two releases,
+-- whose one cohort targets the second; and its mirror.
 use Rattle.std.specs.Prelude.{ℕ, false, List, [], ◌∷◌, codes, replicate, Some, None}
 use Rattle.catalogue.specs.declared.content.App.{App}
 use Rattle.catalogue.specs.declared.mirror.Mirror.{Mirror}
@@ -23,18 +23,19 @@ first_release =
     added_release (codes "1.0") (codes "mini-1.0.bin") 3
     (codes "ba7816bf8f01cfea414140de5dae2223b00361a396177a9cb410ff61f20015ad")
 
--- release 2.0: a text of 56 bytes from the examples of FIPS 180
+-- release 2.0: a string of 56 bytes from the examples of FIPS 180
 abbrev pub second_release : Edit
 second_release =
     added_release (codes "2.0") (codes "mini-2.0.bin") 56
     (codes "248d6a61d20638b8e5c026930c3e6039a33ce45964ff2167f6ecedd419db06c1")
 
--- the cohort is meant to have release 2.0
+-- the cohort targets release 2.0
 abbrev pub set_target : Edit
 set_target =
     edit.SetTarget
     (record { app = codes "mini"; cohort = codes "stable"; target = Some (codes "2.0"); held = None })
 
+-- rule: Built-in catalogue
 -- the one batch
 abbrev pub builtin_batch : List Edit
 builtin_batch = added_app ∷ first_release ∷ second_release ∷ set_target ∷ []
@@ -70,6 +71,6 @@ builtin_apps =
       diffs = [];
     } ∷ []
 
--- what is answered from without a profile
+-- what the program replies from without a profile
 abbrev pub builtin_service : Service
 builtin_service = record { edition = builtin_batch ∷ []; mirrors = builtin_mirror ∷ [] }

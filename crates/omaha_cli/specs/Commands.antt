@@ -1,5 +1,4 @@
--- What the words of the command line ask for, over the words as `clap` reads them; this project's
--- profile.
+-- What the arguments of the command line ask for, as `clap` reads them; this project's profile.
 use Rattle.std.specs.Prelude.{ℕ, ◌^◌, ◌==◌, ◌&&◌, Bool, true, List, [], ◌∷◌, codes, length, nat_lt, slice_index, if◌then◌else◌, Option, Some, None, unwrap_or}
 use Rattle.std.specs.Option.{option_map_or}
 use Rattle.std.specs.Str.{all_ascii_digits}
@@ -20,26 +19,27 @@ once_app =
     with_rule (with_rule (new_app (codes "once")) (option_named (codes "profile")))
     (option_named (codes "moment"))
 
--- the program's commands; its words are those behind its name
+-- the program's commands; its arguments are those after its name
 abbrev pub omaha_app : App
 omaha_app =
-    with_subcommand (on_top (λ top. record top { no_binary_name = true }) (new_app (codes "omaha")))
+    with_subcommand
+    (on_top (λ top. record top { no_binary_name = true; has_version = true }) (new_app (codes "omaha")))
     once_app.top
 
--- the text begins with a `+`
+-- the string begins with a `+`
 abbrev pub has_plus : List ℕ → Bool
 has_plus text = slice_index text 0 == 43
 
--- the text is decimal digits, at least one, of a number below 2^64
+-- the string is decimal digits, at least one, of a number below 2^64
 abbrev pub is_moment : List ℕ → Bool
 is_moment text =
     nat_lt 0 (length text) && all_ascii_digits text && nat_lt (digits_value 10 text) (2 ^ 64)
 
--- the moment that a text spells
+-- the number in a string
 abbrev pub moment_of : List ℕ → Option ℕ
 moment_of text = if is_moment text then Some (digits_value 10 text) else None
 
--- the moment that is asked for, 0 where none is; or none where its text spells none
+-- the number of `--moment`, or 0 without the option; none if it is no number
 abbrev pub moment_in : List Row → Option ℕ
 moment_in options = option_map_or moment_of (first_of (codes "moment") options) (Some 0)
 
@@ -55,16 +55,17 @@ once_in options =
 abbrev pub faults_of_once : List Row → Kinds
 faults_of_once options = option_map_or (λ moment. []) (moment_in options) (ValueValidation ∷ [])
 
--- without a command: the built-in catalogue, at the moment 0
+-- without a command: the built-in catalogue, at the time 0
 abbrev pub plain_once : Once
 plain_once = record { profile = None; moment = 0 }
 
--- what the words ask for
+-- rule: Arguments of the command line
+-- what the arguments ask for
 abbrev pub once_of : List Text → Once
 once_of words = option_map_or (λ named. once_in named.1) (subcommand_of omaha_app words) plain_once
 
--- what is wrong with the words, or the help that they ask for: what `clap` finds, else what is wrong
--- with the options
+-- what is wrong with the arguments, or the help or version that they ask for: what `clap` finds, else
+-- what is wrong with the options
 abbrev pub faults_of : List Text → Kinds
 faults_of words =
     or_else (fault_of omaha_app words)

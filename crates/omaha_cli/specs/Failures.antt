@@ -1,17 +1,20 @@
--- What the program prints of a failure, behind `omaha: `; this project's profile.
+-- What the program prints of a failure, after `omaha: `; this project's profile.
 use Rattle.std.specs.Prelude.{ℕ, List, ◌++◌, codes}
 use Rattle.catalogue.specs.FaultTexts.{refused_text}
 use Rattle.omaha_json.specs.Faults.{fault_text}
 use Rattle.profile_toml.specs.FaultTexts.{fault_text as profile_fault_text}
+use Rattle.omaha_cli.specs.Paths.{shown_path}
 use Rattle.omaha_cli.specs.declared.failure.Failure.{Failure}
 use Rattle.omaha_cli.specs.declared.failure.Failure.TheVariants as failure
 
--- `file` and the path as it was given; the code and name of a fault, with its place; or a word
+-- rule: Printed failure
+-- `file` and the path without control characters; the code and name of a fault, with its place; or a word
 abbrev pub failure_text : Failure → List ℕ
-failure_text (failure.File path) = codes "file " ++ path
+failure_text (failure.File path) = codes "file " ++ shown_path path
 failure_text (failure.Profile fault) = profile_fault_text fault
 failure_text (failure.Edit refused) = refused_text refused
 failure_text failure.Read = codes "read"
+failure_text failure.TooLong = codes "read"
 failure_text (failure.Request fault) = fault_text fault
 failure_text failure.Memory = codes "memory"
 failure_text failure.Write = codes "write"

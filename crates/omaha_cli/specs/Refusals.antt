@@ -1,10 +1,17 @@
 -- A reader's error as a failure of the program.
 use Rattle.omaha_json.specs.declared.fault.RequestFault.{RequestFault}
 use Rattle.profile_toml.specs.declared.fault.ProfileFault.{ProfileFault}
+use Rattle.streams.specs.declared.reading.ReadFailure.{ReadFailure}
+use Rattle.streams.specs.declared.reading.ReadFailure.TheVariants as input
 use Rattle.values.specs.declared.read_error.ReadError.{ReadError}
 use Rattle.values.specs.declared.read_error.ReadError.TheVariants as errors
 use Rattle.omaha_cli.specs.declared.failure.Failure.{Failure}
 use Rattle.omaha_cli.specs.declared.failure.Failure.TheVariants as failure
+
+abbrev pub failure_of_input : ReadFailure → Failure
+failure_of_input input.Broken = failure.Read
+failure_of_input input.TooLong = failure.TooLong
+failure_of_input input.Memory = failure.Memory
 
 abbrev pub failure_of_profile : ReadError ProfileFault → Failure
 failure_of_profile errors.Memory = failure.Memory

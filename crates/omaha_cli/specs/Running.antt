@@ -1,103 +1,106 @@
--- What the program does with what it reads; this project's profile.
-use Rattle.std.specs.Prelude.{◌≡◌, ◌≢◌, ◌⊎◌, ⊤, ℕ, List, ◌∷◌, [], ◌++◌, codes, Option, Some, None, Result, Ok, Err}
+-- How a run of the program ends, and what it prints and returns then; this project's profile.
+use Rattle.std.specs.Prelude.{◌≡◌, ◌≢◌, ◌⊎◌, ℕ, nat_eq, if◌then◌else◌, List, ◌∷◌, [], ◌++◌, codes, Result, Ok, Err}
 use Rattle.std.specs.Io.KnownBytes.{Appends}
 use Rattle.clap.specs.Words.{IsAmong, Kinds, Text}
 use Rattle.clap.specs.declared.error.kind.ErrorKind.{ErrorKind}
 use Rattle.clap.specs.declared.error.kind.ErrorKind.TheVariants as kind
-use Rattle.omaha_json.specs.RequestReading.{request_of_text}
-use Rattle.omaha_json.specs.declared.fault.RequestFault.{RequestFault}
-use Rattle.omaha_cli.specs.Answering.{Answers}
-use Rattle.omaha_cli.specs.Builtin.{builtin_service}
+use Rattle.streams.specs.Streams.{Known}
+use Rattle.streams.specs.Writing.{Breaks, IsWritten}
 use Rattle.omaha_cli.specs.Commands.{faults_of, once_of}
 use Rattle.omaha_cli.specs.Failures.{failure_text}
-use Rattle.omaha_cli.specs.Intake.{IsInput}
-use Rattle.omaha_cli.specs.Services.{service_of_text}
-use Rattle.omaha_cli.specs.declared.command_line.Once.{Once}
+use Rattle.omaha_cli.specs.Once.{Files, Responds}
+use Rattle.omaha_cli.specs.Streams.{Streams}
 use Rattle.omaha_cli.specs.declared.failure.Failure.{Failure}
 use Rattle.omaha_cli.specs.declared.failure.Failure.TheVariants as failure
-use Rattle.omaha_cli.specs.declared.service.Service.{Service}
+use Rattle.omaha_cli.specs.declared.running.Ending.{Ending}
+use Rattle.omaha_cli.specs.declared.running.Ending.TheVariants as ending
+use Rattle.omaha_cli.specs.declared.running.Status.{Status}
+use Rattle.omaha_cli.specs.declared.running.Status.TheVariants as status
 
--- the line of a refusal
+-- the exit status after an ending
+abbrev pub status_of : Ending → Status
+status_of ending.Replied = status.Success
+status_of ending.Shown = status.Success
+status_of (ending.Failed refusal) = status.Failure
+status_of (ending.Mistaken text) = status.Usage
+
+-- the arguments were invalid
+abbrev pub IsMistaken : Ending → Type 0
+IsMistaken ended = status_of ended ≡ status.Usage
+
+-- the number of a status
+abbrev pub code_of : Status → ℕ
+code_of status.Success = 0
+code_of status.Failure = 1
+code_of status.Usage = 2
+
+-- the kinds of what `clap` prints on the standard output: the help and the version
+abbrev pub IsShown : ErrorKind → Type 0
+IsShown told = (told ≡ kind.DisplayHelp) ⊎ (told ≡ kind.DisplayVersion)
+
+-- the arguments ask for the help or the version
+abbrev pub AsksToShow : Kinds → Type 0
+AsksToShow faults = (told : ErrorKind) × IsShown told × IsAmong told faults
+
+-- the arguments are invalid
+abbrev pub HasMistake : Kinds → Type 0
+HasMistake faults = (told : ErrorKind) × (IsShown told → ⊥) × IsAmong told faults
+
+-- a text was asked for, and is printed; or the writer failed within it
+abbrev pub Shows : List ℕ → Known → Known → Ending → Type 0
+Shows text before after ending.Shown = Appends before.bytes after.bytes text
+Shows text before after (ending.Failed refusal) = (refusal ≡ failure.Write) × Breaks before after text
+Shows text before after other = ⊥
+
+-- how a run ends for which `clap` has an error of that kind
+abbrev pub Misreads : ErrorKind → Known → Known → Ending → Type 0
+Misreads told before after ended =
+    (IsShown told × ((text : List ℕ) × Shows text before after ended))
+    ⊎ ((ended ≡ ending.Failed failure.Memory) × (after ≡ before))
+    ⊎ ((told ≢ kind.OutOfMemory) × (IsShown told → ⊥) × ((text : List ℕ) × (ended ≡ ending.Mistaken text)) × (after ≡ before))
+
+-- How a run ends, by its arguments. A command does what its own relation says.
+abbrev pub Ends : Files → List Text → Streams → Streams → Ending → Type 0
+Ends files words old new ending.Replied =
+    (faults_of words ≡ []) × Responds files (once_of words) old new (Ok tt)
+Ends files words old new ending.Shown =
+    AsksToShow (faults_of words)
+    × ((text : List ℕ) × Appends old.output.bytes new.output.bytes text)
+    × (new.input ≡ old.input)
+Ends files words old new (ending.Mistaken text) = HasMistake (faults_of words) × (new ≡ old)
+Ends files words old new (ending.Failed refusal) =
+    ((faults_of words ≡ []) × Responds files (once_of words) old new (Err refusal))
+    ⊎ (AsksToShow (faults_of words) × (refusal ≡ failure.Write)
+    × ((text : List ℕ) × Breaks old.output new.output text)
+    × (new.input ≡ old.input))
+    ⊎ ((refusal ≡ failure.Memory) × (new ≡ old))
+
+-- the line of a failure
 abbrev pub failure_line : Failure → List ℕ
 failure_line refusal = codes "omaha: " ++ failure_text refusal ++ 10 ∷ []
 
--- some text makes this service, or has this failure; which text a file holds no clause can say
-abbrev pub IsOfFile : Result Service Failure → Type 0
-IsOfFile made = (text : List ℕ) × (service_of_text text ≡ made)
+-- the failure's line is printed or, as a line takes memory, that of a failed allocation
+abbrev pub IsTold : Failure → Known → Known → Type 0
+IsTold refusal before after =
+    IsWritten before after (failure_line refusal) ⊎ IsWritten before after (failure_line failure.Memory)
 
--- a file's failure: it could not be read, or there was no memory for it
-abbrev pub IsOfPath : List ℕ → Failure → Type 0
-IsOfPath path refusal = (refusal ≡ failure.File path) ⊎ (refusal ≡ failure.Memory)
+-- what is printed on the standard error after an ending
+abbrev pub IsReported : Ending → Known → Known → Type 0
+IsReported ending.Replied before after = after ≡ before
+IsReported ending.Shown before after = after ≡ before
+IsReported (ending.Failed refusal) before after = IsTold refusal before after
+IsReported (ending.Mistaken text) before after = IsWritten before after text
 
--- what is answered from: the built-in catalogue without a path, else that of the file's text; or
--- why there is nothing to answer from
-abbrev pub IsServed : Option (List ℕ) → Result Service Failure → Type 0
-IsServed None (Ok service) = service ≡ builtin_service
-IsServed None (Err refusal) = refusal ≡ failure.Memory
-IsServed (Some path) (Ok service) = IsOfFile (Ok service)
-IsServed (Some path) (Err (failure.File named)) = named ≡ path
-IsServed (Some path) (Err failure.Memory) = ⊤
-IsServed (Some path) (Err refusal) = IsOfFile (Err refusal)
+-- rule: Status of the program
+-- a whole run: it ends in one of these ways, reports that, and returns its status
+pub record Runs (files : Files) (words : List Text) (old new : Streams) (before after : Known) (code : ℕ) : Type 0 where
+  pub ended : Ending
+  pub ends : Ends files words old new ended
+  pub reported : IsReported ended before after
+  pub status : code ≡ code_of (status_of ended)
 
--- there is something to answer from
-abbrev pub IsReady : Once → Type 0
-IsReady once = (service : Service) × IsServed once.profile (Ok service)
-
--- the bytes are a reply to the input that a reader holds
-pub record IsReplyTo (once : Once) (held : Option (List ℕ)) (reply : List ℕ) : Type 0 where
-  pub service : Service
-  pub served : IsServed once.profile (Ok service)
-  pub input : List ℕ
-  pub read : IsInput held input
-  pub answered : Answers service once.moment input (Ok reply)
-
--- the input that a reader holds has the fault
-pub record IsFaultOf (once : Once) (held : Option (List ℕ)) (fault : RequestFault) : Type 0 where
-  pub ready : IsReady once
-  pub input : List ℕ
-  pub read : IsInput held input
-  pub refused : request_of_text input ≡ Err fault
-
--- what was answered to the input that a reader holds: a reply to it is written, and nothing else;
--- or nothing is written, since there is nothing to answer from, or there is, and the reader failed or
--- the request has the fault, or for want of memory; or the writer failed to take a reply
-abbrev pub Responds : Once → Option (List ℕ) → Option (List ℕ) → Option (List ℕ) → Result (Unit {0}) Failure → Type 0
-Responds once held before after (Ok done) =
-    (reply : List ℕ) × IsReplyTo once held reply × Appends before after reply
-Responds once held before after (Err (failure.File path)) =
-    IsServed once.profile (Err (failure.File path)) × (after ≡ before)
-Responds once held before after (Err (failure.Profile fault)) =
-    IsServed once.profile (Err (failure.Profile fault)) × (after ≡ before)
-Responds once held before after (Err (failure.Edit refused)) =
-    IsServed once.profile (Err (failure.Edit refused)) × (after ≡ before)
-Responds once held before after (Err failure.Read) = IsReady once × (after ≡ before)
-Responds once held before after (Err (failure.Request fault)) =
-    IsFaultOf once held fault × (after ≡ before)
-Responds once held before after (Err failure.Memory) = after ≡ before
-Responds once held before after (Err failure.Write) = (reply : List ℕ) × IsReplyTo once held reply
-
--- the words ask for help
-abbrev pub AsksHelp : Kinds → Type 0
-AsksHelp faults = IsAmong kind.DisplayHelp faults
-
--- the words have a mistake, which help is not
-abbrev pub HasMistake : Kinds → Type 0
-HasMistake faults = (told : ErrorKind) × (told ≢ kind.DisplayHelp) × IsAmong told faults
-
--- a run that ends well: help was asked for, or the words are right and a reply is written
-abbrev pub EndsWell : List Text → Option (List ℕ) → Option (List ℕ) → Option (List ℕ) → Type 0
-EndsWell words held before after =
-    AsksHelp (faults_of words)
-    ⊎ ((faults_of words ≡ []) × Responds (once_of words) held before after (Ok tt))
-
--- right words are answered with a failure
-abbrev pub Fails : List Text → Option (List ℕ) → Option (List ℕ) → Option (List ℕ) → Type 0
-Fails words held before after =
-    (faults_of words ≡ [])
-    × ((refusal : Failure) × Responds (once_of words) held before after (Err refusal))
-
--- a run that is refused: help was asked for, and could not be shown; right words are answered with a
--- failure; or nothing was written, as for want of memory, which no clause can name
-abbrev pub EndsRefused : List Text → Option (List ℕ) → Option (List ℕ) → Option (List ℕ) → Type 0
-EndsRefused words held before after =
-    AsksHelp (faults_of words) ⊎ Fails words held before after ⊎ (after ≡ before)
+-- what is printed of arguments that can't be read, by the exit status
+abbrev pub rejection_of : ℕ → List ℕ
+rejection_of code =
+    if nat_eq code 1 then failure_line failure.Memory
+    else codes "error: an argument is not valid UTF-8\n\nFor more information, try '--help'.\n"

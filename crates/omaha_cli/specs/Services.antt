@@ -1,4 +1,4 @@
--- What a profile's text makes the program answer from; this project's profile.
+-- What a profile makes the program reply from; this project's profile.
 use Rattle.std.specs.Prelude.{◌≡◌, ◌⊎◌, ℕ, List, [], ◌∷◌, Result, Ok, Err}
 use Rattle.catalogue.specs.Batches.{outcome}
 use Rattle.catalogue.specs.declared.content.App.{App}
@@ -25,7 +25,8 @@ abbrev pub service_by : Result Profile ProfileFault → Result Service Failure
 service_by (Ok profile) = service_if profile (outcome profile.0 [])
 service_by (Err fault) = Err (failure.Profile fault)
 
--- the service of a profile's text; its first fault, or the first of its edits that is refused
+-- rule: Service of a profile
+-- the service of a profile's bytes; its first fault, or the first of its edits that is rejected
 abbrev pub service_of_text : List ℕ → Result Service Failure
 service_of_text text = service_by (profile_of_text text)
 

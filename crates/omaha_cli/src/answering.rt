@@ -14,7 +14,7 @@ fn first_mirror(mirrors: &[Mirror]) -> Option<usize>
     if mirrors.is_empty() { None } else { Some(0) }
 }
 
-// Every wish is granted by the first mirror.
+// Every update is granted by the first mirror.
 fn granted(alloc: Global, mirrors: &[Mirror], plan: &Plan) -> Result<Vec<Option<usize>>, AllocError>
     ensures { IfOk result (λ outcomes. outcomes.items ≡ granted mirrors.now plan.now) }
 {
@@ -25,10 +25,11 @@ fn granted(alloc: Global, mirrors: &[Mirror], plan: &Plan) -> Result<Vec<Option<
         .collect(alloc)
 }
 
-/// Answers an input from a catalogue, at a moment in seconds since 1 January 1970 UTC.
+// rule: Answer of the program
+/// Answers an input from a catalogue, at a time in seconds since 1 January 1970 UTC.
 ///
-/// The answer is the reply to the request that the input is, and nothing else; or the input's
-/// first fault, as `omaha_json::read_request` tells it.
+/// Returns the reply to the request that the input is, and nothing else; or the input's first fault,
+/// as `omaha_json::read_request` does.
 pub fn answer(
     alloc: Global,
     service: &Service,

@@ -80,7 +80,7 @@ fn batch(alloc: Global) -> Result<Batch, AllocError>
     Ok(Batch::new(edits))
 }
 
-/// Makes the edition of the built-in catalogue, whose one batch is always accepted.
+/// Makes the edition of the built-in catalogue; its one batch is always accepted.
 pub(crate) fn builtin_edition(alloc: Global) -> Result<Edition, AllocError>
     ensures { IfOk result (λ edition. edition ≡ builtin_batch ∷ []) }
 {
@@ -92,7 +92,7 @@ pub(crate) fn builtin_edition(alloc: Global) -> Result<Edition, AllocError>
     }
 }
 
-/// Makes the mirror that the built-in catalogue's packages lie on.
+/// Makes the mirror of the built-in catalogue's packages.
 pub(crate) fn builtin_mirror(alloc: Global) -> Result<Mirror, AllocError>
     ensures { IfOk result (λ mirror. mirror ≡ builtin_mirror) }
 {

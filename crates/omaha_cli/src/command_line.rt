@@ -9,46 +9,51 @@ use clap::{Arg, ArgMatches, Command, Error};
 use std::alloc::{AllocError, Global};
 use values::Text;
 
-const OMAHA: &str = "Answers Omaha 3.1 requests for updates from a catalogue of releases.";
+const VERSION: &str = "0.2.0";
+
+const OMAHA: &str = "Replies to Omaha 3.1 update checks from a catalogue of releases.";
 
 const AFTER_OMAHA: &str = "Without a command, omaha does what `omaha once` does without options.
 
-Example:
-  omaha once --profile examples/staged.toml --moment 1767229261 < examples/staged.json";
+Example: a client without an installed version asks for the built-in app `mini`.
+  echo '{\"request\":{\"app\":[{\"appid\":\"mini\",\"updatecheck\":{}}],\"protocol\":\"3.1\"}}' | omaha";
 
 const ONCE: &str =
-    "Answers the one request on standard input: the reply's bytes, and nothing else.";
+    "Reads one request from standard input, and writes the reply to standard output.";
 
-const PROFILE: &str =
-    "The profile of the catalogue, a TOML file [default: a catalogue of one app, `mini`, that is built in]";
+const PROFILE: &str = "The catalogue: a TOML file of at most 64 MiB [default: a built-in one]";
 
-const MOMENT: &str =
-    "The moment of the reply, in whole seconds since 1 January 1970 UTC: a decimal number from 0 to 18446744073709551615 [default: 0]";
+const MOMENT: &str = "The time of the reply, in seconds since 1970 UTC [default: 0]";
 
 const AFTER_ONCE: &str =
-    "A refusal is one line on standard error; but for `write`, nothing is written to standard output:
-  omaha: file F                        the file can't be read
-  omaha: F3 BadEntry app[0].id         the profile is no good, and where
-  omaha: edit 12: C11 UnknownRelease   an edit of the profile is refused
-  omaha: J1 NotJson                    the request is no good
-  omaha: read, write, memory           a stream failed, the request has over
-                                       262144 bytes, or there was no memory
+    "N is a decimal number from 0 to 18446744073709551615. The built-in catalogue has one app, `mini`.
 
-Edits count from 0, for each app of the profile in order: the app; each cohort but
-the default one; each release; then for each cohort its target and held target, its
-share, its open mark, as far as they are given.
+If the command fails, it prints one line on standard error. Unless that is `omaha: write`, it has
+written nothing to standard output.
+  omaha: file F                        F can't be read, or has more than 64 MiB
+  omaha: F3 BadEntry app[0].id         the profile is invalid, with the location
+  omaha: edit 12: C11 UnknownRelease   an edit of the profile is rejected
+  omaha: J1 NotJson                    the request is invalid
+  omaha: read                          standard input failed, or has more than 262144 bytes
+  omaha: write                         standard output failed
+  omaha: memory                        out of memory
+Control characters in F are printed as `%` and two hexadecimal digits.
 
-The status is 0 with a reply, 1 after a refusal, 2 for a mistake on the command line.
+Edits count from 0, for each app of the profile in order: the app; each cohort but the default one;
+each release; then each cohort's target and held target, its share and its open flag, if given.
 
-Example:
-  omaha once --profile examples/staged.toml --moment 1767229261 < examples/staged.json";
+Exit status: 0 if the reply was written, 1 if the command failed, 2 if the arguments are invalid.
 
-/// What a run is asked to do.
+Example: a client without an installed version asks for the built-in app `mini`.
+  echo '{\"request\":{\"app\":[{\"appid\":\"mini\",\"updatecheck\":{}}],\"protocol\":\"3.1\"}}' |
+    omaha once --moment 1767229261";
+
+/// What the command `once` is asked to do.
 #[derive(Drop)]
 pub struct Once {
-    /// The path of the profile, or none for the built-in catalogue.
+    /// The path of the profile, or `None` for the built-in catalogue.
     pub profile: Option<Text>,
-    /// The moment of the reply, in seconds since 1 January 1970 UTC.
+    /// The time of the reply, in seconds since 1 January 1970 UTC.
     pub moment: u64,
 }
 
@@ -76,20 +81,21 @@ fn omaha_command<'a>(alloc: Global) -> Result<Command<'a>, AllocError>
     let once = once_command(alloc)?;
     let command = Command::new(alloc, "omaha")
         .no_binary_name(true)
+        .version(VERSION)
         .about(OMAHA)
         .after_help(AFTER_OMAHA);
     let command = command.bin_name("omaha")?.subcommand(once)?;
     Ok(command)
 }
 
-// Whether a text begins with a `+`.
+// Whether a string begins with a `+`.
 fn has_plus(text: &str) -> bool
     ensures { result ≡ has_plus text.now }
 {
     !text.is_empty() && text.as_bytes()[0] == b'+'
 }
 
-// The moment that a text spells in decimal digits; std's `parse` alone would take a `+`.
+// The number that a string has in decimal digits; std's `parse` alone would accept a `+`.
 fn moment_of(text: &str) -> Option<u64>
     ensures { result ≡ moment_of text.now }
 {
@@ -99,8 +105,8 @@ fn moment_of(text: &str) -> Option<u64>
     text.parse::<u64>().ok()
 }
 
-// The error for a moment that is no number, in the form of the errors of `clap`.
-fn bad_moment(alloc: Global, text: &str) -> Result<Error, AllocError>
+// The error for a `--moment` that is no such number, in the form of the errors of `clap`.
+fn invalid_moment(alloc: Global, text: &str) -> Result<Error, AllocError>
     ensures { IfOk result (λ error. kind_of error ≡ ErrorKind.ValueValidation) }
 {
     let message = format!(in alloc;
@@ -135,22 +141,23 @@ fn read_once(alloc: Global, matches: &ArgMatches<'_>) -> Result<Once, Error>
 {
     let Some(moment) = moment_in(matches) else {
         let text = matches.get_str("moment").unwrap_or("");
-        return Err(bad_moment(alloc, text)?);
+        return Err(invalid_moment(alloc, text)?);
     };
     let profile = profile_in(alloc, matches)?;
     Ok(Once { profile, moment })
 }
 
-/// Reads the words behind the program's name.
+// rule: Arguments of the command line
+/// Reads the arguments after the program's name.
 ///
-/// Fails with the error that `clap` tells for words that it does not take, help that is asked for
-/// among them; else with `ValueValidation` where the moment is no decimal number below 2^64; and
-/// for want of memory with `OutOfMemory`.
-pub(crate) fn read_words(alloc: Global, words: &[String]) -> Result<Once, Error>
-    ensures faults { FailsBy (faults_of (map string_bytes words.now)) result }
-    ensures once { IfOk result (λ once. once ≡ once_of (map string_bytes words.now)) }
+/// Fails with the error of `clap` if it does not accept them, or if they ask for the help or the
+/// version; else with `ValueValidation` if `--moment` is no decimal number below 2^64; and with
+/// `OutOfMemory` if an allocation fails.
+pub(crate) fn read_arguments(alloc: Global, arguments: &[String]) -> Result<Once, Error>
+    ensures faults { FailsBy (faults_of (map string_bytes arguments.now)) result }
+    ensures once { IfOk result (λ once. once ≡ once_of (map string_bytes arguments.now)) }
 {
-    let matches = omaha_command(alloc)?.try_get_matches_from(words)?;
+    let matches = omaha_command(alloc)?.try_get_matches_from(arguments)?;
     match matches.subcommand() {
         None => Ok(Once {
             profile: None,

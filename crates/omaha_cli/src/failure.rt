@@ -1,47 +1,56 @@
 ghost use Rattle.std.specs.Prelude.{Some};
 ghost use Rattle.omaha_cli.specs.Failures.{failure_text};
 
+use crate::path::ShownPath;
 use catalogue::Refused;
 use omaha_json::RequestFault;
 use profile_toml::ProfileFault;
 use std::alloc::AllocError;
 use std::error::Error;
 use std::fmt;
+use streams::ReadFailure;
 use values::{ReadError, Text};
 
-/// Why the program gives no reply; it prints as the rest of the line that begins `omaha: `.
+/// Why the program writes no reply; it prints as the rest of the line that begins `omaha: `.
 ///
 /// Those of the profile come before those of the request.
 #[derive(Debug, Drop)]
 pub enum Failure {
-    /// The profile's file, of that path, could not be read.
+    /// The profile's file, of that path, could not be read, or has over 64 MiB. The path prints
+    /// without control characters.
     File(Text),
-    /// The file is no profile.
+    /// The profile is invalid.
     Profile(ProfileFault),
-    /// An edit of the profile was refused.
+    /// An edit of the profile was rejected.
     Edit(Refused),
-    /// The input could not be read to its end, or has over 262144 bytes.
+    /// The input could not be read to its end.
     Read,
-    /// The input is no request.
+    /// The input has over 262144 bytes; it prints as `Read` does.
+    TooLong,
+    /// The request is invalid.
     Request(RequestFault),
-    /// An allocation was refused.
+    /// Memory ran out.
     Memory,
     /// The reply could not be written.
     Write,
 }
 
+// rule: Printed failure
 impl fmt::Display for Failure {
     ghost output = { λ f. Some (failure_text f) };
 
     fn fmt<W: fmt::Write>(&self, f: &mut fmt::Formatter<W>) -> fmt::Result {
         match self {
             Failure::File(path) => {
-                let path = path.as_str();
+                let path = ShownPath {
+                    path: path.as_str(),
+                };
                 write!(f, "file {path}")
             }
             Failure::Profile(fault) => write!(f, "{fault}"),
             Failure::Edit(refused) => write!(f, "{refused}"),
             Failure::Read => write!(f, "read"),
+            Failure::TooLong => write!(f, "read"),
             Failure::Request(fault) => write!(f, "{fault}"),
             Failure::Memory => write!(f, "memory"),
             Failure::Write => write!(f, "write"),
@@ -59,6 +68,21 @@ impl From<AllocError> for Failure {
 
     fn from(_refused: AllocError) -> Failure {
         Failure::Memory
+    }
+}
+
+impl From<ReadFailure> for Failure {
+    ghost use Rattle.std.specs.Prelude.{◌≡◌};
+    ghost use Rattle.omaha_cli.specs.Refusals.{failure_of_input};
+
+    ghost from_gives = { λ error failure. failure ≡ failure_of_input error };
+
+    fn from(error: ReadFailure) -> Failure {
+        match error {
+            ReadFailure::Broken => Failure::Read,
+            ReadFailure::TooLong => Failure::TooLong,
+            ReadFailure::Memory => Failure::Memory,
+        }
     }
 }
 

@@ -1,10 +1,11 @@
-//! The program `omaha`, but for its `main`: it answers one request from a reader.
+//! The program `omaha`, but for its `main`: it replies to one request from a reader.
 //!
-//! `run` reads the words of the command line, as `specs/Commands.antt` says, and `respond` touches
-//! the world: it reads a profile from its file and a request from a reader, and writes a reply. What
-//! is answered from is said by `read_service`, and what is written by `answer`, functions over
-//! values: read `specs/Services.antt` and `specs/Answering.antt`. Without a profile the catalogue is
-//! the one of `specs/Builtin.antt`.
+//! `run` reads the arguments, as `specs/Commands.antt` says, carries out the command, reports how it
+//! ended and returns the exit status: read `specs/Running.antt`. The command `once` is `respond`,
+//! which reads a profile from its file and a request from a reader, and writes a reply: read
+//! `specs/Once.antt`. What it replies from is made by `read_service`, and what it writes by `answer`,
+//! functions over values: read `specs/Services.antt` and `specs/Answering.antt`. Without a profile
+//! the catalogue is the one of `specs/Builtin.antt`.
 //!
 //! It does not listen on a socket.
 
@@ -14,16 +15,16 @@ mod answering;
 mod builtin;
 mod command_line;
 mod failure;
-mod intake;
-mod refusing;
-mod responding;
+mod once;
+mod path;
 mod running;
 mod service;
+mod unreadable;
 
 pub use crate::answering::answer;
 pub use crate::command_line::Once;
 pub use crate::failure::Failure;
-pub use crate::refusing::refuse;
-pub use crate::responding::respond;
-pub use crate::running::run;
+pub use crate::once::respond;
+pub use crate::running::{Ending, Status, run};
 pub use crate::service::{Service, builtin_service, read_service};
+pub use crate::unreadable::refuse;

@@ -1,76 +1,160 @@
-// A run of the program, from its words to its status.
+// A run of the program, from its arguments to its exit status.
 
-ghost use Rattle.std.specs.Prelude.{◌≡◌, ◌≢◌, ◌≤◌, ◌⊎◌, map, string_bytes};
+ghost use Rattle.std.specs.Prelude.{◌≡◌, map, string_bytes};
 ghost use Rattle.clap.specs.Words.{kind_of};
-ghost use Rattle.omaha_cli.specs.Commands.{faults_of};
-ghost use Rattle.omaha_cli.specs.Running.{EndsRefused, EndsWell, HasMistake};
+ghost use Rattle.omaha_cli.specs.Running.{Ends, IsMistaken, IsReported, IsTold, Misreads, Runs, Shows, code_of, status_of};
 
-use crate::command_line::read_words;
+use crate::command_line::read_arguments;
 use crate::failure::Failure;
-use crate::refusing::refused;
-use crate::responding::{finish, respond};
+use crate::once::respond;
 use clap::Error;
 use clap::error::ErrorKind;
-use std::io::{Read, Write};
-use std::rt::Files;
+use std::alloc::Global;
+use streams::{Disk, ReadWhole, WriteWhole, offer};
+use values::Text;
 
-// Shows the help that is asked for.
-fn show<W: Write>(writer: &mut W, help: &Error) -> Result<(), Failure> {
-    match write!(writer, "{help}") {
-        Ok(()) => finish(writer),
-        Err(_) => Err(Failure::Write),
-    }
+/// How a run ends.
+#[derive(Drop)]
+pub enum Ending {
+    /// The command did what it does: the reply was written.
+    Replied,
+    /// The help or the version was printed.
+    Shown,
+    /// The command failed.
+    Failed(Failure),
+    /// The arguments are invalid, for which `clap` has this message.
+    Mistaken(Text),
 }
 
-// Tells a mistake of the words, or shows the help that they ask for.
-fn misread<W: Write, F: Write>(error: &Error, writer: &mut W, faults: &mut F) -> u8
-    ensures bound { result ≤ 2 }
-    ensures helped { result ≡ 0 → kind_of error.now ≡ ErrorKind.DisplayHelp }
-    ensures known { result ≡ 2 → kind_of error.now ≢ ErrorKind.OutOfMemory }
-    ensures mistaken { result ≡ 2 → kind_of error.now ≢ ErrorKind.DisplayHelp }
-    ensures untouched { (kind_of error.now ≡ ErrorKind.DisplayHelp) ⊎ (writer.new ≡ writer.old) }
-{
-    match error.kind() {
-        ErrorKind::OutOfMemory => refused(faults, &Failure::Memory),
-        ErrorKind::DisplayHelp => match show(writer, error) {
-            Ok(()) => 0,
-            Err(failure) => refused(faults, &failure),
-        },
-        _ => {
-            let _ = write!(faults, "{error}");
-            2
+/// An exit status.
+#[derive(Clone, Copy)]
+pub enum Status {
+    /// The reply was written, or the help or the version printed.
+    Success,
+    /// The command failed.
+    Failure,
+    /// The arguments are invalid.
+    Usage,
+}
+
+impl Ending {
+    // The exit status after such an ending.
+    fn status(&self) -> Status
+        ensures { result ≡ status_of self.now }
+    {
+        match self {
+            Ending::Replied => Status::Success,
+            Ending::Shown => Status::Success,
+            Ending::Failed(_) => Status::Failure,
+            Ending::Mistaken(_) => Status::Usage,
         }
     }
 }
 
-/// Runs the program by the words behind its name.
-///
-/// Without words, or with `once` and its options, it does as `respond` does, and answers the status
-/// 0; a refusal is one line on `faults`, and the status 1. Help that is asked for is written to the
-/// writer, with the status 0. A mistake of the words is told on `faults` in the form of `clap`, with
-/// the status 2, and nothing is read.
-pub fn run<R: Files + AllocGlobal, I: Read, W: Write, F: Write>(
+impl Status {
+    // The status as a process returns it.
+    fn code(self) -> u8
+        ensures { result ≡ code_of self }
+    {
+        match self {
+            Status::Success => 0,
+            Status::Failure => 1,
+            Status::Usage => 2,
+        }
+    }
+}
+
+// Prints what the arguments ask to be shown.
+fn show<W: WriteWhole>(text: &str, writer: &mut W) -> Ending
+    ensures { Shows text.now (W.output writer.old) (W.output writer.new) result }
+{
+    match writer.write_whole(text.as_bytes()) {
+        Ok(()) => Ending::Shown,
+        Err(_) => Ending::Failed(Failure::Write),
+    }
+}
+
+// Ends a run whose arguments `clap` does not accept, or that asks for the help or the version.
+fn end_misread<W: WriteWhole>(alloc: Global, error: &Error, writer: &mut W) -> Ending
+    ensures ends { Misreads (kind_of error.now) (W.output writer.old) (W.output writer.new) result }
+    ensures untouched { IsMistaken result → writer.new ≡ writer.old }
+{
+    if error.kind() == ErrorKind::OutOfMemory {
+        return Ending::Failed(Failure::Memory);
+    }
+    let Ok(text) = format!(in alloc; "{error}") else {
+        return Ending::Failed(Failure::Memory);
+    };
+    match error.kind() {
+        ErrorKind::DisplayHelp => show(text.as_str(), writer),
+        ErrorKind::DisplayVersion => show(text.as_str(), writer),
+        _ => Ending::Mistaken(Text::new(text)),
+    }
+}
+
+// Carries out what the arguments ask for.
+fn carry_out<R: Disk + AllocGlobal, I: ReadWhole, W: WriteWhole>(
     rt: &R,
-    words: &[String],
+    arguments: &[String],
     reader: &mut I,
     writer: &mut W,
-    faults: &mut F,
+) -> Ending
+    ensures ends { Ends (R.file_at rt.now) (map string_bytes arguments.now)
+        (record { input = I.input reader.old; output = W.output writer.old })
+        (record { input = I.input reader.new; output = W.output writer.new }) result }
+    ensures untouched { IsMistaken result → (reader.new ≡ reader.old) × (writer.new ≡ writer.old) }
+{
+    match read_arguments(rt.alloc(), arguments) {
+        Ok(once) => match respond(rt, &once, reader, writer) {
+            Ok(()) => Ending::Replied,
+            Err(failure) => Ending::Failed(failure),
+        },
+        Err(error) => end_misread(rt.alloc(), &error, writer),
+    }
+}
+
+// Prints the one line of a failure.
+fn tell<F: WriteWhole>(alloc: Global, failure: &Failure, errors: &mut F)
+    ensures { IsTold failure.now (F.output errors.old) (F.output errors.new) }
+{
+    match format!(in alloc; "omaha: {failure}\n") {
+        Ok(line) => offer(errors, line.as_bytes()),
+        Err(_) => offer(errors, b"omaha: memory\n"),
+    }
+}
+
+// Prints what there is to say of an ending.
+fn report<F: WriteWhole>(alloc: Global, ending: &Ending, errors: &mut F)
+    ensures { IsReported ending.now (F.output errors.old) (F.output errors.new) }
+{
+    match ending {
+        Ending::Replied => {}
+        Ending::Shown => {}
+        Ending::Failed(failure) => tell(alloc, failure, errors),
+        Ending::Mistaken(text) => offer(errors, text.as_str().as_bytes()),
+    }
+}
+
+// rule: Status of the program
+/// Runs the program with the arguments after its name, and returns its exit status.
+///
+/// Without arguments, or with `once` and its options, it does what `respond` does. It returns 0 if
+/// the reply was written, or the help or the version printed; 1 if the command failed, after one line
+/// on `errors`; and 2 if the arguments are invalid, after `clap`'s message on `errors`.
+pub fn run<R: Disk + AllocGlobal, I: ReadWhole, W: WriteWhole, F: WriteWhole>(
+    rt: &R,
+    arguments: &[String],
+    reader: &mut I,
+    writer: &mut W,
+    errors: &mut F,
 ) -> u8
-    ensures bound { result ≤ 2 }
-    ensures ok { result ≡ 0
-        → EndsWell (map string_bytes words.now) (I.remaining reader.old) (W.contents writer.old)
-        (W.contents writer.new) }
-    ensures refused { result ≡ 1
-        → EndsRefused (map string_bytes words.now) (I.remaining reader.old) (W.contents writer.old)
-        (W.contents writer.new) }
-    ensures mistaken { result ≡ 2 → HasMistake (faults_of (map string_bytes words.now)) }
+    ensures run { Runs (R.file_at rt.now) (map string_bytes arguments.now)
+        (record { input = I.input reader.old; output = W.output writer.old })
+        (record { input = I.input reader.new; output = W.output writer.new })
+        (F.output errors.old) (F.output errors.new) result }
     ensures untouched { result ≡ 2 → (reader.new ≡ reader.old) × (writer.new ≡ writer.old) }
 {
-    match read_words(rt.alloc(), words) {
-        Ok(once) => match respond(rt, &once, reader, writer) {
-            Ok(()) => 0,
-            Err(failure) => refused(faults, &failure),
-        },
-        Err(error) => misread(&error, writer, faults),
-    }
+    let ending = carry_out(rt, arguments, reader, writer);
+    report(rt.alloc(), &ending, errors);
+    ending.status().code()
 }

@@ -1,4 +1,4 @@
-// What the program answers from, and how a profile makes it.
+// What the program replies from, and how a profile makes it.
 
 ghost use Rattle.std.specs.Prelude.{◌≡◌, IfOk};
 ghost use Rattle.editions.specs.Plans.{content_of};
@@ -13,15 +13,16 @@ use profile_toml::read_profile;
 use std::alloc::{AllocError, Global};
 use values::Items;
 
-/// What requests are answered from: an edition, and the mirrors of its packages.
+/// What requests are replied to from: an edition, and the mirrors of its packages.
 #[derive(Drop)]
 pub struct Service {
-    /// The edition, whose catalogue is the one that is answered from.
+    /// The edition, which has the catalogue.
     pub edition: Edition,
-    /// The mirrors, the first of which grants every wish.
+    /// The mirrors, the first of which grants every update.
     pub mirrors: Items<Mirror>,
 }
 
+// rule: Built-in catalogue
 /// Makes the built-in catalogue's service.
 pub fn builtin_service(alloc: Global) -> Result<Service, AllocError>
     ensures service { IfOk result (λ service. service ≡ builtin_service) }
@@ -33,10 +34,11 @@ pub fn builtin_service(alloc: Global) -> Result<Service, AllocError>
     Ok(Service { edition, mirrors })
 }
 
+// rule: Service of a profile
 /// Makes the service of a profile.
 ///
-/// Refuses with the profile's first fault, as `profile_toml::read_profile` tells it; else with the
-/// first of its edits that the empty catalogue refuses.
+/// Fails with the profile's first fault, as `profile_toml::read_profile` does; else with the first of
+/// its edits that the empty catalogue rejects.
 pub fn read_service(alloc: Global, profile: &[u8]) -> Result<Service, Failure>
     ensures { Gives (service_of_text profile.now) result }
 {

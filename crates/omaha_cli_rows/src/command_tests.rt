@@ -1,6 +1,8 @@
 use crate::ending::{ends, ends_over, is_mistaken, refused, replied, shows};
 use crate::shelf::Shelf;
-use crate::staged::{BETA, DATED, HELD, HINTED, SHARED, STAGED, TARGET, UNRELEASED, WAITING};
+use crate::staged::{
+    BETA, DATED, HELD, HINTED, LAST_DATED, SHARED, STAGED, TARGET, UNRELEASED, WAITING,
+};
 use crate::streams::Breaks;
 use std::alloc::Global;
 use std::io::ErrorKind;
@@ -40,17 +42,25 @@ fn serves_each_stage(rt: HostRuntime) -> Result<(), Fail> {
 }
 
 #[test]
-fn replies_at_the_moment(rt: HostRuntime) -> Result<(), Fail> {
+fn replies_at_the_given_time(rt: HostRuntime) -> Result<(), Fail> {
     let shelf = shelf(rt.alloc());
-    for moment in ["1767229261", "0001767229261"] {
+    let rows = [
+        ("1767229261", DATED),
+        ("0001767229261", DATED),
+        ("0", TARGET),
+        ("00", TARGET),
+        ("18446744073709551615", LAST_DATED),
+        ("0018446744073709551615", LAST_DATED),
+    ];
+    for (moment, reply) in rows {
         let words = ["once", "--moment", moment, "--profile=staged.toml"];
-        ends(&rt, &shelf, &words, SHARED, replied(DATED))?;
+        ends(&rt, &shelf, &words, SHARED, replied(reply))?;
     }
     Ok(())
 }
 
 #[test]
-fn tells_what_is_wrong_with_the_profile(rt: HostRuntime) -> Result<(), Fail> {
+fn reports_what_is_wrong_with_the_profile(rt: HostRuntime) -> Result<(), Fail> {
     let shelf = shelf(rt.alloc());
     let rows = [
         ("nowhere.toml", "omaha: file nowhere.toml\n"),
@@ -62,9 +72,18 @@ fn tells_what_is_wrong_with_the_profile(rt: HostRuntime) -> Result<(), Fail> {
         ("mirrorless.toml", "omaha: F4 BadMirror 0\n"),
         ("unslashed.toml", "omaha: F4 BadMirror 0\n"),
         ("unreleased.toml", "omaha: edit 6: C11 UnknownRelease\n"),
+        ("/dev/zero", "omaha: file /dev/zero\n"),
+        ("a\nb\u{1b}.toml", "omaha: file a%0Ab%1B.toml\n"),
+        ("a\u{7f}", "omaha: file a%7F\n"),
+        ("\u{80}\u{9f}", "omaha: file %C2%80%C2%9F\n"),
+        ("\u{202a}\u{202e}", "omaha: file %E2%80%AA%E2%80%AE\n"),
+        (
+            "a%20\u{a0}\u{e9}.toml",
+            "omaha: file a%20\u{a0}\u{e9}.toml\n",
+        ),
     ];
     for (profile, line) in rows {
-        // The reader fails too, but the profile is looked at first.
+        // The reader fails too, but the profile is read first.
         let mut reader = Breaks {
             left: 0,
             kind: ErrorKind::ConnectionReset,
@@ -76,14 +95,14 @@ fn tells_what_is_wrong_with_the_profile(rt: HostRuntime) -> Result<(), Fail> {
 }
 
 #[test]
-fn tells_the_request_behind_a_good_profile(rt: HostRuntime) -> Result<(), Fail> {
+fn reports_the_request_after_a_valid_profile(rt: HostRuntime) -> Result<(), Fail> {
     let shelf = shelf(rt.alloc());
     let words = ["once", "--profile", "staged.toml"];
     ends(&rt, &shelf, &words, "{", refused("omaha: J1 NotJson\n"))
 }
 
-// Words that the program doesn't take, and the beginning of what is told of them.
-const MISTAKES: [(&[&str], &str); 13] = [
+// Invalid arguments, and the beginning of the message.
+const MISTAKES: [(&[&str], &str); 15] = [
     (
         &["once", "--profile", "nowhere.toml", "--moment", "+5"],
         "error: invalid value '+5' for '--moment <N>'",
@@ -120,6 +139,14 @@ const MISTAKES: [(&[&str], &str); 13] = [
         &["once", "--moment", "-5"],
         "error: unexpected argument '-5' found\n",
     ),
+    (
+        &["once", "--moment", "0018446744073709551616"],
+        "error: invalid value '0018446744073709551616' for '--moment <N>'",
+    ),
+    (
+        &["once", "--version"],
+        "error: unexpected argument '--version' found\n",
+    ),
     (&["serve"], "error: unrecognized subcommand 'serve'\n"),
     (
         &["--profile", "staged.toml"],
@@ -136,7 +163,7 @@ const MISTAKES: [(&[&str], &str); 13] = [
 ];
 
 #[test]
-fn takes_no_other_words(rt: HostRuntime) -> Result<(), Fail> {
+fn accepts_no_other_arguments(rt: HostRuntime) -> Result<(), Fail> {
     let shelf = shelf(rt.alloc());
     for (words, line) in MISTAKES {
         is_mistaken(&rt, &shelf, words, line)?;
@@ -145,14 +172,14 @@ fn takes_no_other_words(rt: HostRuntime) -> Result<(), Fail> {
 }
 
 #[test]
-fn shows_help(rt: HostRuntime) -> Result<(), Fail> {
+fn prints_help_and_version(rt: HostRuntime) -> Result<(), Fail> {
     let shelf = shelf(rt.alloc());
     shows(&rt, &shelf, &["--help"], "Usage: omaha [COMMAND]\n")?;
     shows(
         &rt,
         &shelf,
         &["help"],
-        "\nExample:\n  omaha once --profile ",
+        "\nExample: a client without an installed version ",
     )?;
     shows(
         &rt,
@@ -160,5 +187,7 @@ fn shows_help(rt: HostRuntime) -> Result<(), Fail> {
         &["once", "--help"],
         "Usage: omaha once [OPTIONS]\n",
     )?;
-    shows(&rt, &shelf, &["help", "once"], "[default: 0]")
+    shows(&rt, &shelf, &["help", "once"], "[default: 0]")?;
+    shows(&rt, &shelf, &["--version"], "omaha 0.2.0\n")?;
+    shows(&rt, &shelf, &["-V"], "omaha 0.2.0\n")
 }

@@ -6,7 +6,7 @@ use std::process::Abort;
 use std::rt::Files;
 use std::test::Fail;
 
-/// What a run writes and tells, and its status.
+/// What a run writes, what it reports, and its status.
 #[derive(Clone, Copy, Drop)]
 pub(crate) struct Ending<'a> {
     pub(crate) status: u8,
@@ -23,7 +23,7 @@ pub(crate) fn replied(output: &str) -> Ending<'_> {
     }
 }
 
-/// A run that is refused with a line.
+/// A run that fails with a line.
 pub(crate) fn refused(faults: &str) -> Ending<'_> {
     Ending {
         status: 1,
@@ -40,7 +40,7 @@ fn strings<R: AllocGlobal>(rt: &R, words: &[&str]) -> Result<Vec<String>, Fail> 
     Ok(strings)
 }
 
-/// Tests how a run ends by its words and its reader.
+/// Tests how a run ends by its arguments and its reader.
 pub(crate) fn ends_over<R: Files + AllocGlobal, I: Read>(
     rt: &impl Abort,
     files: &R,
@@ -58,7 +58,7 @@ pub(crate) fn ends_over<R: Files + AllocGlobal, I: Read>(
     Ok(())
 }
 
-/// Tests how a run ends by its words and its input.
+/// Tests how a run ends by its arguments and its input.
 pub(crate) fn ends<R: Files + AllocGlobal>(
     rt: &impl Abort,
     files: &R,
@@ -69,8 +69,8 @@ pub(crate) fn ends<R: Files + AllocGlobal>(
     ends_over(rt, files, words, &mut input.as_bytes(), wanted)
 }
 
-/// Tests that words are no right ones: the status is 2, the mistake is told as `clap` tells it, and
-/// nothing is read or written. The told text begins with the line.
+/// Tests that arguments are invalid: the status is 2, the message of `clap` begins with the line, and
+/// nothing is read or written.
 pub(crate) fn is_mistaken<R: Files + AllocGlobal>(
     rt: &impl Abort,
     files: &R,
@@ -89,7 +89,7 @@ pub(crate) fn is_mistaken<R: Files + AllocGlobal>(
     Ok(())
 }
 
-/// Tests that words ask for help, which has the text.
+/// Tests that arguments ask for help, which has the text in lines of at most 100 columns.
 pub(crate) fn shows<R: Files + AllocGlobal>(
     rt: &impl Abort,
     files: &R,
@@ -107,5 +107,6 @@ pub(crate) fn shows<R: Files + AllocGlobal>(
         .ok()
         .unwrap_or(String::new(files.alloc()));
     assert!(rt; shown.as_str().contains(text), "{text}");
+    assert!(rt; shown.as_str().lines().all(|line| line.len() <= 100));
     Ok(())
 }

@@ -1,13 +1,13 @@
-use crate::ending::{ends_over, refused};
+use crate::ending::{ends_over, refused, replied};
 use crate::offers::{OFFER, OLD};
 use crate::streams::{Blank, Breaks, Full};
 use omaha_cli::{refuse, run};
 use std::io;
-use std::io::ErrorKind;
+use std::io::{ErrorKind, Read};
 use std::test::Fail;
 
 #[test]
-fn refuses_an_input_that_breaks_off(rt: HostRuntime) -> Result<(), Fail> {
+fn rejects_an_input_that_breaks_off(rt: HostRuntime) -> Result<(), Fail> {
     let rows = [
         (ErrorKind::ConnectionReset, "omaha: read\n"),
         (ErrorKind::OutOfMemory, "omaha: memory\n"),
@@ -22,16 +22,21 @@ fn refuses_an_input_that_breaks_off(rt: HostRuntime) -> Result<(), Fail> {
 }
 
 #[test]
-fn refuses_an_input_that_is_too_long(rt: HostRuntime) -> Result<(), Fail> {
+fn rejects_an_input_that_is_too_long(rt: HostRuntime) -> Result<(), Fail> {
     let rows = [(262144, "omaha: J1 NotJson\n"), (262145, "omaha: read\n")];
     for (left, line) in rows {
         ends_over(&rt, &rt, &[], &mut Blank { left }, refused(line))?;
     }
-    Ok(())
+    let left = 262144 - OLD.len();
+    let mut fits = OLD.as_bytes().chain(Blank { left });
+    ends_over(&rt, &rt, &[], &mut fits, replied(OFFER))?;
+    let left = left + 1;
+    let mut too_long = OLD.as_bytes().chain(Blank { left });
+    ends_over(&rt, &rt, &[], &mut too_long, refused("omaha: read\n"))
 }
 
 #[test]
-fn tells_that_a_reply_was_not_written(rt: HostRuntime) -> Result<(), Fail> {
+fn reports_that_a_reply_was_not_written(rt: HostRuntime) -> Result<(), Fail> {
     let alloc = rt.alloc();
     let words = Vec::new(alloc);
     for left in 0..OFFER.len() {
@@ -45,9 +50,9 @@ fn tells_that_a_reply_was_not_written(rt: HostRuntime) -> Result<(), Fail> {
 }
 
 #[test]
-fn tells_why_words_were_not_read(rt: HostRuntime) -> Result<(), Fail> {
+fn reports_arguments_that_are_not_read(rt: HostRuntime) -> Result<(), Fail> {
     let no_text = concat!(
-        "error: a word of the command line is no UTF-8 text\n",
+        "error: an argument is not valid UTF-8\n",
         "\nFor more information, try '--help'.\n",
     );
     let rows = [

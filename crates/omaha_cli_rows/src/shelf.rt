@@ -7,7 +7,7 @@ use std::io::{ErrorKind, Read, Seek, SeekFrom, Write};
 use std::rt::Files;
 
 /// The files that a run finds, each a path and what it holds; the path of one that can be opened,
-/// but not read; and that of one for which there is no memory.
+/// but not read; and that of one that is too large for memory. `/dev/zero` has no end.
 #[derive(Drop)]
 pub(crate) struct Shelf<'a> {
     pub(crate) alloc: Global,
@@ -16,11 +16,12 @@ pub(crate) struct Shelf<'a> {
     pub(crate) large: &'static str,
 }
 
-/// A file that is read, or fails.
+/// A file that is read, fails, or has no end.
 #[derive(Drop)]
 pub(crate) struct Page {
     left: &'static [u8],
     is_broken: bool,
+    is_endless: bool,
 }
 
 impl Alloc for Shelf<'_> {
@@ -45,6 +46,14 @@ impl Files for Shelf<'_> {
             return Ok(Page {
                 left: b"".as_slice(),
                 is_broken: true,
+                is_endless: false,
+            });
+        }
+        if path == "/dev/zero" {
+            return Ok(Page {
+                left: b"".as_slice(),
+                is_broken: false,
+                is_endless: true,
             });
         }
         if path == self.large {
@@ -55,6 +64,7 @@ impl Files for Shelf<'_> {
                 return Ok(Page {
                     left: text.as_bytes(),
                     is_broken: false,
+                    is_endless: false,
                 });
             }
         }
@@ -102,6 +112,10 @@ impl Read for Page {
     fn read(&mut self, buf: &mut [u8]) -> io::Result<usize> {
         if self.is_broken {
             return Err(io::Error::from(ErrorKind::ConnectionReset));
+        }
+        if self.is_endless {
+            buf.fill(0);
+            return Ok(buf.len());
         }
         self.left.read(buf)
     }

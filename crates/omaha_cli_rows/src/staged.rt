@@ -117,6 +117,18 @@ pub(crate) const BETA: &str = concat!(
     r#""daystart":{"elapsed_days":0,"elapsed_seconds":0},"protocol":"3.1"}}"#,
 );
 
+/// The first of them at the last second that there is.
+pub(crate) const LAST_DATED: &str = concat!(
+    ")]}'\n",
+    r#"{"response":{"app":[{"appid":"demo","cohort":"stable:0","cohortname":"stable","#,
+    r#""status":"ok","updatecheck":{"manifest":{"packages":{"package":[{"#,
+    r#""fp":"1.4444444444444444444444444444444444444444444444444444444444444444","#,
+    r#""hash_sha256":"4444444444444444444444444444444444444444444444444444444444444444","#,
+    r#""name":"demo-4.0.bin","size":1600}]},"version":"4.0"},"status":"ok","#,
+    r#""urls":{"url":[{"codebase":"http://m0.example/p/"}]}}}],"#,
+    r#""daystart":{"elapsed_days":213503982321087,"elapsed_seconds":25215},"protocol":"3.1"}}"#,
+);
+
 /// The first of them on 1 January 2026, 01:01:01 UTC.
 pub(crate) const DATED: &str = concat!(
     ")]}'\n",

@@ -1,0 +1,14 @@
+use Rattle.std.proofs.Common.{map, string_bytes}
+use Rattle.clap.specs.Words.{app_of, found_of, rows_of, subcommand_rows_of}
+use Rattle.omaha_cli.proofs.CommandLemmas.{fails_by_clap, fails_by_options}
+use Rattle.omaha_cli.proofs.command_line.read_arguments.Goals as goal
+
+pub returns-in_err-matches-clause-faults : goal.returns-in_err-matches-clause-faults
+returns-in_err-matches-clause-faults c =
+    fails_by_clap (app_of c.in_ok-omaha_command.field-0) (map string_bytes c.args.arguments.now) c.from_residual-in_err-matches.result c.in_err-matches.field-0.0
+    c.in_ok-omaha_command.ensures c.in_err-matches.ensures.kinds c.from_residual-in_err-matches.ensures.1
+
+pub returns-clause-faults : goal.returns-clause-faults
+returns-clause-faults c =
+    fails_by_options (app_of c.in_ok-omaha_command.field-0) (map string_bytes c.args.arguments.now) (rows_of (found_of c.in-Some.once.now)) c.read_once.result (subcommand_rows_of c.in_ok-matches.matches)
+    c.in_ok-omaha_command.ensures c.in_ok-matches.ensures.kinds (λ simple. (c.in_ok-matches.ensures.matches simple).1) c.in-Some.ensures.rows c.read_once.ensures.faults

@@ -1,0 +1,91 @@
+-- What the command `once` does with a profile and a request; this project's profile.
+use Rattle.std.specs.Prelude.{◌≡◌, ◌⊎◌, ⊤, ℕ, true, List, Option, Some, None, Result, Ok, Err}
+use Rattle.std.specs.Io.KnownBytes.{Appends}
+use Rattle.streams.specs.Reading.{IsLonger, IsWhole}
+use Rattle.streams.specs.Streams.{Known}
+use Rattle.streams.specs.Writing.{Breaks}
+use Rattle.omaha_json.specs.RequestReading.{request_of_text}
+use Rattle.omaha_json.specs.declared.fault.RequestFault.{RequestFault}
+use Rattle.omaha_cli.specs.Answering.{Answers}
+use Rattle.omaha_cli.specs.Builtin.{builtin_service}
+use Rattle.omaha_cli.specs.Services.{service_of_text}
+use Rattle.omaha_cli.specs.Streams.{Streams}
+use Rattle.omaha_cli.specs.declared.command_line.Once.{Once}
+use Rattle.omaha_cli.specs.declared.failure.Failure.{Failure}
+use Rattle.omaha_cli.specs.declared.failure.Failure.TheVariants as failure
+use Rattle.omaha_cli.specs.declared.service.Service.{Service}
+
+-- rule: Maximum of the input
+-- how many bytes a request may have
+abbrev pub max_input : ℕ
+max_input = 262144
+
+-- rule: Maximum of a profile
+-- how many bytes a profile may have: 64 MiB
+abbrev pub max_profile : ℕ
+max_profile = 67108864
+
+-- what is known of each file, by its path
+abbrev pub Files : Type 0
+Files = List ℕ → Known
+
+-- the file's bytes make this service, or have this failure
+abbrev pub IsOfFile : Known → Result Service Failure → Type 0
+IsOfFile file made = (bytes : List ℕ) × IsWhole file max_profile bytes × (service_of_text bytes ≡ made)
+
+-- the file can't be read, or has too many bytes
+abbrev pub IsUnreadable : Known → Type 0
+IsUnreadable file = (file.failed ≡ true) ⊎ IsLonger file max_profile
+
+-- what requests are answered from: the built-in catalogue without a path, else that of the file; or
+-- why there is nothing to answer from
+abbrev pub IsServed : Files → Option (List ℕ) → Result Service Failure → Type 0
+IsServed files None (Ok service) = service ≡ builtin_service
+IsServed files None (Err refusal) = refusal ≡ failure.Memory
+IsServed files (Some path) (Ok service) = IsOfFile (files path) (Ok service)
+IsServed files (Some path) (Err (failure.File named)) = (named ≡ path) × IsUnreadable (files path)
+IsServed files (Some path) (Err failure.Memory) = ⊤
+IsServed files (Some path) (Err refusal) = IsOfFile (files path) (Err refusal)
+
+-- the bytes are a reply to the input
+pub record IsReplyTo (service : Service) (moment : ℕ) (held : Known) (reply : List ℕ) : Type 0 where
+  pub input : List ℕ
+  pub read : IsWhole held max_input input
+  pub answered : Answers service moment input (Ok reply)
+
+-- the input is no request, for that reason
+abbrev pub HasFault : Known → RequestFault → Type 0
+HasFault held fault =
+    (input : List ℕ) × IsWhole held max_input input × (request_of_text input ≡ Err fault)
+
+-- What a service replies: the reply is written and nothing else; or the writer failed within it; or
+-- nothing is written, since the input can't be read, is too long or has the fault, or memory ran out.
+abbrev pub Replies : Service → ℕ → Streams → Streams → Result (Unit {0}) Failure → Type 0
+Replies service moment old new (Ok done) =
+    (reply : List ℕ)
+    × IsReplyTo service moment old.input reply × Appends old.output.bytes new.output.bytes reply
+Replies service moment old new (Err failure.Write) =
+    (reply : List ℕ) × IsReplyTo service moment old.input reply × Breaks old.output new.output reply
+Replies service moment old new (Err failure.Read) =
+    (new.input.failed ≡ true) × (new.output ≡ old.output)
+Replies service moment old new (Err failure.TooLong) =
+    IsLonger old.input max_input × (new.output ≡ old.output)
+Replies service moment old new (Err (failure.Request fault)) =
+    HasFault old.input fault × (new.output ≡ old.output)
+Replies service moment old new (Err failure.Memory) = new.output ≡ old.output
+Replies service moment old new (Err (failure.File path)) = ⊥
+Replies service moment old new (Err (failure.Profile fault)) = ⊥
+Replies service moment old new (Err (failure.Edit refused)) = ⊥
+
+-- what follows from what was made of the profile: the service replies; without one nothing is read
+-- or written
+abbrev pub Follows : Result Service Failure → ℕ → Streams → Streams → Result (Unit {0}) Failure → Type 0
+Follows (Ok service) moment old new result = Replies service moment old new result
+Follows (Err refusal) moment old new result = (result ≡ Err refusal) × (new ≡ old)
+
+-- rule: Response of the program
+-- the profile is opened first, and what follows from it is done
+pub record Responds (files : Files) (once : Once) (old new : Streams) (result : Result (Unit {0}) Failure) : Type 0 where
+  pub made : Result Service Failure
+  pub served : IsServed files once.profile made
+  pub follows : Follows made once.moment old new result

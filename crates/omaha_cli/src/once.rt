@@ -1,0 +1,77 @@
+// The command `once`: a reply to the one request that a reader holds.
+
+ghost use Rattle.omaha_cli.specs.Once.{IsServed, Replies, Responds};
+ghost use Rattle.omaha_cli.specs.Streams.{Streams};
+
+use crate::answering::answer;
+use crate::command_line::Once;
+use crate::failure::Failure;
+use crate::service::{Service, builtin_service, read_service};
+use std::alloc::Global;
+use streams::{Disk, ReadFailure, ReadWhole, WriteWhole};
+
+/// How many bytes a request may have.
+const MAX_INPUT: u32 = 262144;
+
+/// How many bytes a profile may have.
+const MAX_PROFILE: u32 = 67108864;
+
+// rule: Maximum of a profile
+// Reads the profile's file, if one is named, and makes what requests are answered from.
+fn open_service<R: Disk + AllocGlobal>(rt: &R, once: &Once) -> Result<Service, Failure>
+    ensures { IsServed (R.file_at rt.now) once.now.profile result }
+{
+    let Some(path) = &once.profile else {
+        return Ok(builtin_service(rt.alloc())?);
+    };
+    match rt.read_file(rt.alloc(), path.as_str(), MAX_PROFILE) {
+        Ok(bytes) => read_service(rt.alloc(), bytes.as_slice()),
+        Err(ReadFailure::Memory) => Err(Failure::Memory),
+        Err(_) => Err(Failure::File(path.clone()?)),
+    }
+}
+
+// rule: Maximum of the input
+// Reads a request, and writes the reply to it.
+fn reply_from<I: ReadWhole, W: WriteWhole>(
+    alloc: Global,
+    service: &Service,
+    moment: u64,
+    reader: &mut I,
+    writer: &mut W,
+) -> Result<(), Failure>
+    ensures { Replies service.now moment
+        (record { input = I.input reader.old; output = W.output writer.old })
+        (record { input = I.input reader.new; output = W.output writer.new }) result }
+{
+    let input = reader.read_whole(alloc, MAX_INPUT)?;
+    let reply = answer(alloc, service, moment, input.as_slice())?;
+    match writer.write_whole(reply.as_slice()) {
+        Ok(()) => Ok(()),
+        Err(_) => Err(Failure::Write),
+    }
+}
+
+// rule: Response of the program
+/// Replies to the request that a reader holds.
+///
+/// Reads the profile's file, if one is named, then the reader to its end, and writes the reply to
+/// the writer, byte for byte. The profile may have 64 MiB and the request 262144 bytes. Fails, in
+/// this order, with the file, the profile's fault, its first rejected edit, the reader, the
+/// request's fault; each time nothing is written. If the writer fails, a first part of the reply is
+/// written, and not all of it.
+pub fn respond<R: Disk + AllocGlobal, I: ReadWhole, W: WriteWhole>(
+    rt: &R,
+    once: &Once,
+    reader: &mut I,
+    writer: &mut W,
+) -> Result<(), Failure>
+    ensures { Responds (R.file_at rt.now) once.now
+        (record { input = I.input reader.old; output = W.output writer.old })
+        (record { input = I.input reader.new; output = W.output writer.new }) result }
+{
+    match open_service(rt, once) {
+        Ok(service) => reply_from(rt.alloc(), &service, once.moment, reader, writer),
+        Err(failure) => Err(failure),
+    }
+}

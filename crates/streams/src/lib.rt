@@ -1,0 +1,17 @@
+//! Reading and writing whole, with contracts that also say what a failure leaves.
+//!
+//! `ReadWhole` reads a reader to its end, up to a maximum; `WriteWhole` writes all of some bytes;
+//! `Disk` reads a file. Every reader, writer and runtime of std has them. Read
+//! `specs/Streams.antt` for what is known of a stream.
+//!
+//! It does not buffer, and flushes nothing.
+
+#![tactic(auto)]
+
+mod disk;
+mod reading;
+mod writing;
+
+pub use crate::disk::Disk;
+pub use crate::reading::{ReadFailure, ReadWhole};
+pub use crate::writing::{WriteWhole, offer};
