@@ -1,5 +1,6 @@
 # make demo          answers two requests of examples/ from a staged profile, built without a proof
-# make test          the gate: every proof from nothing, must-fail edits, tests and the program
+# make test          the gate: the rules' marks, every proof from nothing, must-fail edits, tests and
+#                    the program
 # make install       proves, builds and installs the program below PREFIX
 # make allocations   runs the program, after make install, with each of its allocations failing in
 #                    turn; it needs a C compiler
@@ -19,6 +20,7 @@ demo:
 	@cd crates/omaha && rt try -- $(STAGED) < $(EXAMPLES)/held.json && echo
 
 test:
+	tests/rules.py
 	rt ci
 
 install:

@@ -20,10 +20,11 @@ CRATES = os.path.join(TOP, "crates")
 # Rules that no edit shows, and why.
 NO_EDIT = {
     "App of a profile": "its parts are rules of their own",
+    "Edit of a script": "its readers are those of a table",
+    "Faults of a script": "its parts are rules of their own",
     "Tables of a profile": "its parts are rules of their own",
     "Tables of a script": "its parts are rules of their own",
-    "TOML of a profile": "the reading is the toml crate's",
-    "Faults of a script": "its parts are rules of their own",
+    "Text of a profile": "the reading is that of the crate toml",
 }
 
 MARK = re.compile(r"^\s*(?:--|//|#) rule: (.+?)\s*$")

@@ -187,8 +187,7 @@ module _ (front : List App) (id : List ℕ) (fresh : list_any (is_app id) front 
       let apps = front ++ app ∷ [] in
       let e : SetAudience = record { app = id; version = text; cohorts = names } in
       let found = app_of-last app same in
-      None-from_NoneHold (tests_of_set_audience apps e)
-      (
+      None-from_NoneHold (tests_of_set_audience apps e) (
         ap (λ (o : Option App). is_none o) found,
         (
           spelled,
@@ -228,8 +227,8 @@ module _ (front : List App) (id : List ℕ) (fresh : list_any (is_app id) front 
                 not_from_true _ named,
                 (
                   or_from _ _
-                  (not_from_true _ (ap (λ (o : Option App). has_release (releases o) from) found ∙ starts))
-                  (not_from_true _ (ap (λ (o : Option App). has_release (releases o) to) found ∙ ends)),
+                      (not_from_true _ (ap (λ (o : Option App). has_release (releases o) from) found ∙ starts))
+                      (not_from_true _ (ap (λ (o : Option App). has_release (releases o) to) found ∙ ends)),
                   (
                     not_from_true _ upward,
                     (

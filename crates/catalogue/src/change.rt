@@ -199,7 +199,12 @@ fn set_in_cohorts(cohorts: &mut Items<Cohort>, name: &Text, setting: CohortSetti
     }
 }
 
-pub(crate) fn set_cohort_in_apps(apps: &mut Items<App>, id: &Text, cohort: &Text, setting: CohortSetting)
+pub(crate) fn set_cohort_in_apps(
+    apps: &mut Items<App>,
+    id: &Text,
+    cohort: &Text,
+    setting: CohortSetting,
+)
     requires { IsValid apps.old }
     ensures { apps.new ≡ change (is_app id.now) (in_cohort cohort.now (with_setting setting)) apps.old }
 {

@@ -27,7 +27,12 @@ fn two_apps(alloc: Global) -> Result<(Catalogue, usize), Fail> {
 fn finds_releases_in_version_order(rt: HostRuntime) -> Result<(), Fail> {
     let (catalogue, app) = two_apps(rt.alloc())?;
     assert_eq!(rt; app, 1);
-    let rows = [("1.9", Some(1)), ("2.0.0.0", Some(2)), ("3", None), ("0", None)];
+    let rows = [
+        ("1.9", Some(1)),
+        ("2.0.0.0", Some(2)),
+        ("3", None),
+        ("0", None),
+    ];
     for (version, found) in rows {
         let version = Version::lenient(version);
         assert_eq!(rt; catalogue.find_release(app, &version), found);

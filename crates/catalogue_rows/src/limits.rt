@@ -81,7 +81,9 @@ fn diffs(alloc: Global, count: u32) -> Result<Vec<Edit>, Fail> {
     for from in 0..255u32 {
         for to in 0..256u32 {
             if from < to && added < count {
-                let line = format!(in alloc; "add_diff app0 1.{from} 1.{to} d-{from}-{to}.bin 1 {to:064}")?;
+                let line = format!(in alloc;
+                    "add_diff app0 1.{from} 1.{to} d-{from}-{to}.bin 1 {to:064}"
+                )?;
                 add(alloc, &mut edits, line.as_str())?;
                 added += 1;
             }
@@ -120,12 +122,22 @@ fn bounds_the_lengths_of_names(rt: HostRuntime) -> Result<(), Fail> {
     for (length, fault) in [(256, None), (257, Some(Fault::BadAppId))] {
         let id = letters(alloc, length)?;
         let id = id.as_str();
-        named(&rt, alloc, format!(in alloc; "add_app {id} stable")?.as_str(), fault)?;
+        named(
+            &rt,
+            alloc,
+            format!(in alloc; "add_app {id} stable")?.as_str(),
+            fault,
+        )?;
     }
     for (length, fault) in [(32, None), (33, Some(Fault::BadName))] {
         let name = letters(alloc, length)?;
         let name = name.as_str();
-        named(&rt, alloc, format!(in alloc; "add_cohort app0 {name}")?.as_str(), fault)?;
+        named(
+            &rt,
+            alloc,
+            format!(in alloc; "add_cohort app0 {name}")?.as_str(),
+            fault,
+        )?;
     }
     for (length, fault) in [(128, None), (129, Some(Fault::BadName))] {
         let name = letters(alloc, length)?;

@@ -23,7 +23,11 @@ impl Fields {
 
     fn optional(&mut self) -> Option<Text> {
         let text = self.text();
-        if text.as_str() == "-" { None } else { Some(text) }
+        if text.as_str() == "-" {
+            None
+        } else {
+            Some(text)
+        }
     }
 
     fn number(&mut self) -> u64 {

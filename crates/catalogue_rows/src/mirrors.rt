@@ -7,12 +7,7 @@ use values::Text;
 
 const BASE: &str = "http://m0.example/p/";
 
-fn mirror(
-    alloc: Global,
-    name: &str,
-    codebase: &str,
-    budget: u64,
-) -> Result<Mirror, AllocError> {
+fn mirror(alloc: Global, name: &str, codebase: &str, budget: u64) -> Result<Mirror, AllocError> {
     let name = Text::copy_of(alloc, name)?;
     let codebase = Text::copy_of(alloc, codebase)?;
     Ok(Mirror {

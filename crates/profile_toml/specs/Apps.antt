@@ -17,7 +17,7 @@ use Rattle.profile_toml.specs.declared.app.AppEntry.{AppEntry}
 abbrev pub app_keys : List (List ℕ)
 app_keys = codes "id" ∷ codes "default" ∷ codes "cohort" ∷ codes "release" ∷ []
 
--- rule: app of a profile
+-- rule: App of a profile
 -- an app: its own keys, then its cohorts, then its releases
 unfoldable pub app_of : PlacedTable → Result AppEntry BadEntry
 app_of table = do
@@ -30,7 +30,7 @@ app_of table = do
   releases ← each release_of release_list
   Ok (record { id = id; default = default; cohorts = cohorts; releases = releases })
 
--- rule: edits of a profile
+-- rule: Edits of a profile
 -- the edits of an app
 abbrev pub app_edits : AppEntry → List Edit
 app_edits app =

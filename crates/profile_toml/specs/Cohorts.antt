@@ -18,7 +18,7 @@ use Rattle.profile_toml.specs.declared.cohort.CohortEntry.{CohortEntry}
 abbrev pub is_named : List ℕ → CohortEntry → Bool
 is_named name cohort = bytes_eq name cohort.name
 
--- rule: name of a cohort in a profile
+-- rule: Name of a cohort in a profile
 -- the name of a cohort, which no cohort before it has
 unfoldable pub new_name : List CohortEntry → PlacedTable → Result (List ℕ) BadEntry
 new_name before table = do
@@ -30,7 +30,7 @@ abbrev pub cohort_keys : List (List ℕ)
 cohort_keys =
     codes "name" ∷ codes "target" ∷ codes "held" ∷ codes "share" ∷ codes "open" ∷ []
 
--- rule: cohort of a profile
+-- rule: Cohort of a profile
 -- a cohort of an app, after those before it
 unfoldable pub cohort_of : List CohortEntry → PlacedTable → Result CohortEntry BadEntry
 cohort_of before table = do

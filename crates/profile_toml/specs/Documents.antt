@@ -10,7 +10,7 @@ use Rattle.toml_tables.specs.declared.path.BadEntry.{BadEntry}
 use Rattle.profile_toml.specs.declared.fault.ProfileFault.{ProfileFault}
 use Rattle.profile_toml.specs.declared.fault.ProfileFault.TheVariants as fault
 
--- rule: text of a profile
+-- rule: Text of a profile
 -- the members of the document that a text is
 abbrev pub document_of : List ℕ → Option Members
 document_of text = if is_utf8 text then parse_document text else None
@@ -20,7 +20,7 @@ abbrev pub is_schema_1 : Result ℕ BadEntry → Result (Unit {0}) ProfileFault
 is_schema_1 (Ok number) = if number == 1 then Ok tt else Err fault.BadSchema
 is_schema_1 (Err bad) = Err fault.BadSchema
 
--- rule: schema of a profile
+-- rule: Schema of a profile
 -- the key `schema` is the integer 1
 abbrev pub check_schema : PlacedTable → Result (Unit {0}) ProfileFault
 check_schema table = is_schema_1 (required as_natural (codes "schema") table)

@@ -25,7 +25,7 @@ ProfilesNameMirrors =
     (text : List ℕ) (edits : List Edit) (mirrors : List Mirror) →
     profile_of_text text ≡ Ok (edits, mirrors) → AreMirrors mirrors
 
--- rule: a fault is one line
+-- rule: A fault is one line
 -- the fault of a profile is printed as one line, and so is that of a script
 abbrev pub FaultsOfProfilesAreOneLine : Type 0
 FaultsOfProfilesAreOneLine =

@@ -17,7 +17,7 @@ use Rattle.profile_toml.specs.declared.fault.ProfileFault.TheVariants.{BadMirror
 abbrev pub mirror_keys : List (List ℕ)
 mirror_keys = codes "name" ∷ codes "codebase" ∷ codes "budget" ∷ []
 
--- rule: mirror of a profile
+-- rule: Mirror of a profile
 -- a mirror
 unfoldable pub mirror_of : PlacedTable → Result Mirror BadEntry
 mirror_of table = do
@@ -54,7 +54,7 @@ bad_mirror (mirror ∷ mirrors) =
     if nat_lt max_mirrors (length (mirror ∷ mirrors)) then Some max_mirrors
     else first_bad_after [] (mirror ∷ mirrors)
 
--- rule: mirrors of a profile
+-- rule: Mirrors of a profile
 -- the mirrors, if a profile may name them
 abbrev pub good_mirrors : List Mirror → Result (List Mirror) ProfileFault
 good_mirrors mirrors =

@@ -15,7 +15,7 @@ use Rattle.profile_toml.specs.declared.profile.Profile.{Profile}
 abbrev pub profile_keys : List (List ℕ)
 profile_keys = codes "schema" ∷ codes "mirror" ∷ codes "app" ∷ []
 
--- rule: tables of a profile
+-- rule: Tables of a profile
 -- a profile, of schema 1
 unfoldable pub profile_of : PlacedTable → Result Profile BadEntry
 profile_of table = do

@@ -14,7 +14,7 @@ use Rattle.profile_toml.specs.Scripts.{few_edits, script_of}
 use Rattle.profile_toml.specs.declared.fault.ProfileFault.{ProfileFault}
 use Rattle.profile_toml.specs.declared.fault.ProfileFault.TheVariants.{NotToml}
 
--- rule: faults of a profile
+-- rule: Faults of a profile
 -- the edits that a profile stands for, and its mirrors: its schema is checked first, its mirrors
 -- last
 unfoldable pub profile_of_text : List ℕ → Result (List Edit × List Mirror) ProfileFault
@@ -25,7 +25,7 @@ profile_of_text text = do
   mirrors ← good_mirrors profile.mirrors
   Ok (edits_of profile.apps, mirrors)
 
--- rule: faults of a script
+-- rule: Faults of a script
 -- the number of the edition that a script is written for, and its edits: its schema is checked
 -- first, the number of its edits last
 unfoldable pub script_of_text : List ℕ → Result (ℕ × List Edit) ProfileFault

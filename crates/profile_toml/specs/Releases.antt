@@ -22,7 +22,7 @@ release_in table = do
 abbrev pub release_keys : List (List ℕ)
 release_keys = codes "version" ∷ codes "name" ∷ codes "size" ∷ codes "sha256" ∷ []
 
--- rule: release of a profile
+-- rule: Release of a profile
 -- a release of an app
 unfoldable pub release_of : PlacedTable → Result ReleaseEntry BadEntry
 release_of table = do

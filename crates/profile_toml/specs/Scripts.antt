@@ -112,7 +112,7 @@ edit_in verb.SetTarget table = target_set table >>= λ e. Ok (edit.SetTarget e)
 edit_in verb.SetShare table = share_set table >>= λ e. Ok (edit.SetShare e)
 edit_in verb.SetOpen table = open_set table >>= λ e. Ok (edit.SetOpen e)
 
--- rule: edit of a script
+-- rule: Edit of a script
 -- an edit of a script
 unfoldable pub edit_of : PlacedTable → Result Edit BadEntry
 edit_of table = do
@@ -123,7 +123,7 @@ edit_of table = do
 abbrev pub max_edits : ℕ
 max_edits = 4096
 
--- rule: number of a script's edits
+-- rule: Number of a script's edits
 abbrev pub few_edits : List Edit → Result (List Edit) ProfileFault
 few_edits edits = if nat_le (length edits) max_edits then Ok edits else Err TooManyEdits
 
@@ -131,7 +131,7 @@ few_edits edits = if nat_le (length edits) max_edits then Ok edits else Err TooM
 abbrev pub script_keys : List (List ℕ)
 script_keys = codes "schema" ∷ codes "base" ∷ codes "edit" ∷ []
 
--- rule: tables of a script
+-- rule: Tables of a script
 -- a script, of schema 1: the edition that it is written for, and its edits
 unfoldable pub script_of : PlacedTable → Result (ℕ × List Edit) BadEntry
 script_of table = do

@@ -28,7 +28,7 @@ pub(crate) struct AppEntry {
     pub releases: Items<ReleaseEntry>,
 }
 
-// rule: app of a profile
+// rule: App of a profile
 #[tactic(auto, unfolding(crate::specs::Apps::app_of))]
 fn read_app(table: &TableReader<'_>) -> Result<AppEntry, ReadError<BadEntry>>
     ensures { Reads (λ app. app) result (app_of (placed table.now)) }
@@ -122,7 +122,7 @@ fn push_app(app: AppEntry, edits: &mut Items<Edit>) -> Result<(), AllocError>
     push_all_settings(&id, cohorts.as_slice(), edits)
 }
 
-// rule: edits of a profile
+// rule: Edits of a profile
 /// Makes the edits of a profile's apps.
 pub(crate) fn edits_of(alloc: Global, apps: Items<AppEntry>) -> Result<Items<Edit>, AllocError>
     ensures { IfOk result (λ edits. edits ≡ edits_of apps) }

@@ -85,7 +85,7 @@ impl Cohorts {
     }
 }
 
-// rule: name of a cohort in a profile
+// rule: Name of a cohort in a profile
 #[tactic(auto, unfolding(crate::specs::Cohorts::new_name))]
 fn read_new_name(before: &Cohorts, table: &TableReader<'_>) -> Result<Text, ReadError<BadEntry>>
     ensures { Reads (λ name. name) result (new_name before.now (placed table.now)) }
@@ -97,7 +97,7 @@ fn read_new_name(before: &Cohorts, table: &TableReader<'_>) -> Result<Text, Read
     Ok(name)
 }
 
-// rule: cohort of a profile
+// rule: Cohort of a profile
 #[tactic(auto, unfolding(crate::specs::Cohorts::cohort_of))]
 fn read_cohort(
     before: &Cohorts,

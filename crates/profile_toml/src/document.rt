@@ -13,6 +13,7 @@ use toml::Table;
 use toml_tables::TableReader;
 use values::ReadError;
 
+// rule: Text of a profile
 /// Parses a TOML document, or returns `NotToml`.
 pub(crate) fn parse(alloc: Global, bytes: &[u8]) -> Result<Table, ReadError<ProfileFault>>
     ensures { Reads table_view result (ok_or (document_of bytes.now) NotToml) }
@@ -28,6 +29,7 @@ pub(crate) fn parse(alloc: Global, bytes: &[u8]) -> Result<Table, ReadError<Prof
     }
 }
 
+// rule: Schema of a profile
 /// Returns `BadSchema` unless the document is of schema 1.
 pub(crate) fn check_schema(document: &TableReader<'_>) -> Result<(), ReadError<ProfileFault>>
     ensures { Reads (λ nothing. nothing) result (check_schema (placed document.now)) }

@@ -8,7 +8,7 @@ pub fn mirrors()
     ensures { ProfilesNameMirrors }
 {}
 
-// rule: a fault is one line
+// rule: A fault is one line
 /// States that the fault of a profile or a script is printed as one line, whatever the document has.
 pub fn faults()
     ensures profiles { FaultsOfProfilesAreOneLine }

@@ -13,7 +13,7 @@ use values::{Items, ReadError};
 
 const MAX_MIRRORS: usize = 4;
 
-// rule: mirror of a profile
+// rule: Mirror of a profile
 #[tactic(auto, unfolding(crate::specs::Mirrors::mirror_of))]
 fn read_mirror(table: &TableReader<'_>) -> Result<Mirror, ReadError<BadEntry>>
     ensures { Reads (λ mirror. mirror) result (mirror_of (placed table.now)) }
@@ -76,7 +76,7 @@ fn bad_index(mirrors: &[Mirror]) -> Option<usize>
     find_bad(mirrors)
 }
 
-// rule: mirrors of a profile
+// rule: Mirrors of a profile
 /// Returns the mirrors, or `BadMirror` if a profile may not name them.
 pub(crate) fn check_mirrors(
     mirrors: Items<Mirror>,

@@ -22,7 +22,7 @@ struct Profile {
     apps: Items<AppEntry>,
 }
 
-// rule: tables of a profile
+// rule: Tables of a profile
 #[tactic(auto, unfolding(crate::specs::Profiles::profile_of))]
 fn read_tables(document: &TableReader<'_>) -> Result<Profile, ReadError<BadEntry>>
     ensures { Reads (λ profile. profile) result (profile_of (placed document.now)) }
@@ -46,7 +46,7 @@ fn read_entries(document: &TableReader<'_>) -> Result<Profile, ReadError<Profile
     }
 }
 
-// rule: faults of a profile
+// rule: Faults of a profile
 /// Reads a profile of schema 1: the edits that make its catalogue, and its one to four mirrors.
 ///
 /// Returns the first fault in the order of `ProfileFault`. Tables are read from the top: the

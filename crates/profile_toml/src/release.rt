@@ -36,7 +36,7 @@ pub(crate) fn read_package(table: &TableReader<'_>) -> Result<ReleaseEntry, Read
     })
 }
 
-// rule: release of a profile
+// rule: Release of a profile
 #[tactic(auto, unfolding(crate::specs::Releases::release_of))]
 fn read_release(table: &TableReader<'_>) -> Result<ReleaseEntry, ReadError<BadEntry>>
     ensures { Reads (λ release. release) result (release_of (placed table.now)) }

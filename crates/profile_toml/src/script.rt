@@ -137,7 +137,7 @@ fn read_edit_of(verb: Verb, table: &TableReader<'_>) -> Result<Edit, ReadError<B
     }
 }
 
-// rule: edit of a script
+// rule: Edit of a script
 #[tactic(auto, unfolding(crate::specs::Scripts::edit_of))]
 fn read_edit(table: &TableReader<'_>) -> Result<Edit, ReadError<BadEntry>>
     ensures { Reads (λ edit. edit) result (edit_of (placed table.now)) }
@@ -161,7 +161,7 @@ impl TableKind for EditTable {
     }
 }
 
-// rule: number of a script's edits
+// rule: Number of a script's edits
 fn check_count(edits: Items<Edit>) -> Result<Items<Edit>, ReadError<ProfileFault>>
     ensures { Reads (λ edits. edits) result (few_edits edits) }
 {
@@ -171,7 +171,7 @@ fn check_count(edits: Items<Edit>) -> Result<Items<Edit>, ReadError<ProfileFault
     Ok(edits)
 }
 
-// rule: tables of a script
+// rule: Tables of a script
 #[tactic(auto, unfolding(crate::specs::Scripts::script_of))]
 fn read_tables(document: &TableReader<'_>) -> Result<(u64, Items<Edit>), ReadError<BadEntry>>
     ensures { Reads (λ script. script) result (script_of (placed document.now)) }
@@ -192,7 +192,7 @@ fn read_entries(document: &TableReader<'_>) -> Result<(u64, Items<Edit>), ReadEr
     }
 }
 
-// rule: faults of a script
+// rule: Faults of a script
 /// Reads a script of schema 1: the number of the edition that it is written for, and its edits.
 ///
 /// Returns the first fault in the order of `ProfileFault`. Tables are read from the top. An edit's

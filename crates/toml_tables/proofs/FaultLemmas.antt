@@ -146,10 +146,12 @@ GivesOrLine-tables_of key table value of_place = by_array (as_array value)
   where
     path : List ℕ
     path = path_of table.place key
+
     by_all : (items : Items) (all : Result (Unit {0}) BadEntry) → HasLine all
         → GivesOrLine IsListed (all >>= λ all_are_tables. Ok (list_at path items))
     by_all items (Ok all) of_all = IsOneLine-path_of table.place key of_place
     by_all items (Err bad) of_all = of_all
+
     by_array : (found : Option Items)
         → GivesOrLine IsListed (ok_or found (bad_key table.place key) >>= λ items.
         (all_tables path 0 items >>= λ all_are_tables. Ok (list_at path items)))

@@ -49,7 +49,7 @@ each_from reads list index (item value values) = do
   rest ← each_from reads list (index + 1) values
   Ok (first ∷ rest)
 
--- rule: tables of a list
+-- rule: Tables of a list
 -- what each table of a list is read as, or the first error
 abbrev pub each : {A : Type 0}
     → (PlacedTable → Result A BadEntry) → PlacedList → Result (List A) BadEntry

@@ -23,7 +23,7 @@ abbrev pub prefix : Place → List ℕ
 prefix at.Top = []
 prefix (at.Element list index) = indexed list.now index ++ codes "."
 
--- rule: path of a key
+-- rule: Path of a key
 -- the path of a key of the table at a place
 abbrev pub path_of : List ℕ → List ℕ → List ℕ
 path_of place key = place ++ shown_key key

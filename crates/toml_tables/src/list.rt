@@ -88,6 +88,7 @@ impl<'t> TableList<'t> {
         read_element(self.alloc, self.path.as_str(), index, value)
     }
 
+    // rule: Tables of a list
     /// Reads each table, as its kind says.
     pub fn read<K: TableKind>(&self) -> Result<Items<K::Record>, ReadError<BadEntry>>
         ensures { Reads (λ records. records) result (each K.reads (listed self.now)) }

@@ -64,6 +64,7 @@ fn has_control(key: &str) -> bool
     key.as_bytes().iter().any(|byte| byte.is_ascii_control())
 }
 
+// rule: Path of a key
 /// Writes the path of a key of the table at a place.
 pub(crate) fn write_path(alloc: Global, place: &Place<'_>, key: &str) -> Result<Text, AllocError>
     ensures { IfOk result (λ path. path ≡ path_of (prefix place.now) key.now) }

@@ -36,13 +36,13 @@ is_unreleased releases (Some text) = not (has_release releases (lenient_version_
 abbrev pub tests_of_set_target : List App → SetTarget → List (Bool × Fault)
 tests_of_set_target apps e =
     tests_of_setting apps e.app e.cohort (
-      (is_misspelled e.target || is_misspelled e.held, fault.BadVersion)
-      ∷ (
-        is_unreleased (releases_of apps e.app) e.target
-            || is_unreleased (releases_of apps e.app) e.held,
-        fault.UnknownRelease,
-      )
-      ∷ []
+    (is_misspelled e.target || is_misspelled e.held, fault.BadVersion)
+    ∷ (
+      is_unreleased (releases_of apps e.app) e.target
+          || is_unreleased (releases_of apps e.app) e.held,
+      fault.UnknownRelease,
+    )
+    ∷ []
     )
 
 abbrev pub setting_of_set_target : SetTarget → CohortSetting

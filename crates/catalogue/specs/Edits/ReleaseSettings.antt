@@ -30,6 +30,6 @@ tests_of_set_withdrawn apps e = tests_of_release_setting apps e.app e.version []
 abbrev pub tests_of_set_audience : List App → SetAudience → List (Bool × Fault)
 tests_of_set_audience apps e =
     tests_of_release_setting apps e.app e.version (
-      (not (is_good_audience (cohorts_of apps e.app) e.cohorts), fault.UnknownCohort)
-      ∷ []
+    (not (is_good_audience (cohorts_of apps e.app) e.cohorts), fault.UnknownCohort)
+    ∷ []
     )
