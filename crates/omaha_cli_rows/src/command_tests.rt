@@ -1,9 +1,9 @@
+use crate::devices::Breaks;
 use crate::ending::{ends, ends_over, is_mistaken, refused, replied, shows};
 use crate::shelf::Shelf;
 use crate::staged::{
     BETA, DATED, HELD, HINTED, LAST_DATED, SHARED, STAGED, TARGET, UNRELEASED, WAITING,
 };
-use crate::streams::Breaks;
 use std::alloc::Global;
 use std::io::ErrorKind;
 use std::test::Fail;

@@ -1,6 +1,6 @@
+use crate::devices::{Blank, Breaks, Full};
 use crate::ending::{ends_over, refused, replied};
 use crate::offers::{OFFER, OLD};
-use crate::streams::{Blank, Breaks, Full};
 use omaha_cli::{refuse, run};
 use std::io;
 use std::io::{ErrorKind, Read};

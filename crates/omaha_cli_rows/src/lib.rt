@@ -7,6 +7,8 @@
 #[cfg(test)]
 mod command_tests;
 #[cfg(test)]
+mod devices;
+#[cfg(test)]
 mod ending;
 #[cfg(test)]
 mod failing_tests;
@@ -18,7 +20,5 @@ mod service_tests;
 mod shelf;
 #[cfg(test)]
 mod staged;
-#[cfg(test)]
-mod streams;
 #[cfg(test)]
 mod tests;
