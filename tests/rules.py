@@ -3,8 +3,9 @@
 
 A rule has one plain name. A comment `-- rule: NAME` stands above the definition that states it, in a
 file of `specs/`; `// rule: NAME` above each function that keeps it; and a line `# rule: NAME` in each
-must-fail edit that breaks it. Every rule needs exactly one definition, a function and an edit; the few
-that no edit of one line can break are listed below with the reason.
+must-fail edit that breaks it. Every rule needs exactly one definition, a function and an edit, and a
+heading in `docs/DEFINITIONS.md`; the few that no edit of one line can break are listed below with the
+reason.
 
 `tests/rules.py` checks the marks; `tests/rules.py --table` prints the table "Where a rule lives":
 the rule, its definition, its functions, its edits and the files of their proofs.
@@ -80,7 +81,9 @@ def main():
             for rule, _ in marks(path, None):
                 edit = os.path.basename(path)[:-5]
                 rules.setdefault(rule, ([], [], [], []))[2].append(edit)
-    wrong = []
+    with open(os.path.join(TOP, "docs", "DEFINITIONS.md"), encoding="utf-8") as file:
+        headings = re.findall(r"(?m)^## (.+)$", file.read())
+    wrong = [f"{rule}: no heading in docs/DEFINITIONS.md" for rule in sorted(rules) if rule not in headings]
     for rule, (definitions, functions, edits, _) in sorted(rules.items()):
         if len(definitions) != 1:
             wrong.append(f"{rule}: {len(definitions)} definitions: {', '.join(definitions)}")
@@ -96,7 +99,7 @@ def main():
     for line in wrong:
         print(f"tests/rules.py: {line}", file=sys.stderr)
     if not wrong:
-        print(f"{len(rules)} rules have their definition, function and edit")
+        print(f"{len(rules)} rules have their heading, definition, function and edit")
     return 1 if wrong else 0
 
 
