@@ -17,15 +17,14 @@ add_diff other 1.9 2.0 other-1.9-2.0.bin 2 5555555555555555555555555555555555555
 add_diff other 1.8 2.0 other-1.8-2.0.bin 4 5555555555555555555555555555555555555555555555555555555555555555
 add_cohort other beta";
 
-fn two_apps(alloc: Global) -> Result<(Catalogue, usize), Fail> {
-    let catalogue = catalogue_of(alloc, TWO_APPS)?;
-    let app = catalogue.app("Other").ok_or("no app")?;
-    Ok((catalogue, app))
+fn two_apps(alloc: Global) -> Result<Catalogue, Fail> {
+    catalogue_of(alloc, TWO_APPS)
 }
 
 #[test]
 fn finds_releases_in_version_order(rt: HostRuntime) -> Result<(), Fail> {
-    let (catalogue, app) = two_apps(rt.alloc())?;
+    let catalogue = two_apps(rt.alloc())?;
+    let app = catalogue.app("Other").ok_or("no app")?;
     assert_eq!(rt; app, 1);
     let rows = [
         ("1.9", Some(1)),
@@ -44,7 +43,8 @@ fn finds_releases_in_version_order(rt: HostRuntime) -> Result<(), Fail> {
 
 #[test]
 fn finds_differentials_by_their_pair(rt: HostRuntime) -> Result<(), Fail> {
-    let (catalogue, app) = two_apps(rt.alloc())?;
+    let catalogue = two_apps(rt.alloc())?;
+    let app = catalogue.app("Other").ok_or("no app")?;
     let rows = [
         ("1.8", "2.0", Some(0)),
         ("1.9", "2", Some(1)),
@@ -62,7 +62,8 @@ fn finds_differentials_by_their_pair(rt: HostRuntime) -> Result<(), Fail> {
 
 #[test]
 fn finds_cohorts_and_packages_by_name(rt: HostRuntime) -> Result<(), Fail> {
-    let (catalogue, app) = two_apps(rt.alloc())?;
+    let catalogue = two_apps(rt.alloc())?;
+    let app = catalogue.app("Other").ok_or("no app")?;
     assert_eq!(rt; catalogue.find_cohort(app, "beta"), Some(1));
     assert_eq!(rt; catalogue.find_cohort(app, "Beta"), None);
     let rows = [
