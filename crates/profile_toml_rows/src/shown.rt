@@ -55,8 +55,13 @@ fn edit(alloc: Global, edit: &Edit) -> Result<String, AllocError> {
         Edit::AddApp(e) => other(alloc, "app", &e.app, &e.default),
         Edit::AddCohort(e) => other(alloc, "cohort", &e.app, &e.cohort),
         Edit::AddRelease(e) => release(alloc, e),
+        Edit::AddDiff(e) => other(alloc, "diff", &e.app, &e.name),
+        Edit::SetStone(e) => other(alloc, "stone", &e.app, &e.version),
+        Edit::SetWithdrawn(e) => other(alloc, "withdrawn", &e.app, &e.version),
+        Edit::SetAudience(e) => other(alloc, "audience", &e.app, &e.version),
         Edit::SetTarget(e) => target(alloc, e),
         Edit::SetShare(e) => share(alloc, &e.app, &e.cohort, e.share),
+        Edit::SetRollback(e) => other(alloc, "rollback", &e.app, &e.cohort),
         Edit::SetOpen(e) => open(alloc, &e.app, &e.cohort, e.on),
     }
 }
