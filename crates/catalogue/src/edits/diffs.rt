@@ -22,7 +22,7 @@ pub struct AddDiff {
     pub from: Text,
     /// The version of the release that it leads to, which is higher.
     pub to: Text,
-    /// The name of its package, which has the form of a release's.
+    /// The name of its package, by the same rule as a release's.
     pub name: Text,
     /// The bytes of its package, 1 to 2^40.
     pub size: u64,
