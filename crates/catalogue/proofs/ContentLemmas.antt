@@ -14,25 +14,27 @@ use Rattle.catalogue.proofs.GoodCohortLemmas.{GoodCohort, GoodCohort-from_test}
 use Rattle.catalogue.proofs.GoodDiffLemmas.{GoodDiff, GoodDiff-from_test}
 use Rattle.catalogue.proofs.GoodReleaseLemmas.{GoodRelease, GoodRelease-from_test}
 use Rattle.catalogue.proofs.HistoryLemmas.{Makes, Makes-append}
-use Rattle.catalogue.proofs.InsertedLemmas.{list_all-weaker}
-use Rattle.catalogue.proofs.KeyLemmas.{IsOrder-pairs, IsOrder-versions, VersionLaws}
+use Rattle.values.proofs.InsertedLemmas.{list_all-weaker}
+use Rattle.records.proofs.KeyLemmas.{IsOrder-pairs, IsOrder-versions, VersionLaws}
 use Rattle.catalogue.proofs.LastAppLemmas.{accepts_app, accepts_audience, accepts_cohort, accepts_diff, accepts_open, accepts_release, accepts_rollback, accepts_share, accepts_stone, accepts_targets, accepts_withdrawn, bytes_eq-same, change-last}
 use Rattle.catalogue.proofs.LastPackageLemmas.{added, added_diff, bare_release, declared_of-diff, declared_of-release, new_diff-added, new_release-added}
 use Rattle.catalogue.proofs.MakingLemmas.{Makes-each, Makes-each_one, Makes-flag, Makes-one, Makes-option, Makes-same, outcome_from-Makes}
-use Rattle.catalogue.proofs.OrderedLemmas.{has_in-above, put_in-last}
+use Rattle.values.proofs.OrderedLemmas.{has_in-above, put_in-last}
 use Rattle.catalogue.proofs.SpellingLemmas.{hash_named-encode_lower, hash_of-encode_lower, is_misspelled-spelling_of, is_none-spells, is_unreleased-spelling_of, lenient_version_of-spells, option_map-spelling_of, spells-spelling_of}
-use Rattle.catalogue.proofs.SplitLemmas.{AllByRecursion-at, ascend-before, change-at_item, length-before, list_all-at, list_any-at, list_any-before, split_next}
+use Rattle.values.proofs.SplitLemmas.{AllByRecursion-at, ascend-before, change-at_item, length-before, list_all-at, list_any-at, list_any-before, split_next}
 use Rattle.catalogue.specs.Batches.{outcome}
-use Rattle.catalogue.specs.Changes.{change, in_cohort, in_release, new_cohort, new_diff, new_release, with_cohort, with_diff, with_release, with_release_setting, with_setting}
+use Rattle.catalogue.specs.Changes.{in_cohort, in_release, new_cohort, new_diff, new_release, with_cohort, with_diff, with_release, with_release_setting, with_setting}
+use Rattle.values.specs.Lists.{change}
 use Rattle.catalogue.specs.Contents.{default_name, edit_of_cohort, edit_of_diff, edit_of_release, edit_of_share, edits_of_app, edits_of_audience, edits_of_content, edits_of_open, edits_of_release, edits_of_rollback, edits_of_settings, edits_of_stone, edits_of_targets, edits_of_withdrawn, spelling_of}
 use Rattle.catalogue.specs.Edits.CohortSettings.{setting_of_set_target}
-use Rattle.catalogue.specs.Limits.{max_apps, max_cohorts, max_diffs, max_releases}
-use Rattle.catalogue.specs.Lookups.{has_cohort, has_diff, has_hash, has_release, is_app, is_cohort, is_pair_below, is_release, packages_of, pair_of, same_pair}
-use Rattle.catalogue.specs.Validity.{IsOnce, IsValid, IsValidApp, is_diff_before, is_good_audience, is_good_release, is_package, is_release_below, spells}
-use Rattle.catalogue.specs.declared.content.App.{App}
-use Rattle.catalogue.specs.declared.content.Cohort.{Cohort}
-use Rattle.catalogue.specs.declared.content.Diff.{Diff}
-use Rattle.catalogue.specs.declared.content.Release.{Release}
+use Rattle.records.specs.Limits.{max_apps, max_cohorts, max_diffs, max_releases}
+use Rattle.records.specs.Lookups.{has_cohort, has_diff, has_hash, has_release, is_app, is_cohort, is_pair_below, is_release, packages_of, pair_of, same_pair}
+use Rattle.records.specs.Validity.{IsValid, IsValidApp, is_diff_before, is_good_audience, is_good_release, is_package, is_release_below, spells}
+use Rattle.values.specs.Lists.{IsOnce}
+use Rattle.records.specs.declared.content.App.{App}
+use Rattle.records.specs.declared.content.Cohort.{Cohort}
+use Rattle.records.specs.declared.content.Diff.{Diff}
+use Rattle.records.specs.declared.content.Release.{Release}
 use Rattle.catalogue.specs.declared.edit.Edit.TheVariants as edit
 use Rattle.catalogue.specs.declared.edits.cohort_settings.CohortSetting.TheVariants as setting
 use Rattle.catalogue.specs.declared.edits.cohort_settings.SetTarget.{SetTarget}

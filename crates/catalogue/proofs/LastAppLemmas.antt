@@ -8,8 +8,8 @@ use Rattle.std.proofs.lemmas.Slice.Eq.{bytes_eq-Decides}
 use Rattle.version.specs.Versions.{is_below, lenient_version_of, version_of}
 use Rattle.catalogue.proofs.AppLemmas.{lowered}
 use Rattle.catalogue.proofs.MakingLemmas.{None-from_NoneHold}
-use Rattle.catalogue.proofs.SplitLemmas.{change-at_item, find-at, find-nowhere}
-use Rattle.catalogue.specs.Changes.{change}
+use Rattle.values.proofs.SplitLemmas.{change-at_item, find-at, find-nowhere}
+use Rattle.values.specs.Lists.{change}
 use Rattle.catalogue.specs.Edits.{fault_of}
 use Rattle.catalogue.specs.Edits.Apps.{tests_of_add_app}
 use Rattle.catalogue.specs.Edits.CohortSettings.{is_misspelled, is_unreleased, tests_of_set_open, tests_of_set_rollback, tests_of_set_share, tests_of_set_target}
@@ -17,12 +17,12 @@ use Rattle.catalogue.specs.Edits.Cohorts.{tests_of_add_cohort}
 use Rattle.catalogue.specs.Edits.Diffs.{tests_of_add_diff}
 use Rattle.catalogue.specs.Edits.ReleaseSettings.{tests_of_set_audience, tests_of_set_stone, tests_of_set_withdrawn}
 use Rattle.catalogue.specs.Edits.Releases.{tests_of_add_release}
-use Rattle.catalogue.specs.Forms.{hash_named, hash_of, is_app_id, is_cohort_name, is_package_name, is_size}
-use Rattle.catalogue.specs.Limits.{max_apps, max_cohorts, max_diffs, max_releases, max_share}
-use Rattle.catalogue.specs.Lookups.{app_of, declared_of, has_cohort, has_diff, has_hash, has_release, is_app}
-use Rattle.catalogue.specs.Validity.{is_good_audience}
-use Rattle.catalogue.specs.declared.content.App.{App}
-use Rattle.catalogue.specs.declared.content.Declared.{Declared}
+use Rattle.records.specs.Forms.{hash_named, hash_of, is_app_id, is_cohort_name, is_package_name, is_size}
+use Rattle.records.specs.Limits.{max_apps, max_cohorts, max_diffs, max_releases, max_share}
+use Rattle.records.specs.Lookups.{app_of, declared_of, has_cohort, has_diff, has_hash, has_release, is_app}
+use Rattle.records.specs.Validity.{is_good_audience}
+use Rattle.records.specs.declared.content.App.{App}
+use Rattle.records.specs.declared.content.Declared.{Declared}
 use Rattle.catalogue.specs.declared.edit.Edit.TheVariants as edit
 use Rattle.catalogue.specs.declared.edits.apps.AddApp.{AddApp}
 use Rattle.catalogue.specs.declared.edits.cohort_settings.SetOpen.{SetOpen}

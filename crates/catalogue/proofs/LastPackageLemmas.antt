@@ -10,16 +10,17 @@ use Rattle.catalogue.proofs.GoodDiffLemmas.{GoodDiff}
 use Rattle.catalogue.proofs.GoodReleaseLemmas.{GoodRelease}
 use Rattle.catalogue.proofs.LastAppLemmas.{bytes_eq-same}
 use Rattle.catalogue.proofs.SpellingLemmas.{hash_named-encode_lower, lenient_version_of-spells}
-use Rattle.catalogue.proofs.SplitLemmas.{list_any-before, lookup-nowhere}
+use Rattle.values.proofs.SplitLemmas.{list_any-before, lookup-nowhere}
 use Rattle.catalogue.specs.Changes.{new_diff, new_release}
 use Rattle.catalogue.specs.Contents.{spelling_of}
-use Rattle.catalogue.specs.Lookups.{declared_of, diff_package, full_package, packages_in, packages_of}
-use Rattle.catalogue.specs.Validity.{IsOnce, is_package, spells}
-use Rattle.catalogue.specs.declared.content.App.{App}
-use Rattle.catalogue.specs.declared.content.Cohort.{Cohort}
-use Rattle.catalogue.specs.declared.content.Declared.{Declared}
-use Rattle.catalogue.specs.declared.content.Diff.{Diff}
-use Rattle.catalogue.specs.declared.content.Release.{Release}
+use Rattle.records.specs.Lookups.{declared_of, diff_package, full_package, packages_in, packages_of}
+use Rattle.records.specs.Validity.{is_package, spells}
+use Rattle.values.specs.Lists.{IsOnce}
+use Rattle.records.specs.declared.content.App.{App}
+use Rattle.records.specs.declared.content.Cohort.{Cohort}
+use Rattle.records.specs.declared.content.Declared.{Declared}
+use Rattle.records.specs.declared.content.Diff.{Diff}
+use Rattle.records.specs.declared.content.Release.{Release}
 use Rattle.catalogue.specs.declared.edits.diffs.AddDiff.{AddDiff}
 use Rattle.catalogue.specs.declared.edits.releases.AddRelease.{AddRelease}
 

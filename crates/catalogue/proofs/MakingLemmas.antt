@@ -5,10 +5,10 @@ use Rattle.std.specs.Option.{is_some}
 use Rattle.std.proofs.lemmas.List.{append-nil}
 use Rattle.catalogue.proofs.AcceptedLemmas.{NoneHold}
 use Rattle.catalogue.proofs.HistoryLemmas.{Makes, Makes-append}
-use Rattle.catalogue.proofs.SplitLemmas.{split_next}
+use Rattle.values.proofs.SplitLemmas.{split_next}
 use Rattle.catalogue.specs.Batches.{outcome_from, unless_refused}
 use Rattle.catalogue.specs.Faults.{first_fault}
-use Rattle.catalogue.specs.declared.content.App.{App}
+use Rattle.records.specs.declared.content.App.{App}
 use Rattle.catalogue.specs.declared.edit.Edit.{Edit}
 use Rattle.catalogue.specs.declared.fault.Fault.{Fault}
 use Rattle.catalogue.specs.Edits.{after, fault_of}

@@ -2,24 +2,25 @@
 use Rattle.std.proofs.Common.{◌≡◌, ℕ, cond, List, ◌++◌, map, Option, Some, None, ap, sym, ◌∙◌}
 use Rattle.std.specs.Map.{lookup}
 use Rattle.std.specs.Str.{bytes_eq}
-use Rattle.catalogue.proofs.ChangedLemmas.{map-change}
+use Rattle.values.proofs.ChangedLemmas.{map-change}
 use Rattle.catalogue.proofs.GoodReleaseLemmas.{full_package-with_release_setting}
-use Rattle.catalogue.proofs.InsertionLemmas.{Inserts, Inserts-append_after, Inserts-append_before, Inserts-flat_map_change, Inserts-insert, Inserts-map, flat_map-change, lookup-Inserts}
+use Rattle.values.proofs.InsertionLemmas.{Inserts, Inserts-append_after, Inserts-append_before, Inserts-flat_map_change, Inserts-insert, Inserts-map, flat_map-change, lookup-Inserts}
 use Rattle.catalogue.proofs.Accepted.Diffs.{TakesDiff-from_no_fault}
 use Rattle.catalogue.proofs.Accepted.Releases.{TakesRelease-from_no_fault}
-use Rattle.catalogue.specs.Changes.{change, in_release, new_diff, new_release, placed, placed_diff, with_diff, with_release, with_release_setting}
+use Rattle.catalogue.specs.Changes.{in_release, new_diff, new_release, placed, placed_diff, with_diff, with_release, with_release_setting}
+use Rattle.values.specs.Lists.{change}
 use Rattle.catalogue.specs.Draft.{Indexes}
 use Rattle.catalogue.specs.Faults.{first_fault}
 use Rattle.catalogue.specs.PackageIndex.{found_in}
-use Rattle.catalogue.specs.declared.content.Diff.{Diff}
+use Rattle.records.specs.declared.content.Diff.{Diff}
 use Rattle.catalogue.specs.declared.edits.diffs.AddDiff.{AddDiff}
 use Rattle.catalogue.specs.declared.edits.release_settings.ReleaseSetting.{ReleaseSetting}
 use Rattle.catalogue.specs.declared.edits.releases.AddRelease.{AddRelease}
 use Rattle.catalogue.specs.declared.package_index.PackageIndex.{PackageIndex}
-use Rattle.catalogue.specs.Lookups.{app_of, declared_of, diff_package, full_package, is_app, is_release, packages_in, packages_of, pair_of, place_of, place_of_pair}
-use Rattle.catalogue.specs.declared.content.App.{App}
-use Rattle.catalogue.specs.declared.content.Declared.{Declared}
-use Rattle.catalogue.specs.declared.content.Release.{Release}
+use Rattle.records.specs.Lookups.{app_of, declared_of, diff_package, full_package, is_app, is_release, packages_in, packages_of, pair_of, place_of, place_of_pair}
+use Rattle.records.specs.declared.content.App.{App}
+use Rattle.records.specs.declared.content.Declared.{Declared}
+use Rattle.records.specs.declared.content.Release.{Release}
 use Rattle.catalogue.specs.Edits.Diffs.{tests_of_add_diff}
 use Rattle.catalogue.specs.Edits.Releases.{tests_of_add_release}
 

@@ -10,16 +10,17 @@ use Rattle.catalogue.proofs.Accepted.Releases.{TakesRelease}
 use Rattle.catalogue.proofs.AppLemmas.{read_app-change, read_app-kept, read_app-push_none, read_app-same_id, read_app-then}
 use Rattle.catalogue.proofs.FitLemmas.{Fits, Fits-accepted}
 use Rattle.catalogue.proofs.GoodReleaseLemmas.{version-with_release_setting}
-use Rattle.catalogue.proofs.InsertionLemmas.{Inserts-insert}
-use Rattle.catalogue.proofs.LookupLemmas.{Some-from_list_any, find-change}
-use Rattle.catalogue.proofs.ReadLemmas.{read_found, read_found-Inserts}
-use Rattle.catalogue.specs.Changes.{Change, NewApp, NewCohort, NewDiff, NewRelease, SetsCohort, SetsRelease, change, changed, in_cohort, in_release, new_app, new_cohort, new_diff, new_release, placed, with_cohort, with_diff, with_release, with_release_setting, with_setting}
+use Rattle.values.proofs.InsertionLemmas.{Inserts-insert}
+use Rattle.values.proofs.LookupLemmas.{Some-from_list_any, find-change}
+use Rattle.values.proofs.ReadLemmas.{read_found, read_found-Inserts}
+use Rattle.catalogue.specs.Changes.{Change, NewApp, NewCohort, NewDiff, NewRelease, SetsCohort, SetsRelease, changed, in_cohort, in_release, new_app, new_cohort, new_diff, new_release, placed, with_cohort, with_diff, with_release, with_release_setting, with_setting}
+use Rattle.values.specs.Lists.{change}
 use Rattle.catalogue.specs.Edits.{after, change_of, fault_of}
-use Rattle.catalogue.specs.Forms.{same_id}
+use Rattle.records.specs.Forms.{same_id}
 use Rattle.catalogue.specs.Histories.{audience_of, is_stone, is_withdrawn, names_release, read_release, sets_audience, sets_stone, sets_withdrawn}
-use Rattle.catalogue.specs.Lookups.{app_of, is_app, is_release, place_of, releases_of}
-use Rattle.catalogue.specs.declared.content.App.{App}
-use Rattle.catalogue.specs.declared.content.Release.{Release}
+use Rattle.records.specs.Lookups.{app_of, is_app, is_release, place_of, releases_of}
+use Rattle.records.specs.declared.content.App.{App}
+use Rattle.records.specs.declared.content.Release.{Release}
 use Rattle.catalogue.specs.declared.edit.Edit.{Edit}
 use Rattle.catalogue.specs.declared.edit.Edit.TheVariants as edit
 use Rattle.catalogue.specs.declared.edits.release_settings.ReleaseSetting.{ReleaseSetting}

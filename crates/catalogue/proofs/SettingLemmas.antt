@@ -9,15 +9,16 @@ use Rattle.catalogue.proofs.Accepted.CohortSettings.{NamesCohort, TakesSetting}
 use Rattle.catalogue.proofs.AppLemmas.{read_app-change, read_app-kept, read_app-push_none, read_app-same_id, read_app-then}
 use Rattle.catalogue.proofs.FitLemmas.{Fits-accepted}
 use Rattle.catalogue.proofs.GoodCohortLemmas.{name-with_setting}
-use Rattle.catalogue.proofs.LookupLemmas.{Some-from_list_any, find-change}
-use Rattle.catalogue.specs.Changes.{Change, NewApp, NewCohort, NewDiff, NewRelease, SetsCohort, SetsRelease, change, changed, in_cohort, in_release, new_app, new_cohort, new_diff, new_release, with_cohort, with_diff, with_release, with_release_setting, with_setting}
+use Rattle.values.proofs.LookupLemmas.{Some-from_list_any, find-change}
+use Rattle.catalogue.specs.Changes.{Change, NewApp, NewCohort, NewDiff, NewRelease, SetsCohort, SetsRelease, changed, in_cohort, in_release, new_app, new_cohort, new_diff, new_release, with_cohort, with_diff, with_release, with_release_setting, with_setting}
+use Rattle.values.specs.Lists.{change}
 use Rattle.catalogue.specs.Edits.{after, change_of, fault_of}
 use Rattle.catalogue.specs.Edits.CohortSettings.{setting_of_set_target}
-use Rattle.catalogue.specs.Forms.{same_id}
+use Rattle.records.specs.Forms.{same_id}
 use Rattle.catalogue.specs.Histories.{Targets, has_rollback, is_open, names_cohort, read_cohort, sets_open, sets_rollback, sets_share, sets_targets, share_of, targets_of}
-use Rattle.catalogue.specs.Lookups.{cohorts_of, is_app, is_cohort}
-use Rattle.catalogue.specs.declared.content.App.{App}
-use Rattle.catalogue.specs.declared.content.Cohort.{Cohort}
+use Rattle.records.specs.Lookups.{cohorts_of, is_app, is_cohort}
+use Rattle.records.specs.declared.content.App.{App}
+use Rattle.records.specs.declared.content.Cohort.{Cohort}
 use Rattle.catalogue.specs.declared.edit.Edit.{Edit}
 use Rattle.catalogue.specs.declared.edit.Edit.TheVariants as edit
 use Rattle.catalogue.specs.declared.edits.cohort_settings.CohortSetting.{CohortSetting}

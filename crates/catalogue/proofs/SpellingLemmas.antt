@@ -11,10 +11,10 @@ use Rattle.hex.proofs.HexLemmas.{decode_sized-encode_lower}
 use Rattle.version.specs.Laws.{LenientAgrees}
 use Rattle.version.specs.Versions.{lenient_version_of, version_of}
 use Rattle.catalogue.specs.Contents.{spelling_of}
-use Rattle.catalogue.specs.Forms.{hash_named, hash_of, is_hash, is_hash_digit}
-use Rattle.catalogue.specs.Lookups.{has_release, is_release}
-use Rattle.catalogue.specs.Validity.{is_released, spells}
-use Rattle.catalogue.specs.declared.content.Release.{Release}
+use Rattle.records.specs.Forms.{hash_named, hash_of, is_hash, is_hash_digit}
+use Rattle.records.specs.Lookups.{has_release, is_release}
+use Rattle.records.specs.Validity.{is_released, spells}
+use Rattle.records.specs.declared.content.Release.{Release}
 use Rattle.catalogue.specs.Edits.CohortSettings.{is_misspelled, is_unreleased}
 
 -- the text is read as the version

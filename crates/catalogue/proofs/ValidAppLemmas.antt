@@ -11,22 +11,23 @@ use Rattle.catalogue.proofs.Accepted.Cohorts.{TakesCohort}
 use Rattle.catalogue.proofs.Accepted.Diffs.{TakesDiff}
 use Rattle.catalogue.proofs.Accepted.Releases.{TakesRelease}
 use Rattle.catalogue.proofs.AcceptedLemmas.{Some-from_not_none}
-use Rattle.catalogue.proofs.ChangedLemmas.{ascend-change, count_by-change, count_by-cons, length-change, list_all-change, list_any-change}
+use Rattle.values.proofs.ChangedLemmas.{ascend-change, count_by-change, count_by-cons, length-change, list_all-change, list_any-change}
 use Rattle.catalogue.proofs.GoodCohortLemmas.{GoodCohort-from_test, is_good_cohort-from_parts}
 use Rattle.catalogue.proofs.GoodDiffLemmas.{GoodDiff-from_test, is_good_diff-from_parts}
-use Rattle.catalogue.proofs.HashLemmas.{is_hash-hash_named}
-use Rattle.catalogue.proofs.InsertedLemmas.{IsOnce-Inserts, count_by-none, length-Inserts, list_all-Inserts, list_all-weaker, list_any-kept}
-use Rattle.catalogue.proofs.InsertionLemmas.{Inserts, Inserts-push}
-use Rattle.catalogue.proofs.KeyLemmas.{IsOrder-pairs, IsOrder-versions, VersionLaws}
-use Rattle.catalogue.proofs.OrderedLemmas.{Inserts-put_in, ascend-put_in}
-use Rattle.catalogue.specs.Changes.{change, in_cohort, in_release, new_app, new_cohort, new_diff, new_release, placed, placed_diff, with_cohort, with_diff, with_release}
-use Rattle.catalogue.specs.Forms.{is_cohort_name, is_hash, is_package_name, is_size}
-use Rattle.catalogue.specs.Lookups.{has_cohort, has_hash, has_release, is_cohort, is_pair_below, is_release, pair_of, same_pair}
-use Rattle.catalogue.specs.Validity.{IsValidApp, is_good_audience, is_good_cohort, is_good_diff, is_good_release, is_release_below, is_released, spells}
-use Rattle.catalogue.specs.declared.content.App.{App}
-use Rattle.catalogue.specs.declared.content.Cohort.{Cohort}
-use Rattle.catalogue.specs.declared.content.Diff.{Diff}
-use Rattle.catalogue.specs.declared.content.Release.{Release}
+use Rattle.records.proofs.HashLemmas.{is_hash-hash_named}
+use Rattle.values.proofs.InsertedLemmas.{IsOnce-Inserts, count_by-none, length-Inserts, list_all-Inserts, list_all-weaker, list_any-kept}
+use Rattle.values.proofs.InsertionLemmas.{Inserts, Inserts-push}
+use Rattle.records.proofs.KeyLemmas.{IsOrder-pairs, IsOrder-versions, VersionLaws}
+use Rattle.values.proofs.OrderedLemmas.{Inserts-put_in, ascend-put_in}
+use Rattle.catalogue.specs.Changes.{in_cohort, in_release, new_app, new_cohort, new_diff, new_release, placed, placed_diff, with_cohort, with_diff, with_release}
+use Rattle.values.specs.Lists.{change}
+use Rattle.records.specs.Forms.{is_cohort_name, is_hash, is_package_name, is_size}
+use Rattle.records.specs.Lookups.{has_cohort, has_hash, has_release, is_cohort, is_pair_below, is_release, pair_of, same_pair}
+use Rattle.records.specs.Validity.{IsValidApp, is_good_audience, is_good_cohort, is_good_diff, is_good_release, is_release_below, is_released, spells}
+use Rattle.records.specs.declared.content.App.{App}
+use Rattle.records.specs.declared.content.Cohort.{Cohort}
+use Rattle.records.specs.declared.content.Diff.{Diff}
+use Rattle.records.specs.declared.content.Release.{Release}
 use Rattle.catalogue.specs.declared.edits.apps.AddApp.{AddApp}
 use Rattle.catalogue.specs.declared.edits.cohorts.AddCohort.{AddCohort}
 use Rattle.catalogue.specs.declared.edits.diffs.AddDiff.{AddDiff}

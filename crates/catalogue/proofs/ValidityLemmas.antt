@@ -9,22 +9,23 @@ use Rattle.version.specs.Laws.{LenientAgrees}
 use Rattle.catalogue.proofs.Accepted.Apps.{TakesApp}
 use Rattle.catalogue.proofs.Accepted.Diffs.{TakesDiff}
 use Rattle.catalogue.proofs.Accepted.Releases.{TakesRelease}
-use Rattle.catalogue.proofs.ChangedLemmas.{AllByRecursion-change, AllByRecursion-push, count_by-change, length-change}
+use Rattle.values.proofs.ChangedLemmas.{AllByRecursion-change, AllByRecursion-push, count_by-change, length-change}
 use Rattle.catalogue.proofs.FitLemmas.{Fits, Fits-accepted}
 use Rattle.catalogue.proofs.GoodCohortLemmas.{name-with_setting}
 use Rattle.catalogue.proofs.GoodReleaseLemmas.{hash-with_release_setting, version-with_release_setting}
 use Rattle.catalogue.proofs.HistoryLemmas.{Makes, holds-Makes}
-use Rattle.catalogue.proofs.InsertedLemmas.{IsOnce-Inserts, count_by-none, length-Inserts, list_any-find, list_any-lookup}
-use Rattle.catalogue.proofs.InsertionLemmas.{Inserts-push, flat_map-change}
-use Rattle.catalogue.proofs.KeyLemmas.{VersionLaws}
+use Rattle.values.proofs.InsertedLemmas.{IsOnce-Inserts, count_by-none, length-Inserts, list_any-find, list_any-lookup}
+use Rattle.values.proofs.InsertionLemmas.{Inserts-push, flat_map-change}
+use Rattle.records.proofs.KeyLemmas.{VersionLaws}
 use Rattle.catalogue.proofs.PackageLemmas.{Inserts-packages_of, Inserts-packages_of-diff, packages_in-in_release}
 use Rattle.catalogue.proofs.ValidAppLemmas.{IsValidApp-in_cohort, IsValidApp-in_release, IsValidApp-new_app, IsValidApp-with_cohort, IsValidApp-with_diff, IsValidApp-with_release}
-use Rattle.catalogue.specs.Changes.{Change, NewApp, NewCohort, NewDiff, NewRelease, SetsCohort, SetsRelease, change, changed, in_cohort, in_release, new_app, new_cohort, new_diff, new_release, with_cohort, with_diff, with_release, with_release_setting, with_setting}
+use Rattle.catalogue.specs.Changes.{Change, NewApp, NewCohort, NewDiff, NewRelease, SetsCohort, SetsRelease, changed, in_cohort, in_release, new_app, new_cohort, new_diff, new_release, with_cohort, with_diff, with_release, with_release_setting, with_setting}
+use Rattle.values.specs.Lists.{change}
 use Rattle.catalogue.specs.Edits.{after, change_of, fault_of}
-use Rattle.catalogue.specs.Forms.{same_id}
-use Rattle.catalogue.specs.Lookups.{app_of, diff_package, full_package, is_app, packages_in, packages_of}
-use Rattle.catalogue.specs.Validity.{IsValid, IsValidApp, is_package}
-use Rattle.catalogue.specs.declared.content.App.{App}
+use Rattle.records.specs.Forms.{same_id}
+use Rattle.records.specs.Lookups.{app_of, diff_package, full_package, is_app, packages_in, packages_of}
+use Rattle.records.specs.Validity.{IsValid, IsValidApp, is_package}
+use Rattle.records.specs.declared.content.App.{App}
 use Rattle.catalogue.specs.declared.edit.Edit.{Edit}
 use Rattle.catalogue.specs.declared.edits.apps.AddApp.{AddApp}
 use Rattle.catalogue.specs.declared.edits.diffs.AddDiff.{AddDiff}

@@ -1,13 +1,14 @@
 -- The kinds of change that an edit may make of a content, an equation each; this project's profile.
 use Rattle.std.specs.Prelude.{ℕ, Bool, false, List, [], ◌∷◌, ◌++◌, if◌then◌else◌, None}
 use Rattle.version.specs.Versions.{is_below, lenient_version_of}
-use Rattle.catalogue.specs.Forms.{hash_named}
-use Rattle.catalogue.specs.Lookups.{is_app, is_cohort, is_pair_below, is_release, pair_of}
-use Rattle.catalogue.specs.Ordered.{put_in}
-use Rattle.catalogue.specs.declared.content.App.{App}
-use Rattle.catalogue.specs.declared.content.Cohort.{Cohort}
-use Rattle.catalogue.specs.declared.content.Diff.{Diff}
-use Rattle.catalogue.specs.declared.content.Release.{Release}
+use Rattle.records.specs.Forms.{hash_named}
+use Rattle.records.specs.Lookups.{is_app, is_cohort, is_pair_below, is_release, pair_of}
+use Rattle.values.specs.Lists.{change}
+use Rattle.values.specs.Ordered.{put_in}
+use Rattle.records.specs.declared.content.App.{App}
+use Rattle.records.specs.declared.content.Cohort.{Cohort}
+use Rattle.records.specs.declared.content.Diff.{Diff}
+use Rattle.records.specs.declared.content.Release.{Release}
 use Rattle.catalogue.specs.declared.edits.apps.AddApp.{AddApp}
 use Rattle.catalogue.specs.declared.edits.cohort_settings.CohortSetting.{CohortSetting}
 use Rattle.catalogue.specs.declared.edits.cohort_settings.CohortSetting.TheVariants as setting
@@ -16,12 +17,6 @@ use Rattle.catalogue.specs.declared.edits.diffs.AddDiff.{AddDiff}
 use Rattle.catalogue.specs.declared.edits.release_settings.ReleaseSetting.{ReleaseSetting}
 use Rattle.catalogue.specs.declared.edits.release_settings.ReleaseSetting.TheVariants as release_setting
 use Rattle.catalogue.specs.declared.edits.releases.AddRelease.{AddRelease}
-
--- the list with its first item that passes changed
-abbrev pub change : {A : Type 0} → (A → Bool) → (A → A) → List A → List A
-change passes changed [] = []
-change passes changed (x ∷ xs) =
-    if passes x then changed x ∷ xs else x ∷ change passes changed xs
 
 -- a cohort at its first values: no targets, all clients at the target, no flags
 abbrev pub new_cohort : List ℕ → Cohort

@@ -7,13 +7,13 @@ use Rattle.std.specs.Str.{bytes_eq}
 use Rattle.version.specs.Versions.{lenient_version_of}
 use Rattle.catalogue.specs.Batches.{outcome, run}
 use Rattle.catalogue.specs.Changes.{new_diff, new_release}
-use Rattle.catalogue.specs.Forms.{same_id}
-use Rattle.catalogue.specs.Lookups.{cohorts_of, diffs_of, has_cohort, is_app, is_cohort, is_release, pair_of, releases_of, same_pair}
-use Rattle.catalogue.specs.Validity.{IsValid}
-use Rattle.catalogue.specs.declared.content.App.{App}
-use Rattle.catalogue.specs.declared.content.Cohort.{Cohort}
-use Rattle.catalogue.specs.declared.content.Diff.{Diff}
-use Rattle.catalogue.specs.declared.content.Release.{Release}
+use Rattle.records.specs.Forms.{same_id}
+use Rattle.records.specs.Lookups.{cohorts_of, diffs_of, has_cohort, is_app, is_cohort, is_release, pair_of, releases_of, same_pair}
+use Rattle.records.specs.Validity.{IsValid}
+use Rattle.records.specs.declared.content.App.{App}
+use Rattle.records.specs.declared.content.Cohort.{Cohort}
+use Rattle.records.specs.declared.content.Diff.{Diff}
+use Rattle.records.specs.declared.content.Release.{Release}
 use Rattle.catalogue.specs.declared.edit.Edit.{Edit}
 use Rattle.catalogue.specs.declared.edit.Edit.TheVariants as edit
 

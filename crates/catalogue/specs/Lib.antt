@@ -6,12 +6,6 @@ pub mod Draft
 pub mod Edits
 pub mod Faults
 pub mod FaultTexts
-pub mod Forms
 pub mod Histories
-pub mod Limits
-pub mod Lookups
-pub mod Mirrors
-pub mod Ordered
 pub mod PackageIndex
 pub mod Soundness
-pub mod Validity

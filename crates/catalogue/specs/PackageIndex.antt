@@ -1,7 +1,7 @@
 -- What the index of packages finds under a name; private to this crate.
 use Rattle.std.specs.Prelude.{ℕ, List, Option}
 use Rattle.std.specs.BTreeMap.{get_by_text}
-use Rattle.catalogue.specs.declared.content.Declared.{Declared}
+use Rattle.records.specs.declared.content.Declared.{Declared}
 use Rattle.catalogue.specs.declared.package_index.PackageIndex.{PackageIndex}
 
 -- what the index finds under a name

@@ -1,13 +1,13 @@
 ghost use Rattle.std.specs.Prelude.{◌≡◌, ◌<◌, [], length, slice_get, IfOk, IfErr, OnOk, OnErr, Some, Ok, position};
 ghost use Rattle.catalogue.specs.Batches.{Explains, outcome};
-ghost use Rattle.catalogue.specs.Validity.{IsValid};
-ghost use Rattle.catalogue.specs.Lookups.{cohorts_at, declared_of, diffs_at, has_hash, is_app, is_cohort, is_diff, is_release, releases_at};
+ghost use Rattle.records.specs.Validity.{IsValid};
+ghost use Rattle.records.specs.Lookups.{cohorts_at, declared_of, diffs_at, has_hash, is_app, is_cohort, is_diff, is_release, releases_at};
 
-use crate::content::{App, Cohort, Declared, Diff, Release};
+use records::{App, Cohort, Declared, Diff, Release};
 use crate::draft::Draft;
 use crate::edit::Batch;
 use crate::fault::ApplyError;
-use crate::lookup;
+use records::lookup;
 use crate::package_index::PackageIndex;
 use std::alloc::{AllocError, Global};
 use std::marker::Model;
@@ -24,7 +24,7 @@ pub struct Catalogue {
 
 impl Model for Catalogue {
     ghost use Rattle.std.specs.Prelude.{List};
-    ghost use Rattle.catalogue.specs.declared.content.App.{App};
+    ghost use Rattle.records.specs.declared.content.App.{App};
 
     ghost Value = { List App };
 

@@ -10,16 +10,16 @@ ghost use Rattle.catalogue.specs.Edits.{after, fault_of};
 ghost use Rattle.catalogue.specs.Edits.Diffs.{tests_of_add_diff};
 ghost use Rattle.catalogue.specs.Edits.Releases.{tests_of_add_release};
 ghost use Rattle.catalogue.specs.Faults.{first_fault};
-ghost use Rattle.catalogue.specs.Lookups.{app_of, has_cohort, has_release};
-ghost use Rattle.catalogue.specs.Ordered.{ascend};
-ghost use Rattle.catalogue.specs.Validity.{IsValid, is_diff_before, is_release_below};
+ghost use Rattle.records.specs.Lookups.{app_of, has_cohort, has_release};
+ghost use Rattle.values.specs.Ordered.{ascend};
+ghost use Rattle.records.specs.Validity.{IsValid, is_diff_before, is_release_below};
 ghost use Rattle.catalogue.specs.declared.fault.Fault.TheVariants.{BadVersion, UnknownApp, UnknownCohort, UnknownRelease};
 
 use crate::change::{
     add_cohort_to, added_cohort, new_app, new_diff, new_release, place_diff_in, place_in,
     set_cohort_in_apps, set_release_in_apps,
 };
-use crate::content::{App, Declared};
+use records::{App, Declared};
 use crate::edit::Edit;
 use crate::edits::apps::AddApp;
 use crate::edits::cohort_settings::CohortSetting;
@@ -28,7 +28,7 @@ use crate::edits::diffs::AddDiff;
 use crate::edits::release_settings::ReleaseSetting;
 use crate::edits::releases::AddRelease;
 use crate::fault::{ApplyError, Fault, Refused};
-use crate::lookup;
+use records::lookup;
 use crate::package_index::PackageIndex;
 use std::alloc::{AllocError, Global};
 use values::{Items, Text};

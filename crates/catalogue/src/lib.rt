@@ -14,19 +14,14 @@
 
 mod catalogue;
 mod change;
-mod content;
 mod draft;
 mod edit;
 mod edits;
 mod fault;
-mod form;
 pub mod laws;
-mod lookup;
-mod mirror;
 mod package_index;
 
 pub use crate::catalogue::Catalogue;
-pub use crate::content::{App, Cohort, Declared, Diff, Release};
 pub use crate::edit::{Batch, Edit};
 pub use crate::edits::apps::AddApp;
 pub use crate::edits::cohort_settings::{SetOpen, SetRollback, SetShare, SetTarget};
@@ -35,5 +30,5 @@ pub use crate::edits::diffs::AddDiff;
 pub use crate::edits::release_settings::{SetAudience, SetStone, SetWithdrawn};
 pub use crate::edits::releases::AddRelease;
 pub use crate::fault::{ApplyError, Fault, Refused};
-pub use crate::form::is_cohort_name;
-pub use crate::mirror::Mirror;
+pub use records::form::is_cohort_name;
+pub use records::{App, Cohort, Declared, Diff, Mirror, Release};

@@ -4,7 +4,7 @@ ghost use Rattle.std.specs.Prelude.{◌≡◌, List, ℕ, IfOk, OnOk, None, Some
 ghost use Rattle.std.specs.Str.{bytes_eq};
 ghost use Rattle.catalogue.specs.PackageIndex.{found_in};
 
-use crate::content::Declared;
+use records::Declared;
 use std::alloc::{AllocError, Global};
 use std::collections::BTreeMap;
 

@@ -1,7 +1,7 @@
 // Tracks, and how a client is assigned to one.
 
 ghost use Rattle.std.specs.Prelude.{◌≡◌, ◌≤◌, ◌<◌, length, IfSome, position};
-ghost use Rattle.catalogue.specs.Lookups.{cohorts_at};
+ghost use Rattle.records.specs.Lookups.{cohorts_at};
 ghost use Rattle.cohorts.specs.Tracks.{asks_rollback, bucket_of, cohort_of, hinted_cohort, lane_of, sent_cohort, target_of, track_of};
 
 use crate::cohort_text::CohortText;

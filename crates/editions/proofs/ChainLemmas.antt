@@ -8,9 +8,9 @@ use Rattle.std.proofs.lemmas.Option.{slice_get-get_or}
 use Rattle.std.proofs.lemmas.Slice.Eq.{bytes_eq-Decides}
 use Rattle.version.specs.Laws.{BelowIsIrreflexive, BelowIsTotal, BelowIsTransitive}
 use Rattle.version.specs.Versions.{is_below}
-use Rattle.catalogue.specs.Lookups.{is_release}
-use Rattle.catalogue.specs.declared.content.App.{App}
-use Rattle.catalogue.specs.declared.content.Release.{Release}
+use Rattle.records.specs.Lookups.{is_release}
+use Rattle.records.specs.declared.content.App.{App}
+use Rattle.records.specs.declared.content.Release.{Release}
 use Rattle.cohorts.specs.declared.track.Track.{Track}
 use Rattle.editions.specs.Chains.{Begins, IsChain, LeadsNowhere, leads_up, permits_to, release_by, target_of}
 use Rattle.editions.specs.Places.{version_at}

@@ -3,8 +3,8 @@ use Rattle.std.proofs.Common.{◌≡◌, ℕ, zero, suc, List, [], ◌∷◌, ge
 use Rattle.std.specs.List.{position, slice_get, AllByRecursion}
 use Rattle.std.proofs.lemmas.List.Quantifiers.{position-Some}
 use Rattle.std.proofs.lemmas.Option.{slice_get-get_or}
-use Rattle.catalogue.specs.Lookups.{cohorts_at, is_app, releases_at}
-use Rattle.catalogue.specs.declared.content.App.{App}
+use Rattle.records.specs.Lookups.{cohorts_at, is_app, releases_at}
+use Rattle.records.specs.declared.content.App.{App}
 use Rattle.cohorts.specs.Tracks.{track_of}
 use Rattle.cohorts.specs.declared.track.Track.{Track}
 use Rattle.omaha_json.specs.declared.request.AppAsk.{AppAsk}

@@ -12,10 +12,10 @@ use Rattle.std.specs.Result.{result_ok}
 use Rattle.hex.specs.Hex.{IsBytes, decode_sized, encode_lower, encode_with, hex_digit_value, lower_digits}
 use Rattle.hex.specs.declared.error.FromHexError.{FromHexError}
 use Rattle.hex.proofs.HexLemmas.{IsDigits-lower_digits, decode_sized-encode_lower}
-use Rattle.catalogue.specs.Lookups.{has_hash}
-use Rattle.catalogue.specs.Validity.{is_good_release}
-use Rattle.catalogue.specs.declared.content.Cohort.{Cohort}
-use Rattle.catalogue.specs.declared.content.Release.{Release}
+use Rattle.records.specs.Lookups.{has_hash}
+use Rattle.records.specs.Validity.{is_good_release}
+use Rattle.records.specs.declared.content.Cohort.{Cohort}
+use Rattle.records.specs.declared.content.Release.{Release}
 use Rattle.editions.specs.Places.{fingerprint_with, has_fingerprint, IsHashOf}
 
 -- a digit of the table stands for one number

@@ -1,6 +1,6 @@
 -- What may be chosen for an app of a request.
 use Rattle.std.proofs.Common.{◌≡◌, ℕ, List, Option, Some, true}
-use Rattle.catalogue.specs.declared.content.App.{App}
+use Rattle.records.specs.declared.content.App.{App}
 use Rattle.omaha_json.specs.declared.request.AppAsk.{AppAsk}
 use Rattle.editions.specs.Clients.{Client, client_of}
 use Rattle.editions.specs.Places.{place_of}

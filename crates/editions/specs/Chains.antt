@@ -3,9 +3,9 @@
 use Rattle.std.specs.Prelude.{◌≡◌, ℕ, ◌&&◌, not, Bool, false, IsTrue, List, [], ◌∷◌, Option, Some, option_and_then, option_map, position, slice_get, sum_by}
 use Rattle.std.specs.Option.{option_map_or}
 use Rattle.version.specs.Versions.{is_below}
-use Rattle.catalogue.specs.Lookups.{is_release}
-use Rattle.catalogue.specs.declared.content.App.{App}
-use Rattle.catalogue.specs.declared.content.Release.{Release}
+use Rattle.records.specs.Lookups.{is_release}
+use Rattle.records.specs.declared.content.App.{App}
+use Rattle.records.specs.declared.content.Release.{Release}
 use Rattle.cohorts.specs.declared.track.Track.{Track}
 use Rattle.editions.specs.Places.{version_at}
 use Rattle.editions.specs.declared.payload.Payload.{Payload}

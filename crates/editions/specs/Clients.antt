@@ -1,9 +1,9 @@
 -- Who asks in a request: for each of its apps that the catalogue has, a client on its track; this
 -- project's profile.
 use Rattle.std.specs.Prelude.{ℕ, List, Option, option_map}
-use Rattle.catalogue.specs.Lookups.{app_of}
-use Rattle.catalogue.specs.declared.content.App.{App}
-use Rattle.catalogue.specs.declared.content.Cohort.{Cohort}
+use Rattle.records.specs.Lookups.{app_of}
+use Rattle.records.specs.declared.content.App.{App}
+use Rattle.records.specs.declared.content.Cohort.{Cohort}
 use Rattle.cohorts.specs.CohortTexts.{printed}
 use Rattle.cohorts.specs.Tracks.{cohort_at, track_of}
 use Rattle.cohorts.specs.declared.track.Track.{Track}

@@ -5,8 +5,8 @@ use Rattle.std.specs.Option.{option_map_or}
 use Rattle.std.specs.Str.{bytes_eq}
 use Rattle.hex.specs.Hex.{encode_lower, IsBytes}
 use Rattle.version.specs.Versions.{lenient_version_of}
-use Rattle.catalogue.specs.declared.content.App.{App}
-use Rattle.catalogue.specs.declared.content.Release.{Release}
+use Rattle.records.specs.declared.content.App.{App}
+use Rattle.records.specs.declared.content.Release.{Release}
 use Rattle.omaha_json.specs.declared.request.AppAsk.{AppAsk}
 use Rattle.editions.specs.declared.place.Place.{Place}
 use Rattle.editions.specs.declared.place.Place.TheVariants.{At, Outside}

@@ -4,7 +4,7 @@ use Rattle.std.specs.List.{AllZip}
 use Rattle.std.specs.Option.{option_map_or}
 use Rattle.catalogue.specs.Batches.{run}
 use Rattle.catalogue.specs.Histories.{History}
-use Rattle.catalogue.specs.declared.content.App.{App}
+use Rattle.records.specs.declared.content.App.{App}
 use Rattle.catalogue.specs.declared.fault.Refused.{Refused}
 use Rattle.cohorts.specs.declared.track.Track.{Track}
 use Rattle.omaha_json.specs.declared.request.AppAsk.{AppAsk}

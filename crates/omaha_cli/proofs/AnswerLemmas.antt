@@ -1,6 +1,6 @@
 -- What the first mirror grants, and the reply that follows.
 use Rattle.std.proofs.Common.{◌≡◌, ℕ, List, [], ◌∷◌, Option, Some, None, ap, ◌∙◌, arith, rules}
-use Rattle.catalogue.specs.declared.mirror.Mirror.{Mirror}
+use Rattle.records.specs.declared.mirror.Mirror.{Mirror}
 use Rattle.editions.specs.Plans.{content_of, payloads_of}
 use Rattle.editions.specs.Replies.{AreOutcomes, reply_of}
 use Rattle.editions.specs.declared.payload.Choice.{Choice}

@@ -2,8 +2,8 @@
 use Rattle.std.proofs.Common.{◌≡◌, List, [], ◌∷◌, Result, Ok, Err, length, refl, ap, arith}
 use Rattle.version.specs.Versions.{components_of, lenient_version_of, version_of}
 use Rattle.catalogue.specs.Batches.{outcome, run, then_run}
-use Rattle.catalogue.specs.Forms.{hash_of}
-use Rattle.catalogue.specs.declared.content.App.{App}
+use Rattle.records.specs.Forms.{hash_of}
+use Rattle.records.specs.declared.content.App.{App}
 use Rattle.catalogue.specs.declared.edit.Edit.{Edit}
 use Rattle.catalogue.specs.declared.fault.Refused.{Refused}
 use Rattle.editions.specs.Editions.{Continues, outcome_after}

@@ -1,7 +1,7 @@
 -- What the program answers to an input: the reply to the request that it is, from a catalogue at a
 -- time; or its first fault. This project's profile.
 use Rattle.std.specs.Prelude.{◌≡◌, ℕ, List, [], ◌∷◌, map, Option, Some, None, option_and_then, Result, Ok, Err}
-use Rattle.catalogue.specs.declared.mirror.Mirror.{Mirror}
+use Rattle.records.specs.declared.mirror.Mirror.{Mirror}
 use Rattle.editions.specs.Plans.{IsPlan, content_of, payloads_of}
 use Rattle.editions.specs.Replies.{reply_of}
 use Rattle.editions.specs.declared.payload.Choice.{Choice}

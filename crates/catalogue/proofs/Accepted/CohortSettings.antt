@@ -8,12 +8,12 @@ use Rattle.catalogue.proofs.GoodCohortLemmas.{GoodCohort-from_test, is_good_coho
 use Rattle.catalogue.specs.Changes.{with_setting}
 use Rattle.catalogue.specs.Edits.CohortSettings.{is_unreleased, setting_of_set_target, tests_of_set_open, tests_of_set_rollback, tests_of_set_share, tests_of_set_target}
 use Rattle.catalogue.specs.Faults.{first_fault}
-use Rattle.catalogue.specs.Limits.{max_share}
-use Rattle.catalogue.specs.Lookups.{app_of, cohorts_of, has_cohort}
-use Rattle.catalogue.specs.Validity.{is_good_cohort, is_released}
-use Rattle.catalogue.specs.declared.content.App.{App}
-use Rattle.catalogue.specs.declared.content.Cohort.{Cohort}
-use Rattle.catalogue.specs.declared.content.Release.{Release}
+use Rattle.records.specs.Limits.{max_share}
+use Rattle.records.specs.Lookups.{app_of, cohorts_of, has_cohort}
+use Rattle.records.specs.Validity.{is_good_cohort, is_released}
+use Rattle.records.specs.declared.content.App.{App}
+use Rattle.records.specs.declared.content.Cohort.{Cohort}
+use Rattle.records.specs.declared.content.Release.{Release}
 use Rattle.catalogue.specs.declared.edits.cohort_settings.CohortSetting.{CohortSetting}
 use Rattle.catalogue.specs.declared.edits.cohort_settings.CohortSetting.TheVariants as setting
 use Rattle.catalogue.specs.declared.edits.cohort_settings.SetOpen.{SetOpen}

@@ -7,10 +7,10 @@ use Rattle.catalogue.proofs.GoodReleaseLemmas.{is_good_release-audience}
 use Rattle.catalogue.specs.Changes.{with_release_setting}
 use Rattle.catalogue.specs.Edits.ReleaseSettings.{tests_of_set_audience, tests_of_set_stone, tests_of_set_withdrawn}
 use Rattle.catalogue.specs.Faults.{first_fault}
-use Rattle.catalogue.specs.Lookups.{app_of, has_release, releases_of}
-use Rattle.catalogue.specs.Validity.{is_good_release}
-use Rattle.catalogue.specs.declared.content.App.{App}
-use Rattle.catalogue.specs.declared.content.Release.{Release}
+use Rattle.records.specs.Lookups.{app_of, has_release, releases_of}
+use Rattle.records.specs.Validity.{is_good_release}
+use Rattle.records.specs.declared.content.App.{App}
+use Rattle.records.specs.declared.content.Release.{Release}
 use Rattle.catalogue.specs.declared.edits.release_settings.ReleaseSetting.{ReleaseSetting}
 use Rattle.catalogue.specs.declared.edits.release_settings.ReleaseSetting.TheVariants as setting
 use Rattle.catalogue.specs.declared.edits.release_settings.SetAudience.{SetAudience}

@@ -2,9 +2,9 @@
 -- profile.
 use Rattle.std.specs.Prelude.{ℕ, not, Bool, List, [], ◌∷◌, is_none}
 use Rattle.version.specs.Versions.{version_of, lenient_version_of}
-use Rattle.catalogue.specs.Lookups.{app_of, cohorts_of, has_release, releases_of}
-use Rattle.catalogue.specs.Validity.{is_good_audience}
-use Rattle.catalogue.specs.declared.content.App.{App}
+use Rattle.records.specs.Lookups.{app_of, cohorts_of, has_release, releases_of}
+use Rattle.records.specs.Validity.{is_good_audience}
+use Rattle.records.specs.declared.content.App.{App}
 use Rattle.catalogue.specs.declared.edits.release_settings.SetAudience.{SetAudience}
 use Rattle.catalogue.specs.declared.edits.release_settings.SetStone.{SetStone}
 use Rattle.catalogue.specs.declared.edits.release_settings.SetWithdrawn.{SetWithdrawn}

@@ -7,13 +7,13 @@ ghost use Rattle.version.specs.Versions.{lenient_version_of};
 ghost use Rattle.catalogue.specs.Changes.{with_setting};
 ghost use Rattle.catalogue.specs.Edits.CohortSettings.{is_misspelled, is_unreleased, setting_of_set_target, tests_of_set_open, tests_of_set_rollback, tests_of_set_share, tests_of_set_target};
 ghost use Rattle.catalogue.specs.Faults.{first_fault};
-ghost use Rattle.catalogue.specs.Ordered.{ascend};
-ghost use Rattle.catalogue.specs.Validity.{IsValid, is_release_below};
+ghost use Rattle.values.specs.Ordered.{ascend};
+ghost use Rattle.records.specs.Validity.{IsValid, is_release_below};
 
-use crate::content::{Cohort, Release};
+use records::{Cohort, Release};
 use crate::draft::{Draft, named_cohort};
 use crate::fault::Fault;
-use crate::lookup::has_release;
+use records::lookup::has_release;
 use values::Text;
 use version::Version;
 

@@ -1,7 +1,7 @@
 use Rattle.std.proofs.Common.{sym}
-use Rattle.catalogue.proofs.ChangeLemmas.{change-Some, change-None}
+use Rattle.values.proofs.ChangeLemmas.{change-Some, change-None}
 use Rattle.catalogue.specs.Changes.{with_release_setting}
-use Rattle.catalogue.specs.Lookups.{is_release}
+use Rattle.records.specs.Lookups.{is_release}
 use Rattle.catalogue.proofs.change.set_in_releases.Goals as goal
 
 pub returns-in-Some : goal.returns-in-Some

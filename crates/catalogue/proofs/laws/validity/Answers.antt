@@ -2,7 +2,7 @@
 use Rattle.std.proofs.Common.{[]}
 use Rattle.catalogue.specs.Histories.{edits_of}
 use Rattle.catalogue.proofs.HistoryLemmas.{Makes-from_run}
-use Rattle.catalogue.proofs.KeyLemmas.{VersionLaws}
+use Rattle.records.proofs.KeyLemmas.{VersionLaws}
 use Rattle.catalogue.proofs.ValidityLemmas.{IsValid-Makes, IsValid-empty}
 use Rattle.catalogue.proofs.laws.validity.Goals as goal
 

@@ -1,8 +1,8 @@
 use Rattle.std.proofs.Common.{sym, ap, ◌∙◌}
 use Rattle.std.specs.List.{position}
 use Rattle.std.proofs.lemmas.Option.{slice_get_within}
-use Rattle.catalogue.specs.Lookups.{has_hash}
-use Rattle.catalogue.specs.Validity.{IsValidApp}
+use Rattle.records.specs.Lookups.{has_hash}
+use Rattle.records.specs.Validity.{IsValidApp}
 use Rattle.editions.proofs.ClientLemmas.{at_index, releases_at-there}
 use Rattle.editions.proofs.FingerprintLemmas.{position-has_fingerprint, position-has_hash}
 use Rattle.editions.proofs.place.find_fingerprint.Goals as goal

@@ -1,0 +1,3 @@
+pub mod HashLemmas
+pub mod KeyLemmas
+pub mod PlaceLemmas

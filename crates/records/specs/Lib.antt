@@ -1,0 +1,5 @@
+pub mod Forms
+pub mod Limits
+pub mod Lookups
+pub mod Mirrors
+pub mod Validity

@@ -1,0 +1,19 @@
+//! The records that a catalogue is made of: apps with their releases, differentials and cohorts, and
+//! the mirrors beside them.
+//!
+//! A catalogue is seen as a list of `App`s. Read `specs/Forms.antt` for the forms of their texts,
+//! `specs/Lookups.antt` for how an item is found and `specs/Validity.antt` for what is true of every
+//! catalogue. `form` tests a text, `lookup` finds an item, and a `Mirror` tells whether it has the
+//! form of one.
+//!
+//! It makes no catalogue and changes none: the crate above does.
+
+#![tactic(auto)]
+
+mod content;
+pub mod form;
+pub mod lookup;
+mod mirror;
+
+pub use crate::content::{App, Cohort, Declared, Diff, Release};
+pub use crate::mirror::Mirror;

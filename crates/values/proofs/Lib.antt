@@ -1,0 +1,9 @@
+pub mod ChangeLemmas
+pub mod ChangedLemmas
+pub mod InsertedLemmas
+pub mod InsertionLemmas
+pub mod LookupLemmas
+pub mod OnceLemmas
+pub mod OrderedLemmas
+pub mod ReadLemmas
+pub mod SplitLemmas
