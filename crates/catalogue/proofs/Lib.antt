@@ -1,21 +1,11 @@
-mod Accepted
-mod AcceptedLemmas
-mod AdditionLemmas
-mod AppLemmas
-mod ContentLemmas
-mod FitLemmas
-mod GoodCohortLemmas
-mod GoodDiffLemmas
-mod GoodReleaseLemmas
-mod HistoryLemmas
-mod IndexLemmas
-mod LastAppLemmas
-mod LastPackageLemmas
-mod MakingLemmas
-mod OtherAppLemmas
-mod PackageLemmas
-mod ReleaseSettingLemmas
-mod SettingLemmas
-mod SpellingLemmas
-mod ValidAppLemmas
-mod ValidityLemmas
+pub mod Accepted
+pub mod AcceptedLemmas
+pub mod AppLemmas
+pub mod FitLemmas
+pub mod GoodCohortLemmas
+pub mod GoodDiffLemmas
+pub mod GoodReleaseLemmas
+pub mod IndexLemmas
+pub mod PackageLemmas
+pub mod ValidAppLemmas
+pub mod ValidityLemmas

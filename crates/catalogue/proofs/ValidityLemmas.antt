@@ -13,7 +13,6 @@ use Rattle.values.proofs.ChangedLemmas.{AllByRecursion-change, AllByRecursion-pu
 use Rattle.catalogue.proofs.FitLemmas.{Fits, Fits-accepted}
 use Rattle.catalogue.proofs.GoodCohortLemmas.{name-with_setting}
 use Rattle.catalogue.proofs.GoodReleaseLemmas.{hash-with_release_setting, version-with_release_setting}
-use Rattle.catalogue.proofs.HistoryLemmas.{Makes, holds-Makes}
 use Rattle.values.proofs.InsertedLemmas.{IsOnce-Inserts, count_by-none, length-Inserts, list_any-find, list_any-lookup}
 use Rattle.values.proofs.InsertionLemmas.{Inserts-push, flat_map-change}
 use Rattle.records.proofs.KeyLemmas.{VersionLaws}
@@ -124,8 +123,3 @@ module _ (laws : VersionLaws) (agrees : LenientAgrees) where
       (apps : List App) (e : Edit) → fault_of apps e ≡ None → IsValid apps → IsValid (after apps e)
   IsValid-after apps e accepted valid =
       IsValid-changed apps (change_of e) (Fits-accepted apps e accepted) valid
-
-  -- what accepted edits make of a valid content
-  pub IsValid-Makes :
-      (edits : List Edit) (apps made : List App) → Makes edits apps made → IsValid apps → IsValid made
-  IsValid-Makes = holds-Makes IsValid IsValid-after

@@ -1,11 +1,8 @@
 pub mod Batches
 pub mod Changes
-pub mod ContentExamples
-pub mod Contents
 pub mod Draft
 pub mod Edits
 pub mod Faults
 pub mod FaultTexts
-pub mod Histories
 pub mod PackageIndex
 pub mod Soundness

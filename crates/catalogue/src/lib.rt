@@ -18,16 +18,15 @@ mod draft;
 mod edit;
 mod edits;
 mod fault;
-pub mod laws;
 mod package_index;
 
 pub use crate::catalogue::Catalogue;
 pub use crate::edit::{Batch, Edit};
 pub use crate::edits::apps::AddApp;
-pub use crate::edits::cohort_settings::{SetOpen, SetRollback, SetShare, SetTarget};
+pub use crate::edits::cohort_settings::{CohortSetting, SetOpen, SetRollback, SetShare, SetTarget};
 pub use crate::edits::cohorts::AddCohort;
 pub use crate::edits::diffs::AddDiff;
-pub use crate::edits::release_settings::{SetAudience, SetStone, SetWithdrawn};
+pub use crate::edits::release_settings::{ReleaseSetting, SetAudience, SetStone, SetWithdrawn};
 pub use crate::edits::releases::AddRelease;
 pub use crate::fault::{ApplyError, Fault, Refused};
 pub use records::form::is_cohort_name;

@@ -3,7 +3,7 @@ use Rattle.std.specs.Prelude.{◌≡◌, ℕ, ◌==◌, ◌&&◌, not, Bool, fal
 use Rattle.std.specs.List.{AllZip}
 use Rattle.std.specs.Option.{option_map_or}
 use Rattle.catalogue.specs.Batches.{run}
-use Rattle.catalogue.specs.Histories.{History}
+use Rattle.histories.specs.Histories.{History}
 use Rattle.records.specs.declared.content.App.{App}
 use Rattle.catalogue.specs.declared.fault.Refused.{Refused}
 use Rattle.cohorts.specs.declared.track.Track.{Track}

@@ -1,6 +1,6 @@
 ghost use Rattle.std.specs.Prelude.{◌≡◌, ◌≤◌, [], ◌∷◌, ◌++◌, length, map, IfOk};
 ghost use Rattle.std.specs.Arc.{arc_value};
-ghost use Rattle.catalogue.specs.Histories.{LeadsTo};
+ghost use Rattle.histories.specs.Histories.{LeadsTo};
 ghost use Rattle.editions.specs.Editions.{Continues, most_batches};
 
 use crate::fault::NextError;
@@ -24,7 +24,7 @@ pub struct Edition {
 impl Model for Edition {
     ghost use Rattle.std.specs.Prelude.{map};
     ghost use Rattle.std.specs.Arc.{arc_value};
-    ghost use Rattle.catalogue.specs.Histories.{History};
+    ghost use Rattle.histories.specs.Histories.{History};
 
     ghost Value = { History };
 
@@ -89,7 +89,7 @@ impl Edition {
     pub fn next(&self, batch: Batch) -> Result<Edition, NextError>
         ensures { Continues self.now batch result }
     {
-        catalogue::laws::growth();
+        histories::growth();
         let catalogue = self.catalogue.applied(&batch)?;
         if self.batches.len() >= MAX_BATCHES {
             return Err(NextError::HistoryFull);

@@ -67,7 +67,7 @@ pub struct SetOpen {
 
 /// What one edit sets of a cohort.
 #[derive(Clone, Copy)]
-pub(crate) enum CohortSetting {
+pub enum CohortSetting {
     Targets {
         target: Option<Version>,
         held: Option<Version>,

@@ -54,7 +54,7 @@ pub struct SetAudience {
 
 /// What one edit sets of a release.
 #[derive(Drop)]
-pub(crate) enum ReleaseSetting {
+pub enum ReleaseSetting {
     Stone(bool),
     Withdrawn(bool),
     Audience(Option<Items<Text>>),

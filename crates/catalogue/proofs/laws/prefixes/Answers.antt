@@ -1,6 +1,0 @@
-use Rattle.std.proofs.Common.{[]}
-use Rattle.catalogue.proofs.HistoryLemmas.{run-prefix}
-use Rattle.catalogue.proofs.laws.prefixes.Goals as goal
-
-pub returns : goal.returns
-returns c = λ history more apps led. run-prefix history more [] apps led

@@ -1,0 +1,11 @@
+mod AdditionLemmas
+mod ContentLemmas
+mod HistoryLemmas
+mod LastAppLemmas
+mod LastPackageLemmas
+mod MakingLemmas
+mod OtherAppLemmas
+mod ReleaseSettingLemmas
+mod SettingLemmas
+mod SpellingLemmas
+mod ValidHistoryLemmas

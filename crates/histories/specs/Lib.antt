@@ -1,0 +1,3 @@
+pub mod ContentExamples
+pub mod Contents
+pub mod Histories
