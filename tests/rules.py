@@ -4,8 +4,8 @@
 A rule has one plain name. A comment `-- rule: NAME` stands above the definition that states it, in a
 file of `specs/`; `// rule: NAME` above each function that keeps it; and a line `# rule: NAME` in each
 must-fail edit that breaks it. Every rule needs exactly one definition, a function and an edit, and a
-heading in `docs/DEFINITIONS.md`; the few that no edit of one line can break are listed below with the
-reason.
+heading in `docs/DEFINITIONS.md` whose text names the definition's file and crate; the few that no edit
+of one line can break are listed below with the reason.
 
 `tests/rules.py` checks the marks; `tests/rules.py --table` prints the table "Where a rule lives":
 the rule, its definition, its functions, its edits and the files of their proofs.
@@ -65,6 +65,20 @@ def proof_of(crate, name):
     return "by search"
 
 
+def sections():
+    """The text below each heading of docs/DEFINITIONS.md, on one line."""
+    with open(os.path.join(TOP, "docs", "DEFINITIONS.md"), encoding="utf-8") as file:
+        parts = re.split(r"(?m)^## (.+)$", file.read())
+    return {name: " ".join(text.split()) for name, text in zip(parts[1::2], parts[2::2])}
+
+
+def is_named(text, definition):
+    """Whether a section's text names the file and the crate of a definition."""
+    crate, name = definition.split(": ")
+    file = "`specs/" + name.rpartition(".")[0].replace(".", "/") + ".antt`"
+    return file in text and f"`{crate}`" in text.partition(file)[2]
+
+
 def main():
     rules = {}
     for crate in sorted(os.listdir(CRATES)):
@@ -81,12 +95,14 @@ def main():
             for rule, _ in marks(path, None):
                 edit = os.path.basename(path)[:-5]
                 rules.setdefault(rule, ([], [], [], []))[2].append(edit)
-    with open(os.path.join(TOP, "docs", "DEFINITIONS.md"), encoding="utf-8") as file:
-        headings = re.findall(r"(?m)^## (.+)$", file.read())
+    headings = sections()
     wrong = [f"{rule}: no heading in docs/DEFINITIONS.md" for rule in sorted(rules) if rule not in headings]
     for rule, (definitions, functions, edits, _) in sorted(rules.items()):
         if len(definitions) != 1:
             wrong.append(f"{rule}: {len(definitions)} definitions: {', '.join(definitions)}")
+        for definition in definitions:
+            if not is_named(headings.get(rule, ""), definition):
+                wrong.append(f"{rule}: its heading doesn't name the file of {definition}")
         if not functions:
             wrong.append(f"{rule}: no function")
         if not edits and rule not in NO_EDIT:

@@ -3,12 +3,11 @@ ghost use Rattle.catalogue.specs.Batches.{Explains, outcome};
 ghost use Rattle.records.specs.Validity.{IsValid};
 ghost use Rattle.records.specs.Lookups.{cohorts_at, declared_of, diffs_at, has_hash, is_app, is_cohort, is_diff, is_release, releases_at};
 
-use records::{App, Cohort, Declared, Diff, Release};
 use crate::draft::Draft;
 use crate::edit::Batch;
 use crate::fault::ApplyError;
-use records::lookup;
 use crate::package_index::PackageIndex;
+use records::{App, Cohort, Declared, Diff, Release, lookup};
 use std::alloc::{AllocError, Global};
 use std::marker::Model;
 use values::Items;

@@ -7,7 +7,6 @@ ghost use Rattle.records.specs.Lookups.{is_app, is_cohort, is_release};
 ghost use Rattle.values.specs.Ordered.{ascend};
 ghost use Rattle.records.specs.Validity.{IsValid, is_diff_before, is_release_below};
 
-use records::{App, Cohort, Diff, Release};
 use crate::edits::apps::AddApp;
 use crate::edits::cohort_settings::CohortSetting;
 use crate::edits::cohorts::AddCohort;
@@ -15,7 +14,7 @@ use crate::edits::diffs::AddDiff;
 use crate::edits::release_settings::ReleaseSetting;
 use crate::edits::releases::AddRelease;
 use records::form::hash_named;
-use records::lookup;
+use records::{App, Cohort, Diff, Release, lookup};
 use std::alloc::{AllocError, Global};
 use values::{Items, Text};
 use version::Version;

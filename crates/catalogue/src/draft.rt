@@ -19,7 +19,6 @@ use crate::change::{
     add_cohort_to, added_cohort, new_app, new_diff, new_release, place_diff_in, place_in,
     set_cohort_in_apps, set_release_in_apps,
 };
-use records::{App, Declared};
 use crate::edit::Edit;
 use crate::edits::apps::AddApp;
 use crate::edits::cohort_settings::CohortSetting;
@@ -28,8 +27,8 @@ use crate::edits::diffs::AddDiff;
 use crate::edits::release_settings::ReleaseSetting;
 use crate::edits::releases::AddRelease;
 use crate::fault::{ApplyError, Fault, Refused};
-use records::lookup;
 use crate::package_index::PackageIndex;
+use records::{App, Declared, lookup};
 use std::alloc::{AllocError, Global};
 use values::{Items, Text};
 use version::Version;

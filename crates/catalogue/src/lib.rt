@@ -2,11 +2,10 @@
 //!
 //! A `Catalogue` is seen as the list of its `App`s; `Catalogue::apply` takes a `Batch` of `Edit`s
 //! whole or refuses it whole, with the first refused edit and its `Fault`. Read
-//! `specs/Batches.antt` for the meaning of a batch, `specs/Faults.antt` for the faults of each
-//! edit in their order, `specs/Changes.antt` for what an accepted edit does,
-//! `specs/Validity.antt` for what is true of every catalogue, `specs/Contents.antt` for the edits
-//! that make a content anew, and `laws` for what holds over whole histories and contents. A
-//! `Mirror` tells whether it has the form of one.
+//! `specs/Batches.antt` for the meaning of a batch, `specs/Edits.antt` for the faults of each edit in
+//! their order and the change that it makes, and `specs/Changes.antt` for the kinds of change. The
+//! records and what is true of every catalogue stand in `records`, the laws of whole histories in
+//! `histories`.
 //!
 //! It does not decide which release a client is offered, nor read profiles: crates above do.
 

@@ -10,10 +10,10 @@ ghost use Rattle.catalogue.specs.Faults.{first_fault};
 ghost use Rattle.values.specs.Ordered.{ascend};
 ghost use Rattle.records.specs.Validity.{IsValid, is_release_below};
 
-use records::{Cohort, Release};
 use crate::draft::{Draft, named_cohort};
 use crate::fault::Fault;
 use records::lookup::has_release;
+use records::{Cohort, Release};
 use values::Text;
 use version::Version;
 

@@ -11,10 +11,10 @@ ghost use Rattle.records.specs.Lookups.{has_cohort};
 ghost use Rattle.records.specs.Validity.{IsValid, is_good_audience};
 ghost use Rattle.catalogue.specs.declared.edits.release_settings.ReleaseSetting.TheVariants as setting;
 
-use records::{Cohort, Release};
 use crate::draft::{Draft, named_release, spelled_version};
 use crate::fault::Fault;
 use records::lookup::has_cohort;
+use records::{Cohort, Release};
 use std::alloc::AllocError;
 use values::{Items, Text};
 
