@@ -7,6 +7,7 @@ use catalogue::Mirror;
 use editions::{Choice, Edition, Plan, plan, render};
 use omaha_json::{Request, read_request};
 use std::alloc::{AllocError, Global};
+use std::process::Abort;
 use std::test::Fail;
 use values::Text;
 
@@ -64,10 +65,10 @@ pub(crate) fn reply(
     Ok(render(alloc, edition, request, &plan, &outcomes, &mirrors, moment)?)
 }
 
-/// A request of session `abc` that asks so for its apps.
-pub(crate) fn request(alloc: Global, apps: &str) -> Result<Request, Fail> {
+/// A request of a session that asks so for its apps.
+pub(crate) fn request(alloc: Global, apps: &str, session: &str) -> Result<Request, Fail> {
     let text = format!(in alloc;
-        "{{\"request\":{{\"app\":[{apps}],\"protocol\":\"3.1\",\"sessionid\":\"abc\"}}}}"
+        "{{\"request\":{{\"app\":[{apps}],\"protocol\":\"3.1\",\"sessionid\":\"{session}\"}}}}"
     )?;
     Ok(read_request(alloc, text.as_str().as_bytes())?)
 }
@@ -82,4 +83,34 @@ pub(crate) fn body(
     format!(in alloc;
         ")]}}'\n{{\"response\":{{\"app\":[{apps}],\"daystart\":{{\"elapsed_days\":{days},\"elapsed_seconds\":{seconds}}},\"protocol\":\"3.1\"}}}}"
     )
+}
+
+// Whether an edition answers so to a request of session `abc` for its apps.
+fn is_answered(
+    alloc: Global,
+    edition: &Edition,
+    is_granted: bool,
+    asked: &str,
+    wanted: &str,
+) -> Result<bool, Fail> {
+    let request = request(alloc, asked, "abc")?;
+    let told = reply(alloc, edition, &request, is_granted, 0)?;
+    let wanted = body(alloc, wanted, 0, 0)?;
+    Ok(told.as_slice() == wanted.as_str().as_bytes())
+}
+
+/// Tests rows of an edition: the apps of the reply, a bar, the apps of the request.
+pub(crate) fn answers(
+    rt: &impl Abort,
+    alloc: Global,
+    edition: &Edition,
+    is_granted: bool,
+    rows: &str,
+) -> Result<(), Fail> {
+    for row in rows.lines() {
+        let (wanted, asked) = row.split_once(" | ").ok_or("no bar")?;
+        let is_right = is_answered(alloc, edition, is_granted, asked, wanted)?;
+        assert!(rt; is_right, "{row}");
+    }
+    Ok(())
 }

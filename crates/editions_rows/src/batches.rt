@@ -6,15 +6,6 @@ use profile_toml::{read_profile, read_script};
 use std::alloc::Global;
 use std::test::Fail;
 
-/// The SHA-256 of `abc`, the full package of `mini` 1.0.
-pub(crate) const FIRST: &str = "ba7816bf8f01cfea414140de5dae2223b00361a396177a9cb410ff61f20015ad";
-
-/// The SHA-256 of a text of 56 bytes, from the standard's examples: the full package of `mini` 2.0.
-pub(crate) const SECOND: &str = "248d6a61d20638b8e5c026930c3e6039a33ce45964ff2167f6ecedd419db06c1";
-
-/// The hash of the full package of `mini` 3.0, which is above the target.
-pub(crate) const THIRD: &str = "3333333333333333333333333333333333333333333333333333333333333333";
-
 const MINI: &str = r#"schema = 1
 
 [[mirror]]
@@ -97,13 +88,18 @@ pub(crate) fn releases(alloc: Global) -> Result<Batch, Fail> {
     edits(alloc, MINI)
 }
 
-/// The batch that sets the target of `mini`'s only cohort.
-pub(crate) fn set_target(alloc: Global, version: &str) -> Result<Batch, Fail> {
-    let edit = "do = 'set_target', app = 'mini', cohort = 'stable'";
-    let front = "schema = 1\nbase = 1\n";
-    let text = format!(in alloc; "{front}edit = [{{ {edit}, target = '{version}' }}]\n")?;
+/// The batch of one edit, as a script spells it.
+pub(crate) fn edit(alloc: Global, edit: &str) -> Result<Batch, Fail> {
+    let text = format!(in alloc; "schema = 1\nbase = 1\nedit = [{{ {edit} }}]\n")?;
     let (_base, batch) = read_script(alloc, text.as_str().as_bytes())?;
     Ok(batch)
+}
+
+/// The batch that sets the target of `mini`'s only cohort.
+pub(crate) fn set_target(alloc: Global, version: &str) -> Result<Batch, Fail> {
+    let front = "do = 'set_target', app = 'mini', cohort = 'stable'";
+    let text = format!(in alloc; "{front}, target = '{version}'")?;
+    edit(alloc, text.as_str())
 }
 
 /// The edition whose second batch sets the target of `mini` to 2.0.

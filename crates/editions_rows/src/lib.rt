@@ -1,6 +1,8 @@
-//! Worked rows of editions: requests with their replies, and histories of batches.
+//! Worked rows of cohorts and editions: clients with their tracks, requests with their replies, and
+//! histories of batches.
 //!
-//! It has tests alone, so that `editions` itself is proved once.
+//! It has tests alone, so that `cohorts` and `editions` themselves are proved once. A row is a line: the
+//! answer, a bar, and what is asked.
 
 #![tactic(auto)]
 
@@ -9,7 +11,11 @@ mod asking;
 #[cfg(test)]
 mod batches;
 #[cfg(test)]
+mod cohort_texts;
+#[cfg(test)]
 mod histories;
+#[cfg(test)]
+mod offers;
 #[cfg(test)]
 mod replies;
 #[cfg(test)]

@@ -1,7 +1,7 @@
-use crate::asking::{body, reply, request};
-use crate::batches::{FIRST, SECOND, THIRD, small};
+use crate::asking::{answers, body, reply, request};
+use crate::batches::small;
 use editions::{Choice, Edition, Payload, plan};
-use omaha_json::read_request;
+use omaha_json::{Request, read_request};
 use std::alloc::{AllocError, Global};
 use std::test::Fail;
 
@@ -9,7 +9,7 @@ use std::test::Fail;
 fn tells_days_and_seconds(rt: HostRuntime) -> Result<(), Fail> {
     let alloc = rt.alloc();
     let edition = Edition::empty(alloc);
-    let asked = request(alloc, "")?;
+    let asked = request(alloc, "", "abc")?;
     let rows = [
         (0, 0, 0),
         (1167609599, 0, 86399),
@@ -41,81 +41,70 @@ fn offers_the_full_package_of_the_target(rt: HostRuntime) -> Result<(), Fail> {
     Ok(())
 }
 
-const UP_TO_DATE: &str =
-    r#"{"appid":"mini","cohort":"stable:0","cohortname":"stable","status":"ok","updatecheck":{"status":"noupdate"}}"#;
-
-// A client at the release of a hash, with what else it says.
-fn at(alloc: Global, hash: &str, version: &str, check: &str) -> Result<String, AllocError> {
-    format!(in alloc;
-        "{{\"appid\":\"mini\",\"cohort\":\"stable:0\",\"packages\":{{\"package\":[{{\"fp\":\"1.{hash}\"}}]}},\"updatecheck\":{check},\"version\":\"{version}\"}}"
-    )
-}
+const NO_UPDATE: &str =
+    r#"{"appid":"mini","cohort":"stable:0","cohortname":"stable","status":"ok","updatecheck":{"status":"noupdate"}} | {"appid":"mini","cohort":"stable:0","packages":{"package":[{"fp":"1.248d6a61d20638b8e5c026930c3e6039a33ce45964ff2167f6ecedd419db06c1"}]},"updatecheck":{},"version":"2.0"}
+{"appid":"mini","cohort":"stable:0","cohortname":"stable","status":"ok","updatecheck":{"status":"noupdate"}} | {"appid":"mini","cohort":"stable:0","packages":{"package":[{"fp":"1.248d6a61d20638b8e5c026930c3e6039a33ce45964ff2167f6ecedd419db06c1"}]},"updatecheck":{},"version":"1.0"}
+{"appid":"mini","cohort":"stable:0","cohortname":"stable","status":"ok","updatecheck":{"status":"noupdate"}} | {"appid":"mini","cohort":"stable:0","packages":{"package":[{"fp":"1.3333333333333333333333333333333333333333333333333333333333333333"}]},"updatecheck":{},"version":"1.0"}
+{"appid":"mini","cohort":"stable:0","cohortname":"stable","status":"ok","updatecheck":{"status":"noupdate"}} | {"appid":"mini","cohort":"stable:0","packages":{"package":[{"fp":"1."}]},"updatecheck":{},"version":"2.0.0.0"}
+{"appid":"mini","cohort":"stable:0","cohortname":"stable","status":"ok","updatecheck":{"status":"noupdate"}} | {"appid":"mini","cohort":"stable:0","packages":{"package":[{"fp":"1."}]},"updatecheck":{},"version":"2.0.1"}
+{"appid":"mini","cohort":"stable:0","cohortname":"stable","status":"ok","updatecheck":{"status":"noupdate"}} | {"appid":"mini","cohort":"stable:0","packages":{"package":[{"fp":"1.ba7816bf8f01cfea414140de5dae2223b00361a396177a9cb410ff61f20015ad"}]},"updatecheck":{"updatedisabled":true},"version":"1.0"}
+{"appid":"mini","cohort":"stable:0","cohortname":"stable","status":"ok","updatecheck":{"status":"noupdate"}} | {"appid":"mini","cohort":"stable:0","packages":{"package":[{"fp":"1.ba7816bf8f01cfea414140de5dae2223b00361a396177a9cb410ff61f20015ad"}]},"updatecheck":{"targetversionprefix":"2"},"version":"1.0"}"#;
 
 #[test]
 fn offers_nothing_where_nothing_leads_on(rt: HostRuntime) -> Result<(), Fail> {
     let alloc = rt.alloc();
-    let edition = small(alloc)?;
-    let rows = [
-        (SECOND, "2.0", "{}"),
-        (SECOND, "1.0", "{}"),
-        (THIRD, "1.0", "{}"),
-        ("", "2.0.0.0", "{}"),
-        ("", "2.0.1", "{}"),
-        (FIRST, "1.0", "{\"updatedisabled\":true}"),
-        (FIRST, "1.0", "{\"targetversionprefix\":\"2\"}"),
-    ];
-    for (hash, version, check) in rows {
-        let asked = request(alloc, at(alloc, hash, version, check)?.as_str())?;
-        let told = reply(alloc, &edition, &asked, true, 0)?;
-        let want = body(alloc, UP_TO_DATE, 0, 0)?;
-        assert_eq!(rt; told.as_slice(), want.as_str().as_bytes());
-    }
-    Ok(())
+    answers(&rt, alloc, &small(alloc)?, true, NO_UPDATE)
 }
 
-const ACKNOWLEDGED: &str =
-    r#"{"appid":"MINI","cohort":"stable:0","cohortname":"stable","ping":{"status":"ok"},"status":"ok"},{"appid":"nope","status":"error-unknownApplication"},{"appid":"Mini","cohort":"stable:0","cohortname":"stable","event":[{"status":"ok"},{"status":"ok"}],"status":"ok"}"#;
+const IN_ORDER: &str =
+    r#"{"appid":"MINI","cohort":"stable:0","cohortname":"stable","ping":{"status":"ok"},"status":"ok"},{"appid":"nope","status":"error-unknownApplication"},{"appid":"Mini","cohort":"stable:0","cohortname":"stable","event":[{"status":"ok"},{"status":"ok"}],"status":"ok"} | {"appid":"MINI","cohort":"stable:0","ping":{},"version":"1.0"},{"appid":"nope"},{"appid":"Mini","cohort":"stable:0","event":[1,2]}"#;
 
 #[test]
 fn answers_apps_in_order_as_they_are_spelled(rt: HostRuntime) -> Result<(), Fail> {
     let alloc = rt.alloc();
-    let edition = small(alloc)?;
-    let asked = request(
-        alloc,
-        r#"{"appid":"MINI","cohort":"stable:0","ping":{},"version":"1.0"},{"appid":"nope"},{"appid":"Mini","cohort":"stable:0","event":[1,2]}"#,
-    )?;
-    let told = reply(alloc, &edition, &asked, true, 0)?;
-    let want = body(alloc, ACKNOWLEDGED, 0, 0)?;
-    assert_eq!(rt; told.as_slice(), want.as_str().as_bytes());
-    Ok(())
+    answers(&rt, alloc, &small(alloc)?, true, IN_ORDER)
 }
+
+const NOT_GRANTED: &str =
+    r#"{"appid":"mini","cohort":"stable:0","cohortname":"stable","status":"ok","updatecheck":{"status":"error-internal"}} | {"appid":"mini","cohort":"stable:0","packages":{"package":[{"fp":"1.ba7816bf8f01cfea414140de5dae2223b00361a396177a9cb410ff61f20015ad"}]},"updatecheck":{},"version":"1.0"}"#;
 
 #[test]
 fn tells_a_wish_without_a_mirror_as_internal(rt: HostRuntime) -> Result<(), Fail> {
     let alloc = rt.alloc();
-    let edition = small(alloc)?;
-    let asked = request(alloc, at(alloc, FIRST, "1.0", "{}")?.as_str())?;
-    let told = reply(alloc, &edition, &asked, false, 0)?;
-    let internal =
-        r#"{"appid":"mini","cohort":"stable:0","cohortname":"stable","status":"ok","updatecheck":{"status":"error-internal"}}"#;
-    let want = body(alloc, internal, 0, 0)?;
-    assert_eq!(rt; told.as_slice(), want.as_str().as_bytes());
-    Ok(())
+    answers(&rt, alloc, &small(alloc)?, false, NOT_GRANTED)
+}
+
+// A choice as `full 1 for 56`, or `none`.
+fn shown(alloc: Global, choice: Option<Choice>) -> Result<String, AllocError> {
+    match choice {
+        Some(
+            Choice {
+                payload: Payload::Full(release),
+                bytes,
+            },
+        ) => format!(in alloc; "full {release} for {bytes}, "),
+        None => format!(in alloc; "none, "),
+    }
+}
+
+fn planned(alloc: Global, edition: &Edition, request: &Request) -> Result<String, Fail> {
+    let plan = plan(alloc, edition, request)?;
+    let mut text = String::new(alloc);
+    for choice in plan.choices() {
+        text.push_str(shown(alloc, *choice)?.as_str())?;
+    }
+    Ok(text)
 }
 
 #[test]
 fn plans_a_wish_for_each_app_that_wants_one(rt: HostRuntime) -> Result<(), Fail> {
     let alloc = rt.alloc();
-    let edition = small(alloc)?;
     let asked = request(
         alloc,
         r#"{"appid":"mini","updatecheck":{}},{"appid":"nope","updatecheck":{}},{"appid":"MINI","updatecheck":{},"version":"x"}"#,
+        "abc",
     )?;
-    let choice = Some(Choice {
-        payload: Payload::Full(1),
-        bytes: 56,
-    });
-    let plan = plan(alloc, &edition, &asked)?;
-    assert_eq!(rt; plan.choices(), [choice, None, choice].as_slice());
+    let text = planned(alloc, &small(alloc)?, &asked)?;
+    assert_eq!(rt; text.as_str(), "full 1 for 56, none, full 1 for 56, ");
     Ok(())
 }

@@ -1,77 +1,155 @@
-use crate::asking::{body, reply, request};
-use crate::batches::demo;
-use std::alloc::{AllocError, Global};
+use crate::asking::request;
+use crate::batches::{demo, edit};
+use catalogue::Catalogue;
+use cohorts::{CohortText, Lane, Track, assign};
+use editions::Edition;
+use omaha_json::Request;
+use std::alloc::Global;
+use std::process::Abort;
 use std::test::Fail;
 
-// A client at 1.0 that names its cohort and a hint so.
-fn at_first(alloc: Global, cohort: &str, hint: &str) -> Result<String, Fail> {
-    let hash = "1".repeat(alloc, 64)?;
-    Ok(format!(in alloc;
-        "{{\"appid\":\"demo\",\"cohort\":\"{cohort}\",\"cohorthint\":\"{hint}\",\"packages\":{{\"package\":[{{\"fp\":\"1.{hash}\"}}]}},\"updatecheck\":{{}},\"version\":\"1.0\"}}"
-    )?)
+// The request of a client that names its cohort and a hint so, and that may be led down.
+fn client(alloc: Global, cohort: &str, hint: &str, session: &str) -> Result<Request, Fail> {
+    let app = format!(in alloc;
+        "{{\"appid\":\"demo\",\"cohort\":\"{cohort}\",\"cohorthint\":\"{hint}\",\"updatecheck\":{{\"rollback_allowed\":true}}}}"
+    )?;
+    request(alloc, app.as_str(), session)
 }
 
-// The answer that offers the full package of a version, whose hash has one digit.
-fn offered(
-    alloc: Global,
-    (cohort, name): (&str, &str),
-    (version, digit, size): (&str, &str, u64),
-) -> Result<String, Fail> {
-    let hash = digit.repeat(alloc, 64)?;
-    Ok(format!(in alloc;
-        "{{\"appid\":\"demo\",\"cohort\":\"{cohort}\",\"cohortname\":\"{name}\",\"status\":\"ok\",\"updatecheck\":{{\"manifest\":{{\"packages\":{{\"package\":[{{\"fp\":\"1.{hash}\",\"hash_sha256\":\"{hash}\",\"name\":\"demo-{version}.bin\",\"size\":{size}}}]}},\"version\":\"{version}\"}},\"status\":\"ok\",\"urls\":{{\"url\":[{{\"codebase\":\"http://m0.example/p/\"}}]}}}}}}"
-    )?)
+// A track as `target 4.0`, or `held` for no target, with `down` if it may lead down.
+fn shown(alloc: Global, cohort: &str, track: &Track) -> Result<String, Fail> {
+    let lane = match track.lane {
+        Lane::Target => "target",
+        Lane::Held => "held",
+    };
+    let down = if track.rollback { " down" } else { "" };
+    let text = CohortText::print(alloc, cohort, track.bucket)?;
+    let text = text.as_str();
+    match track.target {
+        Some(target) => Ok(format!(in alloc; "{text} {lane} {target}{down}")?),
+        None => Ok(format!(in alloc; "{text} {lane}{down}")?),
+    }
 }
 
-#[test]
-fn offers_the_target_of_the_track(rt: HostRuntime) -> Result<(), Fail> {
-    let alloc = rt.alloc();
-    let edition = demo(alloc)?;
-    let third = ("3.0", "3", 1500);
-    let fourth = ("4.0", "4", 1600);
-    let rows = [
-        ("stable:0", "", ("stable:0", "stable"), fourth),
-        ("stable:499", "", ("stable:499", "stable"), fourth),
-        ("stable:500", "", ("stable:500", "stable"), third),
-        ("", "", ("stable:319", "stable"), fourth),
-        ("gone:500", "", ("stable:500", "stable"), third),
-        ("stable:7", "beta", ("beta:7", "beta"), third),
-    ];
-    for (cohort, hint, track, release) in rows {
-        let asked = request(alloc, at_first(alloc, cohort, hint)?.as_str())?;
-        let told = reply(alloc, &edition, &asked, true, 0)?;
-        let want = body(alloc, offered(alloc, track, release)?.as_str(), 0, 0)?;
-        assert_eq!(rt; told.as_slice(), want.as_str().as_bytes());
+// The track of a request's only client in the only app.
+fn assigned(alloc: Global, catalogue: &Catalogue, request: &Request) -> Result<String, Fail> {
+    let app = catalogue.app("demo").ok_or("no app")?;
+    let ask = request.apps.as_slice().first().ok_or("no client")?;
+    let track = assign(catalogue, app, ask, request.session.as_str());
+    let cohort = &catalogue.cohorts(app)[track.cohort];
+    shown(alloc, cohort.name.as_str(), &track)
+}
+
+// Tests rows: the track, a bar, then cohort, hint and session, separated by commas.
+fn assigns(rt: &impl Abort, alloc: Global, edition: &Edition, rows: &str) -> Result<(), Fail> {
+    for row in rows.lines() {
+        let (wanted, client_of) = row.split_once(" | ").ok_or("no bar")?;
+        let (cohort, others) = client_of.split_once(',').ok_or("no hint")?;
+        let (hint, session) = others.split_once(',').ok_or("no session")?;
+        let request = client(alloc, cohort, hint, session)?;
+        let track = assigned(alloc, edition.catalogue(), &request)?;
+        assert_eq!(rt; track.as_str(), wanted, "{row}");
     }
     Ok(())
 }
 
 #[test]
-fn offers_nothing_without_a_target(rt: HostRuntime) -> Result<(), Fail> {
+fn assigns_by_hint_text_and_session(rt: HostRuntime) -> Result<(), Fail> {
     let alloc = rt.alloc();
-    let edition = demo(alloc)?;
-    let asked = request(alloc, at_first(alloc, "idle:7", "")?.as_str())?;
-    let told = reply(alloc, &edition, &asked, true, 0)?;
-    let idle =
-        r#"{"appid":"demo","cohort":"idle:7","cohortname":"idle","status":"ok","updatecheck":{"status":"noupdate"}}"#;
-    let want = body(alloc, idle, 0, 0)?;
-    assert_eq!(rt; told.as_slice(), want.as_str().as_bytes());
-    Ok(())
+    let rows = "stable:500 held 3.0 | stable:500,,abc
+stable:499 target 4.0 | stable:499,,abc
+stable:319 target 4.0 | ,,abc
+stable:610 held 3.0 | ,,
+stable:319 target 4.0 | stable:007,,abc
+stable:319 target 4.0 | 1:2hf:,,abc
+stable:5 target 4.0 | gone:5,,abc
+beta:7 target 3.0 | beta:7,,abc
+beta:7 target 3.0 | stable:7,beta,abc
+beta:7 target 3.0 | beta:7,stable,abc
+beta:319 target 3.0 | ,beta,abc
+beta:5 target 3.0 | gone:5,beta,abc
+stable:7 target 4.0 | stable:7,Beta,abc
+stable:7 target 4.0 | stable:7,beta:7,abc
+stable:7 target 4.0 | stable:7, beta,abc
+stable:7 target 4.0 | stable:7,gone,abc
+stable:319 target 4.0 | stable:1000,,abc
+stable:319 target 4.0 | stable:05,,abc
+stable:319 target 4.0 | stable:5 ,,abc
+stable:319 target 4.0 | :5,,abc
+stable:319 target 4.0 | :,,abc
+stable:319 target 4.0 | abcdefghijklmnopqrstuvwxyzabcdefg:5,,abc
+stable:319 target 4.0 | BETA:7,,abc";
+    assigns(&rt, alloc, &demo(alloc)?, rows)
 }
 
-const ACKNOWLEDGED: &str =
-    r#"{"appid":"DEMO","cohort":"stable:319","cohortname":"stable","ping":{"status":"ok"},"status":"ok"},{"appid":"nope","status":"error-unknownApplication"},{"appid":"Demo","cohort":"stable:319","cohortname":"stable","event":[{"status":"ok"},{"status":"ok"}],"status":"ok"}"#;
+// The edition of `demo` after one edit of a cohort.
+fn changed(alloc: Global, verb: &str, cohort: &str, setting: &str) -> Result<Edition, Fail> {
+    let text = format!(in alloc; "do = '{verb}', app = 'demo', cohort = '{cohort}', {setting}")?;
+    let batch = edit(alloc, text.as_str())?;
+    Ok(demo(alloc)?.next(batch)?)
+}
 
 #[test]
-fn names_the_bucket_of_the_session(rt: HostRuntime) -> Result<(), Fail> {
+fn serves_no_bucket_at_share_0(rt: HostRuntime) -> Result<(), Fail> {
     let alloc = rt.alloc();
-    let edition = demo(alloc)?;
-    let asked = request(
+    let rows = "stable:0 held 3.0 | stable:0,,abc
+stable:999 held 3.0 | stable:999,,abc";
+    assigns(
+        &rt,
         alloc,
-        r#"{"appid":"DEMO","ping":{}},{"appid":"nope"},{"appid":"Demo","event":[1,2]}"#,
-    )?;
-    let told = reply(alloc, &edition, &asked, true, 0)?;
-    let want = body(alloc, ACKNOWLEDGED, 0, 0)?;
-    assert_eq!(rt; told.as_slice(), want.as_str().as_bytes());
-    Ok(())
+        &changed(alloc, "set_share", "stable", "share = 0")?,
+        rows,
+    )
+}
+
+#[test]
+fn serves_bucket_0_at_share_1(rt: HostRuntime) -> Result<(), Fail> {
+    let alloc = rt.alloc();
+    let rows = "stable:0 target 4.0 | stable:0,,abc
+stable:1 held 3.0 | stable:1,,abc";
+    assigns(
+        &rt,
+        alloc,
+        &changed(alloc, "set_share", "stable", "share = 1")?,
+        rows,
+    )
+}
+
+#[test]
+fn serves_every_bucket_at_share_1000(rt: HostRuntime) -> Result<(), Fail> {
+    let alloc = rt.alloc();
+    let rows = "stable:0 target 4.0 | stable:0,,abc
+stable:999 target 4.0 | stable:999,,abc";
+    assigns(
+        &rt,
+        alloc,
+        &changed(alloc, "set_share", "stable", "share = 1000")?,
+        rows,
+    )
+}
+
+#[test]
+fn holds_without_a_held_target(rt: HostRuntime) -> Result<(), Fail> {
+    let alloc = rt.alloc();
+    let rows = "beta:6 target 3.0 | beta:6,,abc
+beta:7 held | beta:7,,abc";
+    assigns(
+        &rt,
+        alloc,
+        &changed(alloc, "set_share", "beta", "share = 7")?,
+        rows,
+    )
+}
+
+#[test]
+fn takes_a_closed_cohort_from_the_text_alone(rt: HostRuntime) -> Result<(), Fail> {
+    let alloc = rt.alloc();
+    let rows = "beta:7 target 3.0 | beta:7,,abc
+stable:7 target 4.0 | stable:7,beta,abc";
+    assigns(
+        &rt,
+        alloc,
+        &changed(alloc, "set_open", "beta", "on = false")?,
+        rows,
+    )
 }
