@@ -1,0 +1,3 @@
+pub mod Laws
+pub mod Net
+pub mod Soundness

@@ -1,0 +1,48 @@
+-- What a graph keeps: beside what contracts see of it, how far each window reaches.
+use Rattle.std.specs.Prelude.{◌≡◌, ℕ, ◌+◌, ◌<◌, ◌≤◌, ◌⊎◌, All, Bool, true, false, List, length, nat_le, slice_index, slice_index_or}
+use Rattle.catalogue.specs.Ordered.{ascend}
+use Rattle.payload_graph.specs.Net.{Net, between, to_stone}
+use Rattle.payload_graph.specs.declared.door.Door.{Door}
+use Rattle.payload_graph.specs.declared.edge.Edge.{Edge}
+
+-- the default of `door_at`: it leads nowhere
+abbrev pub no_door : Door
+no_door = record { to = 0; bytes = 0; offered = false; stone = false }
+
+-- the door of a release
+abbrev pub door_at : Net → ℕ → Door
+door_at net index = slice_index_or net.doors index no_door
+
+-- the end of a release's window, at or below the target
+abbrev pub reach_of : ℕ → List Door → ℕ → ℕ
+reach_of target doors from = from + 1 + length (to_stone (between (from + 1) (target + 1) doors))
+
+-- the ends of the windows of all releases up to the target
+pub record AreReaches (target : ℕ) (doors : List Door) (reaches : List ℕ) : Type 0 where
+  pub sized : length reaches ≡ target + 1
+  pub right : (from : ℕ) → from ≤ target → slice_index reaches from ≡ reach_of target doors from
+
+-- the way from the one release to the other leads nearer the target: up to at most the target, or
+-- down from above it
+abbrev pub LeadsNearer : ℕ → ℕ → ℕ → Type 0
+LeadsNearer target from to = ((from < to) × (to ≤ target)) ⊎ ((target < from) × (to < from))
+
+-- the payload leads nearer the target
+abbrev pub IsNearing : ℕ → Edge → Type 0
+IsNearing target edge = LeadsNearer target edge.from edge.to
+
+-- a payload leaves no later release than another
+abbrev pub is_no_later : Edge → Edge → Bool
+is_no_later first second = nat_le first.from second.from
+
+-- each door leads to its own index
+abbrev pub AreNumbered : List Door → Type 0
+AreNumbered doors = (index : ℕ) → index < length doors → (slice_index_or doors index no_door).to ≡ index
+
+-- what holds of every graph and its reaches
+pub record IsSound (net : Net) (reaches : List ℕ) : Type 0 where
+  pub within : net.target < length net.doors
+  pub numbered : AreNumbered net.doors
+  pub reached : AreReaches net.target net.doors reaches
+  pub ordered : ascend is_no_later net.differs ≡ true
+  pub nearing : All (IsNearing net.target) net.differs
