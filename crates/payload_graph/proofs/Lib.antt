@@ -1,8 +1,11 @@
 mod DoorLemmas
 mod FullLemmas
+mod IndexLemmas
 mod LoopLemmas
 mod NearerLemmas
 mod OrderLemmas
 mod RangeLemmas
 mod ReachLemmas
+mod ReachedLemmas
 mod UpwardLemmas
+mod WalkLemmas

@@ -80,6 +80,14 @@ edge_of releases diff =
       bytes = diff.size;
     }
 
+-- the differentials of an app between indexes
+abbrev pub resolved_of : App → List Edge
+resolved_of app = map (edge_of app.releases) app.diffs
+
+-- those of the app at an index
+abbrev pub resolved_at : List App → ℕ → List Edge
+resolved_at apps index = option_map_or resolved_of (slice_get apps index) []
+
 -- the version of the release at an index
 abbrev pub version_of_index : List Release → ℕ → List ℕ
 version_of_index releases index = option_map_or (λ there. there.version) (slice_get releases index) []

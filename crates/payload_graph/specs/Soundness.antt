@@ -1,7 +1,12 @@
 -- What a graph keeps: beside what contracts see of it, how far each window reaches.
-use Rattle.std.specs.Prelude.{◌≡◌, ℕ, ◌+◌, ◌<◌, ◌≤◌, ◌⊎◌, All, Bool, true, false, List, length, nat_le, slice_index, slice_index_or}
-use Rattle.catalogue.specs.Ordered.{ascend}
-use Rattle.payload_graph.specs.Net.{Net, between, to_stone}
+use Rattle.std.specs.Prelude.{◌≡◌, ℕ, ◌+◌, ◌<◌, ◌≤◌, ◌&&◌, ◌⊎◌, All, Bool, false, List, length, nat_le, nat_lt, slice_index, slice_index_or}
+use Rattle.std.specs.List.Sorted.{IsNonDecreasingBy}
+use Rattle.std.specs.List.{filter}
+use Rattle.catalogue.specs.declared.content.Cohort.{Cohort}
+use Rattle.catalogue.specs.declared.content.Release.{Release}
+use Rattle.payload_rules.specs.Permitted.{rolls_back}
+use Rattle.payload_rules.specs.declared.payload.TrackKey.{TrackKey}
+use Rattle.payload_graph.specs.Net.{Net, between, doors_of, to_stone}
 use Rattle.payload_graph.specs.declared.door.Door.{Door}
 use Rattle.payload_graph.specs.declared.edge.Edge.{Edge}
 
@@ -31,18 +36,36 @@ LeadsNearer target from to = ((from < to) × (to ≤ target)) ⊎ ((target < fro
 abbrev pub IsNearing : ℕ → Edge → Type 0
 IsNearing target edge = LeadsNearer target edge.from edge.to
 
--- a payload leaves no later release than another
-abbrev pub is_no_later : Edge → Edge → Bool
-is_no_later first second = nat_le first.from second.from
-
 -- each door leads to its own index
 abbrev pub AreNumbered : List Door → Type 0
 AreNumbered doors = (index : ℕ) → index < length doors → (slice_index_or doors index no_door).to ≡ index
+
+-- a differential's destination is offered, and before its origin's reach
+abbrev pub is_reached : ℕ → List Door → Edge → Bool
+is_reached target doors edge =
+    nat_le edge.from target
+    && (nat_lt edge.to (reach_of target doors edge.from) && (slice_index_or doors edge.to no_door).offered)
+
+-- resolved differentials: each leads up between releases, and they stand by ascending origin
+pub record AreResolved (count : ℕ) (edges : List Edge) : Type 0 where
+  pub sorted : IsNonDecreasingBy (λ (edge : Edge). edge.from) edges
+  pub rising : All (λ (edge : Edge). (edge.from < edge.to) × (edge.to < count)) edges
 
 -- what holds of every graph and its reaches
 pub record IsSound (net : Net) (reaches : List ℕ) : Type 0 where
   pub within : net.target < length net.doors
   pub numbered : AreNumbered net.doors
   pub reached : AreReaches net.target net.doors reaches
-  pub ordered : ascend is_no_later net.differs ≡ true
+  pub sorted : IsNonDecreasingBy (λ (edge : Edge). edge.from) net.differs
   pub nearing : All (IsNearing net.target) net.differs
+
+-- the graph that a cohort's releases and resolved differentials give
+abbrev pub net_from : TrackKey → Cohort → List Release → ℕ → List Edge → Net
+net_from key cohort releases target resolved =
+    record {
+      key = key;
+      target = target;
+      rollback = rolls_back cohort key;
+      doors = doors_of cohort releases;
+      differs = filter (is_reached target (doors_of cohort releases)) resolved;
+    }

@@ -1,11 +1,12 @@
-ghost use Rattle.std.specs.Prelude.{◌≡◌, ◌<◌, [], IfOk, length};
-ghost use Rattle.payload_graph.specs.Net.{net_with, window};
-ghost use Rattle.payload_graph.specs.Soundness.{AreNumbered};
+ghost use Rattle.std.specs.Prelude.{◌≡◌, ◌<◌, IfOk, length};
+ghost use Rattle.payload_graph.specs.Net.{window};
+ghost use Rattle.payload_graph.specs.Soundness.{net_from, AreResolved};
 
+use crate::differential::reached_in;
 use crate::door::{Door, doors_of};
 use crate::edge::Edge;
 use crate::reach::{doors_above, reaches_of};
-use catalogue::{App, Cohort};
+use catalogue::{Cohort, Release};
 use payload_rules::{TrackKey, rolls_back};
 use std::alloc::{AllocError, Global};
 use std::marker::Model;
@@ -48,26 +49,35 @@ impl Model for Graph {
 }
 
 impl Graph {
-    /// Makes the graph of a track without its differentials.
-    pub(crate) fn of_fulls(
+    /// Makes a graph of its app's releases and resolved differentials.
+    pub(crate) fn of_parts(
         alloc: Global,
-        app: &App,
         key: &TrackKey,
         cohort: &Cohort,
+        releases: &[Release],
         target: usize,
+        resolved: &[Edge],
     ) -> Result<Graph, AllocError>
-        requires { target < length app.now.releases }
-        ensures { IfOk result (λ graph. graph ≡ net_with app.now key.now cohort.now target []) }
+        requires within { target < length releases.now }
+        requires resolved { AreResolved (length releases.now) resolved.now }
+        ensures { IfOk result (λ graph. graph ≡ net_from key.now cohort.now releases.now target resolved.now) }
     {
-        let doors = doors_of(alloc, cohort, app.releases.as_slice())?;
+        let doors = doors_of(alloc, cohort, releases)?;
         let reaches = reaches_of(alloc, doors.as_slice(), target)?;
+        let differs = reached_in(
+            alloc,
+            resolved,
+            doors.as_slice(),
+            reaches.as_slice(),
+            target,
+        )?;
         Ok(Graph {
             key: *key,
             target,
             rollback: rolls_back(cohort, key),
             doors,
             reaches,
-            differs: Vec::new(alloc),
+            differs,
         })
     }
 

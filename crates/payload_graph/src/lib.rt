@@ -10,6 +10,7 @@
 
 #![tactic(auto)]
 
+mod differential;
 mod door;
 mod edge;
 mod graph;
