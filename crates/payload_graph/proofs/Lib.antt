@@ -1,6 +1,8 @@
+mod DifferLemmas
 mod DoorLemmas
 mod FullLemmas
 mod IndexLemmas
+mod LeavingLemmas
 mod LoopLemmas
 mod NearerLemmas
 mod OrderLemmas

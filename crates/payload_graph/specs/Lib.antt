@@ -1,3 +1,4 @@
+pub mod Edges
 pub mod Laws
 pub mod Net
 pub mod Soundness

@@ -9,7 +9,7 @@ use Rattle.catalogue.specs.declared.content.App.{App}
 use Rattle.catalogue.specs.declared.content.Cohort.{Cohort}
 use Rattle.catalogue.specs.declared.content.Diff.{Diff}
 use Rattle.catalogue.specs.declared.content.Release.{Release}
-use Rattle.payload_rules.specs.Chains.{index_of, target_index}
+use Rattle.payload_rules.specs.Chains.{index_of, lane_target}
 use Rattle.payload_rules.specs.Permitted.{is_offered, permits_differ, rolls_back}
 use Rattle.payload_rules.specs.declared.payload.TrackKey.{TrackKey}
 use Rattle.payload_graph.specs.declared.door.Door.{Door}
@@ -117,7 +117,7 @@ net_of app key cohort target = net_with app key cohort target (differs_of app co
 -- the graph of a track of an app, none if the track has no target
 abbrev pub net_in : App → TrackKey → Option Net
 net_in app key =
-    option_and_then (λ cohort. option_map (net_of app key cohort) (target_index app key))
+    option_and_then (λ cohort. option_map (net_of app key cohort) (lane_target app cohort key.lane))
     (slice_get app.cohorts key.cohort)
 
 -- the graph of a track of a content, none if the track has no target

@@ -1,11 +1,13 @@
 //! Differentials between indexes.
 
-ghost use Rattle.std.specs.Prelude.{◌≡◌, ◌<◌, ◌≤◌, true, IfOk, length, map};
-ghost use Rattle.std.specs.List.{filter, list_all};
+ghost use Rattle.std.specs.Prelude.{◌≡◌, ◌-◌, ◌^◌, ◌<◌, ◌≤◌, true, IfOk, length, map};
+ghost use Rattle.std.specs.List.{filter, list_all, AllWithin};
+ghost use Rattle.std.specs.List.Sorted.{IsNonDecreasingBy};
 ghost use Rattle.catalogue.specs.Ordered.{ascend};
 ghost use Rattle.catalogue.specs.Validity.{is_diff_before, is_good_diff, is_release_below};
 ghost use Rattle.payload_rules.specs.Chains.{index_of};
-ghost use Rattle.payload_graph.specs.Net.{edge_of};
+ghost use Rattle.payload_graph.specs.Net.{edge_of, leaves};
+ghost use Rattle.payload_graph.specs.declared.edge.Edge.{Edge};
 ghost use Rattle.payload_graph.specs.Soundness.{is_reached, AreReaches, AreResolved};
 
 use crate::door::Door;
@@ -93,4 +95,25 @@ pub(crate) fn reached_in(
         }
     }
     Ok(edges)
+}
+
+/// Where the differentials that leave a release, or a higher one, begin.
+pub(crate) fn start_of(differs: &[Edge], from: usize) -> usize
+    requires { IsNonDecreasingBy (λ (edge : Edge). edge.from) differs.now }
+    ensures bound { result ≤ length differs.now }
+    ensures before { AllWithin (λ (edge : Edge). edge.from < from) differs.now 0 result }
+    ensures behind { AllWithin (λ (edge : Edge). from ≤ edge.from) differs.now result (length differs.now) }
+{
+    differs.partition_point(|edge| edge.from < from)
+}
+
+/// The differentials that leave a release.
+pub(crate) fn leaving(differs: &[Edge], from: usize) -> &[Edge]
+    requires sorted { IsNonDecreasingBy (λ (edge : Edge). edge.from) differs.now }
+    requires fits { from < 2 ^ 64 - 1 }
+    ensures { result.now ≡ filter (leaves from) differs.now }
+{
+    let start = start_of(differs, from);
+    let end = start_of(differs, from + 1);
+    &differs[start..end]
 }

@@ -1,10 +1,13 @@
-ghost use Rattle.std.specs.Prelude.{◌≡◌, ◌<◌, IfOk, length};
-ghost use Rattle.payload_graph.specs.Net.{window};
-ghost use Rattle.payload_graph.specs.Soundness.{net_from, AreResolved};
+ghost use Rattle.std.specs.Prelude.{◌≡◌, ◌<◌, All, IfOk, length};
+ghost use Rattle.std.specs.List.{filter};
+ghost use Rattle.payload_graph.specs.Edges.{edges_left};
+ghost use Rattle.payload_graph.specs.Net.{edges_from, leaves, window};
+ghost use Rattle.payload_graph.specs.Soundness.{net_from, AreNumbered, AreResolved, IsNearing};
 
-use crate::differential::reached_in;
+use crate::differential::{leaving, reached_in};
 use crate::door::{Door, doors_of};
 use crate::edge::Edge;
+use crate::edges::{Edges, Fulls};
 use crate::reach::{doors_above, reaches_of};
 use catalogue::{Cohort, Release};
 use payload_rules::{TrackKey, rolls_back};
@@ -100,5 +103,55 @@ impl Graph {
                 from,
             )
         }
+    }
+
+    /// Borrows the differentials of a release, by ascending destination.
+    pub fn differs_from(&self, from: usize) -> &[Edge]
+        requires { from < length self.now.doors }
+        ensures { result.now ≡ filter (leaves from) self.now.differs }
+    {
+        leaving(self.differs.as_slice(), from)
+    }
+
+    // rule: Payloads from a release
+    /// Goes through the payloads that leave a release.
+    ///
+    /// The full packages come first, then the differentials, each by ascending destination.
+    pub fn edges_from(&self, from: usize) -> Edges<'_>
+        requires { from < length self.now.doors }
+        ensures { edges_left result ≡ edges_from self.now from }
+    {
+        Edges::new(Fulls::new(from, self.window(from)), self.differs_from(from))
+    }
+
+    /// Returns the index of the target.
+    pub fn target(&self) -> usize
+        ensures target { result ≡ self.now.target }
+        ensures within { self.now.target < length self.now.doors }
+    {
+        self.target
+    }
+
+    /// Borrows the releases as destinations, in order.
+    pub fn doors(&self) -> &[Door]
+        ensures doors { result.now ≡ self.now.doors }
+        ensures numbered { AreNumbered self.now.doors }
+    {
+        self.doors.as_slice()
+    }
+
+    /// Borrows all differentials, by ascending origin.
+    pub fn differs(&self) -> &[Edge]
+        ensures differs { result.now ≡ self.now.differs }
+        ensures nearing { All (IsNearing self.now.target) self.now.differs }
+    {
+        self.differs.as_slice()
+    }
+
+    /// Returns the key of the track that it is the graph of.
+    pub fn key(&self) -> TrackKey
+        ensures { result ≡ self.now.key }
+    {
+        self.key
     }
 }

@@ -13,10 +13,12 @@
 mod differential;
 mod door;
 mod edge;
+mod edges;
 mod graph;
 pub mod laws;
 mod reach;
 
 pub use crate::door::Door;
 pub use crate::edge::{Edge, Kind};
+pub use crate::edges::{Edges, Fulls};
 pub use crate::graph::Graph;

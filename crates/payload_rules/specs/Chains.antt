@@ -4,8 +4,10 @@ use Rattle.std.specs.List.{position_or_len}
 use Rattle.std.specs.Option.{option_map_or}
 use Rattle.catalogue.specs.Lookups.{is_release}
 use Rattle.catalogue.specs.declared.content.App.{App}
+use Rattle.catalogue.specs.declared.content.Cohort.{Cohort}
 use Rattle.catalogue.specs.declared.content.Release.{Release}
 use Rattle.cohorts.specs.Tracks.{target_of}
+use Rattle.cohorts.specs.declared.track.Lane.{Lane}
 use Rattle.payload_rules.specs.Permitted.{permits}
 use Rattle.payload_rules.specs.declared.payload.Payload.{Payload}
 use Rattle.payload_rules.specs.declared.payload.Payload.TheVariants.{Full, Differ}
@@ -29,12 +31,15 @@ abbrev pub bytes_of : App → Payload → ℕ
 bytes_of app (Full release) = option_map_or (λ there. there.size) (slice_get app.releases release) 0
 bytes_of app (Differ index) = option_map_or (λ there. there.size) (slice_get app.diffs index) 0
 
--- rule: Target of a track
+-- the index of the release that the clients of a cohort's lane are meant to have, if any
+abbrev pub lane_target : App → Cohort → Lane → Option ℕ
+lane_target app cohort lane =
+    option_and_then (λ version. position (is_release version) app.releases) (target_of cohort lane)
+
 -- the index of the release that a track's clients are meant to have, if any
 abbrev pub target_index : App → TrackKey → Option ℕ
 target_index app key =
-    option_and_then (λ version. position (is_release version) app.releases)
-    (option_and_then (λ cohort. target_of cohort key.lane) (slice_get app.cohorts key.cohort))
+    option_and_then (λ cohort. lane_target app cohort key.lane) (slice_get app.cohorts key.cohort)
 
 -- the place is the track's target
 abbrev pub IsAtTarget : App → TrackKey → Place → Type 0
