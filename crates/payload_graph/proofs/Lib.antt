@@ -9,5 +9,6 @@ mod OrderLemmas
 mod RangeLemmas
 mod ReachLemmas
 mod ReachedLemmas
+mod TrackLemmas
 mod UpwardLemmas
 mod WalkLemmas

@@ -1,9 +1,11 @@
 -- What a graph keeps: beside what contracts see of it, how far each window reaches.
-use Rattle.std.specs.Prelude.{◌≡◌, ℕ, ◌+◌, ◌<◌, ◌≤◌, ◌&&◌, ◌⊎◌, All, Bool, false, List, length, nat_le, nat_lt, slice_index, slice_index_or}
+use Rattle.std.specs.Prelude.{◌≡◌, ℕ, ◌+◌, ◌<◌, ◌≤◌, ◌&&◌, ◌⊎◌, All, Bool, false, List, length, nat_le, nat_lt, slice_get, slice_index, slice_index_or, Option, option_and_then, option_map}
 use Rattle.std.specs.List.Sorted.{IsNonDecreasingBy}
 use Rattle.std.specs.List.{filter}
 use Rattle.catalogue.specs.declared.content.Cohort.{Cohort}
 use Rattle.catalogue.specs.declared.content.Release.{Release}
+use Rattle.catalogue.specs.declared.content.App.{App}
+use Rattle.payload_rules.specs.Chains.{lane_target}
 use Rattle.payload_rules.specs.Permitted.{rolls_back}
 use Rattle.payload_rules.specs.declared.payload.TrackKey.{TrackKey}
 use Rattle.payload_graph.specs.Net.{Net, between, doors_of, to_stone}
@@ -69,3 +71,15 @@ net_from key cohort releases target resolved =
       doors = doors_of cohort releases;
       differs = filter (is_reached target (doors_of cohort releases)) resolved;
     }
+
+-- the graph of a cohort's lane with the resolved differentials given, none if it has no target
+abbrev pub net_in_cohort : App → TrackKey → Cohort → List Edge → Option Net
+net_in_cohort app key cohort resolved =
+    option_map (λ target. net_from key cohort app.releases target resolved)
+    (lane_target app cohort key.lane)
+
+-- the same of a track of an app
+abbrev pub net_in_app : App → TrackKey → List Edge → Option Net
+net_in_app app key resolved =
+    option_and_then (λ cohort. net_in_cohort app key cohort resolved)
+    (slice_get app.cohorts key.cohort)

@@ -17,8 +17,10 @@ mod edges;
 mod graph;
 pub mod laws;
 mod reach;
+mod track;
 
 pub use crate::door::Door;
 pub use crate::edge::{Edge, Kind};
 pub use crate::edges::{Edges, Fulls};
 pub use crate::graph::Graph;
+pub use crate::track::Differentials;
