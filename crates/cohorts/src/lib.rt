@@ -18,4 +18,4 @@ mod track;
 
 pub use crate::cohort_text::CohortText;
 pub use crate::session::Session;
-pub use crate::track::{Lane, Track, assign};
+pub use crate::track::{Lane, Track, assign, target_in};

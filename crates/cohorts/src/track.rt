@@ -91,7 +91,8 @@ fn choose_lane(cohort: &Cohort, bucket: u16) -> Lane
 }
 
 // rule: Target of a lane
-fn target_in(cohort: &Cohort, lane: Lane) -> Option<Version>
+/// Returns the version that the clients of a cohort's lane are meant to have, if any.
+pub fn target_in(cohort: &Cohort, lane: Lane) -> Option<Version>
     ensures { result ≡ target_of cohort.now lane }
 {
     match lane {

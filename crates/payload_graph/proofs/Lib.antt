@@ -1,0 +1,14 @@
+mod DifferLemmas
+mod DoorLemmas
+mod FullLemmas
+mod IndexLemmas
+mod LeavingLemmas
+mod LoopLemmas
+mod NearerLemmas
+mod OrderLemmas
+mod RangeLemmas
+mod ReachLemmas
+mod ReachedLemmas
+mod TrackLemmas
+mod UpwardLemmas
+mod WalkLemmas

@@ -1,0 +1,65 @@
+-- What holds of all graphs.
+use Rattle.std.specs.Prelude.{◌≡◌, ℕ, ◌+◌, ◌<◌, All, true, if◌then◌else◌, List, [], ◌∷◌, ◌++◌, length, map, slice_get, Some}
+use Rattle.std.specs.List.{filter}
+use Rattle.values.specs.Ordered.{ascend}
+use Rattle.records.specs.Validity.{is_release_below}
+use Rattle.records.specs.declared.content.App.{App}
+use Rattle.records.specs.declared.content.Cohort.{Cohort}
+use Rattle.records.specs.declared.content.Release.{Release}
+use Rattle.cohorts.specs.Tracks.{target_of}
+use Rattle.payload_rules.specs.Permitted.{permits}
+use Rattle.payload_rules.specs.declared.payload.Payload.TheVariants.{Full}
+use Rattle.payload_rules.specs.declared.payload.TrackKey.{TrackKey}
+use Rattle.payload_rules.specs.declared.place.Place.TheVariants.{At}
+use Rattle.payload_graph.specs.Net.{Net, doors_of, full, fulls, net_with, window}
+use Rattle.payload_graph.specs.Soundness.{AreNumbered, LeadsNearer, door_at}
+use Rattle.payload_graph.specs.declared.door.Door.{Door}
+use Rattle.payload_graph.specs.declared.edge.Edge.{Edge}
+
+-- a track of an app whose releases ascend: its cohort, and the release at its target
+pub record IsTrack (app : App) (key : TrackKey) (cohort : Cohort) (target : ℕ) (release : Release) : Type 0 where
+  pub ascending : ascend is_release_below app.releases ≡ true
+  pub cohort_there : slice_get app.cohorts key.cohort ≡ Some cohort
+  pub release_there : slice_get app.releases target ≡ Some release
+  pub targeted : target_of cohort key.lane ≡ Some release.version
+
+-- the full packages from a release, by its window, are those of all releases that are permitted, each
+-- once, in order
+abbrev pub FullsArePermitted : Type 0
+FullsArePermitted =
+    (app : App) (key : TrackKey) (cohort : Cohort) (target from : ℕ) (release : Release) (differs : List Edge) →
+    IsTrack app key cohort target release →
+    from < length app.releases →
+    fulls from (window (net_with app key cohort target differs) from)
+    ≡ map (full from) (filter (λ (door : Door). permits app key (At from) (Full door.to)) (doors_of cohort app.releases))
+
+-- below the target a window is the next door and, unless that is a stone, the next window
+abbrev pub WindowsGrowDown : Type 0
+WindowsGrowDown =
+    (net : Net) (from : ℕ) →
+    net.target < length net.doors →
+    from < net.target →
+    window net from
+    ≡ door_at net (from + 1) ∷ (if (door_at net (from + 1)).stone then [] else window net (from + 1))
+
+-- the target's window is empty
+abbrev pub TargetsLeaveNothing : Type 0
+TargetsLeaveNothing = (net : Net) → net.target < length net.doors → window net net.target ≡ []
+
+-- above the target a window is that of the release before, and the door of that release, if the track
+-- rolls back
+abbrev pub WindowsGrowUp : Type 0
+WindowsGrowUp =
+    (net : Net) (from : ℕ) →
+    from < length net.doors →
+    net.target < from →
+    window net (from + 1) ≡ window net from ++ (if net.rollback then door_at net from ∷ [] else [])
+
+-- a full package leads nearer the target
+abbrev pub FullsLeadNearer : Type 0
+FullsLeadNearer =
+    (net : Net) (from : ℕ) →
+    AreNumbered net.doors →
+    net.target < length net.doors →
+    from < length net.doors →
+    All (λ (edge : Edge). LeadsNearer net.target from edge.to) (fulls from (window net from))

@@ -1,0 +1,4 @@
+pub mod Edges
+pub mod Laws
+pub mod Net
+pub mod Soundness

@@ -1,0 +1,125 @@
+-- The graph of a track: its target, and the payloads that are permitted between the releases of its
+-- app. Full packages are given by rule, each release having a window of others to which its clients
+-- may be led; this project's profile. Releases are told by index, by ascending version.
+use Rattle.std.specs.Prelude.{ℕ, ◌+◌, ◌==◌, Bool, false, if◌then◌else◌, List, [], ◌∷◌, ◌++◌, drop, map, nat_lt, position, slice_get, take, Option, option_and_then, option_map}
+use Rattle.std.specs.List.{enumerate_from, filter, position_or_len}
+use Rattle.std.specs.Option.{option_map_or}
+use Rattle.records.specs.Lookups.{is_release}
+use Rattle.records.specs.declared.content.App.{App}
+use Rattle.records.specs.declared.content.Cohort.{Cohort}
+use Rattle.records.specs.declared.content.Diff.{Diff}
+use Rattle.records.specs.declared.content.Release.{Release}
+use Rattle.payload_rules.specs.Chains.{index_of, lane_target}
+use Rattle.payload_rules.specs.Permitted.{is_offered, permits_differ, rolls_back}
+use Rattle.payload_rules.specs.declared.payload.TrackKey.{TrackKey}
+use Rattle.payload_graph.specs.declared.door.Door.{Door}
+use Rattle.payload_graph.specs.declared.edge.Edge.{Edge}
+use Rattle.payload_graph.specs.declared.edge.Kind.TheVariants as kind
+
+-- a graph: whose it is, its target, whether it leads down from above, its releases as destinations,
+-- and its permitted differentials by ascending origin
+pub record Net : Type 0 where
+  pub key : TrackKey
+  pub target : ℕ
+  pub rollback : Bool
+  pub doors : List Door
+  pub differs : List Edge
+
+-- a release as a destination of the cohort's clients
+abbrev pub door_of : Cohort → ℕ → Release → Door
+door_of cohort to release =
+    record { to = to; bytes = release.size; offered = is_offered cohort release; stone = release.stone }
+
+-- all releases as destinations, each with its index
+abbrev pub doors_of : Cohort → List Release → List Door
+doors_of cohort releases =
+    map (λ (numbered : ℕ × Release). door_of cohort numbered.0 numbered.1) (enumerate_from 0 releases)
+
+-- the full package that leads from a release through a door
+abbrev pub full : ℕ → Door → Edge
+full from door = record { from = from; to = door.to; kind = kind.Full; bytes = door.bytes }
+
+-- the full packages through those doors of a list that are offered
+abbrev pub fulls : ℕ → List Door → List Edge
+fulls from doors = map (full from) (filter (λ (door : Door). door.offered) doors)
+
+-- the doors up to the first stone, that one included
+abbrev pub to_stone : List Door → List Door
+to_stone [] = []
+to_stone (door ∷ doors) = door ∷ (if door.stone then [] else to_stone doors)
+
+-- the items from one index on, before another
+abbrev pub between : {A : Type 0} → ℕ → ℕ → List A → List A
+between low high items = drop low (take high items)
+
+-- rule: Window of a release
+-- a release's window: at or below the target the doors above it, up to the first stone and not above
+-- the target; above the target all doors below it if the track rolls back
+abbrev pub window : Net → ℕ → List Door
+window net from =
+    if nat_lt net.target from
+    then (if net.rollback then take from net.doors else [])
+    else to_stone (between (from + 1) (net.target + 1) net.doors)
+
+-- the payload leaves the release, or leads to it
+abbrev pub leaves : ℕ → Edge → Bool
+leaves from edge = from == edge.from
+
+-- rule: Payloads from a release
+-- the payloads that leave a release: full packages by ascending destination, then differentials
+abbrev pub edges_from : Net → ℕ → List Edge
+edges_from net from = fulls from (window net from) ++ filter (leaves from) net.differs
+
+-- a differential between the indexes of its releases
+abbrev pub edge_of : List Release → Diff → Edge
+edge_of releases diff =
+    record {
+      from = index_of releases diff.from;
+      to = index_of releases diff.to;
+      kind = kind.Differ;
+      bytes = diff.size;
+    }
+
+-- the differentials of an app between indexes
+abbrev pub resolved_of : App → List Edge
+resolved_of app = map (edge_of app.releases) app.diffs
+
+-- those of the app at an index
+abbrev pub resolved_at : List App → ℕ → List Edge
+resolved_at apps index = option_map_or resolved_of (slice_get apps index) []
+
+-- the version of the release at an index
+abbrev pub version_of_index : List Release → ℕ → List ℕ
+version_of_index releases index = option_map_or (λ there. there.version) (slice_get releases index) []
+
+-- the permitted differentials of an app, in their order
+abbrev pub differs_of : App → Cohort → ℕ → List Edge
+differs_of app cohort target =
+    map (edge_of app.releases)
+    (filter (permits_differ app.releases cohort (version_of_index app.releases target)) app.diffs)
+
+-- the graph of a cohort's track, with the differentials given
+abbrev pub net_with : App → TrackKey → Cohort → ℕ → List Edge → Net
+net_with app key cohort target differs =
+    record {
+      key = key;
+      target = target;
+      rollback = rolls_back cohort key;
+      doors = doors_of cohort app.releases;
+      differs = differs;
+    }
+
+-- rule: Graph of a track
+-- the graph of a cohort's track to a target
+abbrev pub net_of : App → TrackKey → Cohort → ℕ → Net
+net_of app key cohort target = net_with app key cohort target (differs_of app cohort target)
+
+-- the graph of a track of an app, none if the track has no target
+abbrev pub net_in : App → TrackKey → Option Net
+net_in app key =
+    option_and_then (λ cohort. option_map (net_of app key cohort) (lane_target app cohort key.lane))
+    (slice_get app.cohorts key.cohort)
+
+-- the graph of a track of a content, none if the track has no target
+abbrev pub net_among : List App → TrackKey → Option Net
+net_among apps key = option_and_then (λ app. net_in app key) (slice_get apps key.app)

@@ -1,0 +1,85 @@
+-- What a graph keeps: beside what contracts see of it, how far each window reaches.
+use Rattle.std.specs.Prelude.{◌≡◌, ℕ, ◌+◌, ◌<◌, ◌≤◌, ◌&&◌, ◌⊎◌, All, Bool, false, List, length, nat_le, nat_lt, slice_get, slice_index, slice_index_or, Option, option_and_then, option_map}
+use Rattle.std.specs.List.Sorted.{IsNonDecreasingBy}
+use Rattle.std.specs.List.{filter}
+use Rattle.records.specs.declared.content.Cohort.{Cohort}
+use Rattle.records.specs.declared.content.Release.{Release}
+use Rattle.records.specs.declared.content.App.{App}
+use Rattle.payload_rules.specs.Chains.{lane_target}
+use Rattle.payload_rules.specs.Permitted.{rolls_back}
+use Rattle.payload_rules.specs.declared.payload.TrackKey.{TrackKey}
+use Rattle.payload_graph.specs.Net.{Net, between, doors_of, to_stone}
+use Rattle.payload_graph.specs.declared.door.Door.{Door}
+use Rattle.payload_graph.specs.declared.edge.Edge.{Edge}
+
+-- the default of `door_at`: it leads nowhere
+abbrev pub no_door : Door
+no_door = record { to = 0; bytes = 0; offered = false; stone = false }
+
+-- the door of a release
+abbrev pub door_at : Net → ℕ → Door
+door_at net index = slice_index_or net.doors index no_door
+
+-- the end of a release's window, at or below the target
+abbrev pub reach_of : ℕ → List Door → ℕ → ℕ
+reach_of target doors from = from + 1 + length (to_stone (between (from + 1) (target + 1) doors))
+
+-- the ends of the windows of all releases up to the target
+pub record AreReaches (target : ℕ) (doors : List Door) (reaches : List ℕ) : Type 0 where
+  pub sized : length reaches ≡ target + 1
+  pub right : (from : ℕ) → from ≤ target → slice_index reaches from ≡ reach_of target doors from
+
+-- the way from the one release to the other leads nearer the target: up to at most the target, or
+-- down from above it
+abbrev pub LeadsNearer : ℕ → ℕ → ℕ → Type 0
+LeadsNearer target from to = ((from < to) × (to ≤ target)) ⊎ ((target < from) × (to < from))
+
+-- the payload leads nearer the target
+abbrev pub IsNearing : ℕ → Edge → Type 0
+IsNearing target edge = LeadsNearer target edge.from edge.to
+
+-- each door leads to its own index
+abbrev pub AreNumbered : List Door → Type 0
+AreNumbered doors = (index : ℕ) → index < length doors → (slice_index_or doors index no_door).to ≡ index
+
+-- a differential's destination is offered, and before its origin's reach
+abbrev pub is_reached : ℕ → List Door → Edge → Bool
+is_reached target doors edge =
+    nat_le edge.from target
+    && (nat_lt edge.to (reach_of target doors edge.from) && (slice_index_or doors edge.to no_door).offered)
+
+-- resolved differentials: each leads up between releases, and they stand by ascending origin
+pub record AreResolved (count : ℕ) (edges : List Edge) : Type 0 where
+  pub sorted : IsNonDecreasingBy (λ (edge : Edge). edge.from) edges
+  pub rising : All (λ (edge : Edge). (edge.from < edge.to) × (edge.to < count)) edges
+
+-- what holds of every graph and its reaches
+pub record IsSound (net : Net) (reaches : List ℕ) : Type 0 where
+  pub within : net.target < length net.doors
+  pub numbered : AreNumbered net.doors
+  pub reached : AreReaches net.target net.doors reaches
+  pub sorted : IsNonDecreasingBy (λ (edge : Edge). edge.from) net.differs
+  pub nearing : All (IsNearing net.target) net.differs
+
+-- the graph that a cohort's releases and resolved differentials give
+abbrev pub net_from : TrackKey → Cohort → List Release → ℕ → List Edge → Net
+net_from key cohort releases target resolved =
+    record {
+      key = key;
+      target = target;
+      rollback = rolls_back cohort key;
+      doors = doors_of cohort releases;
+      differs = filter (is_reached target (doors_of cohort releases)) resolved;
+    }
+
+-- the graph of a cohort's lane with the resolved differentials given, none if it has no target
+abbrev pub net_in_cohort : App → TrackKey → Cohort → List Edge → Option Net
+net_in_cohort app key cohort resolved =
+    option_map (λ target. net_from key cohort app.releases target resolved)
+    (lane_target app cohort key.lane)
+
+-- the same of a track of an app
+abbrev pub net_in_app : App → TrackKey → List Edge → Option Net
+net_in_app app key resolved =
+    option_and_then (λ cohort. net_in_cohort app key cohort resolved)
+    (slice_get app.cohorts key.cohort)

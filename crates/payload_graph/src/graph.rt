@@ -1,0 +1,157 @@
+ghost use Rattle.std.specs.Prelude.{◌≡◌, ◌<◌, All, IfOk, length};
+ghost use Rattle.std.specs.List.{filter};
+ghost use Rattle.payload_graph.specs.Edges.{edges_left};
+ghost use Rattle.payload_graph.specs.Net.{edges_from, leaves, window};
+ghost use Rattle.payload_graph.specs.Soundness.{net_from, AreNumbered, AreResolved, IsNearing};
+
+use crate::differential::{leaving, reached_in};
+use crate::door::{Door, doors_of};
+use crate::edge::Edge;
+use crate::edges::{Edges, Fulls};
+use crate::reach::{doors_above, reaches_of};
+use catalogue::{Cohort, Release};
+use payload_rules::{TrackKey, rolls_back};
+use std::alloc::{AllocError, Global};
+use std::marker::Model;
+
+/// The permitted payloads of a track, which contracts see as a `Net`.
+///
+/// It keeps a door and a number for each release, and its differentials.
+#[derive(Drop)]
+pub struct Graph {
+    key: TrackKey,
+    target: usize,
+    rollback: bool,
+    doors: Vec<Door>,
+    reaches: Vec<usize>,
+    differs: Vec<Edge>,
+}
+
+impl Model for Graph {
+    ghost use Rattle.payload_graph.specs.Net.{Net};
+
+    ghost Value = { Net };
+
+    ghost use Rattle.payload_graph.specs.Soundness.{IsSound};
+
+    ghost view = { λ g. record {
+      key = g.key;
+      target = g.target;
+      rollback = g.rollback;
+      doors = g.doors.items;
+      differs = g.differs.items;
+    } };
+
+    ghost invariant = { λ g. IsSound (record {
+      key = g.key;
+      target = g.target;
+      rollback = g.rollback;
+      doors = g.doors.items;
+      differs = g.differs.items;
+    }) g.reaches.items };
+}
+
+impl Graph {
+    /// Makes a graph of its app's releases and resolved differentials.
+    pub(crate) fn of_parts(
+        alloc: Global,
+        key: &TrackKey,
+        cohort: &Cohort,
+        releases: &[Release],
+        target: usize,
+        resolved: &[Edge],
+    ) -> Result<Graph, AllocError>
+        requires within { target < length releases.now }
+        requires resolved { AreResolved (length releases.now) resolved.now }
+        ensures { IfOk result (λ graph. graph ≡ net_from key.now cohort.now releases.now target resolved.now) }
+    {
+        let doors = doors_of(alloc, cohort, releases)?;
+        let reaches = reaches_of(alloc, doors.as_slice(), target)?;
+        let differs = reached_in(
+            alloc,
+            resolved,
+            doors.as_slice(),
+            reaches.as_slice(),
+            target,
+        )?;
+        Ok(Graph {
+            key: *key,
+            target,
+            rollback: rolls_back(cohort, key),
+            doors,
+            reaches,
+            differs,
+        })
+    }
+
+    /// Borrows the window of a release.
+    pub fn window(&self, from: usize) -> &[Door]
+        requires { from < length self.now.doors }
+        ensures { result.now ≡ window self.now from }
+    {
+        if from > self.target {
+            if self.rollback {
+                &self.doors[..from]
+            } else {
+                &[]
+            }
+        } else {
+            doors_above(
+                self.doors.as_slice(),
+                self.reaches.as_slice(),
+                self.target,
+                from,
+            )
+        }
+    }
+
+    /// Borrows the differentials of a release, by ascending destination.
+    pub fn differs_from(&self, from: usize) -> &[Edge]
+        requires { from < length self.now.doors }
+        ensures { result.now ≡ filter (leaves from) self.now.differs }
+    {
+        leaving(self.differs.as_slice(), from)
+    }
+
+    // rule: Payloads from a release
+    /// Goes through the payloads that leave a release.
+    ///
+    /// The full packages come first, then the differentials, each by ascending destination.
+    pub fn edges_from(&self, from: usize) -> Edges<'_>
+        requires { from < length self.now.doors }
+        ensures { edges_left result ≡ edges_from self.now from }
+    {
+        Edges::new(Fulls::new(from, self.window(from)), self.differs_from(from))
+    }
+
+    /// Returns the index of the target.
+    pub fn target(&self) -> usize
+        ensures target { result ≡ self.now.target }
+        ensures within { self.now.target < length self.now.doors }
+    {
+        self.target
+    }
+
+    /// Borrows the releases as destinations, in order.
+    pub fn doors(&self) -> &[Door]
+        ensures doors { result.now ≡ self.now.doors }
+        ensures numbered { AreNumbered self.now.doors }
+    {
+        self.doors.as_slice()
+    }
+
+    /// Borrows all differentials, by ascending origin.
+    pub fn differs(&self) -> &[Edge]
+        ensures differs { result.now ≡ self.now.differs }
+        ensures nearing { All (IsNearing self.now.target) self.now.differs }
+    {
+        self.differs.as_slice()
+    }
+
+    /// Returns the key of the track that it is the graph of.
+    pub fn key(&self) -> TrackKey
+        ensures { result ≡ self.now.key }
+    {
+        self.key
+    }
+}

@@ -1,0 +1,134 @@
+//! The graph of a track of a catalogue.
+
+ghost use Rattle.std.specs.Prelude.{◌≡◌, ◌<◌, IfOk, IfSome, IsSome, Some, length};
+ghost use Rattle.payload_rules.specs.Chains.{lane_target};
+ghost use Rattle.payload_graph.specs.Net.{net_among, resolved_at};
+ghost use Rattle.payload_graph.specs.Soundness.{net_in_cohort, net_in_app, AreResolved};
+
+use crate::differential::resolve;
+use crate::edge::Edge;
+use crate::graph::Graph;
+use catalogue::{App, Catalogue, Cohort};
+use cohorts::{Lane, target_in};
+use payload_rules::TrackKey;
+use std::alloc::{AllocError, Global};
+use std::marker::Model;
+
+/// The differentials of an app between the indexes of its releases, which contracts see as their list.
+///
+/// They are resolved once an app, and lent to the graph of each of its tracks.
+#[derive(Drop)]
+pub struct Differentials {
+    edges: Vec<Edge>,
+}
+
+impl Model for Differentials {
+    ghost use Rattle.std.specs.Prelude.{List};
+    ghost use Rattle.payload_graph.specs.declared.edge.Edge.{Edge};
+
+    ghost Value = { List Edge };
+
+    ghost view = { λ d. d.edges.items };
+}
+
+impl Differentials {
+    /// Resolves the differentials of the app at an index, which is in range.
+    ///
+    /// It walks once along the differentials, and along the releases for each origin.
+    pub fn of_app(
+        alloc: Global,
+        catalogue: &Catalogue,
+        app: usize,
+    ) -> Result<Differentials, AllocError>
+        requires { app < length catalogue.now }
+        ensures { IfOk result (λ resolved. resolved ≡ resolved_at catalogue.now app) }
+    {
+        catalogue.validity();
+        let app = &catalogue.apps()[app];
+        let edges = resolve(alloc, app.releases.as_slice(), app.diffs.as_slice())?;
+        Ok(Differentials { edges })
+    }
+}
+
+fn find_target(app: &App, cohort: &Cohort, lane: Lane) -> Option<usize>
+    ensures target { result ≡ lane_target app.now cohort.now lane }
+    ensures within { IfSome result (λ target. target < length app.now.releases) }
+{
+    let version = target_in(cohort, lane)?;
+    app.find_release(&version)
+}
+
+fn graph_in_cohort(
+    alloc: Global,
+    app: &App,
+    key: &TrackKey,
+    cohort: &Cohort,
+    resolved: &[Edge],
+) -> Result<Option<Graph>, AllocError>
+    requires { AreResolved (length app.now.releases) resolved.now }
+    ensures { IfOk result (λ graph. graph ≡ net_in_cohort app.now key.now cohort.now resolved.now) }
+{
+    let Some(target) = find_target(app, cohort, key.lane) else {
+        return Ok(None);
+    };
+    let releases = app.releases.as_slice();
+    let graph = Graph::of_parts(alloc, key, cohort, releases, target, resolved)?;
+    Ok(Some(graph))
+}
+
+fn graph_in_app(
+    alloc: Global,
+    app: &App,
+    key: &TrackKey,
+    resolved: &[Edge],
+) -> Result<Option<Graph>, AllocError>
+    requires { AreResolved (length app.now.releases) resolved.now }
+    ensures { IfOk result (λ graph. graph ≡ net_in_app app.now key.now resolved.now) }
+{
+    match app.cohorts.as_slice().get(key.cohort) {
+        Some(cohort) => graph_in_cohort(alloc, app, key, cohort, resolved),
+        None => Ok(None),
+    }
+}
+
+impl Graph {
+    /// Makes the graph of a track with the resolved differentials of its app, `None` if the track has
+    /// no target.
+    ///
+    /// The key's app is in range, and `differentials` are its own.
+    pub fn with_differentials(
+        alloc: Global,
+        catalogue: &Catalogue,
+        key: &TrackKey,
+        differentials: &Differentials,
+    ) -> Result<Option<Graph>, AllocError>
+        requires app { key.now.app < length catalogue.now }
+        requires lent { differentials.now ≡ resolved_at catalogue.now key.now.app }
+        ensures { IfOk result (λ graph. graph ≡ net_among catalogue.now key.now) }
+    {
+        version::laws::order();
+        catalogue.validity();
+        let app = &catalogue.apps()[key.app];
+        graph_in_app(alloc, app, key, differentials.edges.as_slice())
+    }
+
+    // rule: Graph of a track
+    /// Makes the graph of a track, which has a target.
+    ///
+    /// To make the graphs of several tracks of an app, resolve its differentials once and call
+    /// `with_differentials`.
+    pub fn of_track(
+        alloc: Global,
+        catalogue: &Catalogue,
+        key: &TrackKey,
+    ) -> Result<Graph, AllocError>
+        requires { IsSome (net_among catalogue.now key.now) }
+        ensures { IfOk result (λ graph. net_among catalogue.now key.now ≡ Some graph) }
+    {
+        let differentials = Differentials::of_app(alloc, catalogue, key.app)?;
+        match Graph::with_differentials(alloc, catalogue, key, &differentials)? {
+            Some(graph) => Ok(graph),
+            None => unreachable!(),
+        }
+    }
+}

@@ -1,0 +1,113 @@
+-- A catalogue's app with differentials, a stone and a rollback, worked by hand.
+use Rattle.std.specs.Prelude.{◌≡◌, ℕ, Bool, true, false, List, [], ◌∷◌, ◌++◌, codes, length, map, replicate, None, Some}
+use Rattle.std.specs.List.{filter, range_with_len}
+use Rattle.records.specs.declared.content.App.{App}
+use Rattle.records.specs.declared.content.Cohort.{Cohort}
+use Rattle.records.specs.declared.content.Diff.{Diff}
+use Rattle.records.specs.declared.content.Release.{Release}
+use Rattle.cohorts.specs.declared.track.Lane.{Lane}
+use Rattle.cohorts.specs.declared.track.Lane.TheVariants as lane
+use Rattle.payload_rules.specs.Chains.{IsChain, sum_of}
+use Rattle.payload_rules.specs.Permitted.{permits}
+use Rattle.payload_rules.specs.declared.payload.Payload.{Payload}
+use Rattle.payload_rules.specs.declared.payload.Payload.TheVariants.{Full, Differ}
+use Rattle.payload_rules.specs.declared.payload.TrackKey.{TrackKey}
+use Rattle.payload_rules.specs.declared.place.Place.{Place}
+use Rattle.payload_rules.specs.declared.place.Place.TheVariants.{At, Outside}
+
+-- version `number`.0
+abbrev pub major : ℕ → List ℕ
+major number = number ∷ replicate 15 0
+
+-- a release that is open to all; its package's name and hash make no difference here
+abbrev pub release_of : ℕ → ℕ → Bool → Release
+release_of number size stone =
+    record {
+      version = major number;
+      spelled = [];
+      name = [];
+      size = size;
+      hash = replicate 32 number;
+      stone = stone;
+      withdrawn = false;
+      audience = None;
+    }
+
+-- a differential between two of these versions
+abbrev pub diff_of : ℕ → ℕ → ℕ → Diff
+diff_of from to size =
+    record { from = major from; to = major to; name = []; size = size; hash = [] }
+
+-- the default cohort has 4.0, and its held clients 3.0; `beta` has 3.0 and rolls back
+abbrev pub stable : Cohort
+stable =
+    record {
+      name = codes "stable";
+      target = Some (major 4);
+      held = Some (major 3);
+      share = 500;
+      rollback = false;
+      hintable = false;
+    }
+
+abbrev pub beta : Cohort
+beta =
+    record {
+      name = codes "beta";
+      target = Some (major 3);
+      held = None;
+      share = 1000;
+      rollback = true;
+      hintable = true;
+    }
+
+-- four releases, of which 2.0 is a stone, and five differentials, of which 1.0 to 3.0 jumps it
+abbrev pub demo : App
+demo =
+    record {
+      id = codes "demo";
+      cohorts = stable ∷ beta ∷ [];
+      releases = release_of 1 1000 false ∷ release_of 2 1200 true ∷ release_of 3 1500 false ∷ release_of 4 1600 false ∷ [];
+      diffs = diff_of 1 2 300 ∷ diff_of 1 3 100 ∷ diff_of 2 3 200 ∷ diff_of 2 4 500 ∷ diff_of 3 4 250 ∷ [];
+    }
+
+-- the key of a cohort's track in the only app
+abbrev pub key_of : ℕ → Lane → Bool → TrackKey
+key_of cohort lane rollback = record { app = 0; cohort = cohort; lane = lane; rollback = rollback }
+
+-- all payloads of an app: the full ones, then the differentials
+abbrev pub payloads_of : App → List Payload
+payloads_of app =
+    map (λ release. Full release) (range_with_len 0 (length app.releases))
+    ++ map (λ index. Differ index) (range_with_len 0 (length app.diffs))
+
+-- those that are permitted from a place
+abbrev pub permitted_from : App → TrackKey → Place → List Payload
+permitted_from app key place = filter (permits app key place) (payloads_of app)
+
+-- what is permitted from each release in turn
+abbrev pub permitted_of : App → TrackKey → List (List Payload)
+permitted_of app key =
+    map (λ release. permitted_from app key (At release)) (range_with_len 0 (length app.releases))
+
+-- the payloads from the releases of `demo`: 8 on the default track, 4 on the held one, and 7 in the
+-- cohort that rolls back, of which 3 lead down
+pub record ExampleIsWorked : Type 0 where
+  pub target :
+      permitted_of demo (key_of 0 lane.Target false)
+      ≡ (Full 1 ∷ Differ 0 ∷ [])
+      ∷ (Full 2 ∷ Full 3 ∷ Differ 2 ∷ Differ 3 ∷ [])
+      ∷ (Full 3 ∷ Differ 4 ∷ [])
+      ∷ []
+      ∷ []
+  pub held :
+      permitted_of demo (key_of 0 lane.Held false)
+      ≡ (Full 1 ∷ Differ 0 ∷ []) ∷ (Full 2 ∷ Differ 2 ∷ []) ∷ [] ∷ [] ∷ []
+  pub rollback :
+      permitted_of demo (key_of 1 lane.Target true)
+      ≡ (Full 1 ∷ Differ 0 ∷ []) ∷ (Full 2 ∷ Differ 2 ∷ []) ∷ [] ∷ (Full 0 ∷ Full 1 ∷ Full 2 ∷ []) ∷ []
+  pub no_target : permitted_of demo (key_of 1 lane.Held true) ≡ [] ∷ [] ∷ [] ∷ [] ∷ []
+  pub outside :
+      permitted_from demo (key_of 0 lane.Target false) (Outside (replicate 16 0)) ≡ Full 0 ∷ Full 1 ∷ []
+  pub chain : IsChain demo (key_of 0 lane.Target false) (At 0) (Differ 0 ∷ Differ 2 ∷ Differ 4 ∷ [])
+  pub sum : sum_of demo (Differ 0 ∷ Differ 2 ∷ Differ 4 ∷ []) ≡ 750
