@@ -25,7 +25,7 @@ use Rattle.values.proofs.SplitLemmas.{AllByRecursion-at, ascend-before, change-a
 use Rattle.catalogue.specs.Batches.{outcome}
 use Rattle.catalogue.specs.Changes.{in_cohort, in_release, new_cohort, new_diff, new_release, with_cohort, with_diff, with_release, with_release_setting, with_setting}
 use Rattle.values.specs.Lists.{change}
-use Rattle.histories.specs.Contents.{default_name, edit_of_cohort, edit_of_diff, edit_of_release, edit_of_share, edits_of_app, edits_of_audience, edits_of_content, edits_of_open, edits_of_release, edits_of_rollback, edits_of_settings, edits_of_stone, edits_of_targets, edits_of_withdrawn, spelling_of}
+use Rattle.histories.specs.Contents.{default_name, edit_of_cohort, edit_of_diff, edit_of_open, edit_of_release, edit_of_rollback, edit_of_share, edits_of_app, edits_of_audience, edits_of_content, edits_of_open, edits_of_release, edits_of_rollback, edits_of_settings, edits_of_stone, edits_of_targets, edits_of_withdrawn, spelling_of}
 use Rattle.catalogue.specs.Edits.CohortSettings.{setting_of_set_target}
 use Rattle.records.specs.Limits.{max_apps, max_cohorts, max_diffs, max_releases}
 use Rattle.records.specs.Lookups.{has_cohort, has_diff, has_hash, has_release, is_app, is_cohort, is_pair_below, is_release, packages_of, pair_of, same_pair}
@@ -309,10 +309,10 @@ module _ (laws : VersionLaws) (agrees : LenientAgrees) (front : List App) (app :
         Makes-append (edits_of_targets app cohort ++ edit_of_share app cohort ∷ edits_of_rollback app cohort) (edits_of_open app cohort) (settled (bare cohort)) (by_rollback cohort.rollback) (settled cohort)
         (Makes-append (edits_of_targets app cohort) (edit_of_share app cohort ∷ edits_of_rollback app cohort) (settled (bare cohort)) (settled targeted) (by_rollback cohort.rollback) makes_targets
         (Makes-append (edit_of_share app cohort ∷ []) (edits_of_rollback app cohort) (settled targeted) (settled shared) (by_rollback cohort.rollback) makes_share
-        (Makes-flag cohort.rollback (edit.SetRollback (record { app = app.id; cohort = cohort.name; on = true })) by_rollback
+        (Makes-flag cohort.rollback (edit_of_rollback app cohort) by_rollback
         (accepts_rollback front app.id fresh (with_among shared) refl cohort.name true (cohort_there shared refl))
         (settled-set (with_setting (setting.Rollback true)) shared refl))))
-        (Makes-flag cohort.hintable (edit.SetOpen (record { app = app.id; cohort = cohort.name; on = true })) by_open
+        (Makes-flag cohort.hintable (edit_of_open app cohort) by_open
         (accepts_open front app.id fresh (with_among closed) refl cohort.name true (cohort_there closed refl))
         (settled-set (with_setting (setting.Open true)) closed refl))
 

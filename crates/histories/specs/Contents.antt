@@ -96,15 +96,21 @@ edits_of_targets app cohort =
 abbrev pub edit_of_share : App → Cohort → Edit
 edit_of_share app cohort = edit.SetShare (record { app = app.id; cohort = cohort.name; share = cohort.share })
 
--- a cohort's rollback flag is set, if it is on
-abbrev pub edits_of_rollback : App → Cohort → List Edit
-edits_of_rollback app cohort =
-    if cohort.rollback then edit.SetRollback (record { app = app.id; cohort = cohort.name; on = true }) ∷ [] else []
+-- a cohort's rollback flag is set
+abbrev pub edit_of_rollback : App → Cohort → Edit
+edit_of_rollback app cohort = edit.SetRollback (record { app = app.id; cohort = cohort.name; on = true })
 
--- a cohort's open flag is set, if it is on
+-- and only if it is on
+abbrev pub edits_of_rollback : App → Cohort → List Edit
+edits_of_rollback app cohort = if cohort.rollback then edit_of_rollback app cohort ∷ [] else []
+
+-- a cohort's open flag is set
+abbrev pub edit_of_open : App → Cohort → Edit
+edit_of_open app cohort = edit.SetOpen (record { app = app.id; cohort = cohort.name; on = true })
+
+-- and only if it is on
 abbrev pub edits_of_open : App → Cohort → List Edit
-edits_of_open app cohort =
-    if cohort.hintable then edit.SetOpen (record { app = app.id; cohort = cohort.name; on = true }) ∷ [] else []
+edits_of_open app cohort = if cohort.hintable then edit_of_open app cohort ∷ [] else []
 
 -- all settings of a cohort
 abbrev pub edits_of_settings : App → Cohort → List Edit

@@ -10,7 +10,7 @@ use hex::FromHex;
 const MOST_BYTES: u64 = 1 << 40;
 
 /// Whether a text has from `least` to `most` bytes.
-pub fn has_length(text: &str, least: usize, most: usize) -> bool
+pub(crate) fn has_length(text: &str, least: usize, most: usize) -> bool
     ensures { result ≡ has_length least most text.now }
 {
     least <= text.len() && text.len() <= most
@@ -32,7 +32,7 @@ pub fn is_app_id(text: &str) -> bool
 
 // rule: Same app
 /// Whether two identifiers name one app.
-pub fn is_same_id(left: &str, right: &str) -> bool
+pub(crate) fn is_same_id(left: &str, right: &str) -> bool
     ensures { result ≡ same_id left.now right.now }
 {
     left.eq_ignore_ascii_case(right)
