@@ -48,6 +48,22 @@ diff 2.0 10.0 demo-2.0-10.0.bin 500 36
     makes(&rt, rt.alloc(), STAGED, content)
 }
 
+#[test]
+fn withdraws_a_release(rt: HostRuntime) -> Result<(), Fail> {
+    let alloc = rt.alloc();
+    let mut catalogue = catalogue_of(alloc, STAGED)?;
+    let before = shown(alloc, &catalogue)?;
+    catalogue.apply(&batch_of(alloc, "set_withdrawn demo 3.0 on")?)?;
+    let after = shown(alloc, &catalogue)?;
+    let line = "release 3.0 demo-3.0.bin 1500 3";
+    let withdrawn = "release 3.0 demo-3.0.bin 1500 3 withdrawn";
+    for (old, new) in before.as_str().lines().zip(after.as_str().lines()) {
+        let wanted = if old == line { withdrawn } else { old };
+        assert_eq!(rt; new, wanted);
+    }
+    Ok(())
+}
+
 const BARE: &str = "add_app mini stable
 add_cohort mini beta
 add_release mini 1.0 mini-1.0.bin 3 1111111111111111111111111111111111111111111111111111111111111111

@@ -92,11 +92,29 @@ fn diffs(alloc: Global, count: u32) -> Result<Vec<Edit>, Fail> {
     Ok(edits)
 }
 
+// What a catalogue answers to the batch of one line.
+fn answer(alloc: Global, catalogue: &mut Catalogue, line: &str) -> Result<String, Fail> {
+    let mut edits = Vec::new(alloc);
+    add(alloc, &mut edits, line)?;
+    match catalogue.apply(&Batch::new(edits)) {
+        Ok(()) => Ok(String::from_str(alloc, "accepted")?),
+        Err(error) => Ok(format!(in alloc; "{error}")?),
+    }
+}
+
 #[test]
 fn rejects_a_16385th_differential(rt: HostRuntime) -> Result<(), Fail> {
     let alloc = rt.alloc();
-    assert_eq!(rt; applies(alloc, diffs(alloc, 16384)?), Ok(()));
-    assert_eq!(rt; applies(alloc, diffs(alloc, 16385)?), limit_at(16641));
+    let mut catalogue = Catalogue::empty(alloc);
+    assert_eq!(rt; catalogue.apply(&Batch::new(diffs(alloc, 16384)?)), Ok(()));
+    let pair = "add_diff app0 1.254 1.255";
+    let hash = "5555555555555555555555555555555555555555555555555555555555555555";
+    let taken = format!(in alloc; "{pair} r-0.bin 1 {hash}")?;
+    let free = format!(in alloc; "{pair} free.bin 1 {hash}")?;
+    let rejected = answer(alloc, &mut catalogue, taken.as_str())?;
+    assert_eq!(rt; rejected.as_str(), "edit 0: C10 NameTaken");
+    let rejected = answer(alloc, &mut catalogue, free.as_str())?;
+    assert_eq!(rt; rejected.as_str(), "edit 0: C17 Limit");
     Ok(())
 }
 
