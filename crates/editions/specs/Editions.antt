@@ -28,7 +28,7 @@ abbrev pub IsAccepted : History → List Edit → Type 0
 IsAccepted history batch = IsOk (outcome_after history batch)
 
 -- rule: The next edition
--- rule: A batch's refusal before a full history
+-- rule: A rejected batch before a full history
 -- what a batch makes of a history: the history with the batch at its end, if the batch is accepted
 -- and there is room; the batch's refusal; that there is no room, if it would have been accepted; or
 -- out of memory

@@ -85,7 +85,7 @@ impl Edition {
     /// holds 4096 batches.
     // rule: The next edition
     // rule: Room for 4096 batches
-    // rule: A batch's refusal before a full history
+    // rule: A rejected batch before a full history
     pub fn next(&self, batch: Batch) -> Result<Edition, NextError>
         ensures { Continues self.now batch result }
     {

@@ -3,10 +3,9 @@
 ghost use Rattle.omaha_cli.specs.Once.{IsServed, Replies, Responds};
 ghost use Rattle.omaha_cli.specs.Streams.{Streams};
 
-use crate::answering::answer;
 use crate::command_line::Once;
 use crate::failure::Failure;
-use crate::service::{Service, builtin_service, read_service};
+use omaha_service::{Service, answer, builtin_service, read_service};
 use std::alloc::Global;
 use streams::{Disk, ReadFailure, ReadWhole, WriteWhole};
 
@@ -25,7 +24,7 @@ fn open_service<R: Disk + AllocGlobal>(rt: &R, once: &Once) -> Result<Service, F
         return Ok(builtin_service(rt.alloc())?);
     };
     match rt.read_file(rt.alloc(), path.as_str(), MAX_PROFILE) {
-        Ok(bytes) => read_service(rt.alloc(), bytes.as_slice()),
+        Ok(bytes) => Ok(read_service(rt.alloc(), bytes.as_slice())?),
         Err(ReadFailure::Memory) => Err(Failure::Memory),
         Err(_) => Err(Failure::File(path.clone()?)),
     }

@@ -166,7 +166,7 @@ reply_data reply = object (member (codes "response") (object
 abbrev pub script_guard : List ℕ
 script_guard = codes ")]}'" ++ 10 ∷ []
 
--- rule: Text of a reply
+-- rule: Bytes of a reply
 -- the text of a reply: the guard, and the value with no space in it
 abbrev pub reply_text : Reply → List ℕ
 reply_text reply = script_guard ++ compact_text (reply_data reply)

@@ -21,7 +21,7 @@ abbrev pub ◌>>=◌ : {X Y : Type 0}
 Ok x >>= step = step x
 Err fault >>= step = Err fault
 
--- rule: JSON of a text
+-- rule: JSON of a request
 -- the JSON value that a text is, where it is UTF-8 and JSON as `serde_json` takes it
 abbrev pub json_of : List ℕ → Option Data
 json_of text = if is_utf8 text then read text else None

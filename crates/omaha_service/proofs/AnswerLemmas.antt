@@ -6,8 +6,8 @@ use Rattle.editions.specs.Replies.{AreOutcomes, reply_of}
 use Rattle.editions.specs.declared.payload.Choice.{Choice}
 use Rattle.omaha_json.specs.ReplyWriting.{reply_text}
 use Rattle.omaha_json.specs.declared.request.Request.{Request}
-use Rattle.omaha_cli.specs.Answering.{granted, reply_by}
-use Rattle.omaha_cli.specs.declared.service.Service.{Service}
+use Rattle.omaha_service.specs.Answering.{granted, reply_by}
+use Rattle.omaha_service.specs.declared.service.Service.{Service}
 
 -- the first mirror is in range for each wish
 pub AreOutcomes-granted : (mirrors : List Mirror) (plan : List (Option Choice)) → AreOutcomes mirrors plan (granted mirrors plan)

@@ -11,7 +11,7 @@ use Rattle.omaha_json.specs.declared.fault.RequestFault.{RequestFault}
 use Rattle.omaha_json.specs.declared.request.Request.{Request}
 use Rattle.values.specs.Reading.{Explains}
 use Rattle.values.specs.declared.read_error.ReadError.{ReadError}
-use Rattle.omaha_cli.specs.declared.service.Service.{Service}
+use Rattle.omaha_service.specs.declared.service.Service.{Service}
 
 -- the first mirror, if there is one
 abbrev pub first_mirror : List Mirror → Option ℕ
@@ -34,7 +34,7 @@ pub record IsReply (service : Service) (moment : ℕ) (request : Request) (text 
   pub planned : IsPlan (content_of service.edition) request plan
   pub written : text ≡ reply_by service moment plan request
 
--- rule: Answer of the program
+-- rule: Reply of the program
 -- the reply to the request that the input is; or the input's first fault, or out of memory
 abbrev pub Answers : Service → ℕ → List ℕ → Result (List ℕ) (ReadError RequestFault) → Type 0
 Answers service moment input (Ok reply) =

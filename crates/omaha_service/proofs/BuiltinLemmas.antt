@@ -10,7 +10,7 @@ use Rattle.editions.specs.Editions.{Continues, outcome_after}
 use Rattle.editions.specs.Plans.{content_of, content_or_none}
 use Rattle.editions.specs.declared.fault.NextError.TheVariants as error
 use Rattle.hex.proofs.OnLiterals.{hex_on_literals}
-use Rattle.omaha_cli.specs.Builtin.{builtin_apps, builtin_batch}
+use Rattle.omaha_service.specs.Builtin.{builtin_apps, builtin_batch}
 
 pub outcome-builtin_batch : outcome builtin_batch [] ≡ Ok builtin_apps
 unfolding version_of components_of lenient_version_of hash_of hex_on_literals
