@@ -1,10 +1,10 @@
 #!/usr/bin/env python3
-"""Counts words that the documents and comments avoid, and prints each place with a better word.
+"""Counts retired words in documents and comments, and prints each place with a better word.
 
 It reads README, `docs/`, the documents of `examples/`, the comments of all code, specs, proofs and
-scripts, the docstrings, and the strings of `--help`. What stands between backticks is code, and counts
-for nothing: names, options and printed codes are fixed. `tests/words.py` fails if there is such a word;
-`tests/words.py PATH ..` looks only at files whose path begins so.
+scripts, the docstrings, and the strings of `--help`. Code between backticks is exempt: names, options
+and printed codes are fixed. `tests/words.py` fails if it finds one that is not known;
+`tests/words.py PATH ..` prints all in the files whose path begins so.
 """
 
 import io
@@ -27,7 +27,7 @@ RETIRED = [
     (r"refus(e|es|ed|ing|al|als)", "is rejected, error"),
     (r"stands?|stood|standing", "is"),
     (r"behind|in front of", "after, before"),
-    (r"where (it|there|they|that|no|none|one|both|each|all|nothing|memory|its|an?|the) (\w+ )?(is|isn't|are|was|has|have|does|doesn't|leads|can|ran|gives)", "if"),
+    (r"where (there (is|are|was|were|isn't|aren't)|memory|none|nothing|no \w+ (is|are|has|have|leads)|it (has|does|doesn't|isn't))", "if"),
     (r"(only|also|except|even|unless) where", "if"),
     (r"moments?", "timestamp, time"),
     (r"(open|stone|withdrawn|rollback) marks?", "flag"),
@@ -44,6 +44,9 @@ RETIRED = [
 ]
 WORDS = [(re.compile(rf"(?<![\w-])(?:{pattern})(?![\w-])", re.IGNORECASE), better) for pattern, better in RETIRED]
 
+# Where some are left, by the beginning of the path: there may be at most so many.
+LEFT = {"crates/catalogue": 110}
+
 CODE = re.compile(r"`[^`]*`")
 COMMENTS = {
     ".rt": re.compile(r"(?:^|\s)//[/!]? ?(?!rule: )(.*)"),
@@ -51,8 +54,8 @@ COMMENTS = {
     ".toml": re.compile(r"(?:^|\s)# ?(.*)"),
     "Makefile": re.compile(r"^# ?(.*)"),
 }
-HELP = "crates/omaha_cli/src/command_line.rt"
-STRING = re.compile(r'"((?:[^"\\]|\\.)*)"', re.DOTALL)
+HELP = re.compile(r"crates/omaha_cli/src/command_line\.rt$")
+STRING = re.compile(r'^const \w+: &str =\s*"((?:[^"\\]|\\.)*)"', re.DOTALL | re.MULTILINE)
 
 
 def comments(text, pattern):
@@ -88,7 +91,7 @@ def prose(path, text):
         yield from docstrings(text)
     elif suffix in COMMENTS or name in COMMENTS:
         yield from comments(text, COMMENTS.get(suffix) or COMMENTS[name])
-    if path == HELP:
+    if HELP.search(path):
         yield from help_of(text)
 
 
@@ -101,7 +104,7 @@ def files():
 
 def main():
     asked = tuple(sys.argv[1:]) or ("",)
-    count = 0
+    found_at = []
     for path in files():
         if path == "tests/words.py" or not path.startswith(asked):
             continue
@@ -112,10 +115,17 @@ def main():
         for number, line in prose(path, text):
             for word, better in WORDS:
                 for found in word.finditer(CODE.sub("``", line)):
-                    print(f"{path}:{number}: {found.group(0)}: better: {better}", file=sys.stderr)
-                    count += 1
-    print(f"{count} words to avoid in documents and comments")
-    return 1 if count else 0
+                    found_at.append((path, f"{path}:{number}: {found.group(0)}: better: {better}"))
+    left = {start: [line for path, line in found_at if path.startswith(start)] for start in LEFT}
+    wrong = [line for path, line in found_at if not path.startswith(tuple(LEFT))]
+    for start, lines in left.items():
+        if len(lines) > LEFT[start] or len(sys.argv) > 1:
+            wrong += lines
+    for line in wrong:
+        print(line, file=sys.stderr)
+    known = sum(map(len, left.values()))
+    print(f"{len(found_at)} retired words in documents and comments, {known} of them known")
+    return 1 if wrong else 0
 
 
 if __name__ == "__main__":

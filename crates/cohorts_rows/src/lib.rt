@@ -1,4 +1,4 @@
-//! Worked rows of cohorts: texts, and the tracks of a catalogue's clients.
+//! Worked rows of cohorts: cohort texts, and the tracks of a catalogue's clients.
 //!
 //! It has tests alone, so that `cohorts` itself is proved once.
 

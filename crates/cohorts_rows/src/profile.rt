@@ -64,7 +64,7 @@ pub(crate) fn with_share(alloc: Global, cohort: &str, share: u64) -> Result<Cata
     demo_after(alloc, edit.as_str())
 }
 
-/// App `demo` where no hint may name `beta`.
+/// App `demo` with a `beta` that no hint may name.
 pub(crate) fn with_closed_beta(alloc: Global) -> Result<Catalogue, Fail> {
     demo_after(alloc, "do = 'set_open', cohort = 'beta', on = false")
 }

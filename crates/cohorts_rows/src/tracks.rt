@@ -6,7 +6,7 @@ use std::alloc::{AllocError, Global};
 use std::test::Fail;
 use values::Text;
 
-// A client that names its cohort and a hint so, and that may be led down.
+// A client that names its cohort and a hint so, and that may be downgraded.
 fn client(alloc: Global, cohort: &str, hint: &str) -> Result<AppAsk, AllocError> {
     let none = Text::copy_of(alloc, "")?;
     let check = Check {

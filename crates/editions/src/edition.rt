@@ -81,7 +81,7 @@ impl Edition {
 
     /// Makes the edition with one more batch, and leaves this one as it is.
     ///
-    /// Returns the batch's first refused edit if there is one, then `HistoryFull` if this edition
+    /// Returns the batch's first rejected edit if there is one, then `HistoryFull` if this edition
     /// holds 4096 batches.
     // rule: The next edition
     // rule: Room for 4096 batches

@@ -9,7 +9,7 @@ use std::test::Fail;
 /// The SHA-256 of `abc`, the full package of `mini` 1.0.
 pub(crate) const FIRST: &str = "ba7816bf8f01cfea414140de5dae2223b00361a396177a9cb410ff61f20015ad";
 
-/// The SHA-256 of a text of 56 bytes, from the standard's examples: the full package of `mini` 2.0.
+/// The SHA-256 of a string of 56 bytes, from the standard's examples: the full package of `mini` 2.0.
 pub(crate) const SECOND: &str = "248d6a61d20638b8e5c026930c3e6039a33ce45964ff2167f6ecedd419db06c1";
 
 /// The hash of the full package of `mini` 3.0, which is above the target.

@@ -11,7 +11,7 @@ fn at_first(alloc: Global, cohort: &str, hint: &str) -> Result<String, Fail> {
     )?)
 }
 
-// The answer that offers the full package of a version, whose hash has one digit.
+// The reply that offers the full package of a version, whose hash has one digit.
 fn offered(
     alloc: Global,
     (cohort, name): (&str, &str),

@@ -39,8 +39,8 @@ IsOfFile file made = (bytes : List ℕ) × IsWhole file max_profile bytes × (se
 abbrev pub IsUnreadable : Known → Type 0
 IsUnreadable file = (file.failed ≡ true) ⊎ IsLonger file max_profile
 
--- what requests are answered from: the built-in catalogue without a path, else that of the file; or
--- why there is nothing to answer from
+-- what requests are replied to from: the built-in catalogue without a path, else that of the file; or
+-- why there is nothing to reply from
 abbrev pub IsServed : Files → Option (List ℕ) → Result Service Failure → Type 0
 IsServed files None (Ok service) = service ≡ builtin_service
 IsServed files None (Err refusal) = refusal ≡ failure.Memory

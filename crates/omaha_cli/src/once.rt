@@ -16,7 +16,7 @@ const MAX_INPUT: u32 = 262144;
 const MAX_PROFILE: u32 = 67108864;
 
 // rule: Maximum of a profile
-// Reads the profile's file, if one is named, and makes what requests are answered from.
+// Reads the profile's file, if one is named, and makes what requests are replied to from.
 fn open_service<R: Disk + AllocGlobal>(rt: &R, once: &Once) -> Result<Service, Failure>
     ensures { IsServed (R.file_at rt.now) once.now.profile result }
 {

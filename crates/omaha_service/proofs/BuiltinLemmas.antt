@@ -1,4 +1,4 @@
--- The built-in batch is accepted, so it is never refused, and leads to the built-in content.
+-- The built-in batch is accepted, so it is never rejected, and leads to the built-in content.
 use Rattle.std.proofs.Common.{◌≡◌, List, [], ◌∷◌, Result, Ok, Err, length, refl, ap, arith}
 use Rattle.version.specs.Versions.{components_of, lenient_version_of, version_of}
 use Rattle.catalogue.specs.Batches.{outcome, run, then_run}

@@ -26,7 +26,7 @@ fn granted(alloc: Global, mirrors: &[Mirror], plan: &Plan) -> Result<Vec<Option<
 }
 
 // rule: Reply of the program
-/// Answers an input from a catalogue, at a time in seconds since 1 January 1970 UTC.
+/// Replies to an input from a catalogue, at a time in seconds since 1 January 1970 UTC.
 ///
 /// Returns the reply to the request that the input is, and nothing else; or the input's first fault,
 /// as `omaha_json::read_request` does.
