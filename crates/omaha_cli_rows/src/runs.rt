@@ -1,4 +1,4 @@
-// Runs by rows of text: `WANTED | ARGUMENTS`.
+// Runs by rows of one string: `WANTED | ARGUMENTS`.
 
 use omaha_cli::run;
 use std::alloc::{AllocError, Global};
