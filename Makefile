@@ -1,26 +1,24 @@
-# make demo          answers two requests of examples/ from a staged profile, built without a proof
-# make test          the gate: the rules' marks, every proof from nothing, must-fail edits, tests and
-#                    the program
+# make demo          prints two requests of examples/ and their replies from a staged profile, by the
+#                    program built without a proof
+# make test          the gate: the rules' marks, the words to avoid, every proof from nothing, must-fail
+#                    edits, tests and the program
 # make install       proves, builds and installs the program below PREFIX
 # make allocations   runs the program, after make install, with each of its allocations failing in
 #                    turn; it needs a C compiler
 # make bench         times the program, after make install, on large profiles beside the tomllib of
 #                    Python, 3.11 or newer
+# make instructions  counts the instructions of a reply, after make install; it needs valgrind
 
 PREFIX ?= /usr/local
-EXAMPLES = $(CURDIR)/examples
-STAGED = once --profile $(EXAMPLES)/staged.toml --moment 1767229261
 
-.PHONY: demo test install allocations bench
+.PHONY: demo test install allocations bench instructions
 
 demo:
-	@echo "omaha: building without a proof (make test proves it), then answering examples/staged.json"
-	@cd crates/omaha && rt try -- $(STAGED) < $(EXAMPLES)/staged.json && echo
-	@echo "omaha: answering examples/held.json"
-	@cd crates/omaha && rt try -- $(STAGED) < $(EXAMPLES)/held.json && echo
+	@examples/demo.py
 
 test:
 	tests/rules.py
+	tests/words.py
 	rt ci
 
 install:
@@ -33,3 +31,6 @@ allocations:
 
 bench:
 	bench/profiles.py
+
+instructions:
+	bench/once.py

@@ -12,9 +12,15 @@ import hashlib
 import sys
 
 
+def digest_of(app, version):
+    """The hash of a release's package."""
+    return hashlib.sha256(f"app-{app} {version}".encode()).hexdigest()
+
+
 def release(app, number):
+    """A release's version and its table."""
     version = f"{1 + number // 100}.{number % 100}.{number * 7 % 1000}"
-    digest = hashlib.sha256(f"app-{app} {version}".encode()).hexdigest()
+    digest = digest_of(app, version)
     return version, (
         "[[app.release]]\n"
         f'version = "{version}"\n'

@@ -1,7 +1,7 @@
 #!/usr/bin/env python3
 """Runs the built program with each of its allocations failing in turn.
 
-A small library in front of the C library's `malloc` and `realloc` lets the Nth call fail, for N from 1
+A small library before the C library's `malloc` and `realloc` lets the Nth call fail, for N from 1
 until a run has no Nth call. Each run must either end with the status 1, the line `omaha: memory` and
 no reply, or go on without that memory and write the whole reply with the status 0.
 
@@ -51,7 +51,7 @@ void *realloc(void *old, size_t size) {
 
 
 def built(folder):
-    """Compiles the library in front of `malloc`, and returns its path."""
+    """Compiles the library before `malloc`, and returns its path."""
     source, library = f"{folder}/failing.c", f"{folder}/failing.so"
     with open(source, "w") as it:
         it.write(SHIM)

@@ -1,7 +1,7 @@
 #!/usr/bin/env python3
 """Checks the marks of the rules, and prints where each rule lives.
 
-A rule has one plain name. A comment `-- rule: NAME` stands above the definition that states it, in a
+A rule has one plain name. A comment `-- rule: NAME` is above the definition that states it, in a
 file of `specs/`; `// rule: NAME` above each function that keeps it; and a line `# rule: NAME` in each
 must-fail edit that breaks it. Every rule needs exactly one definition, a function and an edit, and a
 heading in `docs/DEFINITIONS.md` whose text names the definition's file and crate; the few that no edit
@@ -25,7 +25,7 @@ NO_EDIT = {
     "Faults of a script": "its parts are rules of their own",
     "Tables of a profile": "its parts are rules of their own",
     "Tables of a script": "its parts are rules of their own",
-    "Text of a profile": "the reading is that of the crate toml",
+    "TOML of a profile": "the reading is that of the crate toml",
 }
 
 MARK = re.compile(r"^\s*(?:--|//|#) rule: (.+?)\s*$")

@@ -14,7 +14,7 @@ use Rattle.std.proofs.lemmas.Str.Parse.{IsNumeralModel, digits_value_short, nume
 use Rattle.cohorts.specs.CohortTexts.{bucket_of, has_leading_zero, is_bucket}
 use Rattle.cohorts.specs.Tracks.{IsBucketOf, session_bucket}
 
--- the texts of ASCII digits are those of decimal digits
+-- the strings of ASCII digits are those of decimal digits
 numerals : IsNumeralModel (λ digits. list_all is_ascii_digit digits ≡ true) (digits_value 10)
 numerals = numerals_by_value _ tells_all_ascii_digits
 

@@ -10,12 +10,12 @@ use Rattle.records.specs.Forms.{is_cohort_byte, is_cohort_name}
 use Rattle.cohorts.specs.CohortTexts.{bucket_of, is_bucket, is_colon, named, parsed, printed}
 use Rattle.cohorts.proofs.BucketLemmas.{bucket_nonempty, bucket_of-decimal, decimal-bucket}
 
--- a text is read by what stands before and after its first colon
+-- a string is read by what is before and after its first colon
 pub parsed-split : (text name digits : List ℕ) → name ≡ before_first is_colon text → digits ≡ after_first is_colon text → parsed text ≡ named name (bucket_of digits)
 unfolding parsed
 parsed-split text name digits before after = rw (before, after) refl
 
--- a text without a colon has not the form
+-- a string without a colon is not well formed
 pub parsed-no_colon : (text : List ℕ) → position_or_len is_colon text ≡ length text → parsed text ≡ None
 unfolding parsed
 parsed-no_colon text none =
@@ -27,20 +27,20 @@ is_colon-name : (byte : ℕ) → is_cohort_byte byte ≡ true → is_colon byte 
 is_colon-name byte good =
     false_from_ne_true (is_colon byte) (λ colon. false≢true (subst (λ b. is_cohort_byte b ≡ true) (eqb-true byte 58 colon) good))
 
--- the first colon of a cohort text stands behind its name
+-- the first colon of a cohort text is after its name
 colon_behind : (name digits : List ℕ) → list_all is_cohort_byte name ≡ true → position_or_len is_colon (name ++ 58 ∷ digits) ≡ length name
 colon_behind [] digits good = refl
 colon_behind (byte ∷ name) digits good =
     let parts = and_parts _ _ good in
     rw (is_colon-name byte parts.0, colon_behind name digits parts.1) (omega arith)
 
--- what stands behind the colon
+-- what is after the colon
 drop-colon : (name digits : List ℕ) → drop (length name + 1) (name ++ 58 ∷ digits) ≡ digits
 drop-colon name digits =
     rw (← append_assoc name (58 ∷ []) digits)
     (drop_at (name ++ 58 ∷ []) digits (length name + 1) (length-append name (58 ∷ [])))
 
--- a name and a bucket are read back from their text
+-- a name and a bucket are read back from their cohort text
 pub parsed-printed : (name : List ℕ) (bucket : ℕ) → is_cohort_name name ≡ true → bucket < 1000 → parsed (printed name bucket) ≡ Some (name, bucket)
 parsed-printed name bucket good small =
     let digits : List ℕ = decimal bucket in
@@ -50,7 +50,7 @@ parsed-printed name bucket good small =
     parsed-split (name ++ 58 ∷ digits) name digits (sym before) (sym after)
     ∙ rw (bucket_of-decimal bucket small, good) refl
 
--- what a text names: a name and a bucket of their forms
+-- what a string names: a valid name and bucket
 pub record Names (text name : List ℕ) (bucket : ℕ) : Type 0 where
   pub good : is_cohort_name name ≡ true
   pub digits : is_bucket (after_first is_colon text) ≡ true
@@ -77,7 +77,7 @@ Names-named text name bucket whole =
     by_digits false digits good named_good whole = cc
     by_digits true digits good named_good whole = by_name good named_good digits (rw named_good at whole)
 
--- what is read from a text has its form, and its text is that text
+-- what is read from a string is valid, and prints as that string
 pub printed-parsed : (text name : List ℕ) (bucket : ℕ) → parsed text ≡ Some (name, bucket) → (is_cohort_name name ≡ true) × (bucket < 1000) × (printed name bucket ≡ text)
 unfolding parsed
 printed-parsed text name bucket whole =

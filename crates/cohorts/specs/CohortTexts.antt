@@ -29,11 +29,11 @@ named name None = None
 named name (Some bucket) = if is_cohort_name name then Some (name, bucket) else None
 
 -- rule: Cohort text
--- the cohort's name and the bucket that a text names: what is before its first colon, and what is
--- after it; none if the text is not well formed
+-- the cohort's name and the bucket that a string names: what is before its first colon, and what is
+-- after it; none if the string is not well formed
 unfoldable pub parsed : List ℕ → Option (List ℕ × ℕ)
 parsed text = named (before_first is_colon text) (bucket_of (after_first is_colon text))
 
--- the text of a cohort's name and a bucket
+-- the cohort text of a name and a bucket
 abbrev pub printed : List ℕ → ℕ → List ℕ
 printed name bucket = name ++ 58 ∷ decimal bucket

@@ -3,13 +3,13 @@ use Rattle.std.specs.Prelude.{◌≡◌, ℕ, ◌<◌, List, Some, true}
 use Rattle.records.specs.Forms.{is_cohort_name}
 use Rattle.cohorts.specs.CohortTexts.{parsed, printed}
 
--- a name and a bucket are read back from their text
+-- a name and a bucket are read back from their cohort text
 abbrev pub PrintedIsParsed : Type 0
 PrintedIsParsed =
     (name : List ℕ) (bucket : ℕ) →
     is_cohort_name name ≡ true → bucket < 1000 → parsed (printed name bucket) ≡ Some (name, bucket)
 
--- what is read from a text is well formed, and prints as that text
+-- what is read from a string is well formed, and prints as that string
 abbrev pub ParsedIsPrinted : Type 0
 ParsedIsPrinted =
     (text name : List ℕ) (bucket : ℕ) →

@@ -21,13 +21,13 @@ is_hinted hint cohort = cohort.hintable && is_cohort hint cohort
 abbrev pub hinted_cohort : List Cohort → List ℕ → Option ℕ
 hinted_cohort cohorts hint = position (is_hinted hint) cohorts
 
--- the cohort that a sent text names, open or not
+-- the cohort that a sent cohort text names, open or not
 abbrev pub sent_cohort : List Cohort → List ℕ → Option ℕ
 sent_cohort cohorts text =
     option_and_then (λ named. position (is_cohort named.0) cohorts) (parsed text)
 
 -- rule: Cohort of a client
--- a client's cohort: the one that its hint names, else the one that its text names, else the
+-- a client's cohort: the one that its hint names, else the one that its cohort text names, else the
 -- default one
 abbrev pub cohort_of : List Cohort → AppAsk → ℕ
 cohort_of cohorts ask =
@@ -44,7 +44,7 @@ IsBucketOf session None = Unit {0}
 IsBucketOf session (Some bucket) = bucket ≡ session_bucket session
 
 -- rule: Bucket of a client
--- a client's bucket: the one that its text names, whatever the cohort, else its session's
+-- a client's bucket: the one that its cohort text names, whatever the cohort, else its session's
 abbrev pub bucket_of : AppAsk → List ℕ → ℕ
 bucket_of ask session =
     option_map_or (λ named. named.1) (parsed ask.cohort) (session_bucket session)

@@ -35,7 +35,7 @@ fn parse_bucket(digits: &str) -> Option<u16>
     digits.parse::<u16>().ok()
 }
 
-/// The text by which a client names its cohort and its bucket, as `stable:319`.
+/// The string by which a client names its cohort and its bucket, as `stable:319`.
 ///
 /// It is a cohort's name, of 1 to 32 lower-case letters, digits and `-`, a colon, and a bucket of 0
 /// to 999 in decimal without leading zeros.

@@ -3,9 +3,9 @@
 //! A `Track` is the cohort that serves a client, its bucket of 1000, and what follows from them:
 //! the lane, the target, and whether the client may be downgraded. `assign` returns a client's
 //! track in an app, and `Session::assign` that of each client of one request, whose session is
-//! hashed at most once. `CohortText` reads and prints the text by which a client names its cohort
+//! hashed at most once. `CohortText` reads and prints the string by which a client names its cohort
 //! and its bucket. Read `specs/Tracks.antt` for the assignment, `specs/CohortTexts.antt` for the
-//! texts, and `laws` for what holds of them.
+//! strings, and `laws` for what holds of them.
 //!
 //! It does not decide what a client is offered on its track: crates above do.
 

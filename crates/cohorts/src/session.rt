@@ -6,7 +6,7 @@ use std::marker::Model;
 
 /// The session of a request, which contracts see as its bytes.
 ///
-/// Its bucket takes a SHA-256 of the whole text. It is computed when a client first needs it, and
+/// Its bucket takes a SHA-256 of the whole string. It is computed when a client first needs it, and
 /// then kept for the clients after.
 #[derive(Drop)]
 pub struct Session<'a> {
@@ -36,7 +36,7 @@ fn hash_session(session: &str) -> u16
 }
 
 impl<'a> Session<'a> {
-    /// Makes a session whose bucket is not known yet; it does not hash the text.
+    /// Makes a session whose bucket is not known yet; it does not hash the string.
     pub fn new(text: &'a str) -> Session<'a>
         ensures { result ≡ text.now }
     {
@@ -54,21 +54,21 @@ impl<'a> Session<'a> {
         }
     }
 
-    /// Borrows the text.
+    /// Borrows the string.
     pub fn as_str(&self) -> &'a str
         ensures { result.now ≡ self.now }
     {
         self.text
     }
 
-    /// Returns the bucket if a client needed it, without hashing the text.
+    /// Returns the bucket if a client needed it, without hashing the string.
     pub fn known_bucket(&self) -> Option<u16>
         ensures { IfSome result (λ bucket. bucket ≡ session_bucket self.now) }
     {
         self.bucket
     }
 
-    /// Returns the bucket, 0 to 999, and hashes the text if it was not known.
+    /// Returns the bucket, 0 to 999, and hashes the string if it was not known.
     pub fn bucket(&mut self) -> u16
         ensures value { result ≡ session_bucket self.old }
         ensures small { result < 1000 }

@@ -141,7 +141,7 @@ impl<'a> Session<'a> {
 ///
 /// - Cohort: the one that the hint names if it is open to hints; else the one that the cohort text
 ///   names if the app has it; else the default one.
-/// - Bucket: the cohort text's if the text is well formed, else that of the session, which may be
+/// - Bucket: the cohort text's if that is well formed, else that of the session, which may be
 ///   empty.
 /// - Lane: the target's if the bucket is below the cohort's share, else the held one. The track's
 ///   target is the lane's.

@@ -31,7 +31,7 @@ no_chain app track place [] none chain = let e = rw none at chain in cc
 no_chain app track place (Full release ∷ payloads) none chain =
     no_chain app track (At release) payloads none chain.1
 
--- without a target no chain leads on
+-- without a target no chain reaches it
 pub LeadsNowhere-no_target : (app : App) (track : Track) (place : Place) → target_of app track ≡ None → LeadsNowhere app track place
 LeadsNowhere-no_target app track place none payload (others, chain) =
     no_chain app track place (payload ∷ others) none chain
@@ -72,7 +72,7 @@ module _ (irreflexive : BelowIsIrreflexive) (transitive : BelowIsTransitive) (to
       cases true rises = transitive lower middle upper below rises
       cases false level = subst (λ (version : List ℕ). is_below lower version ≡ true) (total middle upper level not_above) below
 
-  -- from a place that isn't below the target no chain leads on
+  -- from a place that isn't below the target no chain reaches it
   pub LeadsNowhere-not_below : (app : App) (track : Track) (place : Place) (index : ℕ) (release : Release) (version : List ℕ) → IsTarget app track index release version → is_below (version_at app place) release.version ≡ false → LeadsNowhere app track place
   LeadsNowhere-not_below app track place index release version target not_below payload (others, chain) =
       let permitted : permits_to app version place payload ≡ true = rw target.tracked at chain.0 in

@@ -16,7 +16,7 @@ find-position p xs =
     cases true within = refl
     cases false past = slice_get_past xs (position_or_len p xs) (ltb-false _ _ past)
 
--- where no item has a position, none is found
+-- if no item has a position, none is found
 pub find_nowhere : {A : Type 0} (p : A → Bool) (xs : List A) → position p xs ≡ None → find p xs ≡ None
 find_nowhere p xs nowhere = find-position p xs ∙ ap (option_and_then (slice_get xs)) nowhere
 

@@ -18,7 +18,7 @@ use Rattle.records.specs.declared.content.Cohort.{Cohort}
 use Rattle.records.specs.declared.content.Release.{Release}
 use Rattle.editions.specs.Places.{fingerprint_with, has_fingerprint, IsHashOf}
 
--- a digit of the table stands for one number
+-- a digit of the table means one number
 digit-injective : (digit other : ℕ) → digit < 16
     → get_or lower_digits digit 0 ≡ get_or lower_digits other 0 → digit ≡ other
 digit-injective digit other small same =
@@ -94,7 +94,7 @@ has_fingerprint-has_hash fp hash release is =
         let digits : encode_lower hash ≡ encode_lower release.hash = cc in
         encode_lower-injective hash release.hash is.1 digits
 
--- tests that agree on each good item agree on its first place
+-- tests that agree on each valid item agree on its first place
 position_or_len-agrees : {A : Type 0} (good test other : A → Bool)
     → ((item : A) → good item ≡ true → test item ≡ other item)
     → (items : List A) → list_all good items ≡ true
@@ -122,7 +122,7 @@ IsBytes-small (byte ∷ bytes) small zero =
     omega (arith, fits)
 IsBytes-small (byte ∷ bytes) small (suc index) = IsBytes-small bytes (and_parts _ _ small).1 index
 
--- a text that is no hash's fingerprint is no release's
+-- a string that is no hash's fingerprint is no release's
 is_not_fingerprint : (fp : List ℕ) (cohorts : List Cohort) (release : Release) → IsHashOf fp None
     → is_good_release cohorts release ≡ true → has_fingerprint fp release ≡ false
 is_not_fingerprint fp cohorts release none good =
@@ -131,7 +131,7 @@ is_not_fingerprint fp cohorts release none good =
     let differs = none release.hash sized (IsBytes-small release.hash hash.1) in
     false_from_ne_true _ (λ same. differs ((bytes_eq-Decides fp (fingerprint_with release.hash)).0 same))
 
--- a text that is no hash's fingerprint has no release
+-- a string that is no hash's fingerprint has no release
 pub position-has_fingerprint : (fp : List ℕ) (cohorts : List Cohort) (releases : List Release)
     → IsHashOf fp None → list_all (is_good_release cohorts) releases ≡ true
     → position (has_fingerprint fp) releases ≡ None

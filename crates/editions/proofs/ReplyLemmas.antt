@@ -1,4 +1,4 @@
--- Every reply has a text.
+-- Every reply is writable.
 use Rattle.std.proofs.Common.{List, map, Option, None, Some, All, ℕ, get_or}
 use Rattle.std.proofs.lemmas.List.Elements.{All-map}
 use Rattle.records.specs.declared.content.App.{App}
@@ -30,7 +30,7 @@ IsStateWritable-one : (apps : List App) (session : List ℕ) (mirrors : List Mir
 IsStateWritable-one apps session mirrors asked =
     IsStateWritable-state_of mirrors (client_of apps session asked.0) asked.0 asked.1
 
--- each answer for an app has a text
+-- each reply for an app is writable
 pub IsStateWritable-app_reply : (apps : List App) (session : List ℕ) (mirrors : List Mirror) (asked : List (AppAsk × Decision)) → All (λ (reply : AppReply). IsStateWritable reply.state) (map (app_reply apps session mirrors) asked)
 IsStateWritable-app_reply apps session mirrors asked =
     All-map (λ (reply : AppReply). IsStateWritable reply.state) (app_reply apps session mirrors) asked (λ index one within. IsStateWritable-one apps session mirrors (get_or asked index one))

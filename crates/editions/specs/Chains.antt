@@ -69,6 +69,6 @@ Begins app track place payload =
     (others : List Payload) × IsChain app track place (payload ∷ others)
 
 -- rule: No update
--- no chain leads on: none begins with a payload
+-- no chain reaches the target: none begins with a payload
 abbrev pub LeadsNowhere : App → Track → Place → Type 0
 LeadsNowhere app track place = (payload : Payload) → ¬ Begins app track place payload

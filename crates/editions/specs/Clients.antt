@@ -26,6 +26,6 @@ client_of apps session ask =
 abbrev pub cohort_of : Client → Cohort
 cohort_of client = cohort_at client.app.cohorts client.track.cohort
 
--- the text by which a client names its cohort and its bucket
+-- the string by which a client names its cohort and its bucket
 abbrev pub cohort_text : Client → List ℕ
 cohort_text client = printed (cohort_of client).name client.track.bucket

@@ -19,7 +19,7 @@ pub record IsSound (history : History) (apps : List App) : Type 0 where
   pub few : length history ≤ most_batches
   pub led : LeadsTo history apps
 
--- the content that a batch leads to after a history, or its first refused edit
+-- the content that a batch leads to after a history, or its first rejected edit
 abbrev pub outcome_after : History → List Edit → Result (List App) Refused
 outcome_after history batch = then_run (outcome batch) (run history [])
 
@@ -28,9 +28,9 @@ abbrev pub IsAccepted : History → List Edit → Type 0
 IsAccepted history batch = IsOk (outcome_after history batch)
 
 -- rule: The next edition
--- rule: A batch's refusal before a full history
+-- rule: A rejected batch before a full history
 -- what a batch makes of a history: the history with the batch at its end, if the batch is accepted
--- and there is room; the batch's refusal; that there is no room, if it would have been accepted; or
+-- and there is room; the batch's rejected edit; that there is no room, if it would have been accepted; or
 -- out of memory
 abbrev pub Continues : History → List Edit → Result History NextError → Type 0
 Continues history batch (Ok next) =

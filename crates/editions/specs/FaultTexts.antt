@@ -1,4 +1,4 @@
--- How a refusal of a batch prints, as the program shows it; this project's
+-- How the error of a batch prints, as the program shows it; this project's
 -- profile.
 use Rattle.std.specs.Prelude.{ℕ, List, codes}
 use Rattle.catalogue.specs.FaultTexts.{refused_text}
@@ -6,7 +6,7 @@ use Rattle.editions.specs.declared.fault.NextError.{NextError}
 use Rattle.editions.specs.declared.fault.NextError.TheVariants as error
 
 -- rule: Printed error of a batch
--- the refused edit, as `edit 12: C11 UnknownRelease`; else `history full` or `memory`
+-- the rejected edit, as `edit 12: C11 UnknownRelease`; else `history full` or `memory`
 abbrev pub error_text : NextError → List ℕ
 error_text (error.Refused refused) = refused_text refused
 error_text error.HistoryFull = codes "history full"

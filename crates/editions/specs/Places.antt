@@ -23,7 +23,7 @@ fingerprint_of release = fingerprint_with release.hash
 abbrev pub has_fingerprint : List ℕ → Release → Bool
 has_fingerprint fp release = bytes_eq fp (fingerprint_of release)
 
--- the text is the fingerprint of that hash of 32 bytes; without one, of no hash
+-- the string is the fingerprint of that hash of 32 bytes; without one, of no hash
 abbrev pub IsHashOf : List ℕ → Option (List ℕ) → Type 0
 IsHashOf fp None = (hash : List ℕ) → length hash ≡ 32 → IsBytes hash → ¬ (fp ≡ fingerprint_with hash)
 IsHashOf fp (Some hash) = (fp ≡ fingerprint_with hash) × IsBytes hash

@@ -32,7 +32,7 @@ client_to_update apps session ask = if wants_update ask then client_of apps sess
 
 -- rule: Requested bytes
 -- what is chosen for a client that wants an update: a payload that begins a chain, with its bytes;
--- or nothing, if no chain leads on
+-- or nothing, if no chain reaches the target
 abbrev pub LeadsOn : App → Track → Place → Option Choice → Type 0
 LeadsOn app track place None = LeadsNowhere app track place
 LeadsOn app track place (Some choice) =

@@ -4,7 +4,7 @@ use Rattle.catalogue.specs.declared.fault.ApplyError.TheVariants as apply
 use Rattle.editions.specs.declared.fault.NextError.{NextError}
 use Rattle.editions.specs.declared.fault.NextError.TheVariants as error
 
--- the same refused edit, or out of memory
+-- the same rejected edit, or out of memory
 abbrev pub refusal_of : ApplyError → NextError
 refusal_of (apply.Refused refused) = error.Refused refused
 refusal_of apply.Memory = error.Memory

@@ -81,11 +81,11 @@ impl Edition {
 
     /// Makes the edition with one more batch, and leaves this one as it is.
     ///
-    /// Returns the batch's first refused edit if there is one, then `HistoryFull` if this edition
+    /// Returns the batch's first rejected edit if there is one, then `HistoryFull` if this edition
     /// holds 4096 batches.
     // rule: The next edition
     // rule: Room for 4096 batches
-    // rule: A batch's refusal before a full history
+    // rule: A rejected batch before a full history
     pub fn next(&self, batch: Batch) -> Result<Edition, NextError>
         ensures { Continues self.now batch result }
     {

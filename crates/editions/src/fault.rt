@@ -11,7 +11,7 @@ use std::fmt;
 /// The errors are in the order in which they are looked for; `Memory` may come before any of them.
 #[derive(Clone, Copy, Debug, PartialEq, Eq)]
 pub enum NextError {
-    /// An edit of the batch was refused.
+    /// An edit of the batch was rejected.
     Refused(Refused),
     /// The edition holds 4096 batches, as many as it may.
     HistoryFull,

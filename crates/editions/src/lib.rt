@@ -8,7 +8,7 @@
 //! `specs/Replies.antt` for the reply.
 //!
 //! It does not publish editions, and grants no bytes: crates above do. A client's track is that of
-//! `cohorts`, and a reply's text that of `omaha_json`.
+//! `cohorts`, and a reply's bytes those of `omaha_json`.
 
 #![tactic(auto)]
 

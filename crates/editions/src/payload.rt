@@ -34,8 +34,8 @@ struct KnownBucket {
 
 /// What is chosen for each app of a request, in its order, which contracts see as a list.
 ///
-/// Nothing is chosen for an app that is unknown, that wants no update, or whose client no payload
-/// leads on. The plan also keeps the bucket of the request's session if a client needed it, so that
+/// Nothing is chosen for an app that is unknown, that wants no update, or whose client no payload brings
+/// to the target. The plan also keeps the bucket of the request's session if a client needed it, so that
 /// the reply needs no second hash of the session.
 #[derive(Drop)]
 pub struct Plan {
@@ -82,7 +82,7 @@ impl Plan {
         self.choices.as_slice()
     }
 
-    // The session of a text, with its bucket if the plan was made for that session.
+    // The session of a string, with its bucket if the plan was made for that session.
     pub(crate) fn session_of<'a>(&self, text: &'a str) -> Session<'a>
         ensures { result ≡ text.now }
     {

@@ -190,7 +190,7 @@ fn reply_to_apps(
 ///
 /// The plan was made of the same edition and request. Each of its apps has one outcome: the index
 /// of the mirror that granted the update, or none; a mirror only if an update was chosen. The
-/// moment is in seconds since 1 January 1970, UTC.
+/// time is in seconds since 1 January 1970, UTC.
 pub fn render(
     alloc: Global,
     edition: &Edition,

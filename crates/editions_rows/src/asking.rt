@@ -1,4 +1,4 @@
-// How the tests ask an edition, and what it answers.
+// How the tests ask an edition, and what it replies.
 
 ghost use Rattle.std.specs.Prelude.{◌≡◌, ◌<◌, length, IfOk, IfSome};
 ghost use Rattle.editions.specs.Replies.{AreOutcomes, IsOutcome};
@@ -22,7 +22,7 @@ fn mirror(alloc: Global) -> Result<Mirror, AllocError> {
     })
 }
 
-// The outcome of a wish that one mirror grants, or none.
+// The outcome of requested bytes that one mirror grants, or none.
 fn outcome(choice: Option<Choice>, mirrors: &[Mirror], granted: Option<usize>) -> Option<usize>
     requires { IfSome granted (λ mirror. mirror < length mirrors.now) }
     ensures { IsOutcome mirrors.now choice result }
@@ -33,7 +33,7 @@ fn outcome(choice: Option<Choice>, mirrors: &[Mirror], granted: Option<usize>) -
     }
 }
 
-// The outcomes of a plan whose wishes are all granted by one mirror, or by none.
+// The outcomes of a plan whose requested bytes are all granted by one mirror, or by none.
 fn outcomes(
     alloc: Global,
     plan: &Plan,
@@ -50,7 +50,7 @@ fn outcomes(
     Ok(outcomes)
 }
 
-/// The reply to a request whose wishes are granted by the only mirror, or by none.
+/// The reply to a request whose bytes are granted by the only mirror, or by none.
 pub(crate) fn reply(
     alloc: Global,
     edition: &Edition,
@@ -73,7 +73,7 @@ pub(crate) fn request(alloc: Global, apps: &str, session: &str) -> Result<Reques
     Ok(read_request(alloc, text.as_str().as_bytes())?)
 }
 
-/// A reply that answers so for its apps, at that day and second.
+/// A reply that says so of its apps, at that day and second.
 pub(crate) fn body(
     alloc: Global,
     apps: &str,

@@ -1,18 +1,17 @@
 -- What the options of the command line spell.
-use Rattle.std.proofs.Common.{◌≡◌, ◌≢◌, ℕ, ◌<◌, ◌^◌, Bool, true, false, not, ◌&&◌, List, [], ◌∷◌, length, inl, inr, subst, ap₂, Option, Some, None, Result, Ok, Err, refl, ap, sym, ◌∙◌, arith}
+use Rattle.std.proofs.Common.{◌≡◌, ℕ, ◌<◌, ◌^◌, Bool, true, false, not, ◌&&◌, List, [], ◌∷◌, length, inl, inr, subst, ap₂, Option, Some, None, Result, Ok, Err, refl, ap, sym, ◌∙◌, arith}
 use Rattle.std.specs.Option.{option_map, option_map_or}
 use Rattle.std.specs.Result.{IsErrAnd, OkIff, result_ok}
 use Rattle.std.specs.Str.{all_ascii_digits}
 use Rattle.std.specs.Str.Parse.{digits_value}
 use Rattle.std.proofs.lemmas.Bool.Decides.{nat_tests}
 use Rattle.clap.specs.Kinds.{or_else}
-use Rattle.clap.specs.Words.{App, FailsBy, HasKind, Kinds, Row, Text, fault_of, is_simple, is_simple_and_free, kind_of, subcommand_of}
+use Rattle.clap.specs.Words.{App, FailsBy, HasKind, Kinds, Row, Text, fault_of, is_simple, is_simple_and_free, subcommand_of}
 use Rattle.clap.specs.declared.error.Error.{Error}
-use Rattle.clap.specs.declared.error.kind.ErrorKind.TheVariants.{DisplayHelp, OutOfMemory}
 use Rattle.omaha_cli.specs.Commands.{faults_of, faults_of_once, moment_of, omaha_app}
 use Rattle.omaha_cli.specs.declared.command_line.Once.{Once}
 
--- the moment that std's `parse` gives for a text with no `+` in front
+-- the number that std's `parse` gives for a string without a leading `+`
 pub moment_of-from_parse :
     {E : Type 0} (digits : List ℕ) (parsed : Result ℕ E) →
     OkIff parsed ((all_ascii_digits digits ≡ true) × (0 < length digits) × (digits_value 10 digits < 2 ^ 64)) (digits_value 10 digits) →
@@ -45,7 +44,7 @@ fails_first words (Ok once) error has same = elim same [ ]
 fails_first words (Err told) error has same =
     subst (λ (e : Error). HasKind (faults_of words) e) (sym same) (has_first (fault_of omaha_app words) _ error has)
 
--- what `clap` finds wrong with the words is wrong with them
+-- what `clap` finds wrong with the arguments is wrong with them
 pub fails_by_clap : (app : App) (words : List Text) (result : Result Once Error) (error : Error) → app ≡ omaha_app → (is_simple_and_free app ≡ true → HasKind (fault_of app words) error) → IsErrAnd result (λ told. told ≡ error) → FailsBy (faults_of words) result
 fails_by_clap app words result error is has same =
     fails_first words result error
@@ -56,7 +55,7 @@ options_of : (options : List Row) (found : Option (Text × List Row)) → option
 options_of options None some = cc
 options_of options (Some found) some = ap (λ (o : Option (List Row)). option_map_or faults_of_once o []) some
 
--- where `clap` finds nothing wrong, what is wrong with the options of `once` is wrong with the words
+-- if `clap` finds nothing wrong, what is wrong with the options of `once` is wrong with the arguments
 pub fails_by_options : (app : App) (words : List Text) (options : List Row) (result : Result Once Error) (found : Option (Text × List Row)) → app ≡ omaha_app → (is_simple_and_free app ≡ true → fault_of app words ≡ []) → (is_simple app ≡ true → found ≡ subcommand_of app words) → Some options ≡ option_map (λ named. named.1) found → FailsBy (faults_of_once options) result → FailsBy (faults_of words) result
 fails_by_options app words options result found is none names named fails =
     let nothing : fault_of omaha_app words ≡ [] =

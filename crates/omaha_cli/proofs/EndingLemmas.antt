@@ -1,5 +1,5 @@
 -- How a run ends whose arguments `clap` has an error for.
-use Rattle.std.proofs.Common.{◌≡◌, ◌⊎◌, ℕ, List, inl, inr, refl}
+use Rattle.std.proofs.Common.{◌≡◌, ℕ, List, inl, inr, refl}
 use Rattle.clap.specs.Words.{HasKind, IsAmong, Kinds, Text, kind_of}
 use Rattle.clap.specs.declared.error.Error.{Error}
 use Rattle.clap.specs.declared.error.kind.ErrorKind.{ErrorKind}
@@ -8,7 +8,6 @@ use Rattle.streams.specs.Streams.{Known}
 use Rattle.omaha_cli.specs.Commands.{faults_of}
 use Rattle.omaha_cli.specs.Once.{Files}
 use Rattle.omaha_cli.specs.Running.{Ends, IsShown, Misreads, code_of, status_of}
-use Rattle.omaha_cli.specs.declared.failure.Failure.TheVariants as failure
 use Rattle.omaha_cli.specs.declared.running.Ending.{Ending}
 use Rattle.omaha_cli.specs.declared.running.Ending.TheVariants as ending
 use Rattle.omaha_cli.specs.declared.running.Status.{Status}

@@ -1,4 +1,2 @@
-mod AnswerLemmas
-mod BuiltinLemmas
 mod CommandLemmas
 mod EndingLemmas

@@ -1,10 +1,7 @@
-pub mod Answering
-pub mod Builtin
 pub mod Commands
 pub mod Failures
 pub mod Once
 pub mod Paths
 pub mod Refusals
 pub mod Running
-pub mod Services
 pub mod Streams

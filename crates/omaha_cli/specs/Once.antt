@@ -6,14 +6,16 @@ use Rattle.streams.specs.Streams.{Known}
 use Rattle.streams.specs.Writing.{Breaks}
 use Rattle.omaha_json.specs.RequestReading.{request_of_text}
 use Rattle.omaha_json.specs.declared.fault.RequestFault.{RequestFault}
-use Rattle.omaha_cli.specs.Answering.{Answers}
-use Rattle.omaha_cli.specs.Builtin.{builtin_service}
-use Rattle.omaha_cli.specs.Services.{service_of_text}
+use Rattle.omaha_service.specs.Answering.{Answers}
+use Rattle.omaha_service.specs.Builtin.{builtin_service}
+use Rattle.omaha_service.specs.Services.{service_of_text}
+use Rattle.omaha_service.specs.declared.fault.ServiceFault.{ServiceFault}
+use Rattle.omaha_service.specs.declared.fault.ServiceFault.TheVariants as service
+use Rattle.omaha_service.specs.declared.service.Service.{Service}
 use Rattle.omaha_cli.specs.Streams.{Streams}
 use Rattle.omaha_cli.specs.declared.command_line.Once.{Once}
 use Rattle.omaha_cli.specs.declared.failure.Failure.{Failure}
 use Rattle.omaha_cli.specs.declared.failure.Failure.TheVariants as failure
-use Rattle.omaha_cli.specs.declared.service.Service.{Service}
 
 -- rule: Maximum of the input
 -- how many bytes a request may have
@@ -29,23 +31,27 @@ max_profile = 67108864
 abbrev pub Files : Type 0
 Files = List ℕ → Known
 
--- the file's bytes make this service, or have this failure
-abbrev pub IsOfFile : Known → Result Service Failure → Type 0
+-- the file's bytes make this service, or have this fault
+abbrev pub IsOfFile : Known → Result Service ServiceFault → Type 0
 IsOfFile file made = (bytes : List ℕ) × IsWhole file max_profile bytes × (service_of_text bytes ≡ made)
 
 -- the file can't be read, or has too many bytes
 abbrev pub IsUnreadable : Known → Type 0
 IsUnreadable file = (file.failed ≡ true) ⊎ IsLonger file max_profile
 
--- what requests are answered from: the built-in catalogue without a path, else that of the file; or
--- why there is nothing to answer from
+-- what requests are replied to from: the built-in catalogue without a path, else that of the file; or
+-- why there is nothing to reply from
 abbrev pub IsServed : Files → Option (List ℕ) → Result Service Failure → Type 0
 IsServed files None (Ok service) = service ≡ builtin_service
 IsServed files None (Err refusal) = refusal ≡ failure.Memory
 IsServed files (Some path) (Ok service) = IsOfFile (files path) (Ok service)
 IsServed files (Some path) (Err (failure.File named)) = (named ≡ path) × IsUnreadable (files path)
+IsServed files (Some path) (Err (failure.Profile fault)) =
+    IsOfFile (files path) (Err (service.Profile fault))
+IsServed files (Some path) (Err (failure.Edit refused)) =
+    IsOfFile (files path) (Err (service.Edit refused))
 IsServed files (Some path) (Err failure.Memory) = ⊤
-IsServed files (Some path) (Err refusal) = IsOfFile (files path) (Err refusal)
+IsServed files (Some path) (Err refusal) = ⊥
 
 -- the bytes are a reply to the input
 pub record IsReplyTo (service : Service) (moment : ℕ) (held : Known) (reply : List ℕ) : Type 0 where

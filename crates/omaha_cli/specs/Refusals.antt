@@ -1,6 +1,7 @@
 -- A reader's error as a failure of the program.
 use Rattle.omaha_json.specs.declared.fault.RequestFault.{RequestFault}
-use Rattle.profile_toml.specs.declared.fault.ProfileFault.{ProfileFault}
+use Rattle.omaha_service.specs.declared.fault.ServiceFault.{ServiceFault}
+use Rattle.omaha_service.specs.declared.fault.ServiceFault.TheVariants as service
 use Rattle.streams.specs.declared.reading.ReadFailure.{ReadFailure}
 use Rattle.streams.specs.declared.reading.ReadFailure.TheVariants as input
 use Rattle.values.specs.declared.read_error.ReadError.{ReadError}
@@ -13,9 +14,10 @@ failure_of_input input.Broken = failure.Read
 failure_of_input input.TooLong = failure.TooLong
 failure_of_input input.Memory = failure.Memory
 
-abbrev pub failure_of_profile : ReadError ProfileFault → Failure
-failure_of_profile errors.Memory = failure.Memory
-failure_of_profile (errors.Fault fault) = failure.Profile fault
+abbrev pub failure_of_service : ReadError ServiceFault → Failure
+failure_of_service errors.Memory = failure.Memory
+failure_of_service (errors.Fault (service.Profile fault)) = failure.Profile fault
+failure_of_service (errors.Fault (service.Edit refused)) = failure.Edit refused
 
 abbrev pub failure_of_request : ReadError RequestFault → Failure
 failure_of_request errors.Memory = failure.Memory

@@ -1,5 +1,5 @@
 -- How a run of the program ends, and what it prints and returns then; this project's profile.
-use Rattle.std.specs.Prelude.{◌≡◌, ◌≢◌, ◌⊎◌, ℕ, nat_eq, if◌then◌else◌, List, ◌∷◌, [], ◌++◌, codes, Result, Ok, Err}
+use Rattle.std.specs.Prelude.{◌≡◌, ◌≢◌, ◌⊎◌, ℕ, nat_eq, if◌then◌else◌, List, ◌∷◌, [], ◌++◌, codes, Ok, Err}
 use Rattle.std.specs.Io.KnownBytes.{Appends}
 use Rattle.clap.specs.Words.{IsAmong, Kinds, Text}
 use Rattle.clap.specs.declared.error.kind.ErrorKind.{ErrorKind}
@@ -46,7 +46,7 @@ AsksToShow faults = (told : ErrorKind) × IsShown told × IsAmong told faults
 abbrev pub HasMistake : Kinds → Type 0
 HasMistake faults = (told : ErrorKind) × (IsShown told → ⊥) × IsAmong told faults
 
--- a text was asked for, and is printed; or the writer failed within it
+-- a message was asked for, and is printed; or the writer failed within it
 abbrev pub Shows : List ℕ → Known → Known → Ending → Type 0
 Shows text before after ending.Shown = Appends before.bytes after.bytes text
 Shows text before after (ending.Failed refusal) = (refusal ≡ failure.Write) × Breaks before after text

@@ -105,7 +105,7 @@ fn moment_of(text: &str) -> Option<u64>
     text.parse::<u64>().ok()
 }
 
-// The error for a `--moment` that is no such number, in the form of the errors of `clap`.
+// The error for a `--moment` that is no such number, built like the errors of `clap`.
 fn invalid_moment(alloc: Global, text: &str) -> Result<Error, AllocError>
     ensures { IfOk result (λ error. kind_of error ≡ ErrorKind.ValueValidation) }
 {

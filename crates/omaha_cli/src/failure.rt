@@ -4,6 +4,7 @@ ghost use Rattle.omaha_cli.specs.Failures.{failure_text};
 use crate::path::ShownPath;
 use catalogue::Refused;
 use omaha_json::RequestFault;
+use omaha_service::ServiceFault;
 use profile_toml::ProfileFault;
 use std::alloc::AllocError;
 use std::error::Error;
@@ -86,15 +87,16 @@ impl From<ReadFailure> for Failure {
     }
 }
 
-impl From<ReadError<ProfileFault>> for Failure {
+impl From<ReadError<ServiceFault>> for Failure {
     ghost use Rattle.std.specs.Prelude.{◌≡◌};
-    ghost use Rattle.omaha_cli.specs.Refusals.{failure_of_profile};
+    ghost use Rattle.omaha_cli.specs.Refusals.{failure_of_service};
 
-    ghost from_gives = { λ error failure. failure ≡ failure_of_profile error };
+    ghost from_gives = { λ error failure. failure ≡ failure_of_service error };
 
-    fn from(error: ReadError<ProfileFault>) -> Failure {
+    fn from(error: ReadError<ServiceFault>) -> Failure {
         match error {
-            ReadError::Fault(fault) => Failure::Profile(fault),
+            ReadError::Fault(ServiceFault::Profile(fault)) => Failure::Profile(fault),
+            ReadError::Fault(ServiceFault::Edit(refused)) => Failure::Edit(refused),
             ReadError::Memory => Failure::Memory,
         }
     }

@@ -3,28 +3,22 @@
 //! `run` reads the arguments, as `specs/Commands.antt` says, carries out the command, reports how it
 //! ended and returns the exit status: read `specs/Running.antt`. The command `once` is `respond`,
 //! which reads a profile from its file and a request from a reader, and writes a reply: read
-//! `specs/Once.antt`. What it replies from is made by `read_service`, and what it writes by `answer`,
-//! functions over values: read `specs/Services.antt` and `specs/Answering.antt`. Without a profile
-//! the catalogue is the one of `specs/Builtin.antt`.
+//! `specs/Once.antt`. What it replies from and what it writes are made by `omaha_service`.
 //!
 //! It does not listen on a socket.
 
 #![tactic(auto)]
 
-mod answering;
-mod builtin;
 mod command_line;
 mod failure;
 mod once;
 mod path;
 mod running;
-mod service;
 mod unreadable;
 
-pub use crate::answering::answer;
 pub use crate::command_line::Once;
 pub use crate::failure::Failure;
 pub use crate::once::respond;
 pub use crate::running::{Ending, Status, run};
-pub use crate::service::{Service, builtin_service, read_service};
 pub use crate::unreadable::refuse;
+pub use omaha_service::{Service, ServiceFault, answer, builtin_service, read_service};

@@ -3,10 +3,9 @@
 ghost use Rattle.omaha_cli.specs.Once.{IsServed, Replies, Responds};
 ghost use Rattle.omaha_cli.specs.Streams.{Streams};
 
-use crate::answering::answer;
 use crate::command_line::Once;
 use crate::failure::Failure;
-use crate::service::{Service, builtin_service, read_service};
+use omaha_service::{Service, answer, builtin_service, read_service};
 use std::alloc::Global;
 use streams::{Disk, ReadFailure, ReadWhole, WriteWhole};
 
@@ -17,7 +16,7 @@ const MAX_INPUT: u32 = 262144;
 const MAX_PROFILE: u32 = 67108864;
 
 // rule: Maximum of a profile
-// Reads the profile's file, if one is named, and makes what requests are answered from.
+// Reads the profile's file, if one is named, and makes what requests are replied to from.
 fn open_service<R: Disk + AllocGlobal>(rt: &R, once: &Once) -> Result<Service, Failure>
     ensures { IsServed (R.file_at rt.now) once.now.profile result }
 {
@@ -25,7 +24,7 @@ fn open_service<R: Disk + AllocGlobal>(rt: &R, once: &Once) -> Result<Service, F
         return Ok(builtin_service(rt.alloc())?);
     };
     match rt.read_file(rt.alloc(), path.as_str(), MAX_PROFILE) {
-        Ok(bytes) => read_service(rt.alloc(), bytes.as_slice()),
+        Ok(bytes) => Ok(read_service(rt.alloc(), bytes.as_slice())?),
         Err(ReadFailure::Memory) => Err(Failure::Memory),
         Err(_) => Err(Failure::File(path.clone()?)),
     }

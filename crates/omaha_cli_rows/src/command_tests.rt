@@ -1,5 +1,6 @@
 use crate::devices::Breaks;
-use crate::ending::{ends, ends_over, is_mistaken, refused, replied, shows};
+use crate::ending::{ends, ends_over, refused, replied, shows};
+use crate::runs::first_wrong;
 use crate::shelf::Shelf;
 use crate::staged::{
     BETA, DATED, HELD, HINTED, LAST_DATED, SHARED, STAGED, TARGET, UNRELEASED, WAITING,
@@ -59,39 +60,39 @@ fn replies_at_the_given_time(rt: HostRuntime) -> Result<(), Fail> {
     Ok(())
 }
 
+// Invalid profiles, over an input that is no request: the profile is reported, and nothing is read.
+const PROFILES: &str = "1_omaha:_file_nowhere.toml~ | once --profile nowhere.toml
+1_omaha:_file_broken~ | once --profile broken
+1_omaha:_memory~ | once --profile large.toml
+1_omaha:_F1_NotToml~ | once --profile broken.toml
+1_omaha:_F2_BadSchema~ | once --profile empty.toml
+1_omaha:_F3_BadEntry_mirror[0].name~ | once --profile keyless.toml
+1_omaha:_F4_BadMirror_0~ | once --profile mirrorless.toml
+1_omaha:_F4_BadMirror_0~ | once --profile unslashed.toml
+1_omaha:_edit_6:_C11_UnknownRelease~ | once --profile unreleased.toml
+1_omaha:_file_/dev/zero~ | once --profile /dev/zero
+1_omaha:_file_a%0Ab%1B.toml~ | once --profile a~b\u{1b}.toml
+1_omaha:_file_a%7F~ | once --profile a\u{7f}
+1_omaha:_file_%C2%80%C2%9F~ | once --profile \u{80}\u{9f}
+1_omaha:_file_%E2%80%AA%E2%80%AE~ | once --profile \u{202a}\u{202e}
+1_omaha:_file_a%20\u{a0}\u{e9}.toml~ | once --profile a%20\u{a0}\u{e9}.toml";
+
 #[test]
 fn reports_what_is_wrong_with_the_profile(rt: HostRuntime) -> Result<(), Fail> {
-    let shelf = shelf(rt.alloc());
-    let rows = [
-        ("nowhere.toml", "omaha: file nowhere.toml\n"),
-        ("broken", "omaha: file broken\n"),
-        ("large.toml", "omaha: memory\n"),
-        ("broken.toml", "omaha: F1 NotToml\n"),
-        ("empty.toml", "omaha: F2 BadSchema\n"),
-        ("keyless.toml", "omaha: F3 BadEntry mirror[0].name\n"),
-        ("mirrorless.toml", "omaha: F4 BadMirror 0\n"),
-        ("unslashed.toml", "omaha: F4 BadMirror 0\n"),
-        ("unreleased.toml", "omaha: edit 6: C11 UnknownRelease\n"),
-        ("/dev/zero", "omaha: file /dev/zero\n"),
-        ("a\nb\u{1b}.toml", "omaha: file a%0Ab%1B.toml\n"),
-        ("a\u{7f}", "omaha: file a%7F\n"),
-        ("\u{80}\u{9f}", "omaha: file %C2%80%C2%9F\n"),
-        ("\u{202a}\u{202e}", "omaha: file %E2%80%AA%E2%80%AE\n"),
-        (
-            "a%20\u{a0}\u{e9}.toml",
-            "omaha: file a%20\u{a0}\u{e9}.toml\n",
-        ),
-    ];
-    for (profile, line) in rows {
-        // The reader fails too, but the profile is read first.
-        let mut reader = Breaks {
-            left: 0,
-            kind: ErrorKind::ConnectionReset,
-        };
-        let words = ["once", "--profile", profile];
-        ends_over(&rt, &shelf, &words, &mut reader, refused(line))?;
-    }
+    let wrong = first_wrong(&shelf(rt.alloc()), PROFILES)?;
+    assert!(rt; wrong.is_empty(), "{wrong}");
     Ok(())
+}
+
+#[test]
+fn reads_the_profile_before_an_input_that_fails(rt: HostRuntime) -> Result<(), Fail> {
+    let mut reader = Breaks {
+        left: 0,
+        kind: ErrorKind::ConnectionReset,
+    };
+    let words = ["once", "--profile", "broken.toml"];
+    let wanted = refused("omaha: F1 NotToml\n");
+    ends_over(&rt, &shelf(rt.alloc()), &words, &mut reader, wanted)
 }
 
 #[test]
@@ -101,73 +102,28 @@ fn reports_the_request_after_a_valid_profile(rt: HostRuntime) -> Result<(), Fail
     ends(&rt, &shelf, &words, "{", refused("omaha: J1 NotJson\n"))
 }
 
-// Invalid arguments, and the beginning of the message.
-const MISTAKES: [(&[&str], &str); 15] = [
-    (
-        &["once", "--profile", "nowhere.toml", "--moment", "+5"],
-        "error: invalid value '+5' for '--moment <N>'",
-    ),
-    (
-        &["once", "--profile", "nowhere.toml", "--moment", ""],
-        "error: invalid value '' for '--moment <N>'",
-    ),
-    (
-        &["once", "--moment", " 5"],
-        "error: invalid value ' 5' for '--moment <N>'",
-    ),
-    (
-        &["once", "--moment", "5s"],
-        "error: invalid value '5s' for '--moment <N>'",
-    ),
-    (
-        &["once", "--moment", "0x5"],
-        "error: invalid value '0x5' for '--moment <N>'",
-    ),
-    (
-        &["once", "--moment", "1.0"],
-        "error: invalid value '1.0' for '--moment <N>'",
-    ),
-    (
-        &["once", "--moment", "18446744073709551616"],
-        "error: invalid value '18446744073709551616' for '--moment <N>'",
-    ),
-    (
-        &["once", "--moment=-5"],
-        "error: invalid value '-5' for '--moment <N>'",
-    ),
-    (
-        &["once", "--moment", "-5"],
-        "error: unexpected argument '-5' found\n",
-    ),
-    (
-        &["once", "--moment", "0018446744073709551616"],
-        "error: invalid value '0018446744073709551616' for '--moment <N>'",
-    ),
-    (
-        &["once", "--version"],
-        "error: unexpected argument '--version' found\n",
-    ),
-    (&["serve"], "error: unrecognized subcommand 'serve'\n"),
-    (
-        &["--profile", "staged.toml"],
-        "error: unexpected argument '--profile' found\n",
-    ),
-    (
-        &["once", "staged.toml"],
-        "error: unexpected argument 'staged.toml' found\n",
-    ),
-    (
-        &["once", "--profile"],
-        "error: a value is required for '--profile <F>'",
-    ),
-];
+// Invalid arguments, and the beginning of the message: nothing is read or written.
+const MISTAKES: &str =
+    "2_error:_invalid_value_'+5'_for_'--moment_<N>' | once --profile nowhere.toml --moment +5
+2_error:_invalid_value_''_for_'--moment_<N>' | once --profile nowhere.toml --moment ^
+2_error:_invalid_value_'_5'_for_'--moment_<N>' | once --moment _5
+2_error:_invalid_value_'5s'_for_'--moment_<N>' | once --moment 5s
+2_error:_invalid_value_'0x5'_for_'--moment_<N>' | once --moment 0x5
+2_error:_invalid_value_'1.0'_for_'--moment_<N>' | once --moment 1.0
+2_error:_invalid_value_'18446744073709551616'_for_'--moment_<N>' | once --moment 18446744073709551616
+2_error:_invalid_value_'-5'_for_'--moment_<N>' | once --moment=-5
+2_error:_unexpected_argument_'-5'_found~ | once --moment -5
+2_error:_invalid_value_'0018446744073709551616'_for_'--moment_<N>' | once --moment 0018446744073709551616
+2_error:_unexpected_argument_'--version'_found~ | once --version
+2_error:_unrecognized_subcommand_'serve'~ | serve
+2_error:_unexpected_argument_'--profile'_found~ | --profile staged.toml
+2_error:_unexpected_argument_'staged.toml'_found~ | once staged.toml
+2_error:_a_value_is_required_for_'--profile_<F>' | once --profile";
 
 #[test]
 fn accepts_no_other_arguments(rt: HostRuntime) -> Result<(), Fail> {
-    let shelf = shelf(rt.alloc());
-    for (words, line) in MISTAKES {
-        is_mistaken(&rt, &shelf, words, line)?;
-    }
+    let wrong = first_wrong(&shelf(rt.alloc()), MISTAKES)?;
+    assert!(rt; wrong.is_empty(), "{wrong}");
     Ok(())
 }
 

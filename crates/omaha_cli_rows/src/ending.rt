@@ -69,27 +69,7 @@ pub(crate) fn ends<R: Files + AllocGlobal>(
     ends_over(rt, files, words, &mut input.as_bytes(), wanted)
 }
 
-/// Tests that arguments are invalid: the status is 2, the message of `clap` begins with the line, and
-/// nothing is read or written.
-pub(crate) fn is_mistaken<R: Files + AllocGlobal>(
-    rt: &impl Abort,
-    files: &R,
-    words: &[&str],
-    line: &str,
-) -> Result<(), Fail> {
-    let words = strings(files, words)?;
-    let mut reader = b"{".as_slice();
-    let mut written = Vec::new(files.alloc());
-    let mut told = Vec::new(files.alloc());
-    let status = run(files, &words, &mut reader, &mut written, &mut told);
-    assert_eq!(rt; status, 2);
-    assert_eq!(rt; reader.len(), 1);
-    assert_eq!(rt; written.len(), 0);
-    assert!(rt; told.as_slice().starts_with(line.as_bytes()), "{line}");
-    Ok(())
-}
-
-/// Tests that arguments ask for help, which has the text in lines of at most 100 columns.
+/// Tests that arguments ask for help, which has the string in lines of at most 100 columns.
 pub(crate) fn shows<R: Files + AllocGlobal>(
     rt: &impl Abort,
     files: &R,

@@ -15,6 +15,8 @@ mod failing_tests;
 #[cfg(test)]
 mod offers;
 #[cfg(test)]
+mod runs;
+#[cfg(test)]
 mod service_tests;
 #[cfg(test)]
 mod shelf;

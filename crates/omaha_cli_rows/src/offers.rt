@@ -14,7 +14,7 @@ macro_rules! request {
     };
 }
 
-// The reply of these apps, at the moment 0.
+// The reply of these apps, at the time 0.
 macro_rules! reply {
     ($apps:expr) => {
         concat!(

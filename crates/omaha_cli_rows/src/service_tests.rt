@@ -1,7 +1,9 @@
 use crate::offers::{OFFER, OLD};
 use crate::staged::{SHARED, STAGED, TARGET, UNRELEASED};
 use omaha_cli::{Failure, Once, answer, builtin_service, read_service, respond};
+use std::alloc::{AllocError, Global};
 use std::test::Fail;
+use values::ReadError;
 
 #[test]
 fn answers_from_a_profile(rt: HostRuntime) -> Result<(), Fail> {
@@ -21,13 +23,21 @@ fn answers_from_the_builtin_catalogue(rt: HostRuntime) -> Result<(), Fail> {
     Ok(())
 }
 
+// What is wrong with a profile.
+fn fault_of(alloc: Global, profile: &str) -> Result<String, AllocError> {
+    match read_service(alloc, profile.as_bytes()) {
+        Ok(_) => String::from_str(alloc, "a service"),
+        Err(ReadError::Memory) => String::from_str(alloc, "memory"),
+        Err(ReadError::Fault(fault)) => format!(in alloc; "{fault}"),
+    }
+}
+
 #[test]
-fn makes_no_service_of_a_refused_profile(rt: HostRuntime) -> Result<(), Fail> {
-    let alloc = rt.alloc();
-    let refused = read_service(alloc, UNRELEASED.as_bytes());
-    assert!(rt; matches!(refused, Err(Failure::Edit(_))));
-    let refused = read_service(alloc, b"schema = 2");
-    assert!(rt; matches!(refused, Err(Failure::Profile(_))));
+fn makes_no_service_of_a_rejected_profile(rt: HostRuntime) -> Result<(), Fail> {
+    let fault = fault_of(rt.alloc(), UNRELEASED)?;
+    assert_eq!(rt; fault.as_str(), "edit 6: C11 UnknownRelease");
+    let fault = fault_of(rt.alloc(), "schema = 2")?;
+    assert_eq!(rt; fault.as_str(), "F2 BadSchema");
     Ok(())
 }
 

@@ -4,7 +4,7 @@ use std::process::Abort;
 use std::rt::Files;
 use std::test::Fail;
 
-// Tests a run over the built-in catalogue, without words and with `once`.
+// Tests a run over the built-in catalogue, without arguments and with `once`.
 fn answers<R: Abort + Files + AllocGlobal>(
     rt: &R,
     input: &str,

@@ -1,4 +1,4 @@
--- No reply has a float: so its text is the compact text of its tree.
+-- No reply has a float: so its bytes are the compact form of its tree.
 use Rattle.std.proofs.Common.{◌≡◌, ℕ, zero, suc, eqb, List, [], ◌∷◌, map, Bool, true, false, cond, Option, Some, None, option_map, unwrap_or, codes, refl}
 use Rattle.serde_json.specs.Data.{Data, string, Members, no_members, member}
 use Rattle.serde_json.specs.View.{items_of}

@@ -1,4 +1,4 @@
--- The JSON of a text, and the elements of `app` one after another.
+-- The JSON of a string, and the elements of `app` one after another.
 use Rattle.std.proofs.Common.{◌≡◌, ℕ, ◌+◌, ◌<◌, ◌≤◌, List, [], ◌∷◌, ◌++◌, length, drop, get_or, Bool, true, false, Some, None, Result, Ok, Err, refl, sym, ap, ◌∙◌, add-one, append_assoc, append-nil, drop-cons}
 use Rattle.std.specs.Prelude.{IsUtf8}
 use Rattle.std.specs.Str.{is_utf8}
@@ -15,7 +15,7 @@ use Rattle.omaha_json.specs.declared.request.AppAsk.{AppAsk}
 use Rattle.omaha_json.specs.declared.fault.RequestFault.{RequestFault}
 use Rattle.omaha_json.specs.RequestReading.{◌>>=◌, json_of, ask_of, asks_from}
 
--- a text that was read is that JSON
+-- bytes that were read are that JSON
 pub json_of-read : (text : List ℕ) (json : Data) → IsUtf8 text → read text ≡ Some json
     → json_of text ≡ Some json
 json_of-read text json utf8 found = rw (is_utf8-from_IsUtf8 text utf8) found
@@ -25,7 +25,7 @@ refused_by_test : (test : Bool) (text : List ℕ) → is_utf8 text ≡ test
 refused_by_test true text is refused = rw is (refused (IsUtf8-from_is_utf8 text is))
 refused_by_test false text is refused = rw is refl
 
--- a text that was refused is no JSON
+-- bytes that were rejected are no JSON
 pub json_of-refused : (text : List ℕ) → (IsUtf8 text → read text ≡ None) → json_of text ≡ None
 json_of-refused text refused = refused_by_test (is_utf8 text) text refl refused
 
@@ -49,7 +49,7 @@ unfolding asks_from
 asks_from-next front apps i app ask within here asked =
     rw (drop-cons apps i app within, ← here, asked, add-one) (sym (with_front-cons front ask _))
 
--- where the element at an index is bad or memory runs out there, so it is with the whole
+-- if the element at an index is invalid or memory runs out there, so it is with the whole
 pub asks_from-refused : (front : List AppAsk) (apps : List Value) (i : ℕ) (app : Value)
     (error : ReadError RequestFault)
     → i < length apps → app ≡ get_or apps i app → Explains error (ask_of i (view app))

@@ -4,7 +4,7 @@ use Rattle.omaha_json.specs.declared.fault.RequestFault.{RequestFault}
 use Rattle.omaha_json.specs.declared.fault.RequestFault.TheVariants.{NotJson, NoRequest, BadProtocol, BadApp, TooManyApps}
 
 -- rule: Printed fault of a request
--- the fault's code, a space and its name; of a bad app also a space and its index in decimal
+-- the fault's code, a space and its name; of an invalid app also a space and its index in decimal
 abbrev pub fault_text : RequestFault → List ℕ
 fault_text NotJson = codes "J1 NotJson"
 fault_text NoRequest = codes "J2 NoRequest"

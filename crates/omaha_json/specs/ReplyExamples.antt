@@ -1,4 +1,4 @@
--- Whole replies, worked by hand: their records and their texts.
+-- Whole replies, worked by hand: their records and their bytes.
 use Rattle.std.specs.Prelude.{◌≡◌, Bool, List, ℕ, [], ◌∷◌, ◌++◌, length, replicate, Some, None, true, false, codes}
 use Rattle.omaha_json.specs.declared.reply.Reply.{Reply}
 use Rattle.omaha_json.specs.declared.reply.AppState.{AppState}
@@ -6,7 +6,7 @@ use Rattle.omaha_json.specs.declared.reply.AppState.TheVariants as state
 use Rattle.omaha_json.specs.declared.reply.CheckReply.TheVariants as check
 use Rattle.omaha_json.specs.ReplyWriting.{reply_text}
 
--- the reply of that record has that JSON behind the guard
+-- the reply of that record has that JSON after the guard
 abbrev pub Writes : Reply → List ℕ → Type 0
 Writes reply json = reply_text reply ≡ codes ")]}'" ++ 10 ∷ json
 
@@ -14,13 +14,13 @@ Writes reply json = reply_text reply ≡ codes ")]}'" ++ 10 ∷ json
 abbrev pub empty_reply : Reply
 empty_reply = record { days = 0; seconds = 0; apps = [] }
 
--- its text
+-- its string
 abbrev pub EmptyReplyWrites : Type 0
 EmptyReplyWrites = Writes empty_reply
     (codes "{\"response\":{\"app\":[],"
     ++ codes "\"daystart\":{\"elapsed_days\":0,\"elapsed_seconds\":0},\"protocol\":\"3.1\"}}")
 
--- its text has 95 bytes
+-- it has 95 bytes
 abbrev pub EmptyReplyLength : Type 0
 EmptyReplyLength = length (reply_text empty_reply) ≡ 95
 
@@ -58,7 +58,7 @@ full_reply = record {
   } ∷ [];
 }
 
--- its text
+-- its string
 abbrev pub FullReplyWrites : Type 0
 FullReplyWrites = Writes full_reply (
     codes "{\"response\":{\"app\":[{\"appid\":\"mini\","
@@ -102,7 +102,7 @@ diff_reply = record {
   } ∷ [];
 }
 
--- its text
+-- its string
 abbrev pub DiffReplyWrites : Type 0
 DiffReplyWrites = Writes diff_reply (
     codes "{\"response\":{\"app\":[{\"appid\":\"demo\","
@@ -119,7 +119,7 @@ DiffReplyWrites = Writes diff_reply (
     ++ codes "{\"codebasediff\":\"http://m0.example/p/\"}]}}}],"
     ++ codes "\"daystart\":{\"elapsed_days\":6940,\"elapsed_seconds\":3661},\"protocol\":\"3.1\"}}")
 
--- a known app that didn't wish for an update
+-- a known app without an update check
 abbrev pub greeted : Bool → ℕ → AppState
 greeted ping events = state.Known (record {
   cohort = codes "stable:319";
@@ -141,7 +141,7 @@ acknowledging_reply = record {
       ∷ [];
 }
 
--- its text
+-- its string
 abbrev pub AcknowledgingReplyWrites : Type 0
 AcknowledgingReplyWrites = Writes acknowledging_reply (
     codes "{\"response\":{\"app\":["

@@ -1,4 +1,4 @@
--- Which text a reply has: the Omaha protocol 3.1, JSON form, after the four bytes that keep a
+-- Which bytes a reply has: the Omaha protocol 3.1, JSON form, after the four bytes that keep a
 -- browser from running it as a script. Members are in byte order of their names.
 use Rattle.std.specs.Prelude.{ℕ, ◌==◌, List, [], ◌∷◌, ◌++◌, map, replicate, Option, Some, None, option_map, All, ⊤, Bool, if◌then◌else◌, codes}
 use Rattle.hex.specs.Hex.{encode_lower}
@@ -19,12 +19,12 @@ use Rattle.omaha_json.specs.declared.reply.Part.{Part}
 abbrev pub status_data : List ℕ → Data
 status_data status = object (member (codes "status") (string status) no_members)
 
--- the member, where there is a value
+-- the member, if there is a value
 abbrev pub optional_member : List ℕ → Option Data → Members → Members
 optional_member name None rest = rest
 optional_member name (Some value) rest = member name value rest
 
--- the members, with the value at that name where there is one
+-- the members, with the value at that name if there is one
 abbrev pub with_some : List ℕ → Option Data → Members → Members
 with_some name None members = members
 with_some name (Some value) members = put name value members
@@ -70,7 +70,7 @@ manifest_data offer = object
 abbrev pub address_data : List ℕ → Part → Data
 address_data name part = object (member name (string part.codebase) no_members)
 
--- the differential's address, where there is one
+-- the differential's address, if there is one
 abbrev pub diff_addresses : Option Part → Items
 diff_addresses None = no_items
 diff_addresses (Some diff) = item (address_data (codes "codebasediff") diff) no_items
@@ -91,7 +91,7 @@ offer_data offer = object
     (member (codes "urls") (urls_data offer)
     no_members)))
 
--- the reply to an update check; another status has no text here, and counts as `null`
+-- the reply to an update check; another status cannot be written, and counts as `null`
 abbrev pub check_data : CheckReply → Data
 check_data check.NoUpdate = status_data (codes "noupdate")
 check_data check.Internal = status_data (codes "error-internal")
@@ -102,11 +102,11 @@ check_data check.Other = null
 abbrev pub acknowledgements : ℕ → Data
 acknowledgements events = array (items_of (replicate events (status_data (codes "ok"))))
 
--- the acknowledgements of the events, where there are any
+-- the acknowledgements of the events, if there are any
 abbrev pub events_data : ℕ → Option Data
 events_data events = if events == 0 then None else Some (acknowledgements events)
 
--- the acknowledgement of a ping, where there was one
+-- the acknowledgement of a ping, if there was one
 abbrev pub ping_data : Bool → Option Data
 ping_data asked = if asked then Some (status_data (codes "ok")) else None
 
@@ -133,17 +133,17 @@ unknown_data appid = object
     (member (codes "status") (string (codes "error-unknownApplication"))
     no_members))
 
--- the answer for one app; another status has no text here, and counts as `null`
+-- the reply for one app; another status cannot be written, and counts as `null`
 abbrev pub state_data : List ℕ → AppState → Data
 state_data appid (state.Known app) = known_data appid app
 state_data appid state.Unknown = unknown_data appid
 state_data appid state.Other = null
 
--- the answer for one app, under the client's spelling of its identifier
+-- the reply for one app, under the client's spelling of its identifier
 abbrev pub app_data : AppReply → Data
 app_data app = state_data app.appid app.state
 
--- the answers in the request's order
+-- the replies in the request's order
 abbrev pub apps_data : List AppReply → Data
 apps_data apps = array (items_of (map app_data apps))
 
@@ -166,22 +166,22 @@ reply_data reply = object (member (codes "response") (object
 abbrev pub script_guard : List ℕ
 script_guard = codes ")]}'" ++ 10 ∷ []
 
--- rule: Text of a reply
--- the text of a reply: the guard, and the value with no space in it
+-- rule: Bytes of a reply
+-- the bytes of a reply: the guard, and the value with no space in it
 abbrev pub reply_text : Reply → List ℕ
 reply_text reply = script_guard ++ compact_text (reply_data reply)
 
--- the reply to an update check has a text
+-- the reply to an update check is writable
 abbrev pub IsCheckWritable : Option CheckReply → Type 0
 IsCheckWritable (Some check.Other) = ⊥
 IsCheckWritable _ = ⊤
 
--- the answer for an app has a text
+-- the reply for an app is writable
 abbrev pub IsStateWritable : AppState → Type 0
 IsStateWritable (state.Known app) = IsCheckWritable app.check
 IsStateWritable state.Unknown = ⊤
 IsStateWritable state.Other = ⊥
 
--- each answer has a text: none is `Other`
+-- each reply is writable: none is `Other`
 abbrev pub IsWritable : Reply → Type 0
 IsWritable reply = All (λ app. IsStateWritable app.state) reply.apps

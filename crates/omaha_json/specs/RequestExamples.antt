@@ -1,10 +1,10 @@
--- Whole requests, worked by hand: their texts and their records or faults.
+-- Whole requests, worked by hand: their bytes and their records or faults.
 use Rattle.std.specs.Prelude.{◌≡◌, List, ℕ, [], ◌∷◌, ◌++◌, Some, true, false, Ok, Err, codes}
 use Rattle.omaha_json.specs.declared.request.Request.{Request}
 use Rattle.omaha_json.specs.declared.fault.RequestFault.{RequestFault}
 use Rattle.omaha_json.specs.RequestReading.{request_of_text}
 
--- a client of one app, which has version 1.0 installed and wishes for an update
+-- a client of one app, which has version 1.0 installed and an update check
 abbrev pub update_request : Request
 update_request = record {
   session = codes "abc";
@@ -20,7 +20,7 @@ update_request = record {
   } ∷ [];
 }
 
--- the text of that client, with a line feed at its end
+-- the bytes of that client, with a line feed at its end
 abbrev pub update_request_text : List ℕ
 update_request_text =
     codes "{\"request\":{\"app\":[{\"appid\":\"mini\",\"cohort\":\"stable:0\","
@@ -30,7 +30,7 @@ update_request_text =
     ++ codes "\"protocol\":\"3.1\",\"sessionid\":\"abc\"}}"
     ++ 10 ∷ []
 
--- the text reads to the record
+-- the bytes read as the record
 abbrev pub UpdateRequestReads : Type 0
 UpdateRequestReads = request_of_text update_request_text ≡ Ok update_request
 
@@ -50,7 +50,7 @@ full_request = record {
   } ∷ [];
 }
 
--- the text of that client
+-- the bytes of that client
 abbrev pub full_request_text : List ℕ
 full_request_text =
     codes "{\"request\":{\"protocol\":\"3.1\",\"app\":["
@@ -59,7 +59,7 @@ full_request_text =
     ++ codes "{\"updatedisabled\":true,\"rollback_allowed\":true,\"targetversionprefix\":\"3.\"},"
     ++ codes "\"ping\":{\"r\":1},\"event\":[{},{}]}]}}"
 
--- the text reads to the record
+-- the bytes read as the record
 abbrev pub FullRequestReads : Type 0
 FullRequestReads = request_of_text full_request_text ≡ Ok full_request
 
@@ -67,11 +67,11 @@ FullRequestReads = request_of_text full_request_text ≡ Ok full_request
 abbrev pub empty_request : Request
 empty_request = record { session = []; apps = [] }
 
--- the text of that client, of 30 bytes, reads to the record
+-- the 30 bytes of that client read as the record
 abbrev pub EmptyRequestReads : Type 0
 EmptyRequestReads =
     request_of_text (codes "{\"request\":{\"protocol\":\"3.1\"}}") ≡ Ok empty_request
 
--- the text is refused with that fault
+-- the bytes are rejected with that fault
 abbrev pub IsRefused : List ℕ → RequestFault → Type 0
 IsRefused text fault = request_of_text text ≡ Err fault

@@ -1,5 +1,5 @@
--- Which request a text is: the Omaha protocol 3.1, JSON form, as far as this server reads it. A
--- text that is no request has one fault, the first in the order J1 to J5.
+-- Which request the bytes are: the Omaha protocol 3.1, JSON form, as far as this server reads it. A
+-- string that is no request has one fault, the first in the order J1 to J5.
 use Rattle.std.specs.Prelude.{ℕ, suc, List, [], ◌∷◌, length, ◌&&◌, nat_lt, nat_le, if◌then◌else◌, Option, Some, None, option_map, option_and_then, is_some, unwrap_or, Result, Ok, Err, codes}
 use Rattle.std.specs.Option.{ok_or}
 use Rattle.std.specs.Str.{bytes_eq, is_utf8}
@@ -14,19 +14,19 @@ use Rattle.omaha_json.specs.declared.request.Check.{Check}
 use Rattle.omaha_json.specs.declared.fault.RequestFault.{RequestFault}
 use Rattle.omaha_json.specs.declared.fault.RequestFault.TheVariants.{NotJson, NoRequest, BadProtocol, BadApp, TooManyApps}
 
--- the second step, where the first gave a value
+-- the second step, if the first gave a value
 infixl 10 ◌>>=◌
 abbrev pub ◌>>=◌ : {X Y : Type 0}
     → Result X RequestFault → (X → Result Y RequestFault) → Result Y RequestFault
 Ok x >>= step = step x
 Err fault >>= step = Err fault
 
--- rule: JSON of a text
--- the JSON value that a text is, where it is UTF-8 and JSON as `serde_json` takes it
+-- rule: JSON of a request
+-- the JSON value that the bytes are, if they are UTF-8 and JSON as `serde_json` takes it
 abbrev pub json_of : List ℕ → Option Data
 json_of text = if is_utf8 text then read text else None
 
--- the text, where it is an identifier: one of 1 to 256 bytes
+-- the string, if it is an identifier: one of 1 to 256 bytes
 abbrev pub appid_from : List ℕ → Option (List ℕ)
 appid_from text = if nat_lt 0 (length text) && nat_le (length text) 256 then Some text else None
 
@@ -40,7 +40,7 @@ abbrev pub first_package : Data → Option Data
 first_package app =
     option_and_then (at 0) (option_and_then (get (codes "package")) (get (codes "packages") app))
 
--- the fingerprint of the first installed package, else the empty text
+-- the fingerprint of the first installed package, else the empty string
 abbrev pub fp_of : Data → List ℕ
 fp_of app = unwrap_or (option_map (text_at (codes "fp")) (first_package app)) []
 
@@ -56,7 +56,7 @@ check_with asked = record {
 abbrev pub check_of : Data → Option Check
 check_of app = option_map check_with (object_at (codes "updatecheck") app)
 
--- how many elements `event` has, where it is a list, else 0
+-- how many elements `event` has, if it is a list, else 0
 abbrev pub event_count_of : Data → ℕ
 event_count_of app =
     unwrap_or (option_map items_len (option_and_then as_array (get (codes "event") app))) 0
@@ -89,11 +89,11 @@ asks_from index (item app apps) = do
   asks ← asks_from (suc index) apps
   Ok (ask ∷ asks)
 
--- the asks, where they are at most 256
+-- the asks, if they are at most 256
 abbrev pub within_limit : List AppAsk → Result (List AppAsk) RequestFault
 within_limit asks = if nat_le (length asks) 256 then Ok asks else Err TooManyApps
 
--- what `app` asks: nothing where it is missing, J4 of index 0 where it is no list
+-- what `app` asks: nothing if it is missing, J4 of index 0 if it is no list
 unfoldable pub asks_of : Option Data → Result (List AppAsk) RequestFault
 asks_of None = Ok []
 asks_of (Some listed) = do
@@ -101,7 +101,7 @@ asks_of (Some listed) = do
   asks ← asks_from 0 apps
   within_limit asks
 
--- the request, where it speaks protocol 3.1
+-- the request, if it speaks protocol 3.1
 abbrev pub spoken_request : Data → Option Data
 spoken_request request =
     if bytes_eq (text_at (codes "protocol") request) (codes "3.1") then Some request else None
@@ -115,7 +115,7 @@ request_of json = do
   Ok (record { session = text_at (codes "sessionid") request; apps = apps })
 
 -- rule: Faults of a request
--- the request that a text is, or its first fault
+-- the request that the bytes are, or their first fault
 unfoldable pub request_of_text : List ℕ → Result Request RequestFault
 request_of_text text = do
   json ← ok_or (json_of text) NotJson

@@ -21,7 +21,7 @@ pub enum RequestFault {
     TooManyApps,
 }
 
-/// Writes the fault's code and name, and after a space the index of a bad app.
+/// Writes the fault's code and name, and after a space the index of an invalid app.
 // rule: Printed fault of a request
 impl fmt::Display for RequestFault {
     ghost use Rattle.std.specs.Prelude.{Some};

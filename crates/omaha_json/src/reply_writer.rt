@@ -213,7 +213,7 @@ fn reply_value(alloc: Global, reply: &Reply) -> Result<Value, AllocError>
 /// The reply is the four bytes `)]}'`, a line feed and JSON with no space in it, its members in
 /// byte order of their names. No app and no reply to an update check may be `Other`, which has no
 /// JSON.
-// rule: Text of a reply
+// rule: Bytes of a reply
 pub fn write_reply(alloc: Global, reply: &Reply) -> Result<Vec<u8>, AllocError>
     requires { IsWritable reply.now }
     ensures { IfOk result (λ text. text.items ≡ reply_text reply.now) }

@@ -45,7 +45,7 @@ fn is_set(json: &Value, name: &str) -> bool
 }
 
 // Parses JSON as `serde_json` accepts it.
-// rule: JSON of a text
+// rule: JSON of a request
 fn parse_json(alloc: Global, bytes: &[u8]) -> Result<Value, ReadError<RequestFault>>
     ensures { Reads view result (ok_or (json_of bytes.now) RequestFault.NotJson) }
 {

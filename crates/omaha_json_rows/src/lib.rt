@@ -1,6 +1,6 @@
-//! Rows of requests and replies whose texts and records were worked out by hand.
+//! Rows of requests and replies whose bytes and records were worked out by hand.
 //!
-//! `requests` has texts of requests, hostile ones too, and `replies` records of replies. The laws
+//! `requests` has the bytes of requests, hostile ones too, and `replies` records of replies. The laws
 //! of `omaha_json` have further rows. It holds tests alone.
 
 #![tactic(auto)]

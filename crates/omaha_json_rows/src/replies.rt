@@ -6,7 +6,7 @@ use std::alloc::{AllocError, Global};
 use std::test::Fail;
 use values::{Items, Text};
 
-// Whether the reply for one app at day 6940 and second 3661 has this text.
+// Whether the reply for one app at day 6940 and second 3661 has these bytes.
 fn is_written(alloc: Global, appid: &str, state: AppState, want: &str) -> Result<bool, AllocError>
     requires { IsStateWritable state }
 {

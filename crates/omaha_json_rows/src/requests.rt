@@ -176,7 +176,7 @@ fn ignores_the_members_that_are_not_read(rt: HostRuntime) -> Result<(), Fail> {
     Ok(())
 }
 
-// A text, so many times another, and a third.
+// A string, so many times another, and a third.
 fn repeated(
     alloc: Global,
     front: &str,

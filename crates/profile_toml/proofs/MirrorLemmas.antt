@@ -1,4 +1,4 @@
--- Mirrors among which there is no bad one, and the profiles that have them.
+-- Mirrors that are all valid, and the profiles that have them.
 use Rattle.std.proofs.Common.{◌≡◌, ℕ, ◌+◌, ◌≤◌, ◌||◌, not, nat_lt, List, [], ◌∷◌, ◌++◌, length, Bool, true, false, cond, Option, Some, None, Result, Ok, Err, refl, ap, arith, append_assoc, append-nil, ltb-false}
 use Rattle.std.specs.List.{count_by, list_all, list_any}
 use Rattle.std.specs.Option.{ok_or, option_map_or}
@@ -26,13 +26,13 @@ count_by-append : {A : Type 0} (q : A → Bool) (xs ys : List A)
     → count_by q (xs ++ ys) ≡ count_by q xs + count_by q ys
 count_by-append q xs ys = sum_by-append (λ y. cond (q y) 1 0) xs ys
 
--- a test that answers no index was false
+-- a test that returns no index was false
 no_index : (test : Bool) (index : ℕ) (rest : Option ℕ)
     → cond test (Some index) rest ≡ None → (test ≡ false) × (rest ≡ None)
 no_index true index rest none = absurd (cc)
 no_index false index rest none = (refl, none)
 
--- a mirror that is not bad has its form, and another name than those before it
+-- a mirror that is not invalid is valid, and another name than those before it
 neither : (formed named : Bool) → (not formed || named) ≡ false → (formed ≡ true) × (named ≡ false)
 neither true named fits = (refl, fits)
 neither false named fits = absurd (cc)
@@ -50,7 +50,7 @@ all_formed before (mirror ∷ mirrors) none =
     let here = neither (is_mirror mirror) (list_any (is_named mirror.name) before) good.0 in
     rw here.0 (all_formed (before ++ mirror ∷ []) mirrors good.1)
 
--- where no mirror has the name, none is counted
+-- if no mirror has the name, none is counted
 uncounted : (name : List ℕ) (mirrors : List Mirror)
     → list_any (is_named name) mirrors ≡ false → count_by (is_named name) mirrors ≡ 0
 uncounted name [] none = refl
@@ -96,7 +96,7 @@ each_once name before (mirror ∷ mirrors) none once =
     let more = each_once name (before ++ mirror ∷ []) mirrors good.1 (once_more name before mirror here.1 once) in
     rw append_assoc at more
 
--- where no index is told, the mirrors are good
+-- if no index is reported, the mirrors are valid
 AreMirrors-none : (mirrors : List Mirror) → bad_mirror mirrors ≡ None → AreMirrors mirrors
 AreMirrors-none [] none = absurd (cc)
 AreMirrors-none (mirror ∷ mirrors) none =

@@ -10,8 +10,8 @@ use Rattle.toml_tables.specs.declared.path.BadEntry.{BadEntry}
 use Rattle.profile_toml.specs.declared.fault.ProfileFault.{ProfileFault}
 use Rattle.profile_toml.specs.declared.fault.ProfileFault.TheVariants as fault
 
--- rule: Text of a profile
--- the members of the document that a text is
+-- rule: TOML of a profile
+-- the members of the document that the bytes are
 abbrev pub document_of : List ℕ → Option Members
 document_of text = if is_utf8 text then parse_document text else None
 
@@ -25,7 +25,7 @@ is_schema_1 (Err bad) = Err fault.BadSchema
 abbrev pub check_schema : PlacedTable → Result (Unit {0}) ProfileFault
 check_schema table = is_schema_1 (required as_natural (codes "schema") table)
 
--- what is read of a document's entries; a bad one is the document's fault
+-- what is read of a document's entries; an invalid one is the document's fault
 abbrev pub entries : {A : Type 0} → Result A BadEntry → Result A ProfileFault
 entries (Ok value) = Ok value
 entries (Err bad) = Err (fault.BadEntry bad.path)

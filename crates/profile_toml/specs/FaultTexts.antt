@@ -3,7 +3,7 @@ use Rattle.std.specs.Prelude.{ℕ, List, ◌++◌, codes, decimal}
 use Rattle.profile_toml.specs.declared.fault.ProfileFault.{ProfileFault}
 use Rattle.profile_toml.specs.declared.fault.ProfileFault.TheVariants.{NotToml, BadSchema, BadEntry, BadMirror, TooManyEdits}
 
--- the fault's code, a space and its name; of a bad entry also its path, of a bad mirror its index
+-- the fault's code, a space and its name; of an invalid entry also its path, of an invalid mirror its index
 abbrev pub fault_text : ProfileFault → List ℕ
 fault_text NotToml = codes "F1 NotToml"
 fault_text BadSchema = codes "F2 BadSchema"

@@ -39,7 +39,7 @@ is_named name mirror = bytes_eq name mirror.name
 abbrev pub is_bad_after : List Mirror → Mirror → Bool
 is_bad_after before mirror = not (is_mirror mirror) || list_any (is_named mirror.name) before
 
--- the index of the first bad one among mirrors, of which those before are good
+-- the index of the first invalid one among mirrors, of which those before are valid
 abbrev pub first_bad_after : List Mirror → List Mirror → Option ℕ
 first_bad_after before [] = None
 first_bad_after before (mirror ∷ mirrors) =
@@ -47,7 +47,7 @@ first_bad_after before (mirror ∷ mirrors) =
     else first_bad_after (before ++ mirror ∷ []) mirrors
 
 -- the index that is reported of a list of mirrors: 0 if there is none, 4 if there is a fifth, else
--- that of the first bad one
+-- that of the first invalid one
 abbrev pub bad_mirror : List Mirror → Option ℕ
 bad_mirror [] = Some 0
 bad_mirror (mirror ∷ mirrors) =

@@ -1,4 +1,4 @@
--- What a profile's tables say: its mirrors and its apps, or the first bad entry; this project's
+-- What a profile's tables say: its mirrors and its apps, or the first invalid entry; this project's
 -- profile, schema 1. Tables are read from the top down: the profile's own keys, the mirrors one by
 -- one, and app by app its own keys, its cohorts and its releases. A table's unknown keys are
 -- reported before its known ones.

@@ -1,4 +1,4 @@
--- What a text is read as: a profile's edits and mirrors, or a script's base and edits; or the first
+-- What a document is read as: a profile's edits and mirrors, or a script's base and edits; or the first
 -- fault, in the order F1 to F5; this project's profile.
 use Rattle.std.specs.Prelude.{ℕ, List, Result, Ok}
 use Rattle.std.specs.Option.{ok_or}
@@ -15,7 +15,7 @@ use Rattle.profile_toml.specs.declared.fault.ProfileFault.{ProfileFault}
 use Rattle.profile_toml.specs.declared.fault.ProfileFault.TheVariants.{NotToml}
 
 -- rule: Faults of a profile
--- the edits that a profile stands for, and its mirrors: its schema is checked first, its mirrors
+-- the edits that a profile makes, and its mirrors: its schema is checked first, its mirrors
 -- last
 unfoldable pub profile_of_text : List ℕ → Result (List Edit × List Mirror) ProfileFault
 profile_of_text text = do

@@ -1,4 +1,4 @@
--- What a script's tables say: the edition that it is written for and its edits, or the first bad
+-- What a script's tables say: the edition that it is written for and its edits, or the first invalid
 -- entry; this project's profile, schema 1. Which keys an edit has depends on its `do`, so that is
 -- read first; unknown keys follow, and then the known ones in the order of the edit's keys.
 use Rattle.std.specs.Prelude.{ℕ, nat_le, List, [], ◌∷◌, length, codes, if◌then◌else◌, Option, option_and_then, Result, Ok, Err}

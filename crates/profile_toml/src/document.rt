@@ -13,7 +13,7 @@ use toml::Table;
 use toml_tables::TableReader;
 use values::ReadError;
 
-// rule: Text of a profile
+// rule: TOML of a profile
 /// Parses a TOML document, or returns `NotToml`.
 pub(crate) fn parse(alloc: Global, bytes: &[u8]) -> Result<Table, ReadError<ProfileFault>>
     ensures { Reads table_view result (ok_or (document_of bytes.now) NotToml) }

@@ -1,4 +1,4 @@
-//! Profiles and scripts: an operator's TOML documents, and the edits that they stand for.
+//! Profiles and scripts: an operator's TOML documents, and the edits that they make.
 //!
 //! A profile lists the mirrors and the apps of a vendor; `read_profile` returns the batch of edits
 //! that makes such a catalogue, and the mirrors. A script lists edits one by one, with the number

@@ -2,7 +2,7 @@ use crate::shown::{Form, first_wrong};
 use std::test::Fail;
 
 // A profile has no limits of its own; the catalogue's are reported with the index of the edit that
-// a table stands for, not of the table. The default cohort is no edit of its own.
+// a table makes, not of the table. The default cohort is no edit of its own.
 const LIMITS: &str = r#"> schema = 1~mirror = [{ name = "m", codebase = "http://m/", budget = 0 }]~
 64 apps, 0 releases, 1 cohorts | %64*[[app]]~id = 'a#'~default = 's'~%
 edit 64: C17 Limit | %65*[[app]]~id = 'a#'~default = 's'~%

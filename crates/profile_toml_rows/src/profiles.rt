@@ -71,7 +71,7 @@ fn reads_bytes_that_are_utf8(rt: HostRuntime) -> Result<(), Fail> {
 }
 
 // The lists' types come before what their tables say, and each key before the next. F3 comes before
-// F4, and F4 tells first that there is no mirror or a fifth. A name has 1 to 32 bytes, a codebase 9
+// F4, and F4 reports first that there is no mirror or a fifth. A name has 1 to 32 bytes, a codebase 9
 // to 256, a budget is at most 2^60.
 const MIRRORS: &str = r#"> schema = 1~
 F3 BadEntry mirror | mirror = 1

@@ -26,7 +26,7 @@ Appends-kept (Some xs) None after first grown kept = elim grown [ ]
 Appends-kept (Some xs) (Some ys) None first grown kept = elim kept [ ]
 Appends-kept (Some xs) (Some ys) (Some zs) first grown kept = kept ∙ grown
 
--- the part that is taken grows by what the writer takes of the rest
+-- the part that is written grows by what the writer accepts of the rest
 pub Appends-next :
     (before between after : Option (List ℕ)) (taken count : ℕ) (bytes : List ℕ) →
     taken + count ≤ length bytes →

@@ -35,7 +35,7 @@ pub fn offer<W: WriteWhole>(writer: &mut W, bytes: &[u8])
 }
 
 // rule: Writing whole
-// Writes until all of the bytes are taken.
+// Writes until all of the bytes are written.
 fn put<W: Write>(writer: &mut W, bytes: &[u8]) -> io::Result<()>
     ensures ok { OnOk result (Appends (W.contents writer.old) (W.contents writer.new) bytes.now) }
     ensures err { OnErr result

@@ -1,5 +1,5 @@
 -- The errors of keys and of lists of tables, whose paths are one line. A reading of a table is
--- `Tells` a line if it tells one of each table whose place is one line.
+-- `Tells` a line if it reports one of each table whose place is one line.
 use Rattle.std.proofs.Common.{◌≡◌, ℕ, ◌+◌, List, [], Bool, true, false, cond, Option, Some, None, Result, Ok, Err, codes, refl}
 use Rattle.std.specs.List.{list_any}
 use Rattle.std.specs.Option.{ok_or, option_map_or}

@@ -1,4 +1,4 @@
--- Texts in which no line ends, and the indices among them.
+-- Strings in which no line ends, and the indices among them.
 use Rattle.std.proofs.Common.{◌≡◌, ℕ, zero, suc, ◌+◌, ◌/◌, ◌%◌, ◌<◌, ◌==◌, ◌&&◌, ◌||◌, cond, nat_lt, List, [], ◌∷◌, ◌++◌, Bool, true, false, codes, decimal, refl, arith, lt-ltb, eqb-true}
 use Rattle.std.specs.Fmt.{digit_glyph, digits, digits_onto}
 use Rattle.std.specs.List.{list_all, list_any}
@@ -35,7 +35,7 @@ pub IsOneLine-cons : (byte : ℕ) (text : List ℕ)
 IsOneLine-cons byte text stays of_text =
     both (ends_line byte) (list_any ends_line text) stays of_text
 
--- where each way to write a text has one line
+-- if each way to write a string has one line
 pub IsOneLine-cond : (test : Bool) (one other : List ℕ)
     → (test ≡ true → IsOneLine one) → (test ≡ false → IsOneLine other)
     → IsOneLine (cond test one other)

@@ -1,4 +1,4 @@
--- Paths, in which no line ends: a key with a control byte stands there as TOML writes it.
+-- Paths, in which no line ends: a key with a control byte is there as TOML writes it.
 use Rattle.std.proofs.Common.{◌≡◌, ℕ, ◌/◌, ◌%◌, ◌==◌, ◌&&◌, ◌||◌, not, cond, nat_lt, nat_le, List, [], ◌∷◌, ◌++◌, length, Bool, true, false, codes, if◌then◌else◌, refl, ap}
 use Rattle.std.specs.Char.{is_ascii_alphanumeric, is_ascii_control}
 use Rattle.std.specs.Fmt.{digit_glyph}
@@ -8,7 +8,7 @@ use Rattle.toml_tables.specs.Laws.{IsOneLine, ends_line, place_below}
 use Rattle.toml_tables.specs.Paths.{indexed, path_of, shown_key}
 use Rattle.toml_tables.proofs.LineLemmas.{IsOneLine-all, IsOneLine-append, IsOneLine-cond, IsOneLine-cons, IsOneLine-indexed, all_true, ends_line-apart, ends_line-digit_glyph}
 
--- the letter of a short escape is none of the two, and 0 where there is none
+-- the letter of a short escape is none of the two, and 0 if there is none
 ends_line-escape_letter : (byte : ℕ) → ends_line (escape_letter byte) ≡ false
 ends_line-escape_letter byte =
     by_test (byte == 8) (byte == 9) (byte == 10) (byte == 12) (byte == 13)
@@ -72,7 +72,7 @@ IsOneLine-encoded_basic : (text : List ℕ) → IsOneLine (encoded basic text)
 IsOneLine-encoded_basic text =
     IsOneLine-append (escaped false 0 text) (34 ∷ []) (IsOneLine-escaped 0 text) refl
 
--- a byte of a key without quotes, and one that stands between apostrophes; the grammar of TOML
+-- a byte of a key without quotes, and one that is between apostrophes; the grammar of TOML
 abbrev is_bare : ℕ → Bool
 is_bare c = is_ascii_alphanumeric c || c == 45 || c == 95
 

@@ -7,7 +7,7 @@ use Rattle.toml_tables.specs.Paths.{indexed, path_of}
 abbrev pub ends_line : ℕ → Bool
 ends_line byte = byte == 10 || byte == 13
 
--- no line ends in the text
+-- no line ends in the string
 abbrev pub IsOneLine : List ℕ → Type 0
 IsOneLine text = list_any ends_line text ≡ false
 

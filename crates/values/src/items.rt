@@ -59,7 +59,7 @@ impl<T> Items<T> {
 
     /// Adds an item at the end.
     ///
-    /// Where memory is refused, the list is as it was.
+    /// If memory runs out, the list is unchanged.
     pub fn push(&mut self, item: T) -> Result<(), AllocError>
     where
         T: Drop,
@@ -70,9 +70,9 @@ impl<T> Items<T> {
         Ok(())
     }
 
-    /// Adds an item before the one at `index`, or at the end where `index` is the length.
+    /// Adds an item before the one at `index`, or at the end if `index` is the length.
     ///
-    /// Where memory is refused, the list is as it was.
+    /// If memory runs out, the list is unchanged.
     pub fn insert(&mut self, index: usize, item: T) -> Result<(), AllocError>
     where
         T: Drop,

@@ -1,9 +1,9 @@
 use std::alloc::{AllocError, AllocFailed};
 
-/// Why a reader gave no value: a fault of what it read, or want of memory.
+/// Why a reader gave no value: a fault of what it read, or out of memory.
 #[derive(Clone, Copy, Debug, Drop, PartialEq, Eq)]
 pub enum ReadError<F> {
-    /// An allocation was refused.
+    /// An allocation failed.
     Memory,
     /// The fault of what was read.
     Fault(F),

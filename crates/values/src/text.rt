@@ -4,7 +4,7 @@ ghost use Rattle.std.specs.Str.{IsUtf8};
 use std::alloc::{AllocError, Global};
 use std::marker::Model;
 
-/// A text, which contracts see as its bytes.
+/// A string, which contracts see as its bytes.
 #[derive(Clone, Debug, Drop)]
 pub struct Text {
     text: String,
@@ -19,14 +19,14 @@ impl Model for Text {
 }
 
 impl Text {
-    /// Makes a text of a `String`, and takes no memory.
+    /// Makes a string of a `String`, and allocates nothing.
     pub fn new(text: String) -> Text
         ensures { result ≡ string_bytes text }
     {
         Text { text }
     }
 
-    /// Copies a text into new memory.
+    /// Copies a string into new memory.
     pub fn copy_of(alloc: Global, text: &str) -> Result<Text, AllocError>
         ensures { IfOk result (λ copy. copy ≡ text.now) }
     {
@@ -34,7 +34,7 @@ impl Text {
         Ok(Text { text })
     }
 
-    /// Borrows the text.
+    /// Borrows the string.
     pub fn as_str(&self) -> &str
         ensures { result.now ≡ self.now }
     {
@@ -49,7 +49,7 @@ impl Text {
         text
     }
 
-    /// Tells a caller's proof that the text is UTF-8; it does nothing when it runs.
+    /// Exposes to a caller's proof that the string is UTF-8; no run-time effect.
     pub fn is_text(&self)
         ensures { IsUtf8 self.now }
     {

@@ -6,7 +6,7 @@ use Rattle.std.proofs.lemmas.Cmp.{nat_list_cmp_total, tied_itself}
 use Rattle.std.proofs.lemmas.Map.Lookups.{exact_bytes}
 use Rattle.version.specs.Versions.{is_below}
 
--- an answer that is below is `Less`
+-- a result that is below is `Less`
 Less-from_is_lt : (answer : Ordering) → is_lt answer ≡ true → answer ≡ Less
 Less-from_is_lt Less below = refl
 Less-from_is_lt Equal below = cc

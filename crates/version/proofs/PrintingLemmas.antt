@@ -5,11 +5,11 @@ use Rattle.std.specs.List.{flat_map, join_with_byte}
 use Rattle.std.proofs.lemmas.List.{append-nil, take_all}
 use Rattle.version.specs.Versions.{printed, zeros_at_end}
 
--- a number behind its dot
+-- a number after its dot
 abbrev pub dotted : ℕ → List ℕ
 dotted number = 46 ∷ decimal number
 
--- numbers joined by dots are the first, and each other behind its dot
+-- numbers joined by dots are the first, and each other after its dot
 join_with_byte-decimals :
     (first : ℕ) (others : List ℕ) →
     join_with_byte 46 (map decimal (first ∷ others)) ≡ decimal first ++ flat_map dotted others
@@ -29,7 +29,7 @@ take-first (first ∷ others) shown some more =
     let above : shown ≡ suc left = omega arith in
     ap (λ count. take count (first ∷ others)) above
 
--- the first number, and all others that are shown behind their dots, are the version as text
+-- the first number, and all others that are shown after their dots, are the printed version
 pub printed-from_dotted :
     (version : List ℕ) (shown index : ℕ) →
     length version ≡ 16 →

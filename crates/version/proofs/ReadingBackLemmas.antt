@@ -1,4 +1,4 @@
--- A version's text reads back as the version.
+-- A version's string reads back as the version.
 use Rattle.std.proofs.Common.{◌≡◌, ◌≢◌, ℕ, ◌+◌, ◌-◌, ◌^◌, ◌<◌, ◌≤◌, Bool, true, false, cond, eqb, List, [], ◌∷◌, ◌++◌, length, get_or, take, drop, map, max, reverse, Some, suc, unwrap_or, refl, sym, ap, ◌∙◌, arith, length-append}
 use Rattle.std.proofs.Math.ListN.{replicate}
 use Rattle.std.specs.Fmt.{decimal}
@@ -17,11 +17,11 @@ use Rattle.version.specs.declared.parse.Form.TheVariants.{Lenient}
 use Rattle.version.specs.Versions.{lenient_version_of, number_in, numbers_of, padded, parts_of, printed, shown_components, zeros_at_end}
 use Rattle.version.proofs.SpellingLemmas.{components_of_some}
 
--- the texts of ASCII digits are those of decimal digits
+-- the strings of ASCII digits are those of decimal digits
 numerals : IsNumeralModel (λ digits. all_ascii_digits digits ≡ true) (digits_value 10)
 numerals = numerals_by_value _ tells_all_ascii_digits
 
--- a number's text has no dot
+-- a number's string has no dot
 decimal-no_dot : (number : ℕ) → number < 2 ^ 64 → All (λ byte. eqb byte 46 ≡ false) (decimal number)
 decimal-no_dot number small = λ place past within.
     let same : get_or (decimal number) place past ≡ get_or (decimal number) place 0 = get_or_default (decimal number) place past 0 within in
@@ -44,7 +44,7 @@ parts_of-join_with_byte (first ∷ (second ∷ others)) some small =
     slice_split_at dots (decimal first) 46 (join_with_byte 46 (map decimal (second ∷ others))) (decimal-no_dot first (omega (arith, small 0 0 (omega arith)))) refl
     ∙ ap (λ parts. decimal first ∷ parts) (parts_of-join_with_byte (second ∷ others) (omega arith) rest)
 
--- a number's text spells the number
+-- a number's string spells the number
 number_in-decimal :
     (number : ℕ) →
     number < 2 ^ 32 →
@@ -55,7 +55,7 @@ number_in-decimal number small =
     let value : digits_value 10 (decimal number) ≡ number = digits_value-decimal numerals number (omega arith) in
     rw (digits, value) (grind (arith, nat_tests))
 
--- numbers' texts spell the numbers
+-- numbers' strings spell the numbers
 numbers_of-decimals :
     (numbers : List ℕ) →
     All (λ number. number < 2 ^ 32) numbers →
@@ -140,7 +140,7 @@ padded-shown_components version sixteen =
     ∙ refilled front kept zeros (omega arith) (omega arith)
     ∙ sym whole
 
--- the parts of a version's text are the texts of its numbers
+-- the parts of a version's string are the strings of its numbers
 parts_of-printed :
     (version : List ℕ) →
     1 ≤ length (shown_components version) →
@@ -149,7 +149,7 @@ parts_of-printed :
 unfolding printed
 parts_of-printed version some small = parts_of-join_with_byte (shown_components version) some small
 
--- a version's text counts as the version
+-- a version's string counts as the version
 pub lenient_version_of-printed :
     (version : List ℕ) →
     length version ≡ 16 →

@@ -1,4 +1,4 @@
--- How far the reading of a text's parts has come.
+-- How far the reading of a string's parts has come.
 use Rattle.std.proofs.Common.{◌≡◌, ℕ, ◌+◌, ◌-◌, ◌<◌, ◌≤◌, ◌≢◌, List, [], ◌∷◌, ◌++◌, length, Some, suc, ap, sym, ◌∙◌, arith, length-append}
 use Rattle.std.proofs.Math.ListN.{replicate, set}
 use Rattle.std.proofs.Math.Seq.{append_snoc, set-append_seam}
@@ -20,7 +20,7 @@ pub most_components-le : (form : Form) → most_components form ≤ 16
 most_components-le Plain = omega arith
 most_components-le Lenient = omega arith
 
--- a number written behind the others
+-- a number written after the others
 padded-push :
     (numbers : List ℕ) (number : ℕ) →
     length numbers < 16 →

@@ -1,4 +1,4 @@
--- What the parts of a text spell, together and one by one.
+-- What the parts of a string spell, together and one by one.
 use Rattle.std.proofs.Common.{◌≡◌, ℕ, ◌<◌, ◌≤◌, ◌^◌, Bool, true, false, cond, List, [], ◌∷◌, ◌++◌, length, Option, Some, None, Result, Ok, Err, refl, ap, arith, nat_le, unwrap_or, suc, zero, get_or}
 use Rattle.std.proofs.Math.ListN.{replicate}
 use Rattle.std.specs.Option.{option_map}
@@ -10,7 +10,7 @@ use Rattle.version.specs.declared.parse.Form.{Form}
 use Rattle.version.specs.declared.parse.Form.TheVariants.{Plain, Lenient}
 use Rattle.version.specs.Versions.{components_of, has_leading_zero, lenient_version_of, most_components, number_in, number_of, numbers_of, padded, parts_of, prepended, version_of}
 
--- the number that std's `parse` gives for a text with no `+` in front
+-- the number that std's `parse` gives for a string without a leading `+`
 pub number_of-from_parse :
     {E : Type 0} (digits : List ℕ) (parsed : Result ℕ E) →
     OkIff parsed ((all_ascii_digits digits ≡ true) × (0 < length digits) × (digits_value 10 digits < 2 ^ 32)) (digits_value 10 digits) →
@@ -18,7 +18,7 @@ pub number_of-from_parse :
 number_of-from_parse digits (Ok number) fits = grind (arith, nat_tests)
 number_of-from_parse digits (Err error) fails = grind (arith, nat_tests)
 
--- a number before others is there where all of them are
+-- a number before others is there if all of them are
 prepended_parts :
     (first : Option ℕ) (rest : Option (List ℕ)) (numbers : List ℕ) →
     prepended first rest ≡ Some numbers →
@@ -27,7 +27,7 @@ prepended_parts None rest numbers all = cc
 prepended_parts (Some number) None numbers all = cc
 prepended_parts (Some number) (Some others) numbers all = (number, others, refl, refl, all)
 
--- a test and a value are there where the choice is
+-- a test and a value are there if the choice is
 chosen_parts :
     {A : Type 0} (test : Bool) (option : Option A) (value : A) →
     cond test option None ≡ Some value →
@@ -35,7 +35,7 @@ chosen_parts :
 chosen_parts true option value chosen = (refl, chosen)
 chosen_parts false option value chosen = cc
 
--- what was refused for a test, and else read, was read
+-- what was rejected by a test, and else read, was read
 unless_parts :
     (test : Bool) (option : Option ℕ) (number : ℕ) →
     cond test None option ≡ Some number →
@@ -97,7 +97,7 @@ numbers_of_none form (first ∷ parts) zero past within none = rw none refl
 numbers_of_none form (first ∷ parts) (suc index) past within none =
     rw (numbers_of_none form parts index past (omega arith) none) (prepended_none (number_in form first))
 
--- a text of more parts than the form takes spells no version
+-- a string of more parts than the form allows spells no version
 pub components_of_many :
     (form : Form) (text : List ℕ) →
     most_components form < length (parts_of text) →
@@ -110,7 +110,7 @@ same_choice : {A : Type 0} (test : Bool) (option : Option A) → cond test optio
 same_choice true option = refl
 same_choice false option = refl
 
--- a text of which one part spells no number spells no version
+-- a string of which one part spells no number spells no version
 pub components_of_none :
     (form : Form) (text : List ℕ) →
     numbers_of form (parts_of text) ≡ None →
@@ -118,7 +118,7 @@ pub components_of_none :
 unfolding components_of
 components_of_none form text none = rw none (same_choice _ None)
 
--- a text of few enough parts, each of which spells a number
+-- a string of few enough parts, each of which spells a number
 pub components_of_some :
     (form : Form) (text numbers : List ℕ) →
     length (parts_of text) ≤ most_components form →
@@ -127,14 +127,14 @@ pub components_of_some :
 unfolding components_of
 components_of_some form text numbers few spelled = rw spelled (grind (arith, nat_tests))
 
--- a plain number is the same number in a client's text
+-- a plain number is the same number in a client's string
 number_in-lenient :
     (part : List ℕ) (number : ℕ) →
     number_in Plain part ≡ Some number →
     number_in Lenient part ≡ Some number
 number_in-lenient part number plain = unless_parts (has_leading_zero part) (number_of part) number plain
 
--- plain numbers are the same numbers in a client's text
+-- plain numbers are the same numbers in a client's string
 numbers_of-lenient :
     (parts : List (List ℕ)) (numbers : List ℕ) →
     numbers_of Plain parts ≡ Some numbers →
@@ -150,7 +150,7 @@ numbers_of-lenient (part ∷ parts) numbers plain =
 few_parts : (parts : ℕ) → nat_le parts 4 ≡ true → parts ≤ 16
 few_parts parts few = grind (arith, nat_tests)
 
--- a publisher's text counts as the same version when a client sends it
+-- a publisher's string counts as the same version when a client sends it
 pub lenient_version_of-plain :
     (text version : List ℕ) (written : ℕ) →
     version_of text ≡ Some (version, written) →
@@ -163,7 +163,7 @@ lenient_version_of-plain text version written plain =
     let spelled = numbers_of-lenient parts mapped.0 mapped.1 in
     rw (components_of_some Lenient text mapped.0 (few_parts (length parts) chosen.0) spelled) (ap (λ read. read.0) mapped.2)
 
--- the version of a text that counts as `0` where it spells none
+-- the version of a string that counts as `0` if it spells none
 pub lenient_version_of-unwrap_or :
     (text : List ℕ) (count : ℕ) →
     (unwrap_or (components_of Lenient text) (replicate 16 0, count)).0 ≡ lenient_version_of text

@@ -1,4 +1,4 @@
--- What holds of all versions, and of all texts.
+-- What holds of all versions, and of all strings.
 use Rattle.std.specs.Prelude.{◌≡◌, ℕ, ◌^◌, ◌<◌, All, List, length, Some, true, false}
 use Rattle.version.specs.Versions.{is_below, lenient_version_of, printed, version_of}
 
@@ -17,13 +17,13 @@ abbrev pub BelowIsTotal : Type 0
 BelowIsTotal =
     (left right : List ℕ) → is_below left right ≡ false → is_below right left ≡ false → left ≡ right
 
--- a text that a publisher may write counts as the same version when a client sends it
+-- a string that a publisher may write counts as the same version when a client sends it
 abbrev pub LenientAgrees : Type 0
 LenientAgrees =
     (text version : List ℕ) (written : ℕ) →
     version_of text ≡ Some (version, written) → lenient_version_of text ≡ version
 
--- a version's text counts as the version
+-- a version's string counts as the version
 abbrev pub PrintReadsBack : Type 0
 PrintReadsBack =
     (version : List ℕ) →

@@ -1,4 +1,4 @@
--- Versions, what texts spell them, and their order: this project's profile of the versions that the
+-- Versions, what strings spell them, and their order: this project's profile of the versions that the
 -- Omaha protocol leaves to the application. A version is the list of its sixteen numbers.
 use Rattle.std.specs.Prelude.{ℕ, ◌-◌, ◌^◌, Bool, List, [], ◌∷◌, ◌++◌, map, max, reverse, take, take_while, ◌&&◌, ◌==◌, if◌then◌else◌, length, nat_lt, nat_le, replicate, slice_index, Option, Some, None, unwrap_or}
 use Rattle.std.specs.Fmt.{decimal}
@@ -11,7 +11,7 @@ use Rattle.std.specs.Str.Parse.{digits_value}
 use Rattle.version.specs.declared.parse.Form.{Form}
 use Rattle.version.specs.declared.parse.Form.TheVariants.{Plain, Lenient}
 
--- the texts between a text's dots
+-- the strings between a string's dots
 abbrev pub parts_of : List ℕ → List (List ℕ)
 parts_of text = slice_split (λ byte. byte == 46) text
 
@@ -24,36 +24,36 @@ is_number part =
 abbrev pub number_of : List ℕ → Option ℕ
 number_of part = if is_number part then Some (digits_value 10 part) else None
 
--- whether a zero stands before further digits
+-- whether a zero is before further digits
 abbrev pub has_leading_zero : List ℕ → Bool
 has_leading_zero part = nat_lt 1 (length part) && (slice_index part 0 == 48)
 
--- the number that a part spells in a form of text
+-- the number that a part spells in a form
 abbrev pub number_in : Form → List ℕ → Option ℕ
 number_in Plain part = if has_leading_zero part then None else number_of part
 number_in Lenient part = number_of part
 
--- how many components a form of text takes at most
+-- how many components a form allows at most
 abbrev pub most_components : Form → ℕ
 most_components Plain = 4
 most_components Lenient = 16
 
--- a number before others, where all of them are there
+-- a number before others, if all of them are there
 abbrev pub prepended : Option ℕ → Option (List ℕ) → Option (List ℕ)
 prepended None numbers = None
 prepended (Some number) None = None
 prepended (Some number) (Some numbers) = Some (number ∷ numbers)
 
--- the numbers that parts spell, where each of them spells one
+-- the numbers that parts spell, if each of them spells one
 abbrev pub numbers_of : Form → List (List ℕ) → Option (List ℕ)
 numbers_of form [] = Some []
 numbers_of form (part ∷ parts) = prepended (number_in form part) (numbers_of form parts)
 
--- the sixteen numbers of a version: those that a text leaves out are 0
+-- the sixteen numbers of a version: those that a string leaves out are 0
 abbrev pub padded : List ℕ → List ℕ
 padded numbers = numbers ++ replicate (16 - length numbers) 0
 
--- the version that a text spells in a form, and how many components the text writes
+-- the version that a string spells in a form, and how many components the string writes
 unfoldable pub components_of : Form → List ℕ → Option (List ℕ × ℕ)
 components_of form text =
     if nat_le (length (parts_of text)) (most_components form) then
@@ -61,12 +61,12 @@ components_of form text =
     else None
 
 -- rule: Version of a publisher's string
--- the version that a publisher's text spells, and how many components the text writes
+-- the version that a publisher's string spells, and how many components the string writes
 unfoldable pub version_of : List ℕ → Option (List ℕ × ℕ)
 version_of text = components_of Plain text
 
 -- rule: Version of a client's string
--- the version that a client's text counts as: `0` where it spells none
+-- the version that a client's string counts as: `0` where it spells none
 unfoldable pub lenient_version_of : List ℕ → List ℕ
 lenient_version_of text =
     unwrap_or (option_map (λ read. read.0) (components_of Lenient text)) (replicate 16 0)
@@ -76,7 +76,7 @@ lenient_version_of text =
 abbrev pub is_below : List ℕ → List ℕ → Bool
 is_below lower upper = is_lt (slice_cmp nat_cmp lower upper)
 
--- how many zeros stand at the end of a version
+-- how many zeros are at the end of a version
 abbrev pub zeros_at_end : List ℕ → ℕ
 zeros_at_end version = length (take_while (λ number. number == 0) (reverse version))
 
@@ -85,6 +85,6 @@ abbrev pub shown_components : List ℕ → List ℕ
 shown_components version = take (max (length version - zeros_at_end version) 2) version
 
 -- rule: Printed version
--- a version as text
+-- a printed version
 unfoldable pub printed : List ℕ → List ℕ
 printed version = join_with_byte 46 (map decimal (shown_components version))

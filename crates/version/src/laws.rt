@@ -1,4 +1,4 @@
-//! What holds of all versions and texts, each law as the contract of a function.
+//! What holds of all versions and strings, each law as the contract of a function.
 
 ghost use Rattle.version.specs.Laws.{BelowIsIrreflexive, BelowIsTotal, BelowIsTransitive, LenientAgrees, PrintReadsBack};
 
@@ -9,7 +9,7 @@ pub fn order()
     ensures total { BelowIsTotal }
 {}
 
-/// States that a client's text which a publisher might write counts as the same version.
+/// States that a client's string which a publisher might write counts as the same version.
 pub fn spellings()
     ensures { LenientAgrees }
 {}

@@ -29,9 +29,9 @@ impl Version {
     // rule: Version of a publisher's string
     /// Reads a version as a publisher writes it, and counts its components.
     ///
-    /// A text is 1 to 4 components joined by dots. Each is a decimal number of 0 to 4294967295
+    /// A string is 1 to 4 components joined by dots. Each is a decimal number of 0 to 4294967295
     /// without leading zeros; `0` itself is one. The number beside the version is that of the
-    /// components as written: `1.0.0` gives 3. Any other text is `None`: an empty one, one with a
+    /// components as written: `1.0.0` gives 3. Any other string is `None`: an empty one, one with a
     /// sign or a blank, or with a fifth component.
     pub fn parse(text: &str) -> Option<(Version, usize)>
         ensures { result ≡ version_of text.now }
@@ -41,9 +41,9 @@ impl Version {
     }
 
     // rule: Version of a client's string
-    /// Reads a version as a client sends it, and takes any text.
+    /// Reads a version as a client sends it, and accepts any string.
     ///
-    /// Leading zeros are taken, and up to 16 components. A text that spells no version so counts
+    /// Leading zeros are accepted, and up to 16 components. A string that spells no version so counts
     /// as `0`: an empty one, one with letters, a sign or a blank, with a component above
     /// 4294967295, or with a seventeenth component.
     pub fn lenient(text: &str) -> Version
@@ -86,7 +86,7 @@ impl fmt::Display for Version {
     }
 }
 
-// How many zeros stand at the end of a version.
+// How many zeros are at the end of a version.
 fn zero_count(numbers: &[u32]) -> usize
     ensures zeros { result ≡ zeros_at_end numbers.now }
     ensures within { result ≤ length numbers.now }

@@ -1,12 +1,12 @@
-// How a text is read as the numbers of a version.
+// How a string is read as the numbers of a version.
 
 ghost use Rattle.std.specs.Prelude.{◌≡◌, ◌&&◌, ◌==◌, length, nat_lt, slice_index};
 ghost use Rattle.version.specs.Versions.{components_of, has_leading_zero, most_components, number_in, number_of};
 
-/// How many components a version has, those that a text leaves out among them.
+/// How many components a version has, those that a string leaves out among them.
 pub(crate) const COMPONENTS: usize = 16;
 
-/// How freely a text may spell a version.
+/// How freely a string may spell a version.
 #[derive(Clone, Copy)]
 pub(crate) enum Form {
     /// As a publisher writes it: up to four components, without leading zeros.
@@ -15,9 +15,9 @@ pub(crate) enum Form {
     Lenient,
 }
 
-/// Reads the components of a text, and counts those that it writes.
+/// Reads the components of a string, and counts those that it writes.
 ///
-/// `None` where the text spells no version in this form.
+/// `None` if the string spells no version in this form.
 pub(crate) fn read(text: &str, form: Form) -> Option<([u32; COMPONENTS], usize)>
     ensures { result ≡ components_of form text.now }
 {
@@ -33,7 +33,7 @@ pub(crate) fn read(text: &str, form: Form) -> Option<([u32; COMPONENTS], usize)>
     Some((components, count))
 }
 
-// How many components a text may have.
+// How many components a string may have.
 fn most(form: Form) -> usize
     ensures { result ≡ most_components form }
 {
@@ -53,7 +53,7 @@ fn component(part: &str, form: Form) -> Option<u32>
     }
 }
 
-// Whether a zero stands before further digits.
+// Whether a zero is before further digits.
 fn leads_with_zero(part: &str) -> bool
     ensures { result ≡ has_leading_zero part.now }
 {
@@ -70,7 +70,7 @@ fn number(digits: &str) -> Option<u32>
     digits.parse::<u32>().ok()
 }
 
-// Whether a text begins with a `+`.
+// Whether a string begins with a `+`.
 fn has_plus(text: &str) -> bool
     ensures { result ≡ (slice_index text.now 0 == 43) }
 {

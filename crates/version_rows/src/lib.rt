@@ -1,4 +1,4 @@
-//! Rows of texts that spell versions, and of versions in order; it holds tests alone.
+//! Rows of strings that spell versions, and of versions in order; it holds tests alone.
 
 #![tactic(auto)]
 
@@ -7,7 +7,7 @@ mod tests {
     use std::test::Fail;
     use version::Version;
 
-    // A publisher's text, how its version prints, and how many components the text writes.
+    // A publisher's string, how its version prints, and how many components the string writes.
     #[test]
     fn takes_what_a_publisher_writes(rt: HostRuntime) -> Result<(), Fail> {
         let rows = [
@@ -31,7 +31,7 @@ mod tests {
         Ok(())
     }
 
-    // Texts that no publisher may write, and that a client may.
+    // Strings that no publisher may write, and that a client may.
     #[test]
     fn takes_more_of_a_client(rt: HostRuntime) -> Result<(), Fail> {
         let rows = [
@@ -54,7 +54,7 @@ mod tests {
         Ok(())
     }
 
-    // Texts that nobody may write: a client's count as `0`.
+    // Strings that nobody may write: a client's count as `0`.
     #[test]
     fn counts_other_texts_as_zero(rt: HostRuntime) -> Result<(), Fail> {
         let (zero, _) = Version::parse("0").ok_or("0")?;
@@ -85,7 +85,7 @@ mod tests {
         Ok(())
     }
 
-    // Texts of one version, though they are spelled differently.
+    // Strings of one version, though they are spelled differently.
     #[test]
     fn spellings_of_one_version_are_equal(rt: HostRuntime) {
         let rows = [

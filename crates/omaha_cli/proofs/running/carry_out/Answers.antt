@@ -1,6 +1,9 @@
-use Rattle.std.proofs.Common.{map, string_bytes}
+use Rattle.std.proofs.Common.{map, rules, string_bytes}
 use Rattle.omaha_cli.proofs.EndingLemmas.{Ends-misread}
 use Rattle.omaha_cli.proofs.running.carry_out.Goals as goal
+
+pub returns-in-Ok-respond-clause-ends : goal.returns-in-Ok-respond-clause-ends
+returns-in-Ok-respond-clause-ends g c = search rules
 
 pub returns-clause-ends : goal.returns-clause-ends
 returns-clause-ends g c =

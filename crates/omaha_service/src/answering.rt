@@ -1,5 +1,5 @@
 ghost use Rattle.std.specs.Prelude.{◌≡◌, IfOk, IfErr, Ok, Err, nat_lt, length, if◌then◌else◌, Some, None};
-ghost use Rattle.omaha_cli.specs.Answering.{Answers, first_mirror, granted};
+ghost use Rattle.omaha_service.specs.Answering.{Answers, first_mirror, granted};
 
 use crate::service::Service;
 use catalogue::Mirror;
@@ -25,8 +25,8 @@ fn granted(alloc: Global, mirrors: &[Mirror], plan: &Plan) -> Result<Vec<Option<
         .collect(alloc)
 }
 
-// rule: Answer of the program
-/// Answers an input from a catalogue, at a time in seconds since 1 January 1970 UTC.
+// rule: Reply of the program
+/// Replies to an input from a catalogue, at a time in seconds since 1 January 1970 UTC.
 ///
 /// Returns the reply to the request that the input is, and nothing else; or the input's first fault,
 /// as `omaha_json::read_request` does.

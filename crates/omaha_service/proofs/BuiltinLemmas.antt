@@ -1,4 +1,4 @@
--- The built-in batch is accepted, so it is never refused, and leads to the built-in content.
+-- The built-in batch is accepted, so it is never rejected, and leads to the built-in content.
 use Rattle.std.proofs.Common.{◌≡◌, List, [], ◌∷◌, Result, Ok, Err, length, refl, ap, arith}
 use Rattle.version.specs.Versions.{components_of, lenient_version_of, version_of}
 use Rattle.catalogue.specs.Batches.{outcome, run, then_run}
@@ -10,7 +10,7 @@ use Rattle.editions.specs.Editions.{Continues, outcome_after}
 use Rattle.editions.specs.Plans.{content_of, content_or_none}
 use Rattle.editions.specs.declared.fault.NextError.TheVariants as error
 use Rattle.hex.proofs.OnLiterals.{hex_on_literals}
-use Rattle.omaha_cli.specs.Builtin.{builtin_apps, builtin_batch}
+use Rattle.omaha_service.specs.Builtin.{builtin_apps, builtin_batch}
 
 pub outcome-builtin_batch : outcome builtin_batch [] ≡ Ok builtin_apps
 unfolding version_of components_of lenient_version_of hash_of hex_on_literals

@@ -1,6 +1,6 @@
 use Rattle.std.proofs.Common.{◌∙◌}
-use Rattle.omaha_cli.proofs.AnswerLemmas.{AreOutcomes-granted, reply_by-names}
-use Rattle.omaha_cli.proofs.answering.answer.Goals as goal
+use Rattle.omaha_service.proofs.AnswerLemmas.{AreOutcomes-granted, reply_by-names}
+use Rattle.omaha_service.proofs.answering.answer.Goals as goal
 
 pub render-requires-clause-decided : goal.render-requires-clause-decided
 render-requires-clause-decided c =

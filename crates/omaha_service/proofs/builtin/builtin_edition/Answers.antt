@@ -1,5 +1,5 @@
-use Rattle.omaha_cli.proofs.BuiltinLemmas.{never_full, never_refused}
-use Rattle.omaha_cli.proofs.builtin.builtin_edition.Goals as goal
+use Rattle.omaha_service.proofs.BuiltinLemmas.{never_full, never_refused}
+use Rattle.omaha_service.proofs.builtin.builtin_edition.Goals as goal
 
 pub unreachable-requires : goal.unreachable-requires
 unreachable-requires c =

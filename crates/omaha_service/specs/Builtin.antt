@@ -5,7 +5,7 @@ use Rattle.records.specs.declared.content.App.{App}
 use Rattle.records.specs.declared.mirror.Mirror.{Mirror}
 use Rattle.catalogue.specs.declared.edit.Edit.{Edit}
 use Rattle.catalogue.specs.declared.edit.Edit.TheVariants as edit
-use Rattle.omaha_cli.specs.declared.service.Service.{Service}
+use Rattle.omaha_service.specs.declared.service.Service.{Service}
 
 -- the app `mini`, with its default cohort `stable`
 abbrev pub added_app : Edit

@@ -1,7 +1,7 @@
 // The catalogue that is built into the program, and its mirror.
 
 ghost use Rattle.std.specs.Prelude.{◌≡◌, ◌∷◌, [], IfOk};
-ghost use Rattle.omaha_cli.specs.Builtin.{added_app, added_release, builtin_batch, builtin_mirror, first_release, second_release, set_target};
+ghost use Rattle.omaha_service.specs.Builtin.{added_app, added_release, builtin_batch, builtin_mirror, first_release, second_release, set_target};
 
 use catalogue::{AddApp, AddRelease, Batch, Edit, Mirror, SetTarget};
 use editions::{Edition, NextError};

@@ -1,0 +1,70 @@
+// What the program replies from, and how a profile makes it.
+
+ghost use Rattle.std.specs.Prelude.{◌≡◌, IfOk};
+ghost use Rattle.editions.specs.Plans.{content_of};
+ghost use Rattle.omaha_service.specs.Builtin.{builtin_apps, builtin_service};
+ghost use Rattle.omaha_service.specs.Services.{service_of, service_of_text};
+ghost use Rattle.values.specs.Reading.{Reads};
+
+use crate::builtin::{builtin_edition, builtin_mirror};
+use crate::fault::ServiceFault;
+use catalogue::{Batch, Mirror};
+use editions::{Edition, NextError};
+use profile_toml::read_profile;
+use std::alloc::{AllocError, Global};
+use values::{Items, ReadError};
+
+/// What requests are replied to from: an edition, and the mirrors of its packages.
+#[derive(Drop)]
+pub struct Service {
+    /// The edition, which has the catalogue.
+    pub edition: Edition,
+    /// The mirrors, the first of which grants every update.
+    pub mirrors: Items<Mirror>,
+}
+
+// rule: Built-in catalogue
+/// Makes the built-in catalogue's service.
+pub fn builtin_service(alloc: Global) -> Result<Service, AllocError>
+    ensures service { IfOk result (λ service. service ≡ builtin_service) }
+    ensures content { IfOk result (λ service. content_of service.edition ≡ builtin_apps) }
+{
+    let edition = builtin_edition(alloc)?;
+    let mut mirrors = Items::empty(alloc);
+    mirrors.push(builtin_mirror(alloc)?)?;
+    Ok(Service { edition, mirrors })
+}
+
+// Makes the service of a profile's edits and mirrors.
+fn publish(
+    alloc: Global,
+    batch: Batch,
+    mirrors: Vec<Mirror>,
+) -> Result<Service, ReadError<ServiceFault>>
+    ensures { Reads (λ service. service) result (service_of (batch, mirrors.items)) }
+{
+    match Edition::empty(alloc).next(batch) {
+        Ok(edition) => Ok(Service {
+            edition,
+            mirrors: Items::new(mirrors),
+        }),
+        Err(NextError::Refused(refused)) => Err(ReadError::Fault(ServiceFault::Edit(refused))),
+        Err(NextError::Memory) => Err(ReadError::Memory),
+        Err(NextError::HistoryFull) => unreachable!(),
+    }
+}
+
+// rule: Service of a profile
+/// Makes the service of a profile.
+///
+/// Fails with the profile's first fault, as `profile_toml::read_profile` does; else with the first of
+/// its edits that the empty catalogue rejects.
+pub fn read_service(alloc: Global, profile: &[u8]) -> Result<Service, ReadError<ServiceFault>>
+    ensures { Reads (λ service. service) result (service_of_text profile.now) }
+{
+    match read_profile(alloc, profile) {
+        Ok((batch, mirrors)) => publish(alloc, batch, mirrors),
+        Err(ReadError::Memory) => Err(ReadError::Memory),
+        Err(ReadError::Fault(fault)) => Err(ReadError::Fault(ServiceFault::Profile(fault))),
+    }
+}

@@ -1,0 +1,132 @@
+#!/usr/bin/env python3
+"""Counts retired words in documents and comments, and prints each place with a better word.
+
+It reads README, `docs/`, the documents of `examples/`, the comments of all code, specs, proofs and
+scripts, the docstrings, and the strings of `--help`. Code between backticks is exempt: names, options
+and printed codes are fixed. `tests/words.py` fails if it finds one that is not known;
+`tests/words.py PATH ..` prints all in the files whose path begins so.
+"""
+
+import io
+import os
+import re
+import sys
+import tokenize
+
+TOP = os.path.dirname(os.path.dirname(os.path.abspath(__file__)))
+
+# A pattern, and what to write instead.
+RETIRED = [
+    (r"wants? of memory", "out of memory"),
+    (r"answer(s|ed|ing)?", "return, reply"),
+    (r"tells?|telling|told", "report, print, say"),
+    (r"the words (of|after|that)|(in|with|without|by|of|from|right) (the )?words", "the arguments"),
+    (r"(no )?good|bad|is right|right (bytes|words|text)", "valid, invalid"),
+    (r"(has|have|had|of|not|in) (no |the )?form (of|that)?|(has|have|had|of) (the|no|not the) forms?", "is well formed, is valid"),
+    (r"(is|are|be|was|were) taken", "is accepted"),
+    (r"refus(e|es|ed|ing|al|als)", "is rejected, error"),
+    (r"stands?|stood|standing", "is"),
+    (r"behind|in front of", "after, before"),
+    (r"where (there (is|are|was|were|isn't|aren't)|memory|none|nothing|no \w+ (is|are|has|have|leads)|it (has|does|doesn't|isn't))", "if"),
+    (r"(only|also|except|even|unless) where", "if"),
+    (r"moments?", "timestamp, time"),
+    (r"(open|stone|withdrawn|rollback) marks?", "flag"),
+    (r"(is|are|be) led down|lowers|lowered|lowering", "is downgraded"),
+    (r"(leads?|led) on", "reaches the target"),
+    (r"wish(es|ed)?", "update check, requested bytes"),
+    (r"lends?|lent", "borrows, borrowed"),
+    (r"most_\w+|MOST_\w+", "max_.., MAX_.."),
+    (r"(dear|cheap)(er|est|ly)?", "large, expensive; small"),
+    (r"a share of clients", "a percentage of clients"),
+    (r"strand(s|ed|ing)?", "leaves stuck"),
+    (r"no clauses? (can|could) (say|express)|clauses? can't say", "the contract cannot express"),
+    (r"(?<!cohort )texts?", "string, bytes"),
+]
+WORDS = [(re.compile(rf"(?<![\w-])(?:{pattern})(?![\w-])", re.IGNORECASE), better) for pattern, better in RETIRED]
+
+# Where some are left, by the beginning of the path: there may be at most so many.
+LEFT = {"crates/catalogue": 110}
+
+CODE = re.compile(r"`[^`]*`")
+COMMENTS = {
+    ".rt": re.compile(r"(?:^|\s)//[/!]? ?(?!rule: )(.*)"),
+    ".antt": re.compile(r"(?:^|\s)--+ (?!rule: )(.*)"),
+    ".toml": re.compile(r"(?:^|\s)# ?(.*)"),
+    "Makefile": re.compile(r"^# ?(.*)"),
+}
+HELP = re.compile(r"crates/omaha_cli/src/command_line\.rt$")
+STRING = re.compile(r'^const \w+: &str =\s*"((?:[^"\\]|\\.)*)"', re.DOTALL | re.MULTILINE)
+
+
+def comments(text, pattern):
+    """The comments of a file: the number of each line, and what is written there."""
+    for number, line in enumerate(text.split("\n"), 1):
+        found = pattern.search(line)
+        if found:
+            yield number, found.group(1)
+
+
+def docstrings(text):
+    """The comments and docstrings of a script, line by line."""
+    for token in tokenize.generate_tokens(io.StringIO(text).readline):
+        if token.type == tokenize.COMMENT or token.type == tokenize.STRING and token.string.startswith('"""'):
+            for below, line in enumerate(token.string.split("\n")):
+                yield token.start[0] + below, line
+
+
+def help_of(text):
+    """The strings of the command line's help, line by line."""
+    for found in STRING.finditer(text):
+        first = text.count("\n", 0, found.start()) + 1
+        for below, line in enumerate(found.group(1).split("\n")):
+            yield first + below, line
+
+
+def prose(path, text):
+    """What a file says to its reader, line by line."""
+    name, suffix = os.path.basename(path), os.path.splitext(path)[1]
+    if suffix == ".md":
+        yield from enumerate(text.split("\n"), 1)
+    elif suffix == ".py":
+        yield from docstrings(text)
+    elif suffix in COMMENTS or name in COMMENTS:
+        yield from comments(text, COMMENTS.get(suffix) or COMMENTS[name])
+    if HELP.search(path):
+        yield from help_of(text)
+
+
+def files():
+    for folder, below, names in os.walk(TOP):
+        below[:] = sorted(name for name in below if name not in (".git", "out", "__pycache__"))
+        for name in sorted(names):
+            yield os.path.relpath(os.path.join(folder, name), TOP)
+
+
+def main():
+    asked = tuple(sys.argv[1:]) or ("",)
+    found_at = []
+    for path in files():
+        if path == "tests/words.py" or not path.startswith(asked):
+            continue
+        if os.path.splitext(path)[1] not in (".md", ".py", ".rt", ".antt", ".toml") and path != "Makefile":
+            continue
+        with open(os.path.join(TOP, path), encoding="utf-8") as file:
+            text = file.read()
+        for number, line in prose(path, text):
+            for word, better in WORDS:
+                for found in word.finditer(CODE.sub("``", line)):
+                    found_at.append((path, f"{path}:{number}: {found.group(0)}: better: {better}"))
+    left = {start: [line for path, line in found_at if path.startswith(start)] for start in LEFT}
+    wrong = [line for path, line in found_at if not path.startswith(tuple(LEFT))]
+    for start, lines in left.items():
+        if len(lines) > LEFT[start] or len(sys.argv) > 1:
+            wrong += lines
+    for line in wrong:
+        print(line, file=sys.stderr)
+    known = sum(map(len, left.values()))
+    print(f"{len(found_at)} retired words in documents and comments, {known} of them known")
+    return 1 if wrong else 0
+
+
+if __name__ == "__main__":
+    sys.exit(main())
