@@ -4,7 +4,7 @@
 A rule has one plain name. A comment `-- rule: NAME` is above the definition that states it, in a
 file of `specs/`; `// rule: NAME` above each function that keeps it; and a line `# rule: NAME` in each
 must-fail edit that breaks it. Every rule needs exactly one definition, a function and an edit, and a
-heading in `docs/DEFINITIONS.md` whose text names the definition's file and crate; the few that no edit
+heading in `docs/DEFINITIONS.md` that names the definition's file and crate; the few that no edit
 of one line can break are listed below with the reason.
 
 `tests/rules.py` checks the marks; `tests/rules.py --table` prints the table "Where a rule lives":
@@ -66,14 +66,14 @@ def proof_of(crate, name):
 
 
 def sections():
-    """The text below each heading of docs/DEFINITIONS.md, on one line."""
+    """The paragraphs below each heading of docs/DEFINITIONS.md, on one line."""
     with open(os.path.join(TOP, "docs", "DEFINITIONS.md"), encoding="utf-8") as file:
         parts = re.split(r"(?m)^## (.+)$", file.read())
     return {name: " ".join(text.split()) for name, text in zip(parts[1::2], parts[2::2])}
 
 
 def is_named(text, definition):
-    """Whether a section's text names the file and the crate of a definition."""
+    """Whether a section names the file and the crate of a definition."""
     crate, name = definition.split(": ")
     file = "`specs/" + name.rpartition(".")[0].replace(".", "/") + ".antt`"
     return file in text and f"`{crate}`" in text.partition(file)[2]

@@ -85,7 +85,7 @@ pub(crate) fn body(
     )
 }
 
-// Whether an edition answers so to a request of session `abc` for its apps.
+// Whether an edition replies so to a request of session `abc` for its apps.
 fn is_answered(
     alloc: Global,
     edition: &Edition,

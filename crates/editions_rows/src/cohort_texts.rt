@@ -2,7 +2,7 @@ use cohorts::CohortText;
 use std::alloc::{AllocError, Global};
 use std::test::Fail;
 
-// What a text is read as: a name and a bucket, or `none`.
+// What a string is read as: a name and a bucket, or `none`.
 fn shown(alloc: Global, text: &str) -> Result<String, AllocError> {
     match CohortText::parse(text) {
         Some((name, bucket)) => format!(in alloc; "{name} {bucket}"),

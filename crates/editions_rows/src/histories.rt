@@ -5,7 +5,7 @@ use editions::{Edition, NextError};
 use std::alloc::{AllocError, Global};
 use std::test::Fail;
 
-// A refusal in words, or `accepted` with the next edition's number.
+// The error, or `accepted` with the next edition's number.
 fn shown(alloc: Global, next: Result<Edition, NextError>) -> Result<String, AllocError> {
     match next {
         Ok(edition) => format!(in alloc; "accepted as {}", edition.number()),

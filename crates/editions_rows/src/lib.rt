@@ -2,7 +2,7 @@
 //! histories of batches.
 //!
 //! It has tests alone, so that `cohorts` and `editions` themselves are proved once. A row is a line: the
-//! answer, a bar, and what is asked.
+//! reply, a bar, and what is asked.
 
 #![tactic(auto)]
 

@@ -8,7 +8,7 @@ use std::alloc::Global;
 use std::process::Abort;
 use std::test::Fail;
 
-// The request of a client that names its cohort and a hint so, and that may be led down.
+// The request of a client that names its cohort and a hint so, and that may be downgraded.
 fn client(alloc: Global, cohort: &str, hint: &str, session: &str) -> Result<Request, Fail> {
     let app = format!(in alloc;
         "{{\"appid\":\"demo\",\"cohort\":\"{cohort}\",\"cohorthint\":\"{hint}\",\"updatecheck\":{{\"rollback_allowed\":true}}}}"

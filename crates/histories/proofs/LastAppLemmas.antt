@@ -36,11 +36,11 @@ use Rattle.catalogue.specs.declared.edits.release_settings.SetStone.{SetStone}
 use Rattle.catalogue.specs.declared.edits.release_settings.SetWithdrawn.{SetWithdrawn}
 use Rattle.catalogue.specs.declared.edits.releases.AddRelease.{AddRelease}
 
--- a text is equal to itself
+-- a string is equal to itself
 pub bytes_eq-same : (text : List ℕ) → bytes_eq text text ≡ true
 bytes_eq-same text = (bytes_eq-Decides text text).1 refl
 
--- an app is added behind others
+-- an app is added after others
 pub accepts_app : (front : List App) (e : AddApp) → is_app_id e.app ≡ true → is_cohort_name e.default ≡ true → list_any (is_app e.app) front ≡ false → length front < max_apps → fault_of front (edit.AddApp e) ≡ None
 accepts_app front e identified named fresh room =
     let absent = find-nowhere (is_app e.app) front fresh in
@@ -48,7 +48,7 @@ accepts_app front e identified named fresh room =
     (not_from_true _ identified, (not_from_true _ named, (ap (λ (o : Option App). is_some o) absent, (lt-leb max_apps (length front) room, tt))))
 
 module _ (front : List App) (id : List ℕ) (fresh : list_any (is_app id) front ≡ false) where
-  -- the last app is found where none before it has its identifier
+  -- the last app is found if none before it has its identifier
   app_of-last : (app : App) → app.id ≡ id → app_of (front ++ app ∷ []) id ≡ Some app
   app_of-last app same = find-at (is_app id) front app [] fresh (ap (λ (other : List ℕ). bytes_eq (lowered id) (lowered other)) same ∙ bytes_eq-same (lowered id))
 

@@ -13,7 +13,7 @@ use Rattle.catalogue.specs.declared.edit.Edit.{Edit}
 use Rattle.catalogue.specs.declared.fault.Fault.{Fault}
 use Rattle.catalogue.specs.Edits.{after, fault_of}
 
--- no fault is told where no test is true
+-- there is no fault if no test is true
 pub None-from_NoneHold : (tests : List (Bool × Fault)) → NoneHold tests → first_fault tests ≡ None
 None-from_NoneHold [] h = refl
 None-from_NoneHold (test ∷ tests) h =
@@ -35,8 +35,8 @@ outcome_from-Makes index (e ∷ edits) apps made h =
     ap (λ (o : Option Fault). unless_refused index o (outcome_from (index + 1) edits (after apps e))) h.0
     ∙ outcome_from-Makes (index + 1) edits (after apps e) made h.1
 
--- where the edits of each item lead on from what those before it made, the edits of all items lead
--- to the end; `state` is the content once the items in front are made, and those behind are not
+-- if the edits of each item follow from what those before it made, the edits of all items lead
+-- to the end; `state` is the content once the items before are made, and those after are not
 pub Makes-each : {A : Type 0} (state : List A → List A → List App) (edits : A → List Edit) (whole : List A) → ((front : List A) (x : A) (back : List A) → whole ≡ front ++ x ∷ back → Makes (edits x) (state front (x ∷ back)) (state (front ++ x ∷ []) back)) → (front back : List A) → whole ≡ front ++ back → Makes (flat_map edits back) (state front back) (state whole [])
 Makes-each state edits whole step front [] cut =
     ap (λ items. state items []) (cut ∙ append-nil front)

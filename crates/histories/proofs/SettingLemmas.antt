@@ -29,7 +29,7 @@ abbrev set_by : Change → Cohort → Cohort
 set_by (SetsCohort id name new) cohort = with_setting new cohort
 set_by c cohort = cohort
 
--- what is read of the found cohort, or the value where none is found
+-- what is read of the found cohort, or the value if none is found
 abbrev read_found : {A : Type 0} → (Cohort → A) → A → Option Cohort → A
 read_found read none found = option_map_or read found none
 

@@ -1,4 +1,4 @@
--- The texts of a content's edits: spellings of versions, and hashes in hexadecimal.
+-- The strings of a content's edits: spellings of versions, and hashes in hexadecimal.
 use Rattle.std.proofs.Common.{◌≡◌, ℕ, zero, suc, ◌/◌, ◌%◌, ◌<◌, ◌≤◌, ◌||◌, Bool, true, false, cond, nat_le, List, [], ◌∷◌, length, slice_index, find, Option, Some, None, option_map, unwrap_or, replicate, refl, ap, ◌∙◌, arith}
 use Rattle.std.specs.List.{list_all}
 use Rattle.std.specs.Option.{is_none, option_map_or}
@@ -17,7 +17,7 @@ use Rattle.records.specs.Validity.{is_released, spells}
 use Rattle.records.specs.declared.content.Release.{Release}
 use Rattle.catalogue.specs.Edits.CohortSettings.{is_misspelled, is_unreleased}
 
--- the text is read as the version
+-- the string is read as the version
 pub record IsRead (text version : List ℕ) : Type 0 where
   pub written : ℕ
   pub read : version_of text ≡ Some (version, written)
@@ -50,7 +50,7 @@ spells-spelling_of (release ∷ releases) all version there =
         ap (λ (v : List ℕ). spells release.spelled v) ((bytes_eq-Decides version release.version).0 same) ∙ good
     cases false other good later others = others later
 
--- the texts of released targets
+-- the strings of released targets
 module _ (agrees : LenientAgrees) (releases : List Release) (all : list_all (λ release. spells release.spelled release.version) releases ≡ true) where
   pub option_map-spelling_of : (version : Option (List ℕ)) → is_released releases version ≡ true → option_map lenient_version_of (option_map (spelling_of releases) version) ≡ version
   option_map-spelling_of None there = refl
@@ -93,7 +93,7 @@ IsBytes-from_test (x ∷ xs) all zero =
     let bounded : x ≤ 255 = leb-true x 255 (and_parts (nat_le x 255) (list_all (λ byte. nat_le byte 255) xs) all).0 in omega arith
 IsBytes-from_test (x ∷ xs) all (suc i) = IsBytes-from_test xs (and_parts (nat_le x 255) (list_all (λ byte. nat_le byte 255) xs) all).1 i
 
--- a hash is what its text spells
+-- a hash is what its string spells
 pub hash_of-encode_lower : (hash : List ℕ) → is_hash hash ≡ true → hash_of (encode_lower hash) ≡ Some hash
 unfolding hash_of
 hash_of-encode_lower hash good =

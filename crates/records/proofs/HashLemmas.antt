@@ -1,4 +1,4 @@
--- What a text of 64 lower-case hexadecimal digits spells is a hash.
+-- What a string of 64 lower-case hexadecimal digits spells is a hash.
 use Rattle.std.proofs.Common.{◌≡◌, ℕ, suc, ◌<◌, Bool, true, false, cond, nat_le, List, [], ◌∷◌, length, Option, Some, None, Result, Ok, Err, replicate, refl, ap, sym, ◌∙◌, arith}
 use Rattle.std.specs.List.{list_all}
 use Rattle.std.specs.Option.{is_none, unwrap_or}
@@ -21,7 +21,7 @@ is_hash-decoded text bytes decoded =
     let whole = decode_of-ok text bytes (sym (decode_sized-twice text 32 twice) ∙ decoded) in
     and_from _ _ (eq-eqb (length bytes) 32 (omega (arith, twice, whole.2))) (is_bytes-from_IsBytes bytes whole.3)
 
--- what a text spells is a hash
+-- what a string spells is a hash
 pub is_hash-hash_of : (text bytes : List ℕ) → hash_of text ≡ Some bytes → is_hash bytes ≡ true
 unfolding hash_of
 is_hash-hash_of text bytes spelled = cases (list_all is_hash_digit text) spelled

@@ -1,4 +1,4 @@
--- The forms of texts and numbers that edits are tested for; this project's profile.
+-- The forms of strings and numbers that edits are tested for; this project's profile.
 use Rattle.std.specs.Prelude.{ℕ, ◌==◌, ◌&&◌, ◌||◌, ◌^◌, not, nat_le, Bool, if◌then◌else◌, List, length, map, slice_index, Option, None, replicate, unwrap_or}
 use Rattle.std.specs.Char.{is_ascii_digit, is_ascii_lowercase, is_ascii_alphanumeric, is_ascii_graphic, to_ascii_lowercase}
 use Rattle.std.specs.List.{list_all}
@@ -6,7 +6,7 @@ use Rattle.std.specs.Result.{result_ok}
 use Rattle.std.specs.Str.{bytes_eq}
 use Rattle.hex.specs.Hex.{decode_sized}
 
--- the text has from `least` to `most` bytes
+-- the string has from `least` to `most` bytes
 abbrev pub has_length : ℕ → ℕ → List ℕ → Bool
 has_length least most text = nat_le least (length text) && nat_le (length text) most
 
@@ -43,11 +43,11 @@ abbrev pub is_hash_digit : ℕ → Bool
 is_hash_digit byte = is_ascii_digit byte || (nat_le 97 byte && nat_le byte 102)
 
 -- rule: Hash
--- the 32 bytes that 64 lower-case hexadecimal digits spell, or none for any other text
+-- the 32 bytes that 64 lower-case hexadecimal digits spell, or none for any other string
 unfoldable pub hash_of : List ℕ → Option (List ℕ)
 hash_of text = if list_all is_hash_digit text then result_ok (decode_sized text 32) else None
 
--- the hash that a text spells, or 32 zeros where it spells none
+-- the hash that a string spells, or 32 zeros where it spells none
 abbrev pub hash_named : List ℕ → List ℕ
 hash_named text = unwrap_or (hash_of text) (replicate 32 0)
 

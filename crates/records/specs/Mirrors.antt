@@ -22,7 +22,7 @@ abbrev pub most_budget : ℕ
 most_budget = 2 ^ 60
 
 -- rule: Mirror
--- a mirror: its name has the form of a cohort's
+-- a mirror: its name is a valid cohort name
 abbrev pub is_mirror : Mirror → Bool
 is_mirror mirror =
     is_cohort_name mirror.name && is_codebase mirror.codebase && nat_le mirror.budget most_budget

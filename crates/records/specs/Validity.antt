@@ -27,7 +27,7 @@ is_release_below lower upper = is_below lower.version upper.version
 abbrev pub is_diff_before : Diff → Diff → Bool
 is_diff_before first second = is_pair_below (pair_of first) (pair_of second)
 
--- the text spells the version
+-- the string spells the version
 abbrev pub spells : List ℕ → List ℕ → Bool
 spells text version = option_map_or (λ read. bytes_eq read.0 version) (version_of text) false
 

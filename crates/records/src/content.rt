@@ -74,7 +74,7 @@ impl App {
 pub struct Release {
     /// Its version, used once in the app.
     pub version: Version,
-    /// The version's text, as it was added.
+    /// The version's string, as it was added.
     pub spelled: Text,
     /// The name of its full package, used once in the catalogue.
     pub name: Text,
@@ -86,7 +86,7 @@ pub struct Release {
     pub stone: bool,
     /// Whether it is offered to nobody.
     pub withdrawn: bool,
-    /// The names of the cohorts that it is open to; all cohorts where there is none.
+    /// The names of the cohorts that it is open to; all cohorts if there is none.
     pub audience: Option<Items<Text>>,
 }
 
@@ -116,7 +116,7 @@ pub struct Cohort {
     pub held: Option<Version>,
     /// How many of 1000 clients have the target, 0 to 1000; the others are held.
     pub share: u64,
-    /// Whether its clients may be led down to a lower target.
+    /// Whether its clients may be downgraded to a lower target.
     pub rollback: bool,
     /// Whether a client's hint may name it.
     pub hintable: bool,

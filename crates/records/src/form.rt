@@ -1,4 +1,4 @@
-//! The forms of texts and numbers that edits are tested for.
+//! The forms of strings and numbers that edits are tested for.
 
 ghost use Rattle.std.specs.Prelude.{◌≡◌, ◌&&◌, ◌==◌, nat_le, slice_index};
 ghost use Rattle.std.specs.Char.{is_ascii_graphic};
@@ -9,7 +9,7 @@ use hex::FromHex;
 
 const MOST_BYTES: u64 = 1 << 40;
 
-/// Whether a text has from `least` to `most` bytes.
+/// Whether a string has from `least` to `most` bytes.
 pub(crate) fn has_length(text: &str, least: usize, most: usize) -> bool
     ensures { result ≡ has_length least most text.now }
 {
@@ -23,7 +23,7 @@ fn are_visible(text: &str) -> bool
 }
 
 // rule: App identifier
-/// Whether a text is an app's identifier.
+/// Whether a string is an app's identifier.
 pub fn is_app_id(text: &str) -> bool
     ensures { result ≡ is_app_id text.now }
 {
@@ -51,7 +51,7 @@ fn are_cohort_bytes(text: &str) -> bool
 }
 
 // rule: Cohort name
-/// Whether a text is a cohort's name: 1 to 32 bytes of `a-z`, `0-9` and `-`.
+/// Whether a string is a cohort's name: 1 to 32 bytes of `a-z`, `0-9` and `-`.
 pub fn is_cohort_name(text: &str) -> bool
     ensures { result ≡ is_cohort_name text.now }
 {
@@ -77,7 +77,7 @@ fn has_dot_first(text: &str) -> bool
 }
 
 // rule: Package name
-/// Whether a text is a package's name.
+/// Whether a string is a package's name.
 pub fn is_package_name(text: &str) -> bool
     ensures { result ≡ is_package_name text.now }
 {
@@ -108,7 +108,7 @@ pub fn hash_of(text: &str) -> Option<[u8; 32]>
     <[u8; 32] as FromHex>::from_hex(text).ok()
 }
 
-/// Reads a hash, and takes any other text for 32 zeros.
+/// Reads a hash, and takes any other string for 32 zeros.
 pub fn hash_named(text: &str) -> [u8; 32]
     ensures { result ≡ hash_named text.now }
 {

@@ -10,7 +10,7 @@ const MOST_BUDGET: u64 = 1 << 60;
 /// A server that clients download packages from.
 #[derive(Clone, Drop)]
 pub struct Mirror {
-    /// Its name, which has the form of a cohort's and is used once.
+    /// Its name, which is a valid cohort name and is used once.
     pub name: Text,
     /// Where its packages lie; a package's address is this followed by the package's name.
     pub codebase: Text,

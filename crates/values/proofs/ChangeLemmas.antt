@@ -14,7 +14,7 @@ position_or_len-Some p xs i found = cases (ltb (position_or_len p xs) (length xs
     cases true is = cc
     cases false is = cc
 
--- where none is found, the place is the end
+-- if none is found, the place is the end
 pub position_or_len-None : {A : Type 0} (p : A → Bool) (xs : List A) → position p xs ≡ None → position_or_len p xs ≡ length xs
 position_or_len-None p xs none = cases (ltb (position_or_len p xs) (length xs)) refl none
   where

@@ -42,7 +42,7 @@ list_all-Inserts p item old new h all passes =
     ∙ list_all-append p h.front (item ∷ h.back)
     ∙ and_from (list_all p h.front) (p item && list_all p h.back) parts.0 (and_from (p item) (list_all p h.back) passes parts.1)
 
--- of three facts the middle one may stand last
+-- of three facts the middle one may come last
 or_swap : (a b c : Bool) → (a || (b || c)) ≡ ((a || c) || b)
 or_swap true b c = refl
 or_swap false true true = refl
@@ -62,7 +62,7 @@ list_any-Inserts p item old new h =
 pub list_any-kept : {A : Type 0} (p : A → Bool) (item : A) (old new : List A) → Inserts item old new → list_any p old ≡ true → list_any p new ≡ true
 list_any-kept p item old new h any = list_any-Inserts p item old new h ∙ ap (λ b. b || p item) any
 
--- nothing is counted where nothing passes
+-- nothing is counted if nothing passes
 pub count_by-none : {A : Type 0} (p : A → Bool) (xs : List A) → list_any p xs ≡ false → count_by p xs ≡ 0
 count_by-none p [] none = refl
 count_by-none p (x ∷ xs) none =

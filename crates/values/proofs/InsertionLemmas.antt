@@ -72,7 +72,7 @@ flat_map-change p f g same (x ∷ xs) = cases (p x) (flat_map-change p f g same 
     cases true others = ap (λ ys. ys ++ flat_map g xs) (same x)
     cases false others = ap (λ ys. g x ++ ys) others
 
--- an entry that is put in is found where nothing was, and nothing else changes
+-- an entry that is put in is found if nothing was, and nothing else changes
 lookup-insert : {K X : Type 0} (test : K → Bool) (entry : K × X) (front back : List (K × X)) → (test entry.0 ≡ true → lookup test (front ++ back) ≡ None) → lookup test (front ++ entry ∷ back) ≡ cond (test entry.0) (Some entry.1) (lookup test (front ++ back))
 lookup-insert test entry [] back fresh = refl
 lookup-insert {K} {X} test entry (e ∷ front) back fresh = cases (test e.0) fresh (lookup-insert test entry front back)
@@ -85,7 +85,7 @@ lookup-insert {K} {X} test entry (e ∷ front) back fresh = cases (test e.0) fre
     cases true h others = untested (test entry.0) h
     cases false h others = others h
 
--- equality of texts is turned round
+-- equality of strings is turned round
 pub bytes_eq-turn : (xs ys : List ℕ) → bytes_eq xs ys ≡ bytes_eq ys xs
 bytes_eq-turn xs ys = same_from_decides (bytes_eq xs ys) (bytes_eq ys xs) (bytes_eq-Decides xs ys) (let turned = bytes_eq-Decides ys xs in (λ t. sym (turned.0 t), λ e. turned.1 (sym e)))
 

@@ -17,7 +17,7 @@ find_changed f x others true before after was is =
 find_changed f x others false before after was is =
     ap (λ b. cond b (Some (f x)) others) is ∙ sym (ap (λ b. cond b (Some x) others) was)
 
--- an item that is not changed hides what is changed behind it only where it is found itself
+-- an item that is not changed hides what is changed after it only if it is found itself
 find_unchanged : {A : Type 0} (f : A → A) (x : A) (before after : Option A) (same here : Bool) → (same ≡ true → here ≡ false) → after ≡ cond same (option_map f before) before → cond here (Some x) after ≡ cond same (option_map f (cond here (Some x) before)) (cond here (Some x) before)
 find_unchanged f x before after true here apart others =
     let fails = apart refl in

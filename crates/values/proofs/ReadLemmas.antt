@@ -35,7 +35,7 @@ module _ {A B : Type 0} (read : A → B) (none : B) (p : A → Bool) (item : A) 
       cases false apart others = others apart
 
   -- an item that is put in changes nothing, if what is read of it is the value, and if no other passes
-  -- where it does
+  -- if it does
   pub read_found-Inserts :
       (old new : List A) → Inserts item old new → (p item ≡ true → list_any p old ≡ false) →
       read_found read none p new ≡ read_found read none p old

@@ -10,7 +10,7 @@ use Rattle.values.specs.Lists.{change}
 use Rattle.values.specs.Ordered.{ascend}
 use Rattle.values.specs.Lists.{IsOnce}
 
--- where nothing is counted, nothing passes
+-- if nothing is counted, nothing passes
 list_any-not_counted : {A : Type 0} (p : A → Bool) (xs : List A) → count_by p xs ≡ 0 → list_any p xs ≡ false
 list_any-not_counted p [] none = refl
 list_any-not_counted p (x ∷ xs) none = cases (p x) refl (list_any-not_counted p xs)
@@ -43,7 +43,7 @@ pub AllByRecursion-at : {A : Type 0} (P : A → Type 0) (front : List A) (x : A)
 AllByRecursion-at P [] x back all = all.0
 AllByRecursion-at P (y ∷ front) x back all = AllByRecursion-at P front x back all.1
 
--- all before an item of an ascending list stand before it
+-- all before an item of an ascending list come before it
 pub ascend-before : {A : Type 0} (before : A → A → Bool) (front : List A) (x : A) (back : List A) → ascend before (front ++ x ∷ back) ≡ true → list_all (λ y. before y x) front ≡ true
 ascend-before before [] x back ascending = refl
 ascend-before before (y ∷ front) x back ascending =
@@ -52,11 +52,11 @@ ascend-before before (y ∷ front) x back ascending =
     let others = ascend-before before front x back parts.1 in
     ap (λ b. b && list_all (λ z. before z x) front) here ∙ others
 
--- there is room for an item behind those before it
+-- there is room for an item after those before it
 pub length-before : {A : Type 0} (front : List A) (x : A) (back : List A) (most : ℕ) → length (front ++ x ∷ back) ≤ most → length front < most
 length-before front x back most few = let joined = length-append front (x ∷ back) in omega arith
 
--- the item is found and changed where none before it passes
+-- the item is found and changed if none before it passes
 pub find-at : {A : Type 0} (p : A → Bool) (front : List A) (x : A) (back : List A) → list_any p front ≡ false → p x ≡ true → find p (front ++ x ∷ back) ≡ Some x
 find-at p [] x back none here = ap (λ b. cond b (Some x) (find p back)) here
 find-at p (y ∷ front) x back none here =
@@ -70,12 +70,12 @@ change-at_item p f (y ∷ front) x back none here =
     ap (λ b. cond b (f y ∷ front ++ x ∷ back) (y ∷ change p f (front ++ x ∷ back))) parts.0
     ∙ ap (λ ys. y ∷ ys) (change-at_item p f front x back parts.1 here)
 
--- some item passes where it does
+-- some item passes if it does
 pub list_any-at : {A : Type 0} (p : A → Bool) (front : List A) (x : A) (back : List A) → p x ≡ true → list_any p (front ++ x ∷ back) ≡ true
 list_any-at p [] x back here = ap (λ b. b || list_any p back) here
 list_any-at p (y ∷ front) x back here = or_right (p y) (list_any p (front ++ x ∷ back)) (list_any-at p front x back here)
 
--- nothing is found where nothing passes
+-- nothing is found if nothing passes
 pub find-nowhere : {A : Type 0} (p : A → Bool) (xs : List A) → list_any p xs ≡ false → find p xs ≡ None
 find-nowhere p [] none = refl
 find-nowhere p (x ∷ xs) none =
@@ -88,6 +88,6 @@ lookup-nowhere {K} {X} test (e ∷ es) none =
     let parts = or_parts (test e.0) (list_any (λ (d : K × X). test d.0) es) none in
     ap (λ b. cond b (Some e.1) (lookup test es)) parts.0 ∙ lookup-nowhere test es parts.1
 
--- an item that is put behind the front is the next
+-- an item that is put after the front is the next
 pub split_next : {A : Type 0} (front : List A) (x : A) (back : List A) → front ++ x ∷ back ≡ (front ++ x ∷ []) ++ back
 split_next front x back = sym (append_assoc front (x ∷ []) back)
