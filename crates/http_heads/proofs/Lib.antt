@@ -1,0 +1,4 @@
+mod ClosingLemmas
+mod FieldLemmas
+mod LengthLemmas
+mod TargetLemmas

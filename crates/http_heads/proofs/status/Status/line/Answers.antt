@@ -1,0 +1,7 @@
+use Rattle.std.proofs.Common.{rules}
+use Rattle.http_heads.specs.Replies.{status_line}
+use Rattle.http_heads.proofs.status.Status.line.Goals as goal
+
+pub returns-in-NotImplemented : goal.returns-in-NotImplemented
+unfolding status_line
+returns-in-NotImplemented c = search rules

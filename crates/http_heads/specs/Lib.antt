@@ -1,0 +1,6 @@
+pub mod Fields
+pub mod Framing
+pub mod Lengths
+pub mod Closing
+pub mod Targets
+pub mod Replies

@@ -1,0 +1,13 @@
+-- What the target of a request names; this project's profile. Nothing in it is unescaped.
+use Rattle.std.specs.Prelude.{ℕ, List, [], ◌∷◌, take, drop, Option, None, Some, ◌==◌, if◌then◌else◌, bytes_eq, codes}
+
+-- rule: Path of a target
+-- the bytes before the first `?`, or all
+abbrev pub path_in : List ℕ → List ℕ
+path_in [] = []
+path_in (byte ∷ bytes) = if byte == 63 then [] else byte ∷ path_in bytes
+
+-- rule: Path of a package
+-- the name behind `/p/`, if the path begins so
+unfoldable pub package_in : List ℕ → Option (List ℕ)
+package_in path = if bytes_eq (take 3 path) (codes "/p/") then Some (drop 3 path) else None

@@ -1,0 +1,23 @@
+//! What the head of a request says of its message, and the head of a reply.
+//!
+//! `framing` gives the length of the body, or the status that refuses the message; `wants_close`
+//! whether the connection ends after the reply; `path_of` and `package_name` what the target names.
+//! A `ReplyHead` has the texts of a reply's head. Read `specs/Framing.antt`, `specs/Closing.antt`,
+//! `specs/Targets.antt` and `specs/Replies.antt`.
+//!
+//! It does not parse a head: that is the kit's `httparse`. It does not read or write.
+
+#![tactic(auto)]
+
+mod body_length;
+mod closing;
+mod field;
+mod reply;
+mod status;
+mod target;
+
+pub use crate::body_length::{MAX_BODY, framing};
+pub use crate::closing::wants_close;
+pub use crate::reply::{Allow, ReplyHead, allow_text, last_text};
+pub use crate::status::Status;
+pub use crate::target::{package_name, path_of};

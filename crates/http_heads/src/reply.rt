@@ -1,0 +1,48 @@
+ghost use Rattle.std.specs.Prelude.{◌≡◌};
+ghost use Rattle.http_heads.specs.Replies.{allow_line, last_lines};
+
+use crate::status::Status;
+
+/// The only method that a path takes.
+#[derive(Clone, Copy, Debug, Drop, PartialEq, Eq)]
+pub enum Allow {
+    Post,
+    Get,
+}
+
+/// What the head of a reply says.
+#[derive(Clone, Copy, Debug, Drop)]
+pub struct ReplyHead<'a> {
+    pub status: Status,
+    /// The type of the body; empty if it has none.
+    pub kind: &'a str,
+    pub allow: Option<Allow>,
+    /// The length of the body.
+    pub size: usize,
+    /// Whether the connection ends after the reply.
+    pub closes: bool,
+}
+
+/// Returns the field that names the method which a path takes, or nothing.
+#[tactic(auto, unfolding(crate::specs::Replies::allow_line))]
+pub fn allow_text(allow: Option<Allow>) -> &'static str
+    ensures { result.now ≡ allow_line allow }
+{
+    match allow {
+        None => "",
+        Some(Allow::Post) => "Allow: POST\r\n",
+        Some(Allow::Get) => "Allow: GET\r\n",
+    }
+}
+
+/// Returns the end of a reply's head: the empty line, behind `Connection: close` if it closes.
+#[tactic(auto, unfolding(crate::specs::Replies::last_lines))]
+pub fn last_text(closes: bool) -> &'static str
+    ensures { result.now ≡ last_lines closes }
+{
+    if closes {
+        "Connection: close\r\n\r\n"
+    } else {
+        "\r\n"
+    }
+}

@@ -1,0 +1,41 @@
+ghost use Rattle.std.specs.Prelude.{◌≡◌};
+ghost use Rattle.http_heads.specs.Replies.{status_line};
+
+/// The status of a reply.
+#[derive(Clone, Copy, Debug, Drop, PartialEq, Eq)]
+pub enum Status {
+    Success,
+    BadRequest,
+    NotFound,
+    MethodNotAllowed,
+    Conflict,
+    LengthRequired,
+    ContentTooLarge,
+    UnprocessableContent,
+    FieldsTooLarge,
+    InternalServerError,
+    NotImplemented,
+}
+
+impl Status {
+    // rule: Status lines
+    /// Returns the first line of a reply, with its line end.
+    #[tactic(auto, unfolding(crate::specs::Replies::status_line))]
+    pub fn line(self) -> &'static str
+        ensures { result.now ≡ status_line self }
+    {
+        match self {
+            Status::Success => "HTTP/1.1 200 OK\r\n",
+            Status::BadRequest => "HTTP/1.1 400 Bad Request\r\n",
+            Status::NotFound => "HTTP/1.1 404 Not Found\r\n",
+            Status::MethodNotAllowed => "HTTP/1.1 405 Method Not Allowed\r\n",
+            Status::Conflict => "HTTP/1.1 409 Conflict\r\n",
+            Status::LengthRequired => "HTTP/1.1 411 Length Required\r\n",
+            Status::ContentTooLarge => "HTTP/1.1 413 Content Too Large\r\n",
+            Status::UnprocessableContent => "HTTP/1.1 422 Unprocessable Content\r\n",
+            Status::FieldsTooLarge => "HTTP/1.1 431 Request Header Fields Too Large\r\n",
+            Status::InternalServerError => "HTTP/1.1 500 Internal Server Error\r\n",
+            Status::NotImplemented => "HTTP/1.1 501 Not Implemented\r\n",
+        }
+    }
+}

@@ -1,0 +1,4 @@
+mod BytesLemmas
+pub mod KnownLemmas
+mod ReplyLemmas
+mod HeadLemmas

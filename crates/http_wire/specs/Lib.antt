@@ -1,0 +1,4 @@
+pub mod Devices
+pub mod Heads
+pub mod Bodies
+pub mod Sending

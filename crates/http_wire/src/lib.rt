@@ -1,0 +1,25 @@
+//! The bytes of an HTTP connection: read into a window, and written whole.
+//!
+//! A `Source` gives bytes in pieces and a `Sink` takes them in pieces; each counts its failures. A
+//! `Window` keeps the bytes that were read and not yet used: `read_head` finds a request's head in
+//! it, and `read_body` takes a body from it. `send` writes bytes whole, and `send_reply` a reply's
+//! head and body, in one write if they fit a block. Read `specs/Devices.antt`, `specs/Heads.antt`,
+//! `specs/Bodies.antt` and `specs/Sending.antt`.
+//!
+//! Nothing here takes memory but `Window::new`. It does not say what is read or written.
+
+#![tactic(auto)]
+
+mod body;
+mod device;
+mod head;
+mod reply;
+mod sending;
+mod window;
+
+pub use crate::body::read_body;
+pub use crate::device::{Failed, Sink, Source};
+pub use crate::head::{Head, MAX_FIELDS, read_head};
+pub use crate::reply::send_reply;
+pub use crate::sending::send;
+pub use crate::window::{MAX_HEAD, Window};
