@@ -1,8 +1,11 @@
 // Places of clients, and what is permitted from outside of all releases.
 
 use crate::lines::catalogue_of;
+use catalogue::Catalogue;
 use cohorts::Lane;
 use payload_rules::{Payload, Place, TrackKey, permits, place_of};
+use std::alloc::Global;
+use std::process::Abort;
 use std::test::Fail;
 
 const DEMO: &str = "add_app demo stable
@@ -12,59 +15,63 @@ add_release demo 3.0 demo-3.0.bin 1500 33333333333333333333333333333333333333333
 set_stone demo 2.0 on
 set_target demo stable 3.0 -";
 
-const KEY: TrackKey = TrackKey {
-    app: 0,
-    cohort: 0,
-    lane: Lane::Target,
-    rollback: false,
-};
-
-#[test]
-fn places_by_fingerprint_first(rt: HostRuntime) -> Result<(), Fail> {
-    let catalogue = catalogue_of(rt.alloc(), DEMO)?;
-    let app = catalogue.app("demo").ok_or("no app")?;
-    let second = "1.2222222222222222222222222222222222222222222222222222222222222222";
-    let rows = [
-        (second, "1.0", "at 1"),
-        ("", "2.0", "outside"),
-        ("1.22", "2.0", "outside"),
-        (
-            "1.9999999999999999999999999999999999999999999999999999999999999999",
-            "2.0",
-            "outside",
-        ),
-    ];
-    for (fp, version, want) in rows {
-        let shown = match place_of(&catalogue, app, fp, version) {
-            Place::At(1) => "at 1",
-            Place::At(_) => "at another",
-            Place::Outside(_) => "outside",
-        };
-        assert_eq!(rt; shown, want);
+// The full packages that are permitted at a place, each a letter; a client outside is told first.
+fn permitted_at(alloc: Global, catalogue: &Catalogue, place: &Place) -> Result<String, Fail> {
+    let key = TrackKey {
+        app: 0,
+        cohort: 0,
+        lane: Lane::Target,
+        rollback: false,
+    };
+    let mut letters = String::new(alloc);
+    letters.push_str(match place {
+        Place::At(_) => "at ",
+        Place::Outside(_) => "outside ",
+    })?;
+    for release in 0..3 {
+        if permits(catalogue, &key, place, &Payload::Full(release)) {
+            letters.push_str("f")?;
+        } else {
+            letters.push_str("-")?;
+        }
     }
+    Ok(letters)
+}
+
+fn permits_at(
+    rt: &impl Abort,
+    alloc: Global,
+    fp: &str,
+    version: &str,
+    want: &str,
+) -> Result<(), Fail> {
+    let catalogue = catalogue_of(alloc, DEMO)?;
+    let app = catalogue.app("demo").ok_or("no app")?;
+    let place = place_of(&catalogue, app, fp, version);
+    assert_eq!(rt; permitted_at(alloc, &catalogue, &place)?.as_str(), want);
     Ok(())
 }
 
+// Each row: a fingerprint, a version, and what is permitted there.
+const ROWS: &str = "1.2222222222222222222222222222222222222222222222222222222222222222|1.0|at --f
+1.1111111111111111111111111111111111111111111111111111111111111111|3.0|at -f-
+1.9999999999999999999999999999999999999999999999999999999999999999|2.0|outside --f
+1.22|2.0|outside --f
+|2.0|outside --f
+|0|outside ff-
+|x|outside ff-
+|1.5|outside -f-
+|2.5|outside --f
+|3.0|outside ---
+|9|outside ---";
+
 #[test]
-fn permits_full_packages_from_outside(rt: HostRuntime) -> Result<(), Fail> {
-    let catalogue = catalogue_of(rt.alloc(), DEMO)?;
-    let app = catalogue.app("demo").ok_or("no app")?;
-    let rows = [
-        ("0", true, true, false),
-        ("1.5", false, true, false),
-        ("2.0", false, false, true),
-        ("2.5", false, false, true),
-        ("3.0", false, false, false),
-        ("9", false, false, false),
-    ];
-    for (version, first, second, third) in rows {
-        let place = place_of(&catalogue, app, "", version);
-        assert_eq!(rt; permits(&catalogue, &KEY, &place, &Payload::Full(0)), first);
-        assert_eq!(rt;
-            permits(&catalogue, &KEY, &place, &Payload::Full(1)),
-            second
-        );
-        assert_eq!(rt; permits(&catalogue, &KEY, &place, &Payload::Full(2)), third);
+fn permits_by_the_place(rt: HostRuntime) -> Result<(), Fail> {
+    for row in ROWS.lines() {
+        let mut fields = row.split('|');
+        let fp = fields.next().unwrap_or("");
+        let version = fields.next().unwrap_or("");
+        permits_at(&rt, rt.alloc(), fp, version, fields.next().unwrap_or(""))?;
     }
     Ok(())
 }

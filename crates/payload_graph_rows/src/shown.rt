@@ -1,35 +1,45 @@
 // Permitted payloads as text, a word a payload: `0>1f1200` is the full package of release 1 from
 // release 0, of 1200 bytes, and `0>1d300` a differential.
 
+ghost use Rattle.std.specs.Prelude.{◌<◌, length};
+
 use catalogue::Catalogue;
-use payload_graph::{Differentials, Graph, Kind};
+use payload_graph::{Differentials, Edge, Graph, Kind};
 use payload_rules::{Payload, Place, TrackKey, permits};
-use std::alloc::Global;
+use std::alloc::{AllocError, Global};
 use std::test::Fail;
 
-fn push_word(
-    alloc: Global,
-    words: &mut String,
-    from: usize,
-    to: usize,
-    kind: Kind,
-    bytes: u64,
-) -> Result<(), Fail> {
-    let letter = match kind {
+fn word_of(alloc: Global, edge: &Edge) -> Result<String, AllocError> {
+    let letter = match edge.kind {
         Kind::Full => "f",
         Kind::Differ => "d",
     };
-    let word = format!(in alloc; " {from}>{to}{letter}{bytes}")?;
-    words.push_str(word.as_str())?;
+    format!(in alloc; " {}>{}{letter}{}", edge.from, edge.to, edge.bytes)
+}
+
+fn push_word(alloc: Global, words: &mut String, edge: &Edge) -> Result<(), AllocError> {
+    let word = word_of(alloc, edge)?;
+    words.push_str(word.as_str())
+}
+
+fn push_payloads(
+    alloc: Global,
+    graph: &Graph,
+    from: usize,
+    words: &mut String,
+) -> Result<(), AllocError>
+    requires { from < length graph.now.doors }
+{
+    for edge in graph.edges_from(from) {
+        push_word(alloc, words, &edge)?;
+    }
     Ok(())
 }
 
 fn payloads_of(alloc: Global, graph: &Graph) -> Result<String, Fail> {
     let mut words = String::new(alloc);
     for from in 0..graph.doors().len() {
-        for edge in graph.edges_from(from) {
-            push_word(alloc, &mut words, edge.from, edge.to, edge.kind, edge.bytes)?;
-        }
+        push_payloads(alloc, graph, from, &mut words)?;
     }
     Ok(words)
 }
@@ -71,13 +81,25 @@ fn push_permitted(
     let place = Place::At(from);
     for (to, release) in app.releases.as_slice().iter().enumerate() {
         if permits(catalogue, key, &place, &Payload::Full(to)) {
-            push_word(alloc, words, from, to, Kind::Full, release.size)?;
+            let edge = Edge {
+                from,
+                to,
+                kind: Kind::Full,
+                bytes: release.size,
+            };
+            push_word(alloc, words, &edge)?;
         }
     }
     for (index, diff) in app.diffs.as_slice().iter().enumerate() {
         if permits(catalogue, key, &place, &Payload::Differ(index)) {
             let to = app.find_release(&diff.to).ok_or("no release")?;
-            push_word(alloc, words, from, to, Kind::Differ, diff.size)?;
+            let edge = Edge {
+                from,
+                to,
+                kind: Kind::Differ,
+                bytes: diff.size,
+            };
+            push_word(alloc, words, &edge)?;
         }
     }
     Ok(())
