@@ -1,12 +1,9 @@
 -- The reached differentials of an app are the permitted ones.
-use Rattle.std.proofs.Common.{◌≡◌, ℕ, ◌+◌, ◌-◌, ◌<◌, ◌≤◌, ◌&&◌, ◌⊎◌, inl, inr, Bool, true, false, cond, List, [], ◌∷◌, length, get_or, leb, ltb, map, refl, sym, ap, ◌∙◌, subst, arith}
-use Rattle.std.specs.List.{All, filter, list_all, slice_get}
-use Rattle.std.specs.List.Sorted.{IsNonDecreasingBy}
+use Rattle.std.proofs.Common.{◌≡◌, ℕ, ◌<◌, ◌&&◌, inl, inr, Bool, true, false, cond, List, [], ◌∷◌, length, get_or, ltb, map, refl, sym, ap, ◌∙◌, arith}
+use Rattle.std.specs.List.{filter, list_all}
 use Rattle.std.specs.Option.{option_map_or}
 use Rattle.std.proofs.lemmas.Bool.{and_left, and_parts, and_right, cases_lt, le-leb, le-ltb, lt-leb, lt-ltb}
 use Rattle.std.proofs.lemmas.List.{get_or-map, length-map}
-use Rattle.std.proofs.lemmas.List.Elements.{All-from_get_or}
-use Rattle.std.proofs.lemmas.List.Sorted.{IsNonDecreasingBy-from_default}
 use Rattle.std.proofs.lemmas.Option.{slice_get-get_or}
 use Rattle.version.specs.Laws.{BelowIsIrreflexive, BelowIsTransitive}
 use Rattle.records.specs.Validity.{is_good_diff}
@@ -17,18 +14,18 @@ use Rattle.records.specs.declared.content.Release.{Release}
 use Rattle.payload_rules.specs.Chains.{index_of}
 use Rattle.payload_rules.specs.Permitted.{is_offered, leads_up, permits_differ}
 use Rattle.payload_rules.specs.declared.payload.TrackKey.{TrackKey}
-use Rattle.payload_graph.proofs.DoorLemmas.{get_or-doors_of, length-doors_of}
+use Rattle.payload_graph.proofs.DoorLemmas.{get_or-doors_of}
 use Rattle.payload_graph.proofs.IndexLemmas.{IsIndex, IsIndex-released, find-index_of, index_of-below, released_one}
 use Rattle.payload_graph.proofs.OrderLemmas.{list_all-get_or}
 use Rattle.payload_graph.proofs.UpwardLemmas.{and-true, leads_up-above, leads_up-inside, leads_up-past}
-use Rattle.payload_graph.proofs.WalkLemmas.{AreGood, LeadsUp, LeadsUp-good, ends_above, pairs_rise}
-use Rattle.payload_graph.specs.Net.{Net, differs_of, doors_of, edge_of, net_of, net_with, resolved_of, version_of_index}
+use Rattle.payload_graph.proofs.WalkLemmas.{AreGood, LeadsUp-good, ends_above, pairs_rise}
+use Rattle.payload_graph.specs.Net.{differs_of, doors_of, edge_of, net_of, net_with, resolved_of, version_of_index}
 use Rattle.payload_graph.specs.Soundness.{AreResolved, is_reached, net_from, no_door, reach_of}
 use Rattle.payload_graph.specs.declared.door.Door.{Door}
 use Rattle.payload_graph.specs.declared.edge.Edge.{Edge}
 
 -- tests that agree on each good item keep the same ones
-filter-map_agree :
+pub filter-map_agree :
     {A B : Type 0} (good : A → Bool) (f : A → B) (p : B → Bool) (q : A → Bool) →
     ((x : A) → good x ≡ true → p (f x) ≡ q x) →
     (xs : List A) → list_all good xs ≡ true → filter p (map f xs) ≡ map f (filter q xs)

@@ -1,6 +1,6 @@
 -- The full packages of a window are the permitted ones.
-use Rattle.std.proofs.Common.{◌≡◌, ℕ, ◌+◌, ◌-◌, ◌<◌, ◌≤◌, ◌&&◌, ◌||◌, ◌⊎◌, inl, inr, Bool, true, false, cond, List, [], length, get_or, map, refl, sym, ap, ◌∙◌, arith, Some}
-use Rattle.std.specs.List.{filter, slice_get}
+use Rattle.std.proofs.Common.{◌≡◌, ℕ, ◌+◌, ◌<◌, ◌≤◌, ◌&&◌, ◌||◌, inl, inr, Bool, true, false, cond, List, [], length, get_or, map, refl, sym, ap, ◌∙◌, arith}
+use Rattle.std.specs.List.{filter}
 use Rattle.std.proofs.lemmas.Bool.{and_from, and_left, and_right, cases_lt, or_from}
 use Rattle.std.proofs.lemmas.Option.{get_or_from_slice_get, slice_get-get_or, slice_get_within}
 use Rattle.version.specs.Laws.{BelowIsIrreflexive, BelowIsTransitive}
@@ -15,11 +15,10 @@ use Rattle.payload_rules.specs.declared.place.Place.TheVariants.{At}
 use Rattle.payload_graph.proofs.DoorLemmas.{get_or-doors_of, length-doors_of}
 use Rattle.payload_graph.proofs.NearerLemmas.{window-above, window-below}
 use Rattle.payload_graph.proofs.OrderLemmas.{below_at, not_below_at}
-use Rattle.payload_graph.proofs.RangeLemmas.{AgreeBetween, between-none, filter-between}
-use Rattle.payload_graph.proofs.ReachLemmas.{reach_of-bounds}
+use Rattle.payload_graph.proofs.RangeLemmas.{filter-between}
 use Rattle.payload_graph.proofs.UpwardLemmas.{and-true, leads_up-above, leads_up-below, leads_up-inside, leads_up-past}
 use Rattle.payload_graph.specs.Laws.{FullsArePermitted, IsTrack}
-use Rattle.payload_graph.specs.Net.{Net, between, door_of, doors_of, full, net_with, window}
+use Rattle.payload_graph.specs.Net.{Net, between, doors_of, full, net_with, window}
 use Rattle.payload_graph.specs.Soundness.{no_door, reach_of}
 use Rattle.payload_graph.specs.declared.door.Door.{Door}
 use Rattle.payload_graph.specs.declared.edge.Edge.{Edge}

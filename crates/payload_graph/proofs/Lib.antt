@@ -6,6 +6,7 @@ mod LeavingLemmas
 mod LoopLemmas
 mod NearerLemmas
 mod OrderLemmas
+mod PermittedLemmas
 mod RangeLemmas
 mod ReachLemmas
 mod ReachedLemmas

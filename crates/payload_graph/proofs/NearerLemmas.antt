@@ -1,13 +1,13 @@
 -- Each door of a window is nearer the target.
-use Rattle.std.proofs.Common.{◌≡◌, ℕ, zero, ◌+◌, ◌-◌, ◌<◌, ◌≤◌, ◌⊎◌, inl, inr, Bool, true, false, cond, List, [], length, get_or, take, drop, ltb, refl, sym, ap, ◌∙◌, subst, arith}
+use Rattle.std.proofs.Common.{◌≡◌, ℕ, ◌+◌, ◌<◌, ◌≤◌, inl, inr, Bool, true, false, cond, List, [], length, get_or, take, sym, ap, ◌∙◌, subst, arith}
 use Rattle.std.specs.List.{All, filter}
-use Rattle.std.proofs.lemmas.Bool.{cases_lt, le-ltb, lt-ltb}
+use Rattle.std.proofs.lemmas.Bool.{cases_lt, eqb-true, le-ltb, lt-ltb}
 use Rattle.std.proofs.lemmas.List.{get_or-drop, get_or-take}
-use Rattle.std.proofs.lemmas.List.Elements.{All-filter, All-from_get_or, All-map, All-nil}
+use Rattle.std.proofs.lemmas.List.Elements.{All-append, All-filter, All-from_get_or, All-map, All-nil, filter_passes}
 use Rattle.payload_graph.proofs.ReachLemmas.{between-reach, length-between, reach_of-bounds}
-use Rattle.payload_graph.specs.Laws.{FullsLeadNearer}
-use Rattle.payload_graph.specs.Net.{Net, between, full, fulls, to_stone, window}
-use Rattle.payload_graph.specs.Soundness.{AreNumbered, LeadsNearer, no_door, reach_of}
+use Rattle.payload_graph.specs.Laws.{EdgesLeadNearer, FullsLeadNearer}
+use Rattle.payload_graph.specs.Net.{Net, between, full, fulls, leaves, to_stone, window}
+use Rattle.payload_graph.specs.Soundness.{AreNumbered, IsNearing, LeadsNearer, no_door, reach_of}
 use Rattle.payload_graph.specs.declared.door.Door.{Door}
 use Rattle.payload_graph.specs.declared.edge.Edge.{Edge}
 
@@ -70,3 +70,12 @@ pub fulls_lead_nearer : FullsLeadNearer
 fulls_lead_nearer net from numbered within there =
     All-map (λ (edge : Edge). LeadsNearer net.target from edge.to) (full from) (filter (λ (door : Door). door.offered) (window net from))
     (All-filter (λ (door : Door). door.offered) (IsDoorNearer net from) (window net from) (All-window net from numbered within there))
+
+pub edges_lead_nearer : EdgesLeadNearer
+edges_lead_nearer net from numbered nearing within there =
+    All-append (λ (edge : Edge). LeadsNearer net.target from edge.to) (fulls from (window net from)) (filter (leaves from) net.differs)
+    (fulls_lead_nearer net from numbered within there)
+    (λ k d inside.
+    let near = All-filter (leaves from) (IsNearing net.target) net.differs nearing k d inside in
+    let own = eqb-true from (get_or (filter (leaves from) net.differs) k d).from (filter_passes (leaves from) net.differs k d inside) in
+    subst (λ origin. LeadsNearer net.target origin (get_or (filter (leaves from) net.differs) k d).to) (sym own) near)

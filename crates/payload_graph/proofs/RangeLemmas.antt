@@ -1,7 +1,7 @@
 -- Items between two indexes: tests that pass there alone.
-use Rattle.std.proofs.Common.{◌≡◌, ℕ, zero, suc, ◌+◌, ◌-◌, ◌<◌, ◌≤◌, ◌||◌, Bool, true, false, cond, List, [], ◌∷◌, length, get_or, take, drop, refl, sym, ap, ◌∙◌, arith}
+use Rattle.std.proofs.Common.{◌≡◌, ℕ, zero, suc, ◌+◌, ◌-◌, ◌<◌, ◌≤◌, ◌||◌, Bool, false, cond, List, [], ◌∷◌, length, get_or, take, drop, refl, sym, ap, ◌∙◌, arith}
 use Rattle.std.specs.List.{filter, list_any}
-use Rattle.std.proofs.lemmas.List.{drop-take, drop_more, get_or-take, take-take}
+use Rattle.std.proofs.lemmas.List.{drop-take, take-take}
 use Rattle.payload_graph.specs.Net.{between}
 
 -- the one test passes between two indexes as the other does, and nowhere else

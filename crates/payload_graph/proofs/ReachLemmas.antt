@@ -1,8 +1,8 @@
 -- How far the doors up to the first stone reach.
-use Rattle.std.proofs.Common.{◌≡◌, ℕ, zero, suc, ◌+◌, ◌-◌, ◌<◌, ◌≤◌, ◌||◌, Bool, true, false, cond, List, [], ◌∷◌, length, get_or, take, drop, refl, sym, ap, ◌∙◌, arith, length-take, length-drop}
+use Rattle.std.proofs.Common.{◌≡◌, ℕ, zero, suc, ◌+◌, ◌-◌, ◌<◌, ◌≤◌, ◌||◌, Bool, true, false, cond, List, [], ◌∷◌, length, get_or, take, refl, sym, ap, ◌∙◌, arith, length-drop}
 use Rattle.std.specs.List.{list_any}
-use Rattle.std.proofs.lemmas.List.{length-take-le, take-take}
-use Rattle.payload_graph.proofs.RangeLemmas.{between-add, between-more, between-none, between-range, take-between}
+use Rattle.std.proofs.lemmas.List.{length-take-le}
+use Rattle.payload_graph.proofs.RangeLemmas.{between-more, between-none, take-between}
 use Rattle.payload_graph.specs.Net.{between, to_stone}
 use Rattle.payload_graph.specs.Soundness.{no_door, reach_of}
 use Rattle.payload_graph.specs.declared.door.Door.{Door}

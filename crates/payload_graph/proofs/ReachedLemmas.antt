@@ -1,11 +1,11 @@
 -- Reached differentials lead nearer the target.
-use Rattle.std.proofs.Common.{◌≡◌, ℕ, ◌+◌, ◌<◌, ◌≤◌, inl, Bool, true, List, length, arith}
+use Rattle.std.proofs.Common.{◌≡◌, ℕ, ◌<◌, ◌≤◌, inl, true, List, length, arith}
 use Rattle.std.specs.List.{All, filter}
 use Rattle.std.proofs.lemmas.Bool.{and_parts, leb-true, ltb-true}
 use Rattle.std.proofs.Common.{leb, ltb, get_or}
 use Rattle.std.proofs.lemmas.List.Elements.{All-filter, filter_passes}
 use Rattle.payload_graph.proofs.ReachLemmas.{reach_of-bounds}
-use Rattle.payload_graph.specs.Soundness.{AreResolved, IsNearing, is_reached, no_door, reach_of}
+use Rattle.payload_graph.specs.Soundness.{AreResolved, IsNearing, is_reached, reach_of}
 use Rattle.payload_graph.specs.declared.door.Door.{Door}
 use Rattle.payload_graph.specs.declared.edge.Edge.{Edge}
 

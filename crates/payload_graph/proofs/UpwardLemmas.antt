@@ -1,5 +1,5 @@
 -- Which releases a client may be led up to, by index: those before its release's reach.
-use Rattle.std.proofs.Common.{◌≡◌, ℕ, ◌+◌, ◌-◌, ◌<◌, ◌≤◌, ◌&&◌, ◌⊎◌, inl, inr, Bool, true, false, List, length, get_or, take, refl, sym, ap, ◌∙◌, arith}
+use Rattle.std.proofs.Common.{◌≡◌, ℕ, ◌+◌, ◌-◌, ◌<◌, ◌≤◌, ◌&&◌, inl, inr, Bool, true, false, List, length, get_or, take, refl, sym, ap, ◌∙◌, arith}
 use Rattle.std.specs.List.{list_any}
 use Rattle.std.proofs.lemmas.Bool.{and_from, and_left, and_right, cases_lt, not_from_false, not_from_true}
 use Rattle.version.specs.Laws.{BelowIsIrreflexive, BelowIsTransitive}
@@ -13,7 +13,7 @@ use Rattle.payload_graph.proofs.DoorLemmas.{get_or-doors_of, length-doors_of}
 use Rattle.payload_graph.proofs.OrderLemmas.{below_at, not_below_at}
 use Rattle.payload_graph.proofs.RangeLemmas.{AgreeBetween, list_any-between, take-between}
 use Rattle.payload_graph.proofs.ReachLemmas.{is_stone, length-between, no_stone_before, reach_of-bounds, stone_before}
-use Rattle.payload_graph.specs.Net.{between, door_of, doors_of, to_stone}
+use Rattle.payload_graph.specs.Net.{between, doors_of}
 use Rattle.payload_graph.specs.Soundness.{no_door, reach_of}
 use Rattle.payload_graph.specs.declared.door.Door.{Door}
 

@@ -1,18 +1,19 @@
 -- What holds of all graphs.
 use Rattle.std.specs.Prelude.{◌≡◌, ℕ, ◌+◌, ◌<◌, All, true, if◌then◌else◌, List, [], ◌∷◌, ◌++◌, length, map, slice_get, Some}
-use Rattle.std.specs.List.{filter}
+use Rattle.std.specs.List.{enumerate_from, filter}
 use Rattle.values.specs.Ordered.{ascend}
-use Rattle.records.specs.Validity.{is_release_below}
+use Rattle.records.specs.Validity.{IsValidApp, is_release_below}
 use Rattle.records.specs.declared.content.App.{App}
 use Rattle.records.specs.declared.content.Cohort.{Cohort}
+use Rattle.records.specs.declared.content.Diff.{Diff}
 use Rattle.records.specs.declared.content.Release.{Release}
 use Rattle.cohorts.specs.Tracks.{target_of}
 use Rattle.payload_rules.specs.Permitted.{permits}
-use Rattle.payload_rules.specs.declared.payload.Payload.TheVariants.{Full}
+use Rattle.payload_rules.specs.declared.payload.Payload.TheVariants.{Full, Differ}
 use Rattle.payload_rules.specs.declared.payload.TrackKey.{TrackKey}
 use Rattle.payload_rules.specs.declared.place.Place.TheVariants.{At}
-use Rattle.payload_graph.specs.Net.{Net, doors_of, full, fulls, net_with, window}
-use Rattle.payload_graph.specs.Soundness.{AreNumbered, LeadsNearer, door_at}
+use Rattle.payload_graph.specs.Net.{Net, differs_of, doors_of, edge_of, edges_from, full, fulls, leaves, net_with, window}
+use Rattle.payload_graph.specs.Soundness.{AreNumbered, IsNearing, LeadsNearer, door_at}
 use Rattle.payload_graph.specs.declared.door.Door.{Door}
 use Rattle.payload_graph.specs.declared.edge.Edge.{Edge}
 
@@ -32,6 +33,17 @@ FullsArePermitted =
     from < length app.releases →
     fulls from (window (net_with app key cohort target differs) from)
     ≡ map (full from) (filter (λ (door : Door). permits app key (At from) (Full door.to)) (doors_of cohort app.releases))
+
+-- the differentials from a release are those of all that are permitted, each once, in order
+abbrev pub DiffersArePermitted : Type 0
+DiffersArePermitted =
+    (app : App) (key : TrackKey) (cohort : Cohort) (target from : ℕ) (release : Release) →
+    IsValidApp app →
+    IsTrack app key cohort target release →
+    from < length app.releases →
+    filter (leaves from) (differs_of app cohort target)
+    ≡ map (λ (numbered : ℕ × Diff). edge_of app.releases numbered.1)
+    (filter (λ (numbered : ℕ × Diff). permits app key (At from) (Differ numbered.0)) (enumerate_from 0 app.diffs))
 
 -- below the target a window is the next door and, unless that is a stone, the next window
 abbrev pub WindowsGrowDown : Type 0
@@ -63,3 +75,13 @@ FullsLeadNearer =
     net.target < length net.doors →
     from < length net.doors →
     All (λ (edge : Edge). LeadsNearer net.target from edge.to) (fulls from (window net from))
+
+-- so does each payload of a graph: no chain comes back to a release
+abbrev pub EdgesLeadNearer : Type 0
+EdgesLeadNearer =
+    (net : Net) (from : ℕ) →
+    AreNumbered net.doors →
+    All (IsNearing net.target) net.differs →
+    net.target < length net.doors →
+    from < length net.doors →
+    All (λ (edge : Edge). LeadsNearer net.target from edge.to) (edges_from net from)

@@ -1,10 +1,9 @@
 -- The graph of a track: its target, and the payloads that are permitted between the releases of its
 -- app. Full packages are given by rule, each release having a window of others to which its clients
 -- may be led; this project's profile. Releases are told by index, by ascending version.
-use Rattle.std.specs.Prelude.{ℕ, ◌+◌, ◌==◌, Bool, false, if◌then◌else◌, List, [], ◌∷◌, ◌++◌, drop, map, nat_lt, position, slice_get, take, Option, option_and_then, option_map}
-use Rattle.std.specs.List.{enumerate_from, filter, position_or_len}
+use Rattle.std.specs.Prelude.{ℕ, ◌+◌, ◌==◌, Bool, if◌then◌else◌, List, [], ◌∷◌, ◌++◌, drop, map, nat_lt, slice_get, take, Option, option_and_then, option_map}
+use Rattle.std.specs.List.{enumerate_from, filter}
 use Rattle.std.specs.Option.{option_map_or}
-use Rattle.records.specs.Lookups.{is_release}
 use Rattle.records.specs.declared.content.App.{App}
 use Rattle.records.specs.declared.content.Cohort.{Cohort}
 use Rattle.records.specs.declared.content.Diff.{Diff}

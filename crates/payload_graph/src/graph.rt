@@ -2,7 +2,8 @@ ghost use Rattle.std.specs.Prelude.{◌≡◌, ◌<◌, All, IfOk, length};
 ghost use Rattle.std.specs.List.{filter};
 ghost use Rattle.payload_graph.specs.Edges.{edges_left};
 ghost use Rattle.payload_graph.specs.Net.{edges_from, leaves, window};
-ghost use Rattle.payload_graph.specs.Soundness.{net_from, AreNumbered, AreResolved, IsNearing};
+ghost use Rattle.payload_graph.specs.Soundness.{net_from, AreNumbered, AreResolved, IsNearing, LeadsNearer};
+ghost use Rattle.payload_graph.specs.declared.edge.Edge.{Edge};
 
 use crate::differential::{leaving, reached_in};
 use crate::door::{Door, doors_of};
@@ -84,6 +85,7 @@ impl Graph {
         })
     }
 
+    // rule: Window of a release
     /// Borrows the window of a release.
     pub fn window(&self, from: usize) -> &[Door]
         requires { from < length self.now.doors }
@@ -119,9 +121,11 @@ impl Graph {
     /// The full packages come first, then the differentials, each by ascending destination.
     pub fn edges_from(&self, from: usize) -> Edges<'_>
         requires { from < length self.now.doors }
-        ensures { edges_left result ≡ edges_from self.now from }
+        ensures edges { edges_left result ≡ edges_from self.now from }
+        ensures nearer { All (λ (edge : Edge). LeadsNearer self.now.target from edge.to) (edges_from self.now from) }
     {
-        Edges::new(Fulls::new(from, self.window(from)), self.differs_from(from))
+        let differs = leaving(self.differs.as_slice(), from);
+        Edges::new(Fulls::new(from, self.window(from)), differs)
     }
 
     /// Returns the index of the target.

@@ -1,10 +1,17 @@
 //! What holds of all graphs, each law as a clause of a function.
 
-ghost use Rattle.payload_graph.specs.Laws.{FullsArePermitted, FullsLeadNearer, TargetsLeaveNothing, WindowsGrowDown, WindowsGrowUp};
+ghost use Rattle.payload_graph.specs.Laws.{DiffersArePermitted, EdgesLeadNearer, FullsArePermitted, FullsLeadNearer, TargetsLeaveNothing, WindowsGrowDown, WindowsGrowUp};
 
 /// States that the full packages of a window are the permitted ones, each once, in order.
 pub fn fulls()
     ensures { FullsArePermitted }
+{
+    version::laws::order();
+}
+
+/// States that the differentials of a release are the permitted ones, each once, in order.
+pub fn differs()
+    ensures { DiffersArePermitted }
 {
     version::laws::order();
 }
@@ -16,7 +23,8 @@ pub fn windows()
     ensures up { WindowsGrowUp }
 {}
 
-/// States that each full package leads nearer the target, so that no chain returns.
+/// States that each payload leads nearer the target, so that no chain comes back to a release.
 pub fn nearer()
-    ensures { FullsLeadNearer }
+    ensures fulls { FullsLeadNearer }
+    ensures edges { EdgesLeadNearer }
 {}

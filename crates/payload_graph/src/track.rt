@@ -1,6 +1,6 @@
 //! The graph of a track of a catalogue.
 
-ghost use Rattle.std.specs.Prelude.{◌≡◌, ◌<◌, IfOk, IfSome, IsSome, Some, length};
+ghost use Rattle.std.specs.Prelude.{◌≡◌, ◌<◌, IfOk, IfSome, length};
 ghost use Rattle.payload_rules.specs.Chains.{lane_target};
 ghost use Rattle.payload_graph.specs.Net.{net_among, resolved_at};
 ghost use Rattle.payload_graph.specs.Soundness.{net_in_cohort, net_in_app, AreResolved};
@@ -113,7 +113,7 @@ impl Graph {
     }
 
     // rule: Graph of a track
-    /// Makes the graph of a track, which has a target.
+    /// Makes the graph of a track, `None` if the track has no target or there is no such track.
     ///
     /// To make the graphs of several tracks of an app, resolve its differentials once and call
     /// `with_differentials`.
@@ -121,14 +121,13 @@ impl Graph {
         alloc: Global,
         catalogue: &Catalogue,
         key: &TrackKey,
-    ) -> Result<Graph, AllocError>
-        requires { IsSome (net_among catalogue.now key.now) }
-        ensures { IfOk result (λ graph. net_among catalogue.now key.now ≡ Some graph) }
+    ) -> Result<Option<Graph>, AllocError>
+        ensures { IfOk result (λ graph. graph ≡ net_among catalogue.now key.now) }
     {
-        let differentials = Differentials::of_app(alloc, catalogue, key.app)?;
-        match Graph::with_differentials(alloc, catalogue, key, &differentials)? {
-            Some(graph) => Ok(graph),
-            None => unreachable!(),
+        if key.app >= catalogue.apps().len() {
+            return Ok(None);
         }
+        let differentials = Differentials::of_app(alloc, catalogue, key.app)?;
+        Graph::with_differentials(alloc, catalogue, key, &differentials)
     }
 }

@@ -94,7 +94,7 @@ permits_in app cohort key place payload =
     option_map_or (λ target. permits_from app cohort (rolls_back cohort key) target place payload)
     (target_of cohort key.lane) false
 
--- rule: Permitted payload
+-- rule: Permitted on a track
 -- a payload of an app is permitted on a track from a place; a cohort that isn't there permits nothing
 abbrev pub permits : App → TrackKey → Place → Payload → Bool
 permits app key place payload =

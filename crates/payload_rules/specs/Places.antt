@@ -26,7 +26,7 @@ abbrev pub IsHashOf : List ℕ → Option (List ℕ) → Type 0
 IsHashOf fp None = (hash : List ℕ) → length hash ≡ 32 → IsBytes hash → ¬ (fp ≡ fingerprint_with hash)
 IsHashOf fp (Some hash) = (fp ≡ fingerprint_with hash) × IsBytes hash
 
--- rule: Place
+-- rule: Place of a client
 -- a client's place: at the release whose fingerprint it sent, whatever its version; else outside, at
 -- the version that its text counts as
 abbrev pub place_of : List Release → List ℕ → List ℕ → Place

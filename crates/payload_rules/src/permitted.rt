@@ -169,7 +169,7 @@ fn permits_in_app(app: &App, key: &TrackKey, place: &Place, payload: &Payload) -
     }
 }
 
-// rule: Permitted payload
+// rule: Permitted on a track
 /// Whether a payload may be offered to the clients of a track at a place.
 ///
 /// The track has a target, the release that the payload leads to is offered to the track's cohort,

@@ -15,7 +15,7 @@ pub enum Place {
     Outside(Version),
 }
 
-// rule: Place
+// rule: Place of a client
 /// Finds where a client is among the releases of the app at an index, which is in range.
 ///
 /// It is at the release whose fingerprint `fp` is, whatever its version. With any other text it is

@@ -1,4 +1,4 @@
-use Rattle.std.proofs.Common.{sym, ap, ◌∙◌, arith}
+use Rattle.std.proofs.Common.{sym, ◌∙◌}
 use Rattle.payload_graph.proofs.IndexLemmas.{index_of-end, index_of-here, index_of-past}
 use Rattle.payload_graph.proofs.differential.seek.Goals as goal
 

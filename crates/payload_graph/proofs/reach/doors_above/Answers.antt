@@ -1,4 +1,4 @@
-use Rattle.std.proofs.Common.{◌≡◌, ◌+◌, ◌-◌, ◌≤◌, take, drop, ap, ◌∙◌, arith}
+use Rattle.std.proofs.Common.{◌+◌, ◌-◌, take, drop, ap, ◌∙◌, arith}
 use Rattle.payload_graph.proofs.RangeLemmas.{between-range}
 use Rattle.payload_graph.proofs.ReachLemmas.{between-reach, reach_of-bounds}
 use Rattle.payload_graph.specs.Soundness.{reach_of}

@@ -1,4 +1,3 @@
-use Rattle.std.proofs.Common.{◌≡◌, ℕ, ◌+◌, ◌≤◌, length}
 use Rattle.payload_graph.proofs.LoopLemmas.{HasReaches}
 use Rattle.payload_graph.proofs.reach.reaches_of.Given as goal
 

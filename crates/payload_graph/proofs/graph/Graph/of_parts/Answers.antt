@@ -1,4 +1,4 @@
-use Rattle.std.proofs.Common.{subst, ◌≡◌, length, ap, sym, ◌∙◌, arith, refl}
+use Rattle.std.proofs.Common.{subst, length, ap, sym, ◌∙◌, arith}
 use Rattle.std.proofs.lemmas.List.Kept.{IsNonDecreasingBy-filter}
 use Rattle.payload_graph.proofs.ReachedLemmas.{All-reached}
 use Rattle.payload_graph.specs.Soundness.{AreResolved, is_reached}

@@ -1,0 +1,175 @@
+// Edits and batches from lines of text: an edit's name and its fields, in the order of its struct.
+// `_` is the empty text, `-` is none, and the names of an audience are joined by commas.
+
+use catalogue::{
+    AddApp, AddCohort, AddDiff, AddRelease, Batch, Catalogue, Edit, SetAudience, SetOpen,
+    SetRollback, SetShare, SetStone, SetTarget, SetWithdrawn,
+};
+use std::alloc::{AllocError, Global};
+use std::test::Fail;
+use values::{Items, Text};
+
+#[derive(Drop)]
+struct Fields {
+    alloc: Global,
+    last_first: Vec<Text>,
+}
+
+impl Fields {
+    fn text(&mut self) -> Text {
+        let empty = Text::new(String::new(self.alloc));
+        self.last_first.pop().unwrap_or(empty)
+    }
+
+    fn optional(&mut self) -> Option<Text> {
+        let text = self.text();
+        if text.as_str() == "-" {
+            None
+        } else {
+            Some(text)
+        }
+    }
+
+    fn number(&mut self) -> u64 {
+        self.text().as_str().parse().unwrap_or(0)
+    }
+
+    fn flag(&mut self) -> bool {
+        self.text().as_str() == "on"
+    }
+
+    fn names(&mut self) -> Result<Option<Items<Text>>, AllocError> {
+        let text = self.text();
+        if text.as_str() == "-" {
+            return Ok(None);
+        }
+        let mut names = Items::empty(self.alloc);
+        for name in text.as_str().split(',') {
+            if !name.is_empty() {
+                names.push(Text::copy_of(self.alloc, name)?)?;
+            }
+        }
+        Ok(Some(names))
+    }
+}
+
+fn fields_of(alloc: Global, line: &str) -> Result<Fields, AllocError> {
+    let mut last_first = Vec::new(alloc);
+    for word in line.split(' ') {
+        let text = if word == "_" { "" } else { word };
+        last_first.push(Text::copy_of(alloc, text)?)?;
+    }
+    last_first.reverse();
+    Ok(Fields { alloc, last_first })
+}
+
+fn added_of(verb: &str, fields: &mut Fields) -> Option<Edit> {
+    let app = fields.text();
+    match verb {
+        "add_app" => {
+            let default = fields.text();
+            Some(Edit::AddApp(AddApp { app, default }))
+        }
+        "add_cohort" => {
+            let cohort = fields.text();
+            Some(Edit::AddCohort(AddCohort { app, cohort }))
+        }
+        "add_release" => Some(Edit::AddRelease(AddRelease {
+            app,
+            version: fields.text(),
+            name: fields.text(),
+            size: fields.number(),
+            sha256: fields.text(),
+        })),
+        "add_diff" => Some(Edit::AddDiff(AddDiff {
+            app,
+            from: fields.text(),
+            to: fields.text(),
+            name: fields.text(),
+            size: fields.number(),
+            sha256: fields.text(),
+        })),
+        _ => None,
+    }
+}
+
+fn set_of_cohort(verb: &str, fields: &mut Fields) -> Option<Edit> {
+    let app = fields.text();
+    let cohort = fields.text();
+    match verb {
+        "set_target" => Some(Edit::SetTarget(SetTarget {
+            app,
+            cohort,
+            target: fields.optional(),
+            held: fields.optional(),
+        })),
+        "set_share" => {
+            let share = fields.number();
+            Some(Edit::SetShare(SetShare { app, cohort, share }))
+        }
+        "set_rollback" => {
+            let on = fields.flag();
+            Some(Edit::SetRollback(SetRollback { app, cohort, on }))
+        }
+        "set_open" => {
+            let on = fields.flag();
+            Some(Edit::SetOpen(SetOpen { app, cohort, on }))
+        }
+        _ => None,
+    }
+}
+
+fn set_of_release(verb: &str, fields: &mut Fields) -> Result<Option<Edit>, AllocError> {
+    let app = fields.text();
+    let version = fields.text();
+    match verb {
+        "set_stone" => {
+            let on = fields.flag();
+            Ok(Some(Edit::SetStone(SetStone { app, version, on })))
+        }
+        "set_withdrawn" => {
+            let on = fields.flag();
+            Ok(Some(Edit::SetWithdrawn(SetWithdrawn { app, version, on })))
+        }
+        "set_audience" => {
+            let cohorts = fields.names()?;
+            Ok(Some(Edit::SetAudience(SetAudience {
+                app,
+                version,
+                cohorts,
+            })))
+        }
+        _ => Ok(None),
+    }
+}
+
+/// The edit that a line spells.
+pub(crate) fn edit_of(alloc: Global, line: &str) -> Result<Edit, Fail> {
+    let mut fields = fields_of(alloc, line)?;
+    let verb = fields.text();
+    let edit = match verb.as_str() {
+        "add_app" | "add_cohort" | "add_release" | "add_diff" => {
+            added_of(verb.as_str(), &mut fields)
+        }
+        "set_stone" | "set_withdrawn" | "set_audience" => {
+            set_of_release(verb.as_str(), &mut fields)?
+        }
+        _ => set_of_cohort(verb.as_str(), &mut fields),
+    };
+    Ok(edit.ok_or("no edit")?)
+}
+
+/// The batch whose edits the lines of a text spell.
+pub(crate) fn batch_of(alloc: Global, lines: &str) -> Result<Batch, Fail> {
+    let mut edits = Vec::new(alloc);
+    for line in lines.lines() {
+        edits.push(edit_of(alloc, line)?)?;
+    }
+    Ok(Batch::new(edits))
+}
+
+/// The catalogue that one batch of such edits makes.
+pub(crate) fn catalogue_of(alloc: Global, lines: &str) -> Result<Catalogue, Fail> {
+    let batch = batch_of(alloc, lines)?;
+    Ok(Catalogue::empty(alloc).applied(&batch)?)
+}
