@@ -2,7 +2,7 @@
 //!
 //! `framing` gives the length of the body, or the status that refuses the message; `wants_close`
 //! whether the connection ends after the reply; `path_of` and `package_name` what the target names.
-//! A `ReplyHead` has the texts of a reply's head. Read `specs/Framing.antt`, `specs/Closing.antt`,
+//! A `ReplyHead` is what a reply's head says. Read `specs/Framing.antt`, `specs/Closing.antt`,
 //! `specs/Targets.antt` and `specs/Replies.antt`.
 //!
 //! It does not parse a head: that is the kit's `httparse`. It does not read or write.
