@@ -31,7 +31,7 @@ or_false : (b : Bool) → (b || false) ≡ b
 or_false true = refl
 or_false false = refl
 
--- from a start on, the part up to a first comma counts, and then what is behind it
+-- from a start on, the part up to a first comma counts, and then what is after it
 pub lists_close-comma :
     (value : List ℕ) (start at : ℕ) →
     start ≤ at →

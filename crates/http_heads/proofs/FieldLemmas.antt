@@ -70,7 +70,7 @@ values_named-same name f xs at d inside other =
     ∙ ap (λ b. values_named name (map f (take at xs)) ++ (cond b ((f (get_or xs at d)).1 ∷ []) [] ++ [])) other
     ∙ append-nil (values_named name (map f (take at xs)))
 
--- what is kept gives the length, or the refusal
+-- what is kept gives the length, or the status of an error
 pub length_by-kept :
     (kept : Length) (method : List ℕ) (values : List (List ℕ)) →
     StandsFor kept values →

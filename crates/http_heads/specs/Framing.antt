@@ -1,5 +1,5 @@
 -- How long the body of a message is (RFC 9112, section 6). Chunked bodies, and bodies of more than
--- 262144 bytes, are refused; that two `Content-Length` fields are refused even where they agree is
+-- 262144 bytes, are rejected; that two `Content-Length` fields are rejected even if they agree is
 -- this project's profile.
 use Rattle.std.specs.Prelude.{ℕ, Bool, ◌&&◌, List, [], ◌∷◌, length, Result, Ok, Err, if◌then◌else◌, nat_lt, nat_le, bytes_eq, codes}
 use Rattle.std.specs.List.{list_all, list_any}
@@ -27,7 +27,7 @@ length_by method (value ∷ []) = length_in value
 length_by method (value ∷ another ∷ more) = Err status.BadRequest
 
 -- rule: Length of a body
--- the length of the body, or the status that refuses the message
+-- the length of the body, or the status that rejects the message
 unfoldable pub framing_of : List ℕ → List Pair → Result ℕ Status
 framing_of method fields =
     if list_any (is_named (codes "transfer-encoding")) fields then Err status.NotImplemented

@@ -5,7 +5,7 @@ use Rattle.http_heads.specs.declared.status.Status.{Status}
 use Rattle.http_heads.specs.declared.body_length.Length.{Length}
 use Rattle.http_heads.specs.declared.body_length.Length.TheVariants as length
 
--- it stands for the values: none; one, which is this number; or some, which this status refuses
+-- it counts as the values: none; one, which is this number; or some, which this status rejects
 abbrev pub StandsFor : Length → List (List ℕ) → Type 0
 StandsFor length.Missing values = values ≡ []
 StandsFor (length.Known size) values =
@@ -14,7 +14,7 @@ StandsFor (length.Refused status) values =
     (value : List ℕ) × (more : List (List ℕ)) × (values ≡ value ∷ more)
     × ((method : List ℕ) → length_by method values ≡ Err status)
 
--- the length, or the refusal, of a message with this method
+-- the length, or the status of an error, of a message with this method
 abbrev pub length_for : List ℕ → Length → Result ℕ Status
 length_for method length.Missing = length_by method []
 length_for method (length.Known size) = Ok size

@@ -21,7 +21,7 @@ status_line status.FieldsTooLarge = codes "HTTP/1.1 431 Request Header Fields To
 status_line status.InternalServerError = codes "HTTP/1.1 500 Internal Server Error\r\n"
 status_line status.NotImplemented = codes "HTTP/1.1 501 Not Implemented\r\n"
 
--- the field that names the body's type, where it has one
+-- the field that names the body's type, if it has one
 unfoldable pub type_line : List ℕ → List ℕ
 type_line [] = []
 type_line (byte ∷ bytes) = codes "Content-Type: " ++ (byte ∷ bytes) ++ codes "\r\n"
@@ -36,7 +36,7 @@ allow_line (Some allow.Get) = codes "Allow: GET\r\n"
 unfoldable pub length_line : ℕ → List ℕ
 length_line size = codes "Content-Length: " ++ decimal size ++ codes "\r\n"
 
--- the field that says that the connection ends, where it does, and the empty line
+-- the field that says that the connection ends, if it does, and the empty line
 unfoldable pub last_lines : Bool → List ℕ
 last_lines closes = if closes then codes "Connection: close\r\n\r\n" else codes "\r\n"
 

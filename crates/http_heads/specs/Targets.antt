@@ -8,6 +8,6 @@ path_in [] = []
 path_in (byte ∷ bytes) = if byte == 63 then [] else byte ∷ path_in bytes
 
 -- rule: Path of a package
--- the name behind `/p/`, if the path begins so
+-- the name after `/p/`, if the path begins so
 unfoldable pub package_in : List ℕ → Option (List ℕ)
 package_in path = if bytes_eq (take 3 path) (codes "/p/") then Some (drop 3 path) else None

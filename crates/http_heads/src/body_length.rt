@@ -66,7 +66,7 @@ fn read_length(value: &[u8]) -> Result<u32, Status>
 }
 
 // rule: Length of a body
-/// Returns how many bytes follow the head, or the status that refuses the message.
+/// Returns how many bytes follow the head, or the status that rejects the message.
 ///
 /// `fields` are places in `buf`. In this order: 501 for a `Transfer-Encoding`; 400 for two lengths,
 /// or one that isn't a number; 411 for a POST without one; 413 for one over `MAX_BODY`.

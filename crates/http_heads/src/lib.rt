@@ -1,6 +1,6 @@
 //! What the head of a request says of its message, and the head of a reply.
 //!
-//! `framing` gives the length of the body, or the status that refuses the message; `wants_close`
+//! `framing` gives the length of the body, or the status that rejects the message; `wants_close`
 //! whether the connection ends after the reply; `path_of` and `package_name` what the target names.
 //! A `ReplyHead` is what a reply's head says. Read `specs/Framing.antt`, `specs/Closing.antt`,
 //! `specs/Targets.antt` and `specs/Replies.antt`.

@@ -35,7 +35,7 @@ pub fn allow_text(allow: Option<Allow>) -> &'static str
     }
 }
 
-/// Returns the end of a reply's head: the empty line, behind `Connection: close` if it closes.
+/// Returns the end of a reply's head: the empty line, after `Connection: close` if it closes.
 #[tactic(auto, unfolding(crate::specs::Replies::last_lines))]
 pub fn last_text(closes: bool) -> &'static str
     ensures { result.now ≡ last_lines closes }

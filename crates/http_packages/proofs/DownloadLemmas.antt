@@ -28,7 +28,7 @@ joined_blocks-more blocks block =
     flat_map-append (λ (b : List ℕ). b) blocks (block ∷ [])
     ∙ ap (λ (end : List ℕ). joined_blocks blocks ++ end) (append-nil block)
 
--- a block that was sent in part, behind those that were sent whole
+-- a block that was sent in part, after those that were sent whole
 pub AppendsPart-more :
     (before between after : Option (List ℕ)) (blocks : List (List ℕ)) (block : List ℕ) →
     Appends before between (joined_blocks blocks) →
@@ -66,7 +66,7 @@ pub read-same :
 read-same reads at here size count bytes place long read =
     subst (λ (n : ℕ). reads here n bytes) long (subst (λ (n : ℕ). reads n size bytes) place read)
 
--- what is behind the full blocks fits a block
+-- what is after the full blocks fits a block
 pub last-fits :
     (size less : ℕ) (block : List ℕ) →
     less ≡ size - 1 →

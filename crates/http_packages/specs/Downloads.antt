@@ -18,7 +18,7 @@ Reads = ℕ → ℕ → Option (List ℕ) → Type 0
 abbrev pub full_blocks : ℕ → ℕ
 full_blocks size = (size - 1) / 65536
 
--- the blocks one behind the other
+-- the blocks one after the other
 abbrev pub joined_blocks : List (List ℕ) → List ℕ
 joined_blocks blocks = flat_map (λ block. block) blocks
 
@@ -55,7 +55,7 @@ download hash blocks (Some last) =
     if bytes_eq (sha256 (joined_blocks blocks ++ last)) hash then joined_blocks blocks ++ last
     else joined_blocks blocks
 
--- the download was written, and whether it is the whole package is told; or a write failed, after
+-- the download was written, and whether it is the whole package is reported; or a write failed, after
 -- some blocks or at the last one, and a first part was written
 abbrev pub Downloads :
     Reads → ℕ → List ℕ → Option (List ℕ) → Option (List ℕ) → Result Bool Failed → Type 0

@@ -4,7 +4,7 @@ use httparse::spans::EMPTY_HEADER_SPAN;
 use std::alloc::{AllocError, Global};
 use std::test::Fail;
 
-// Two messages behind each other, the first with a body that looks like a head.
+// Two messages after each other, the first with a body that looks like a head.
 const MESSAGES: &[u8] =
     b"POST /a HTTP/1.1\r\nContent-Length: 18\r\n\r\nGET /x HTTP/1.1\r\n\rGET /b HTTP/1.1\r\n\r\n";
 

@@ -8,8 +8,8 @@ use httparse::spans::{EMPTY_HEADER_SPAN, HeaderSpan, RequestSpans};
 use std::alloc::{AllocError, Global};
 use std::test::Fail;
 
-// A row is a head and what it gives: the length of the body or the refusing status, and whether the
-// connection ends; or why there is no head. `~` stands for CR LF, `^` for a lone LF, `@` for NUL.
+// A row is a head and what it gives: the length of the body or the error status, and whether the
+// connection ends; or why there is no head. `~` is CR LF, `^` a lone LF, `@` NUL.
 const HEADS: &str = "\
 GET / HTTP/1.1~~ = 0 open
 GET / HTTP/1.1^^ = 0 open

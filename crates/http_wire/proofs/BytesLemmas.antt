@@ -5,7 +5,7 @@ use Rattle.std.proofs.lemmas.List.{append-nil, drop-take, take-append-le, length
 use Rattle.std.proofs.lemmas.List.Edits.{take-paste}
 use Rattle.std.proofs.Math.Seq.{take-append-add}
 
--- what is behind the first bytes of the filled part moves to the front
+-- what is after the first bytes of the filled part moves to the front
 pub take-moved :
     (cells : List ℕ) (filled count : ℕ) →
     count ≤ filled →
@@ -19,7 +19,7 @@ take-moved cells filled count within fits =
     ∙ sym (drop-take count (filled - count) cells)
     ∙ ap (λ n. drop count (take n cells)) whole
 
--- bytes that are written behind the filled part
+-- bytes that are written after the filled part
 pub take-filled :
     (cells bytes rest : List ℕ) (filled count : ℕ) →
     filled ≤ length cells →
@@ -31,7 +31,7 @@ take-filled cells bytes rest filled count fits enough =
     ∙ take-append-add (take filled cells) (bytes ++ rest) count
     ∙ ap (λ (front : List ℕ). take filled cells ++ front) (take-append-le count bytes rest enough)
 
--- bytes that are read straight into a body, where none waits
+-- bytes that are read straight into a body, if none waits
 pub body-more :
     (before bytes got taken waiting : List ℕ) →
     before ++ bytes ≡ taken ++ waiting →

@@ -1,4 +1,4 @@
--- Known bytes that are read or written in parts, each behind the one before.
+-- Known bytes that are read or written in parts, each after the one before.
 use Rattle.std.proofs.Common.{◌≡◌, ℕ, ◌+◌, ◌-◌, ◌<◌, ◌≤◌, List, ◌++◌, length, get_or, take, drop, Option, Some, None, sym, subst, ap, ◌∙◌, arith, append_assoc, length-append, take-add, take-take}
 use Rattle.std.specs.Borrow.{Bor}
 use Rattle.std.specs.Io.KnownBytes.{Appends, Consumes}
@@ -29,7 +29,7 @@ Consumes-then (Some xs) (Some ys) None first second one two = absurd two
 Consumes-then (Some xs) (Some ys) (Some zs) first second one two =
     one ∙ ap (λ (rest : List ℕ). first ++ rest) two ∙ sym (append_assoc first second zs)
 
--- the part that is taken grows by what the sink takes of the rest
+-- the part that is written grows by what the sink writes of the rest
 pub Appends-next :
     (before between after : Option (List ℕ)) (sent count : ℕ) (bytes : List ℕ) →
     sent + count ≤ length bytes →
@@ -41,7 +41,7 @@ Appends-next before between after sent count bytes fits one two =
     subst (Appends before after) (sym (take-add sent count bytes))
     (Appends-then before between after (take sent bytes) (take count (drop sent bytes)) one (subst (Appends between after) rest two))
 
--- a text that was sent in part, behind others that were sent whole and before others
+-- a string that was sent in part, after others that were sent whole and before others
 pub AppendsPart-then :
     (before between after : Option (List ℕ)) (first text more : List ℕ) →
     Appends before between first →
@@ -56,7 +56,7 @@ AppendsPart-then before between after first text more one (sent, rest, cut, some
   Appends-then before between after first sent one two,
 )
 
--- the texts, around one of them
+-- the strings, around one of them
 pub joined-around :
     (texts : List (Bor (List ℕ))) (at : ℕ) (d : Bor (List ℕ)) →
     at < length texts →
@@ -66,7 +66,7 @@ joined-around texts at d inside =
     ∙ flat_map-append (λ (t : Bor (List ℕ)). t.now) (take at texts) (drop at texts)
     ∙ ap (λ (rest : List (Bor (List ℕ))). joined (take at texts) ++ joined rest) (drop_more texts at d inside)
 
--- a read behind others
+-- a read after others
 pub Came-then :
     (before between after : Option (List ℕ)) (first second third : List ℕ) (bytes : List ℕ) →
     Came before between first second →

@@ -1,4 +1,4 @@
--- The parts of a reply, one behind the other.
+-- The parts of a reply, one after the other.
 use Rattle.std.proofs.Common.{◌≡◌, ℕ, List, [], ◌++◌, ap, ◌∙◌, append_assoc}
 use Rattle.std.specs.Prelude.{codes, decimal}
 use Rattle.std.proofs.lemmas.List.{append-nil}

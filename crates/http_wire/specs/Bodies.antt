@@ -1,4 +1,4 @@
--- A body of a known length behind a head (RFC 9112, section 6.3).
+-- A body of a known length after a head (RFC 9112, section 6.3).
 use Rattle.std.specs.Prelude.{◌≡◌, ◌<◌, ℕ, List, [], ◌++◌, length, Bool, true, false, Option, Result, Ok, Err}
 use Rattle.std.specs.Io.KnownBytes.{Consumes, IsAtEnd}
 use Rattle.http_wire.specs.declared.device.Failed.{Failed}
@@ -10,7 +10,7 @@ Holds left bytes waiting body (Ok true) = bytes ≡ body ++ waiting
 Holds left bytes waiting body (Ok false) = (length bytes < length body) × (waiting ≡ []) × IsAtEnd left
 Holds left bytes waiting body (Err failed) = (length bytes < length body) × (waiting ≡ [])
 
--- what was read behind the bytes that waited
+-- what was read after the bytes that waited
 pub record BodyFound
     (old new : Option (List ℕ)) (before after body : List ℕ) (result : Result Bool Failed)
     : Type 0 where

@@ -2,7 +2,7 @@
 use Rattle.std.specs.Prelude.{◌≡◌, ℕ, List, ◌++◌, length, Option, Result, MatchResult}
 use Rattle.std.specs.Io.KnownBytes.{Consumes, Keeps, IsAtEnd}
 
--- some bytes were read behind those that waited; with none, the input has ended
+-- some bytes were read after those that waited; with none, the input has ended
 pub record Given (old new : Option (List ℕ)) (before after : List ℕ) (count : ℕ) : Type 0 where
   pub bytes : List ℕ
   pub consumed : Consumes old new bytes
@@ -15,7 +15,7 @@ abbrev pub Fills : {E : Type 0} → Option (List ℕ) → Option (List ℕ) → 
 Fills old new before after result =
     MatchResult result (Given old new before after) (λ _. Keeps old new × (after ≡ before))
 
--- some bytes were read, behind those that waited
+-- some bytes were read, after those that waited
 pub record Came (old new : Option (List ℕ)) (before after : List ℕ) : Type 0 where
   pub bytes : List ℕ
   pub consumed : Consumes old new bytes

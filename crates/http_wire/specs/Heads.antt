@@ -1,4 +1,4 @@
--- What stands at the front of a connection's bytes: a head by the grammar of `httparse` (RFC 9112,
+-- What is at the front of a connection's bytes: a head by the grammar of `httparse` (RFC 9112,
 -- sections 2 to 5), of at most 16384 bytes.
 use Rattle.std.specs.Prelude.{◌≡◌, ◌<◌, ◌≤◌, ℕ, List, length, take, All, Option, Result, Ok, Err}
 use Rattle.std.specs.Io.KnownBytes.{IsAtEnd}

@@ -7,7 +7,7 @@ use crate::sending::{join, send, send_all};
 use http_heads::{ReplyHead, allow_text, last_text};
 use itoa::Buffer;
 
-// Writes the texts in one write, if they fit the block.
+// Writes the strings in one write, if they fit the block.
 fn send_joined<W: Sink>(sink: &mut W, block: &mut [u8], texts: &[&[u8]]) -> Result<(), Failed>
     ensures sends { Sends (W.contents sink.old) (W.contents sink.new) (joined texts.now) result }
     ensures failed { W.failures sink.new ≡ W.failures sink.old + (if is_ok result then 0 else 1) }
@@ -46,7 +46,7 @@ fn send_parts<'a, W: Sink>(
     )
 }
 
-// The parts of the field that names a type, where there is one.
+// The parts of the field that names a type, if there is one.
 #[tactic(auto, unfolding(http_heads::specs::Replies::type_line))]
 fn type_texts<'a>(kind: &'a str) -> (&'a str, &'a str, &'a str)
     ensures { result.0.now ++ (result.1.now ++ result.2.now) ≡ type_line kind.now }

@@ -19,7 +19,7 @@ pub fn send<W: Sink>(sink: &mut W, bytes: &[u8]) -> Result<(), Failed>
     Ok(())
 }
 
-// Writes the texts one behind the other, as `send` does.
+// Writes the strings one after the other, as `send` does.
 pub(crate) fn send_all<W: Sink>(sink: &mut W, texts: &[&[u8]]) -> Result<(), Failed>
     ensures sends { Sends (W.contents sink.old) (W.contents sink.new) (joined texts.now) result }
     ensures failed { W.failures sink.new ≡ W.failures sink.old + (if is_ok result then 0 else 1) }
@@ -33,7 +33,7 @@ pub(crate) fn send_all<W: Sink>(sink: &mut W, texts: &[&[u8]]) -> Result<(), Fai
     Ok(())
 }
 
-// Puts the texts side by side at the front of the block, and returns their length.
+// Puts the strings side by side at the front of the block, and returns their length.
 //
 // Returns `None` if they don't fit.
 pub(crate) fn join(block: &mut [u8], texts: &[&[u8]]) -> Option<usize>

@@ -40,7 +40,7 @@ impl Window {
         &self.cells[..self.filled]
     }
 
-    /// Reads once, behind the bytes. Needs room for a byte.
+    /// Reads once, after the bytes. Needs room for a byte.
     pub(crate) fn fill<S: Source>(&mut self, source: &mut S) -> Result<usize, Failed>
         requires { length self.old < 16384 }
         ensures fills { Fills (S.remaining source.old) (S.remaining source.new) self.old self.new result }

@@ -24,7 +24,7 @@ use Rattle.payload_graph.specs.Soundness.{AreResolved, is_reached, net_from, no_
 use Rattle.payload_graph.specs.declared.door.Door.{Door}
 use Rattle.payload_graph.specs.declared.edge.Edge.{Edge}
 
--- tests that agree on each good item keep the same ones
+-- tests that agree on each valid item keep the same ones
 pub filter-map_agree :
     {A B : Type 0} (good : A → Bool) (f : A → B) (p : B → Bool) (q : A → Bool) →
     ((x : A) → good x ≡ true → p (f x) ≡ q x) →
@@ -41,7 +41,7 @@ filter-map_agree {A} {B} good f p q agrees (x ∷ xs) all =
     both false = refl
 
 module _ (irreflexive : BelowIsIrreflexive) (transitive : BelowIsTransitive) (app : App) (are : AreGood app.releases app.diffs) where
-  -- resolved differentials lead up and stand by origin
+  -- resolved differentials lead up and are sorted by origin
   pub AreResolved-app : AreResolved (length app.releases) (resolved_of app)
   AreResolved-app = record {
     sorted = λ i j e low within.

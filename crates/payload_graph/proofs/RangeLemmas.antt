@@ -61,7 +61,7 @@ between-range xs low high ordered =
     let whole : low + (high - low) ≡ high = omega arith in
     sym (drop-take low (high - low) xs) ∙ ap (λ n. drop low (take n xs)) whole
 
--- what stands behind the first item
+-- what is after the first item
 module _ {A B : Type 0} (p : A → Bool) (q : B → Bool) (d : A) (e : B) (x : A) (xs : List A) (y : B) (ys : List B) where
   AgreeBetween-rest :
       (low high below above : ℕ) →

@@ -32,7 +32,7 @@ length-to_stone (door ∷ doors) = cases door.stone (length-to_stone doors)
     cases true rest = omega arith
     cases false rest = omega arith
 
--- no stone stands before a door up to the first stone
+-- no stone is before a door up to the first stone
 pub no_stone_before :
     (doors : List Door) (k : ℕ) →
     k < length (to_stone doors) → list_any is_stone (take k doors) ≡ false
@@ -50,7 +50,7 @@ no_stone_before (door ∷ doors) (suc k) reached =
     cases false plain reached rest =
         ap (λ b. b || list_any is_stone (take k doors)) plain ∙ rest (omega arith)
 
--- a stone stands before a door behind the first stone
+-- a stone is before a door after the first stone
 pub stone_before :
     (doors : List Door) (k : ℕ) →
     length (to_stone doors) ≤ k → k < length doors → list_any is_stone (take k doors) ≡ true

@@ -18,7 +18,7 @@ use Rattle.payload_graph.proofs.WalkLemmas.{AreGood}
 use Rattle.payload_graph.specs.Net.{Net, net_among, net_in, net_of, resolved_at, resolved_of}
 use Rattle.payload_graph.specs.Soundness.{net_from, net_in_app, net_in_cohort}
 
--- an app of a valid content has good differentials
+-- an app of a valid content has valid differentials
 pub AreGood-app :
     (apps : List App) (index : ℕ) (app : App) →
     IsValid apps → slice_get apps index ≡ Some app → AreGood app.releases app.diffs

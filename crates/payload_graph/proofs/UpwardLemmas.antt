@@ -98,7 +98,7 @@ module _ (irreflexive : BelowIsIrreflexive) (transitive : BelowIsTransitive) (co
         and_from _ _ (below from to higher (omega arith))
         (and_from _ _ (not_from_false _ (not_below target to (omega arith) aimed)) (not_from_false _ jumps))
 
-    -- and none behind it
+    -- and none after it
     pub leads_up-above :
         (to : ℕ) → from ≤ target → reach_of target doors from ≤ to → to < length releases →
         leads_up releases (version_of target) (version_of from) (version_of to) ≡ false

@@ -20,7 +20,7 @@ use Rattle.payload_graph.specs.Net.{edge_of}
 use Rattle.payload_graph.specs.declared.edge.Edge.{Edge}
 use Rattle.payload_graph.specs.declared.edge.Kind.TheVariants as kind
 
--- a good differential leads up between releases
+-- a valid differential leads up between releases
 pub record LeadsUp (releases : List Release) (diff : Diff) : Type 0 where
   pub upward : is_below diff.from diff.to ≡ true
   pub starts : has_release releases diff.from ≡ true

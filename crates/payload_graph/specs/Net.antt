@@ -1,6 +1,6 @@
 -- The graph of a track: its target, and the payloads that are permitted between the releases of its
 -- app. Full packages are given by rule, each release having a window of others to which its clients
--- may be led; this project's profile. Releases are told by index, by ascending version.
+-- may be led; this project's profile. Releases are given by index, by ascending version.
 use Rattle.std.specs.Prelude.{ℕ, ◌+◌, ◌==◌, Bool, if◌then◌else◌, List, [], ◌∷◌, ◌++◌, drop, map, nat_lt, slice_get, take, Option, option_and_then, option_map}
 use Rattle.std.specs.List.{enumerate_from, filter}
 use Rattle.std.specs.Option.{option_map_or}

@@ -48,7 +48,7 @@ is_reached target doors edge =
     nat_le edge.from target
     && (nat_lt edge.to (reach_of target doors edge.from) && (slice_index_or doors edge.to no_door).offered)
 
--- resolved differentials: each leads up between releases, and they stand by ascending origin
+-- resolved differentials: each leads up between releases, and they are sorted by ascending origin
 pub record AreResolved (count : ℕ) (edges : List Edge) : Type 0 where
   pub sorted : IsNonDecreasingBy (λ (edge : Edge). edge.from) edges
   pub rising : All (λ (edge : Edge). (edge.from < edge.to) × (edge.to < count)) edges

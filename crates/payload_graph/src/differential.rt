@@ -28,7 +28,7 @@ fn seek(releases: &[Release], start: usize, version: &Version) -> usize
     index
 }
 
-// Where the search for a destination begins: behind the last one of the same origin, or at the origin.
+// Where the search for a destination begins: after the last one of the same origin, or at the origin.
 fn first_end(last_from: usize, last_to: usize, from: usize) -> usize
     ensures same { from ≡ last_from → result ≡ last_to }
     ensures other { (from ≡ last_from → ⊥) → result ≡ from }

@@ -9,7 +9,7 @@ pub enum Kind {
     Differ,
 }
 
-/// A payload between two releases of an app, told by index.
+/// A payload between two releases of an app, given by index.
 #[derive(Clone, Copy, Debug, PartialEq, Eq)]
 pub struct Edge {
     /// The release that it leaves.

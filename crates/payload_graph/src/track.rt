@@ -16,7 +16,7 @@ use std::marker::Model;
 
 /// The differentials of an app between the indexes of its releases, which contracts see as their list.
 ///
-/// They are resolved once an app, and lent to the graph of each of its tracks.
+/// They are resolved once an app, and borrowed by the graph of each of its tracks.
 #[derive(Drop)]
 pub struct Differentials {
     edges: Vec<Edge>,

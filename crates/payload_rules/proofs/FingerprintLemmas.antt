@@ -20,7 +20,7 @@ use Rattle.records.specs.declared.content.Cohort.{Cohort}
 use Rattle.records.specs.declared.content.Release.{Release}
 use Rattle.payload_rules.specs.Places.{fingerprint_with, has_fingerprint, IsHashOf}
 
--- a digit of the table stands for one number
+-- a digit of the table is one number
 digit-injective : (digit other : ℕ) → digit < 16
     → get_or lower_digits digit 0 ≡ get_or lower_digits other 0 → digit ≡ other
 digit-injective digit other small same =
@@ -96,7 +96,7 @@ has_fingerprint-has_hash fp hash release is =
         let digits : encode_lower hash ≡ encode_lower release.hash = cc in
         encode_lower-injective hash release.hash is.1 digits
 
--- tests that agree on each good item agree on its first place
+-- tests that agree on each valid item agree on its first place
 position_or_len-agrees : {A : Type 0} (good test other : A → Bool)
     → ((item : A) → good item ≡ true → test item ≡ other item)
     → (items : List A) → list_all good items ≡ true
@@ -124,7 +124,7 @@ IsBytes-small (byte ∷ bytes) small zero =
     omega (arith, fits)
 IsBytes-small (byte ∷ bytes) small (suc index) = IsBytes-small bytes (and_parts _ _ small).1 index
 
--- a text that is no hash's fingerprint is no release's
+-- a string that is no hash's fingerprint is no release's
 is_not_fingerprint : (fp : List ℕ) (cohorts : List Cohort) (release : Release) → IsHashOf fp None
     → is_good_release cohorts release ≡ true → has_fingerprint fp release ≡ false
 is_not_fingerprint fp cohorts release none good =
@@ -133,7 +133,7 @@ is_not_fingerprint fp cohorts release none good =
     let differs = none release.hash sized (IsBytes-small release.hash hash.1) in
     false_from_ne_true _ (λ same. differs ((bytes_eq-Decides fp (fingerprint_with release.hash)).0 same))
 
--- a text that is no hash's fingerprint has no release
+-- a string that is no hash's fingerprint has no release
 position-has_fingerprint : (fp : List ℕ) (cohorts : List Cohort) (releases : List Release)
     → IsHashOf fp None → list_all (is_good_release cohorts) releases ≡ true
     → position (has_fingerprint fp) releases ≡ None
@@ -156,7 +156,7 @@ at_index P (first ∷ apps) zero app all there =
     rw (← same) all.0
 at_index P (first ∷ apps) (suc index) app all there = at_index P apps index app all.1 there
 
--- the releases of each app of a valid content are good
+-- the releases of each app of a valid content are valid
 releases_at-good : (apps : List App) (index : ℕ) → IsValid apps
     → list_all (is_good_release (cohorts_at apps index)) (releases_at apps index) ≡ true
 releases_at-good apps index valid = cases (slice_get apps index) refl
@@ -166,7 +166,7 @@ releases_at-good apps index valid = cases (slice_get apps index) refl
     cases None nowhere = refl
     cases (Some app) there = (at_index IsValidApp apps index app valid.apps_valid there).releases_good
 
--- in a valid content a text that is no hash's fingerprint has no release
+-- in a valid content a string that is no hash's fingerprint has no release
 pub position-no_fingerprint : (apps : List App) (index : ℕ) (fp : List ℕ) → IsValid apps
     → IsHashOf fp None → position (has_fingerprint fp) (releases_at apps index) ≡ None
 position-no_fingerprint apps index fp valid none =

@@ -21,14 +21,14 @@ fingerprint_of release = fingerprint_with release.hash
 abbrev pub has_fingerprint : List ℕ → Release → Bool
 has_fingerprint fp release = bytes_eq fp (fingerprint_of release)
 
--- the text is the fingerprint of that hash of 32 bytes; without one, of no hash
+-- the string is the fingerprint of that hash of 32 bytes; without one, of no hash
 abbrev pub IsHashOf : List ℕ → Option (List ℕ) → Type 0
 IsHashOf fp None = (hash : List ℕ) → length hash ≡ 32 → IsBytes hash → ¬ (fp ≡ fingerprint_with hash)
 IsHashOf fp (Some hash) = (fp ≡ fingerprint_with hash) × IsBytes hash
 
 -- rule: Place of a client
 -- a client's place: at the release whose fingerprint it sent, whatever its version; else outside, at
--- the version that its text counts as
+-- the version that its string counts as
 abbrev pub place_of : List Release → List ℕ → List ℕ → Place
 place_of releases fp version =
     option_map_or (λ release. At release) (position (has_fingerprint fp) releases)

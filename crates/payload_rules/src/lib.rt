@@ -1,6 +1,6 @@
 //! The rules of payloads: who may be offered what.
 //!
-//! A `Place` is where a client stands among the releases of an app, found by `place_of`. A `Payload`
+//! A `Place` is where a client is among the releases of an app, found by `place_of`. A `Payload`
 //! is a full package or a differential, a `TrackKey` names the clients that are served alike, and
 //! `permits` tests whether a payload may be offered on a track at a place. Read
 //! `specs/Permitted.antt` for the rule, line by line, `specs/Places.antt` for places,

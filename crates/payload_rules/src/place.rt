@@ -18,7 +18,7 @@ pub enum Place {
 // rule: Place of a client
 /// Finds where a client is among the releases of the app at an index, which is in range.
 ///
-/// It is at the release whose fingerprint `fp` is, whatever its version. With any other text it is
+/// It is at the release whose fingerprint `fp` is, whatever its version. With any other string it is
 /// outside, at the version that `version` counts as by `Version::lenient`.
 pub fn place_of(catalogue: &Catalogue, app: usize, fp: &str, version: &str) -> Place
     requires { app < length catalogue.now }
