@@ -13,9 +13,9 @@ mod batches;
 #[cfg(test)]
 mod cohort_texts;
 #[cfg(test)]
-mod histories;
-#[cfg(test)]
 mod offers;
+#[cfg(test)]
+mod publishing;
 #[cfg(test)]
 mod replies;
 #[cfg(test)]

@@ -7,7 +7,7 @@ use Rattle.std.proofs.lemmas.List.Folds.{list_any-append}
 use Rattle.http_heads.specs.Framing.{length_by}
 use Rattle.http_heads.specs.Lengths.{StandsFor, length_for}
 use Rattle.http_heads.specs.declared.body_length.Length.{Length}
-use Rattle.http_heads.specs.declared.body_length.Length.TheVariants as length
+use Rattle.http_heads.specs.declared.body_length.Length.TheVariants as lengths
 use Rattle.http_heads.specs.Fields.{Pair, is_named, values_named}
 
 pub map-take-more :
@@ -75,6 +75,6 @@ pub length_by-kept :
     (kept : Length) (method : List ℕ) (values : List (List ℕ)) →
     StandsFor kept values →
     length_by method values ≡ length_for method kept
-length_by-kept length.Missing method values none = ap (length_by method) none
-length_by-kept (length.Known size) method values (value, alone, known) = ap (length_by method) alone ∙ known
-length_by-kept (length.Refused why) method values (value, more, some, refused) = refused method
+length_by-kept lengths.Missing method values none = ap (length_by method) none
+length_by-kept (lengths.Known size) method values (value, alone, known) = ap (length_by method) alone ∙ known
+length_by-kept (lengths.Refused why) method values (value, more, some, refused) = refused method

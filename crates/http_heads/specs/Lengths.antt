@@ -3,19 +3,19 @@ use Rattle.std.specs.Prelude.{◌≡◌, ℕ, List, [], ◌∷◌, Result, Ok, E
 use Rattle.http_heads.specs.Framing.{length_by, length_in}
 use Rattle.http_heads.specs.declared.status.Status.{Status}
 use Rattle.http_heads.specs.declared.body_length.Length.{Length}
-use Rattle.http_heads.specs.declared.body_length.Length.TheVariants as length
+use Rattle.http_heads.specs.declared.body_length.Length.TheVariants as lengths
 
 -- it counts as the values: none; one, which is this number; or some, which this status rejects
 abbrev pub StandsFor : Length → List (List ℕ) → Type 0
-StandsFor length.Missing values = values ≡ []
-StandsFor (length.Known size) values =
+StandsFor lengths.Missing values = values ≡ []
+StandsFor (lengths.Known size) values =
     (value : List ℕ) × (values ≡ value ∷ []) × (length_in value ≡ Ok size)
-StandsFor (length.Refused status) values =
+StandsFor (lengths.Refused status) values =
     (value : List ℕ) × (more : List (List ℕ)) × (values ≡ value ∷ more)
     × ((method : List ℕ) → length_by method values ≡ Err status)
 
 -- the length, or the status of an error, of a message with this method
 abbrev pub length_for : List ℕ → Length → Result ℕ Status
-length_for method length.Missing = length_by method []
-length_for method (length.Known size) = Ok size
-length_for method (length.Refused why) = Err why
+length_for method lengths.Missing = length_by method []
+length_for method (lengths.Known size) = Ok size
+length_for method (lengths.Refused why) = Err why
