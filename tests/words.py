@@ -3,8 +3,8 @@
 
 It reads README, `docs/`, the documents of `examples/`, the comments of all code, specs, proofs and
 scripts, the docstrings, and the strings of `--help`. Code between backticks is exempt: names, options
-and printed codes are fixed. `tests/words.py` fails if it finds one that is not known;
-`tests/words.py PATH ..` prints all in the files whose path begins so.
+and printed codes are fixed. `tests/words.py` fails if it finds one; `tests/words.py PATH ..` reads only
+the files whose path begins so.
 """
 
 import io
@@ -43,9 +43,6 @@ RETIRED = [
     (r"(?<!cohort )texts?", "string, bytes"),
 ]
 WORDS = [(re.compile(rf"(?<![\w-])(?:{pattern})(?![\w-])", re.IGNORECASE), better) for pattern, better in RETIRED]
-
-# Where some are left, by the beginning of the path: there may be at most so many.
-LEFT = {"crates/catalogue": 110}
 
 CODE = re.compile(r"`[^`]*`")
 COMMENTS = {
@@ -104,7 +101,7 @@ def files():
 
 def main():
     asked = tuple(sys.argv[1:]) or ("",)
-    found_at = []
+    found = []
     for path in files():
         if path == "tests/words.py" or not path.startswith(asked):
             continue
@@ -114,18 +111,12 @@ def main():
             text = file.read()
         for number, line in prose(path, text):
             for word, better in WORDS:
-                for found in word.finditer(CODE.sub("``", line)):
-                    found_at.append((path, f"{path}:{number}: {found.group(0)}: better: {better}"))
-    left = {start: [line for path, line in found_at if path.startswith(start)] for start in LEFT}
-    wrong = [line for path, line in found_at if not path.startswith(tuple(LEFT))]
-    for start, lines in left.items():
-        if len(lines) > LEFT[start] or len(sys.argv) > 1:
-            wrong += lines
-    for line in wrong:
+                for match in word.finditer(CODE.sub("``", line)):
+                    found.append(f"{path}:{number}: {match.group(0)}: better: {better}")
+    for line in found:
         print(line, file=sys.stderr)
-    known = sum(map(len, left.values()))
-    print(f"{len(found_at)} retired words in documents and comments, {known} of them known")
-    return 1 if wrong else 0
+    print(f"{len(found)} retired words in documents and comments")
+    return 1 if found else 0
 
 
 if __name__ == "__main__":

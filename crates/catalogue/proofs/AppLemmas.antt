@@ -14,7 +14,7 @@ use Rattle.records.specs.declared.content.App.{App}
 abbrev pub lowered : List ℕ → List ℕ
 lowered id = map to_ascii_lowercase id
 
--- what is read of the app of an identifier, or the value where there is no such app
+-- what is read of the app of an identifier, or the value if there is no such app
 abbrev pub read_app : {B : Type 0} → (App → B) → B → List App → List ℕ → B
 read_app read none apps id = option_map_or read (app_of apps id) none
 
@@ -55,7 +55,7 @@ read_app-kept read none f kept same apps id changed =
     cases true (Some app) = same app
     cases false o = refl
 
--- an app that is added is read where there was none of its identifier
+-- an app that is added is read if there was none of its identifier
 pub read_app-push : {B : Type 0} (read : App → B) (none : B) (apps : List App) (app : App) (id : List ℕ) → read_app read none (apps ++ app ∷ []) id ≡ option_map_or read (app_of apps id) (cond (same_id id app.id) (read app) none)
 read_app-push read none apps app id =
     ap (λ (o : Option App). option_map_or read o none) (find-append (is_app id) apps (app ∷ []))
@@ -66,7 +66,7 @@ read_app-push read none apps app id =
     cases None false = refl
     cases (Some found) b = refl
 
--- an app that is added and gives what is read where there is none leaves what is read
+-- an app that is added and gives what is read if there is none leaves what is read
 pub read_app-push_none : {B : Type 0} (read : App → B) (none : B) (apps : List App) (app : App) (id : List ℕ) → read app ≡ none → read_app read none (apps ++ app ∷ []) id ≡ read_app read none apps id
 read_app-push_none read none apps app id same =
     read_app-push read none apps app id ∙ ap (option_map_or read (app_of apps id)) (cases (same_id id app.id))

@@ -10,7 +10,7 @@ use Rattle.records.specs.declared.content.Release.{Release}
 use Rattle.catalogue.specs.declared.edits.cohort_settings.CohortSetting.{CohortSetting}
 use Rattle.catalogue.specs.declared.edits.cohort_settings.CohortSetting.TheVariants as setting
 
--- what is known of a good cohort
+-- what is known of a valid cohort
 pub record GoodCohort (releases : List Release) (cohort : Cohort) : Type 0 where
   pub named : is_cohort_name cohort.name ≡ true
   pub shared : nat_le cohort.share max_share ≡ true

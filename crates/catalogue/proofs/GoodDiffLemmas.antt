@@ -8,7 +8,7 @@ use Rattle.records.specs.Validity.{is_good_diff}
 use Rattle.records.specs.declared.content.Diff.{Diff}
 use Rattle.records.specs.declared.content.Release.{Release}
 
--- what is known of a good differential
+-- what is known of a valid differential
 pub record GoodDiff (releases : List Release) (diff : Diff) : Type 0 where
   pub upward : is_below diff.from diff.to ≡ true
   pub starts : has_release releases diff.from ≡ true

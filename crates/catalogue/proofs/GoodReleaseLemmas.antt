@@ -10,7 +10,7 @@ use Rattle.records.specs.declared.content.Release.{Release}
 use Rattle.catalogue.specs.declared.edits.release_settings.ReleaseSetting.{ReleaseSetting}
 use Rattle.catalogue.specs.declared.edits.release_settings.ReleaseSetting.TheVariants as setting
 
--- what is known of a good release
+-- what is known of a valid release
 pub record GoodRelease (cohorts : List Cohort) (release : Release) : Type 0 where
   pub spelled : spells release.spelled release.version ≡ true
   pub named : is_package_name release.name ≡ true
@@ -28,7 +28,7 @@ GoodRelease-from_test cohorts release good =
     let named = and_parts (spells release.spelled release.version) (is_package_name release.name) sized.0 in
     record { spelled = named.0; named = named.1; sized = sized.1; hashed = hashed.1; heard = rest.1 }
 
--- a release with a good audience in the place of its own
+-- a release with a valid audience in the place of its own
 pub is_good_release-audience :
     (cohorts : List Cohort) (names : Option (List (List ℕ))) → is_good_audience cohorts names ≡ true →
     (release : Release) → is_good_release cohorts release ≡ true →

@@ -1,4 +1,4 @@
--- A clone of a map with text keys finds what the map finds.
+-- A clone of a map with string keys finds what the map finds.
 use Rattle.std.proofs.Common.{◌≡◌, ℕ, List, Option, Some, None, String, string_bytes, ap}
 use Rattle.std.specs.BTreeMap.{BTreeMap, IsClone, get_by_text, is_at}
 use Rattle.std.specs.Option.{MatchOption, IsSomeAnd}

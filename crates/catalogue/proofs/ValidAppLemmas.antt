@@ -37,7 +37,7 @@ use Rattle.catalogue.specs.declared.edits.releases.AddRelease.{AddRelease}
 Inserts-placed : (release : Release) (releases : List Release) → Inserts release releases (placed release releases)
 Inserts-placed release releases = Inserts-put_in is_below bytes_eq (λ (r : Release). r.version) release releases
 
--- a cohort and a differential stay good if each released version stays released
+-- a cohort and a differential stay valid if each released version stays released
 module _ (old new : List Release) (kept : (version : List ℕ) → has_release old version ≡ true → has_release new version ≡ true) where
   is_released-kept :
       (version : Option (List ℕ)) → is_released old version ≡ true → is_released new version ≡ true
@@ -74,7 +74,7 @@ has_release-placed :
 has_release-placed release releases version =
     list_any-kept (is_release version) release releases (placed release releases) (Inserts-placed release releases)
 
--- the spelling of an accepted version spells what a client's text would
+-- the spelling of an accepted version spells what a client's string would
 spells-lenient : LenientAgrees → (text : List ℕ) → is_none (version_of text) ≡ false → spells text (lenient_version_of text) ≡ true
 spells-lenient agrees text spelled =
     let some = Some-from_not_none (version_of text) spelled in
@@ -137,7 +137,7 @@ module _ (laws : VersionLaws) (agrees : LenientAgrees) where
             }));
       }
 
--- a change of a release that keeps its version and its hash and keeps it good
+-- a change of a release that keeps its version and its hash and keeps it valid
 pub IsValidApp-in_release :
     (version : List ℕ) (f : Release → Release) (app : App) →
     ((release : Release) → (f release).version ≡ release.version) →
@@ -167,7 +167,7 @@ IsValidApp-in_release version f app kept kept_hash keeps_good valid =
           (is_good_diff-kept app.releases releases released) app.diffs valid.diffs_good;
     }
 
--- an audience stays good if each cohort's name stays
+-- an audience stays valid if each cohort's name stays
 is_good_audience-kept : (old new : List Cohort) → ((name : List ℕ) → has_cohort old name ≡ true → has_cohort new name ≡ true) → (audience : Option (List (List ℕ))) → is_good_audience old audience ≡ true → is_good_audience new audience ≡ true
 is_good_audience-kept old new kept None good = refl
 is_good_audience-kept old new kept (Some names) good = list_all-weaker (has_cohort old) (has_cohort new) kept names good
@@ -178,7 +178,7 @@ is_good_release-kept old new kept release good =
     let before = and_parts (spells release.spelled release.version && is_package_name release.name && is_size release.size && is_hash release.hash) (is_good_audience old release.audience) good in
     and_from _ _ before.0 (is_good_audience-kept old new kept release.audience before.1)
 
--- a change of a cohort that keeps its name and keeps it good
+-- a change of a cohort that keeps its name and keeps it valid
 pub IsValidApp-in_cohort : (name : List ℕ) (f : Cohort → Cohort) (app : App) → ((cohort : Cohort) → (f cohort).name ≡ cohort.name) → ((cohort : Cohort) → is_good_cohort app.releases cohort ≡ true → is_good_cohort app.releases (f cohort) ≡ true) → IsValidApp app → IsValidApp (in_cohort name f app)
 IsValidApp-in_cohort name f app kept keeps_good valid =
     let as_many = length-change (is_cohort name) f app.cohorts in
@@ -199,7 +199,7 @@ IsValidApp-in_cohort name f app kept keeps_good valid =
       diffs_good = valid.diffs_good;
     }
 
--- a new cohort is good
+-- a new cohort is valid
 is_good_cohort-new_cohort : (releases : List Release) (name : List ℕ) → is_cohort_name name ≡ true → is_good_cohort releases (new_cohort name) ≡ true
 is_good_cohort-new_cohort releases name named =
     is_good_cohort-from_parts releases (new_cohort name) (record { named = named; shared = refl; target = refl; held = refl })

@@ -14,19 +14,19 @@ abbrev pub unless_refused : ℕ → Option Fault → Result (List App) Refused �
 unless_refused index None others = others
 unless_refused index (Some fault) others = Err (record { index = index; fault = fault })
 
--- the content after the edits, or the first refused one, the first edit having that index
+-- the content after the edits, or the first rejected one, the first edit having that index
 abbrev pub outcome_from : ℕ → List Edit → List App → Result (List App) Refused
 outcome_from index [] apps = Ok apps
 outcome_from index (e ∷ edits) apps =
     unless_refused index (fault_of apps e) (outcome_from (index + 1) edits (after apps e))
 
 -- rule: Batch
--- the content after a batch, or its first refused edit
+-- the content after a batch, or its first rejected edit
 abbrev pub outcome : List Edit → List App → Result (List App) Refused
 outcome batch apps = outcome_from 0 batch apps
 
 -- the content after a history, the list of its batches, if each was accepted; else the first
--- refusal
+-- rejection
 abbrev pub then_run : (List App → Result (List App) Refused) → Result (List App) Refused → Result (List App) Refused
 then_run run_on (Ok apps) = run_on apps
 then_run run_on (Err refused) = Err refused
@@ -35,7 +35,7 @@ abbrev pub run : List (List Edit) → List App → Result (List App) Refused
 run [] apps = Ok apps
 run (batch ∷ batches) apps = then_run (run batches) (outcome batch apps)
 
--- a refusal is the outcome's, or memory ran out
+-- an error is the outcome's, or memory ran out
 abbrev pub Explains : ApplyError → Result (List App) Refused → Type 0
 Explains (error.Refused refused) result = result ≡ Err refused
 Explains error.Memory result = Unit {0}

@@ -1,5 +1,5 @@
 -- The edits: each one's first fault against a content, and what it changes if it has none; a line
--- an edit. The tests of each kind stand in a file of their own beside this one.
+-- an edit. The tests of each kind are in a file of their own beside this one.
 pub mod Apps
 pub mod CohortSettings
 pub mod Cohorts

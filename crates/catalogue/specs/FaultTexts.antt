@@ -28,11 +28,11 @@ fault_text fault.CohortExists = codes "C15 CohortExists"
 fault_text fault.BadShare = codes "C16 BadShare"
 fault_text fault.Limit = codes "C17 Limit"
 
--- a refused edit's index and fault, as `edit 12: C11 UnknownRelease`
+-- a rejected edit's index and fault, as `edit 12: C11 UnknownRelease`
 abbrev pub refused_text : Refused → List ℕ
 refused_text refused = codes "edit " ++ decimal refused.index ++ codes ": " ++ fault_text refused.fault
 
--- the refused edit, or `memory`
+-- the rejected edit, or `memory`
 abbrev pub error_text : ApplyError → List ℕ
 error_text (error.Refused refused) = refused_text refused
 error_text error.Memory = codes "memory"

@@ -47,11 +47,10 @@ impl Catalogue {
     }
 
     // rule: Batch
-    /// Applies a batch whole, or refuses it whole.
+    /// Applies a batch whole, or rejects it whole.
     ///
-    /// Refuses with the first refused edit, each edit being tested against the content that those
-    /// before it leave, and with that edit's first fault. After any refusal the catalogue is as it
-    /// was.
+    /// Each edit is tested against the content that those before it leave. The error names the first
+    /// rejected edit and its first fault. After any error the catalogue is unchanged.
     pub fn apply(&mut self, batch: &Batch) -> Result<(), ApplyError>
         ensures ok { OnOk result (outcome batch.now self.old ≡ Ok self.new) }
 
@@ -65,7 +64,7 @@ impl Catalogue {
     // rule: Batch
     /// Makes the catalogue that a batch leads to, and leaves this one as it is.
     ///
-    /// Refuses as `apply` does.
+    /// Its errors are those of `apply`.
     pub fn applied(&self, batch: &Batch) -> Result<Catalogue, ApplyError>
         ensures ok { IfOk result (λ next. outcome batch.now self.now ≡ Ok next) }
         ensures refused { IfErr result (λ e. Explains e (outcome batch.now self.now)) }
@@ -91,7 +90,7 @@ impl Catalogue {
         })
     }
 
-    /// Tells a caller's proof what is true of every catalogue; it does nothing when it runs.
+    /// Exposes the validity invariant to callers' proofs; no run-time effect.
     pub fn validity(&self)
         ensures { IsValid self.now }
     {

@@ -46,7 +46,7 @@ pub(crate) fn named_cohort(app: &App, name: &Text) -> Result<(), Fault>
     }
 }
 
-/// A content and its index; after a refused allocation the two may differ.
+/// A content and its index; after a failed allocation the two may differ.
 #[derive(Drop)]
 pub(crate) struct Draft {
     pub(crate) alloc: Global,
@@ -60,7 +60,7 @@ fn copy_of(apps: &Items<App>) -> Result<Items<App>, AllocError>
     apps.clone()
 }
 
-/// Reads the version that a text spells, else returns `BadVersion`.
+/// Reads the version that a string spells, else returns `BadVersion`.
 pub(crate) fn spelled_version(text: &Text) -> Result<Version, Fault>
     ensures ok { IfOk result (λ version. version ≡ lenient_version_of text.now) }
     ensures spelled { OnOk result (is_none (version_of text.now) ≡ false) }
@@ -231,9 +231,9 @@ impl Draft {
         Ok(())
     }
 
-    /// Performs edits in order, up to the first that is refused.
+    /// Performs edits in order, up to the first that is rejected.
     ///
-    /// After a refusal the draft is of no use.
+    /// After an error the draft is of no use.
     pub(crate) fn run(&mut self, edits: &[Edit]) -> Result<(), ApplyError>
         requires indexed { IsIndexed self.old }
         requires valid { IsValid self.old.apps }

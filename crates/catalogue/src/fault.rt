@@ -5,26 +5,26 @@ use std::alloc::AllocError;
 use std::error::Error;
 use std::fmt;
 
-/// Why an edit was refused; it prints as its code and its name, as `C11 UnknownRelease`.
+/// Why an edit was rejected; it prints as its code and its name, as `C11 UnknownRelease`.
 #[derive(Clone, Copy, Debug, PartialEq, Eq)]
 pub enum Fault {
     /// C1: no app has the identifier.
     UnknownApp,
     /// C2: an app has the identifier.
     AppExists,
-    /// C3: the text is no identifier of an app.
+    /// C3: the string is no identifier of an app.
     BadAppId,
-    /// C4: the text is no version of 1 to 4 components.
+    /// C4: the string is no version of 1 to 4 components.
     BadVersion,
     /// C5: the app has a release of the version.
     ReleaseExists,
     /// C6: a release of the app has the hash.
     HashTaken,
-    /// C7: the text is not 64 lower-case hexadecimal digits.
+    /// C7: the string is not 64 lower-case hexadecimal digits.
     BadHash,
     /// C8: the size is not 1 to 2^40.
     BadSize,
-    /// C9: the text is no name of a package, or no name of a cohort.
+    /// C9: the string is no name of a package, or no name of a cohort.
     BadName,
     /// C10: a package of the catalogue has the name.
     NameTaken,
@@ -44,7 +44,7 @@ pub enum Fault {
     Limit,
 }
 
-/// The first refused edit of a batch: its index from 0, and its first fault.
+/// The first rejected edit of a batch: its index from 0, and its first fault.
 #[derive(Clone, Copy, Debug, PartialEq, Eq)]
 pub struct Refused {
     /// The edit's index in its batch, from 0.
@@ -56,9 +56,9 @@ pub struct Refused {
 /// Why a batch was not applied.
 #[derive(Clone, Copy, Debug, PartialEq, Eq)]
 pub enum ApplyError {
-    /// An edit was refused.
+    /// An edit was rejected.
     Refused(Refused),
-    /// An allocation was refused.
+    /// Out of memory.
     Memory,
 }
 

@@ -1,10 +1,10 @@
 //! The catalogue: apps with their releases, differentials and cohorts, made by batches of edits.
 //!
 //! A `Catalogue` is seen as the list of its `App`s; `Catalogue::apply` takes a `Batch` of `Edit`s
-//! whole or refuses it whole, with the first refused edit and its `Fault`. Read
+//! whole or rejects it whole, with the first rejected edit and its `Fault`. Read
 //! `specs/Batches.antt` for the meaning of a batch, `specs/Edits.antt` for the faults of each edit in
 //! their order and the change that it makes, and `specs/Changes.antt` for the kinds of change. The
-//! records and what is true of every catalogue stand in `records`, the laws of whole histories in
+//! records and what is true of every catalogue are in `records`, the laws of whole histories in
 //! `histories`.
 //!
 //! It does not decide which release a client is offered, nor read profiles: crates above do.

@@ -1,7 +1,7 @@
 //! Worked rows of the catalogue: batches, the errors that they are rejected with, and the contents that
 //! they make.
 //!
-//! Edits stand in texts, a line an edit. It has tests alone, so that `catalogue` itself is proved once.
+//! Edits are lines of strings, a line an edit. It has tests alone, so that `catalogue` itself is proved once.
 
 #![tactic(auto)]
 

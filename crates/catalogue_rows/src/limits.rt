@@ -92,7 +92,7 @@ fn diffs(alloc: Global, count: u32) -> Result<Vec<Edit>, Fail> {
     Ok(edits)
 }
 
-// What a catalogue answers to the batch of one line.
+// What a catalogue returns for the batch of one line.
 fn answer(alloc: Global, catalogue: &mut Catalogue, line: &str) -> Result<String, Fail> {
     let mut edits = Vec::new(alloc);
     add(alloc, &mut edits, line)?;
@@ -118,7 +118,7 @@ fn rejects_a_16385th_differential(rt: HostRuntime) -> Result<(), Fail> {
     Ok(())
 }
 
-// A text of `count` letters.
+// A string of `count` letters.
 fn letters(alloc: Global, count: usize) -> Result<String, Fail> {
     Ok(format!(in alloc; "{:a>count$}", "")?)
 }

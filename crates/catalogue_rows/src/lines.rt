@@ -1,5 +1,5 @@
-// Edits and batches from lines of text: an edit's name and its fields, in the order of its struct.
-// `_` is the empty text, `-` is none, and the names of an audience are joined by commas.
+// Edits and batches from lines of a string: an edit's name and its fields, in the order of its struct.
+// `_` is the empty string, `-` is none, and the names of an audience are joined by commas.
 
 use catalogue::{
     AddApp, AddCohort, AddDiff, AddRelease, Batch, Catalogue, Edit, SetAudience, SetOpen,
@@ -159,7 +159,7 @@ pub(crate) fn edit_of(alloc: Global, line: &str) -> Result<Edit, Fail> {
     Ok(edit.ok_or("no edit")?)
 }
 
-/// The batch whose edits the lines of a text spell.
+/// The batch whose edits the lines of a string spell.
 pub(crate) fn batch_of(alloc: Global, lines: &str) -> Result<Batch, Fail> {
     let mut edits = Vec::new(alloc);
     for line in lines.lines() {

@@ -1,4 +1,4 @@
-// The first fault of each edit, by rows: the answer, a bar, the edit.
+// The first fault of each edit, by rows: the fault, a bar, the edit.
 
 use crate::lines::{catalogue_of, edit_of};
 use catalogue::{ApplyError, Batch, Catalogue, Fault, Refused};
@@ -14,7 +14,7 @@ add_diff mini 1.0 2.0 mini-1.0-2.0.bin 11 33333333333333333333333333333333333333
 add_cohort mini beta
 set_target mini stable 2.0 -";
 
-// A good edit comes before the one of the row, so its index is 1.
+// A valid edit comes before the one of the row, so its index is 1.
 fn answer(alloc: Global, catalogue: &mut Catalogue, line: &str) -> Result<String, Fail> {
     let mut edits = Vec::new(alloc);
     edits.push(edit_of(alloc, "add_app fresh stable")?)?;

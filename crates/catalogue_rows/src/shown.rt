@@ -1,4 +1,4 @@
-// A catalogue as text, a line an item.
+// A catalogue as a string, a line an item.
 
 use catalogue::{App, Catalogue, Cohort, Diff, Release};
 use std::alloc::{AllocError, Global};

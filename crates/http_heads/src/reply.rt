@@ -6,16 +6,20 @@ use crate::status::Status;
 /// The only method that a path takes.
 #[derive(Clone, Copy, Debug, Drop, PartialEq, Eq)]
 pub enum Allow {
+    /// POST, for requests.
     Post,
+    /// GET, for packages.
     Get,
 }
 
 /// What the head of a reply says.
 #[derive(Clone, Copy, Debug, Drop)]
 pub struct ReplyHead<'a> {
+    /// The status, which the first line has.
     pub status: Status,
     /// The type of the body; empty if it has none.
     pub kind: &'a str,
+    /// The method that an `Allow` field names, if there is one.
     pub allow: Option<Allow>,
     /// The length of the body.
     pub size: usize,

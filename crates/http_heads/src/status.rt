@@ -4,16 +4,27 @@ ghost use Rattle.http_heads.specs.Replies.{status_line};
 /// The status of a reply.
 #[derive(Clone, Copy, Debug, Drop, PartialEq, Eq)]
 pub enum Status {
+    /// 200: the reply has what was asked for.
     Success,
+    /// 400: the message is malformed.
     BadRequest,
+    /// 404: nothing has this path.
     NotFound,
+    /// 405: the path takes another method.
     MethodNotAllowed,
+    /// 409: the base is not the current one.
     Conflict,
+    /// 411: a POST without a `Content-Length`.
     LengthRequired,
+    /// 413: a body of more than `MAX_BODY` bytes.
     ContentTooLarge,
+    /// 422: the body is rejected for what it says.
     UnprocessableContent,
+    /// 431: no whole head in 16384 bytes.
     FieldsTooLarge,
+    /// 500: out of memory, or the service has closed.
     InternalServerError,
+    /// 501: a `Transfer-Encoding` field.
     NotImplemented,
 }
 

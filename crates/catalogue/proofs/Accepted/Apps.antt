@@ -10,7 +10,7 @@ use Rattle.records.specs.Lookups.{app_of}
 use Rattle.records.specs.declared.content.App.{App}
 use Rattle.catalogue.specs.declared.edits.apps.AddApp.{AddApp}
 
--- an accepted app: its identifier and its cohort's name are good, it is new, there is room
+-- an accepted app: its identifier and its cohort's name are valid, it is new, there is room
 pub record TakesApp (apps : List App) (e : AddApp) : Type 0 where
   pub identified : is_app_id e.app ≡ true
   pub named : is_cohort_name e.default ≡ true

@@ -35,7 +35,7 @@ NamesCohort-from_tests apps id name known there =
     let found = some.1 in
     record { app = some.0; found = found; there = true-from_not _ (rw found at there) }
 
--- an accepted setting: the cohort is there, and stays good with it
+-- an accepted setting: the cohort is there, and stays valid with it
 pub record TakesSetting (apps : List App) (id name : List ℕ) (new : CohortSetting) : Type 0 where
   pub names : NamesCohort apps id name
   pub keeps :

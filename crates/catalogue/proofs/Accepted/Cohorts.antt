@@ -10,7 +10,7 @@ use Rattle.records.specs.Lookups.{app_of, has_cohort}
 use Rattle.records.specs.declared.content.App.{App}
 use Rattle.catalogue.specs.declared.edits.cohorts.AddCohort.{AddCohort}
 
--- an accepted cohort: its app is there, its name is good, it is new, there is room
+-- an accepted cohort: its app is there, its name is valid, it is new, there is room
 pub record TakesCohort (apps : List App) (e : AddCohort) : Type 0 where
   pub app : App
   pub found : app_of apps e.app ≡ Some app

@@ -13,7 +13,7 @@ use Rattle.records.specs.Lookups.{app_of, declared_of, has_diff, has_release, pa
 use Rattle.records.specs.declared.content.App.{App}
 use Rattle.catalogue.specs.declared.edits.diffs.AddDiff.{AddDiff}
 
--- an accepted differential: its app and both releases are there, its texts and size are good, it leads
+-- an accepted differential: its app and both releases are there, its strings and size are valid, it leads
 -- up, it is new, there is room
 pub record TakesDiff (apps : List App) (e : AddDiff) : Type 0 where
   pub app : App

@@ -31,7 +31,7 @@ NamesRelease-from_tests apps id version known there =
     let found = some.1 in
     record { app = some.0; found = found; there = true-from_not _ (rw found at there) }
 
--- an accepted setting: the release is there, and stays good with it
+-- an accepted setting: the release is there, and stays valid with it
 pub record TakesReleaseSetting (apps : List App) (id version : List ℕ) (new : ReleaseSetting) : Type 0 where
   pub names : NamesRelease apps id version
   pub keeps :

@@ -13,7 +13,7 @@ use Rattle.records.specs.Lookups.{app_of, declared_of, has_hash, has_release}
 use Rattle.records.specs.declared.content.App.{App}
 use Rattle.catalogue.specs.declared.edits.releases.AddRelease.{AddRelease}
 
--- an accepted release: its app is there, its texts and size are good, it is new, there is room
+-- an accepted release: its app is there, its strings and size are valid, it is new, there is room
 pub record TakesRelease (apps : List App) (e : AddRelease) : Type 0 where
   pub app : App
   pub found : app_of apps e.app ≡ Some app

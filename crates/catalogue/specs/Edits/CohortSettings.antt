@@ -22,17 +22,17 @@ tests_of_setting apps id name tests =
     ∷ (not (has_cohort (cohorts_of apps id) name), fault.UnknownCohort)
     ∷ tests
 
--- the text of a target is given and spells no version
+-- the string of a target is given and spells no version
 abbrev pub is_misspelled : Option (List ℕ) → Bool
 is_misspelled None = false
 is_misspelled (Some text) = is_none (version_of text)
 
--- the text of a target is given and there is no release of its version
+-- the string of a target is given and there is no release of its version
 abbrev pub is_unreleased : List Release → Option (List ℕ) → Bool
 is_unreleased releases None = false
 is_unreleased releases (Some text) = not (has_release releases (lenient_version_of text))
 
--- targets: the form of both texts, then both releases
+-- targets: the form of both strings, then both releases
 abbrev pub tests_of_set_target : List App → SetTarget → List (Bool × Fault)
 tests_of_set_target apps e =
     tests_of_setting apps e.app e.cohort (

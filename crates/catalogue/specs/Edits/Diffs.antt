@@ -9,7 +9,7 @@ use Rattle.catalogue.specs.declared.edits.diffs.AddDiff.{AddDiff}
 use Rattle.catalogue.specs.declared.fault.Fault.{Fault}
 use Rattle.catalogue.specs.declared.fault.Fault.TheVariants as fault
 
--- the app, the form of each text and number, then that both releases are there and that it leads up,
+-- the app, the form of each string and number, then that both releases are there and that it leads up,
 -- what must be new in the app and in the catalogue, and that there is room
 abbrev pub tests_of_add_diff : List App → AddDiff → List (Bool × Fault)
 tests_of_add_diff apps e =

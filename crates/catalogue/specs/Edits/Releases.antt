@@ -10,7 +10,7 @@ use Rattle.catalogue.specs.declared.edits.releases.AddRelease.{AddRelease}
 use Rattle.catalogue.specs.declared.fault.Fault.{Fault}
 use Rattle.catalogue.specs.declared.fault.Fault.TheVariants as fault
 
--- the app, the form of each text and number, then what must be new in the app and in the catalogue,
+-- the app, the form of each string and number, then what must be new in the app and in the catalogue,
 -- then that there is room
 abbrev pub tests_of_add_release : List App → AddRelease → List (Bool × Fault)
 tests_of_add_release apps e =
