@@ -1,0 +1,65 @@
+#!/usr/bin/env python3
+"""Counts what tells whether the code stays easy to read and to add to, and prints a line for each figure.
+
+`tests/figures.py` needs no toolchain and fails for nothing: the figures are for review. It counts
+- the files that name one edit, `SetOpen`, outside `docs/`: what the next edit of its kind must touch;
+- the functions whose clause says `result ≡ NAME ..` with their own name;
+- the source files of libraries with fewer than 60 lines;
+- the lemmas with a line of more than 200 columns;
+- the names that specs define in two crates or more.
+"""
+
+import os
+import re
+
+TOP = os.path.dirname(os.path.dirname(os.path.abspath(__file__)))
+CRATES = os.path.join(TOP, "crates")
+FUNCTION = re.compile(r"(?:^|\n)\s*(?:pub(?:\([a-z]+\))? )?fn (\w+)(.*?)(?=\n\s*\{|\n\s*;)", re.DOTALL)
+DEFINITION = re.compile(r"(?m)^(?:abbrev pub|unfoldable pub|pub record|pub data) ([^\s:]+)")
+LEMMA = re.compile(r"(?m)^ *(?:pub )?([^\s:(){}|]+) :(?=\s)")
+
+
+def texts(folders, suffix):
+    """The path and text of each file with a suffix below a folder of a crate."""
+    for crate in sorted(os.listdir(CRATES)):
+        for folder in folders:
+            for path, below, names in os.walk(os.path.join(CRATES, crate, folder)):
+                for name in sorted(names):
+                    if name.endswith(suffix):
+                        with open(os.path.join(path, name), encoding="utf-8") as file:
+                            yield crate, os.path.join(path, name), file.read()
+
+
+def percent(part, whole):
+    return f"{part} of {whole}, {100 * part // max(whole, 1)}%"
+
+
+def main():
+    every = [text for suffix in (".rt", ".antt", ".edit") for _, _, text in texts(("src", "specs", "proofs", "must-fail"), suffix)]
+    print("files that name SetOpen:", sum(1 for text in every if re.search(r"\bSetOpen\b", text)))
+
+    functions = [(name, rest) for _, _, text in texts(("src",), ".rt") for name, rest in FUNCTION.findall(text)]
+    alike = sum(1 for name, rest in functions if re.search(rf"result(?:\.now)? ≡ {name}\b", rest))
+    print("functions with the name of their definition:", percent(alike, len(functions)))
+
+    sources = [text.count("\n") for crate, _, text in texts(("src",), ".rt") if not crate.endswith("_rows")]
+    print("source files of fewer than 60 lines:", percent(sum(1 for lines in sources if lines < 60), len(sources)))
+
+    lemmas = wide = 0
+    for _, _, text in texts(("proofs",), "Lemmas.antt"):
+        starts = [found.start() for found in LEMMA.finditer(text)] + [len(text)]
+        for start, end in zip(starts, starts[1:]):
+            lemmas += 1
+            wide += any(len(line) > 200 for line in text[start:end].split("\n"))
+    print("lemmas with a line of more than 200 columns:", percent(wide, lemmas))
+
+    where = {}
+    for crate, _, text in texts(("specs",), ".antt"):
+        for name in DEFINITION.findall(text):
+            where.setdefault(name, set()).add(crate)
+    twice = sorted(name for name, crates in where.items() if len(crates) > 1)
+    print(f"names that specs of two crates define: {len(twice)}: {', '.join(twice)}")
+
+
+if __name__ == "__main__":
+    main()
