@@ -1,5 +1,5 @@
 #!/usr/bin/env python3
-"""Counts what tells whether the code stays easy to read and to add to, and prints a line for each figure.
+"""Counts what shows whether the code stays easy to read and to add to, and prints a line for each figure.
 
 `tests/figures.py` needs no toolchain and fails for nothing: the figures are for review. It counts
 - the files that name one edit, `SetOpen`, outside `docs/`: what the next edit of its kind must touch;
@@ -20,7 +20,7 @@ LEMMA = re.compile(r"(?m)^ *(?:pub )?([^\s:(){}|]+) :(?=\s)")
 
 
 def texts(folders, suffix):
-    """The path and text of each file with a suffix below a folder of a crate."""
+    """The path and content of each file with a suffix below a folder of a crate."""
     for crate in sorted(os.listdir(CRATES)):
         for folder in folders:
             for path, below, names in os.walk(os.path.join(CRATES, crate, folder)):
