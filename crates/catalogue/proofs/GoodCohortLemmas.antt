@@ -17,14 +17,20 @@ pub record GoodCohort (releases : List Release) (cohort : Cohort) : Type 0 where
   pub target : is_released releases cohort.target ≡ true
   pub held : is_released releases cohort.held ≡ true
 
-pub GoodCohort-from_test : (releases : List Release) (cohort : Cohort) → is_good_cohort releases cohort ≡ true → GoodCohort releases cohort
+pub GoodCohort-from_test :
+    (releases : List Release) (cohort : Cohort) →
+    is_good_cohort releases cohort ≡ true →
+    GoodCohort releases cohort
 GoodCohort-from_test releases cohort good =
     let rest = and_parts (is_cohort_name cohort.name && nat_le cohort.share max_share && is_released releases cohort.target) (is_released releases cohort.held) good in
     let front = and_parts (is_cohort_name cohort.name && nat_le cohort.share max_share) (is_released releases cohort.target) rest.0 in
     let named = and_parts (is_cohort_name cohort.name) (nat_le cohort.share max_share) front.0 in
     record { named = named.0; shared = named.1; target = front.1; held = rest.1 }
 
-pub is_good_cohort-from_parts : (releases : List Release) (cohort : Cohort) → GoodCohort releases cohort → is_good_cohort releases cohort ≡ true
+pub is_good_cohort-from_parts :
+    (releases : List Release) (cohort : Cohort) →
+    GoodCohort releases cohort →
+    is_good_cohort releases cohort ≡ true
 is_good_cohort-from_parts releases cohort good = and_from _ _ (and_from _ _ (and_from _ _ good.named good.shared) good.target) good.held
 
 -- a setting leaves a cohort's name

@@ -25,7 +25,10 @@ use Rattle.catalogue.specs.Edits.Diffs.{tests_of_add_diff}
 use Rattle.catalogue.specs.Edits.Releases.{tests_of_add_release}
 
 -- a release that is added to an app adds its full package
-pub Inserts-packages_of : (apps : List App) (id : List ℕ) (release : Release) (app : App) → app_of apps id ≡ Some app → Inserts (full_package release) (packages_of apps) (packages_of (change (is_app id) (with_release release) apps))
+pub Inserts-packages_of :
+    (apps : List App) (id : List ℕ) (release : Release) (app : App) →
+    app_of apps id ≡ Some app →
+    Inserts (full_package release) (packages_of apps) (packages_of (change (is_app id) (with_release release) apps))
 Inserts-packages_of apps id release app found =
     let among : Inserts release app.releases (placed release app.releases) = Inserts-insert app.releases (place_of release.version app.releases) release in
     Inserts-flat_map_change (is_app id) (with_release release) packages_in (full_package release) apps app found
@@ -43,12 +46,21 @@ Inserts-packages_of-diff apps id diff app found =
     (Inserts-map diff_package diff app.diffs (placed_diff diff app.diffs) among))
 
 -- under its name it is found, and under any other what was found before
-pub declared_of-with_release : (apps : List App) (id : List ℕ) (release : Release) (app : App) → app_of apps id ≡ Some app → declared_of apps release.name ≡ None → (name : List ℕ) → declared_of (change (is_app id) (with_release release) apps) name ≡ cond (bytes_eq release.name name) (Some (full_package release).1) (declared_of apps name)
+pub declared_of-with_release :
+    (apps : List App) (id : List ℕ) (release : Release) (app : App) →
+    app_of apps id ≡ Some app →
+    declared_of apps release.name ≡ None →
+    (name : List ℕ) →
+    declared_of (change (is_app id) (with_release release) apps) name ≡ cond (bytes_eq release.name name) (Some (full_package release).1) (declared_of apps name)
 declared_of-with_release apps id release app found fresh =
     lookup-Inserts release.name (full_package release).1 (packages_of apps) _ (Inserts-packages_of apps id release app found) fresh
 
 -- a change of an app that keeps its packages keeps what is declared under each name
-pub declared_of-kept : (id : List ℕ) (f : App → App) → ((app : App) → packages_in (f app) ≡ packages_in app) → (apps : List App) (name : List ℕ) → declared_of (change (is_app id) f apps) name ≡ declared_of apps name
+pub declared_of-kept :
+    (id : List ℕ) (f : App → App) →
+    ((app : App) → packages_in (f app) ≡ packages_in app) →
+    (apps : List App) (name : List ℕ) →
+    declared_of (change (is_app id) f apps) name ≡ declared_of apps name
 declared_of-kept id f same apps name =
     ap (λ (packages : List (List ℕ × Declared)). lookup (bytes_eq name) packages) (flat_map-change (is_app id) f packages_in same apps)
 
@@ -67,7 +79,14 @@ declared_of-kept_in_release id version new apps name =
     declared_of-kept id (in_release version (with_release_setting new)) (packages_in-in_release version new) apps name
 
 -- an index that takes an accepted release's package is the index of the content with the release
-pub Indexes-with_release : (old new : PackageIndex) (apps : List App) (e : AddRelease) (name : List ℕ) (release : Release) → Indexes old apps → first_fault (tests_of_add_release apps e) ≡ None → release ≡ new_release e → name ≡ e.name → ((other : List ℕ) → found_in new other ≡ cond (bytes_eq name other) (Some (full_package release).1) (found_in old other)) → Indexes new (change (is_app e.app) (with_release (new_release e)) apps)
+pub Indexes-with_release :
+    (old new : PackageIndex) (apps : List App) (e : AddRelease) (name : List ℕ) (release : Release) →
+    Indexes old apps →
+    first_fault (tests_of_add_release apps e) ≡ None →
+    release ≡ new_release e →
+    name ≡ e.name →
+    ((other : List ℕ) → found_in new other ≡ cond (bytes_eq name other) (Some (full_package release).1) (found_in old other)) →
+    Indexes new (change (is_app e.app) (with_release (new_release e)) apps)
 Indexes-with_release old new apps e name release indexed accepted made named found other =
     let takes = TakesRelease-from_no_fault apps e accepted in
     found other

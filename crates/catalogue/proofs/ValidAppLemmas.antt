@@ -75,7 +75,11 @@ has_release-placed release releases version =
     list_any-kept (is_release version) release releases (placed release releases) (Inserts-placed release releases)
 
 -- the spelling of an accepted version spells what a client's string would
-spells-lenient : LenientAgrees → (text : List ℕ) → is_none (version_of text) ≡ false → spells text (lenient_version_of text) ≡ true
+spells-lenient :
+    LenientAgrees →
+    (text : List ℕ) →
+    is_none (version_of text) ≡ false →
+    spells text (lenient_version_of text) ≡ true
 spells-lenient agrees text spelled =
     let some = Some-from_not_none (version_of text) spelled in
     let read = some.0 in
@@ -83,7 +87,10 @@ spells-lenient agrees text spelled =
     ∙ (bytes_eq-Decides read.0 (lenient_version_of text)).1 (sym (agrees text read.0 read.1 some.1))
 
 module _ (laws : VersionLaws) (agrees : LenientAgrees) where
-  pub IsValidApp-with_release : (apps : List App) (e : AddRelease) (takes : TakesRelease apps e) → IsValidApp takes.app → IsValidApp (with_release (new_release e) takes.app)
+  pub IsValidApp-with_release :
+      (apps : List App) (e : AddRelease) (takes : TakesRelease apps e) →
+      IsValidApp takes.app →
+      IsValidApp (with_release (new_release e) takes.app)
   IsValidApp-with_release apps e takes valid =
       let app = takes.app in
       let release = new_release e in
@@ -168,18 +175,33 @@ IsValidApp-in_release version f app kept kept_hash keeps_good valid =
     }
 
 -- an audience stays valid if each cohort's name stays
-is_good_audience-kept : (old new : List Cohort) → ((name : List ℕ) → has_cohort old name ≡ true → has_cohort new name ≡ true) → (audience : Option (List (List ℕ))) → is_good_audience old audience ≡ true → is_good_audience new audience ≡ true
+is_good_audience-kept :
+    (old new : List Cohort) →
+    ((name : List ℕ) → has_cohort old name ≡ true → has_cohort new name ≡ true) →
+    (audience : Option (List (List ℕ))) →
+    is_good_audience old audience ≡ true →
+    is_good_audience new audience ≡ true
 is_good_audience-kept old new kept None good = refl
 is_good_audience-kept old new kept (Some names) good = list_all-weaker (has_cohort old) (has_cohort new) kept names good
 
 -- and so does a release
-is_good_release-kept : (old new : List Cohort) → ((name : List ℕ) → has_cohort old name ≡ true → has_cohort new name ≡ true) → (release : Release) → is_good_release old release ≡ true → is_good_release new release ≡ true
+is_good_release-kept :
+    (old new : List Cohort) →
+    ((name : List ℕ) → has_cohort old name ≡ true → has_cohort new name ≡ true) →
+    (release : Release) →
+    is_good_release old release ≡ true →
+    is_good_release new release ≡ true
 is_good_release-kept old new kept release good =
     let before = and_parts (spells release.spelled release.version && is_package_name release.name && is_size release.size && is_hash release.hash) (is_good_audience old release.audience) good in
     and_from _ _ before.0 (is_good_audience-kept old new kept release.audience before.1)
 
 -- a change of a cohort that keeps its name and keeps it valid
-pub IsValidApp-in_cohort : (name : List ℕ) (f : Cohort → Cohort) (app : App) → ((cohort : Cohort) → (f cohort).name ≡ cohort.name) → ((cohort : Cohort) → is_good_cohort app.releases cohort ≡ true → is_good_cohort app.releases (f cohort) ≡ true) → IsValidApp app → IsValidApp (in_cohort name f app)
+pub IsValidApp-in_cohort :
+    (name : List ℕ) (f : Cohort → Cohort) (app : App) →
+    ((cohort : Cohort) → (f cohort).name ≡ cohort.name) →
+    ((cohort : Cohort) → is_good_cohort app.releases cohort ≡ true → is_good_cohort app.releases (f cohort) ≡ true) →
+    IsValidApp app →
+    IsValidApp (in_cohort name f app)
 IsValidApp-in_cohort name f app kept keeps_good valid =
     let as_many = length-change (is_cohort name) f app.cohorts in
     record {
@@ -200,11 +222,17 @@ IsValidApp-in_cohort name f app kept keeps_good valid =
     }
 
 -- a new cohort is valid
-is_good_cohort-new_cohort : (releases : List Release) (name : List ℕ) → is_cohort_name name ≡ true → is_good_cohort releases (new_cohort name) ≡ true
+is_good_cohort-new_cohort :
+    (releases : List Release) (name : List ℕ) →
+    is_cohort_name name ≡ true →
+    is_good_cohort releases (new_cohort name) ≡ true
 is_good_cohort-new_cohort releases name named =
     is_good_cohort-from_parts releases (new_cohort name) (record { named = named; shared = refl; target = refl; held = refl })
 
-pub IsValidApp-with_cohort : (apps : List App) (e : AddCohort) (takes : TakesCohort apps e) → IsValidApp takes.app → IsValidApp (with_cohort (new_cohort e.cohort) takes.app)
+pub IsValidApp-with_cohort :
+    (apps : List App) (e : AddCohort) (takes : TakesCohort apps e) →
+    IsValidApp takes.app →
+    IsValidApp (with_cohort (new_cohort e.cohort) takes.app)
 IsValidApp-with_cohort apps e takes valid =
     let app = takes.app in
     let cohort = new_cohort e.cohort in

@@ -31,7 +31,11 @@ use Rattle.catalogue.specs.declared.edits.diffs.AddDiff.{AddDiff}
 use Rattle.catalogue.specs.declared.edits.releases.AddRelease.{AddRelease}
 
 -- identifiers that name one app count the same apps
-count_by-is_app : (left right : List ℕ) → same_id left right ≡ true → (apps : List App) → count_by (is_app left) apps ≡ count_by (is_app right) apps
+count_by-is_app :
+    (left right : List ℕ) →
+    same_id left right ≡ true →
+    (apps : List App) →
+    count_by (is_app left) apps ≡ count_by (is_app right) apps
 count_by-is_app left right same apps =
     ap (λ (lowered : List ℕ). count_by (λ (app : App). bytes_eq lowered (map to_ascii_lowercase app.id)) apps)
     ((bytes_eq-Decides (map to_ascii_lowercase left) (map to_ascii_lowercase right)).0 same)
@@ -81,7 +85,14 @@ IsValid-add_diff laws agrees apps e takes valid =
     }
 
 -- a change of an app that keeps its identifier and its packages and keeps it valid
-IsValid-change : (id : List ℕ) (f : App → App) (apps : List App) (app : App) → app_of apps id ≡ Some app → ((a : App) → (f a).id ≡ a.id) → ((a : App) → packages_in (f a) ≡ packages_in a) → (IsValidApp app → IsValidApp (f app)) → IsValid apps → IsValid (change (is_app id) f apps)
+IsValid-change :
+    (id : List ℕ) (f : App → App) (apps : List App) (app : App) →
+    app_of apps id ≡ Some app →
+    ((a : App) → (f a).id ≡ a.id) →
+    ((a : App) → packages_in (f a) ≡ packages_in a) →
+    (IsValidApp app → IsValidApp (f app)) →
+    IsValid apps →
+    IsValid (change (is_app id) f apps)
 IsValid-change id f apps app found kept same keeps_valid valid = record {
   few_apps = rw (length-change (is_app id) f apps) valid.few_apps;
   ids_once = λ key. rw (count_by-change (is_app id) f (is_app key) (λ a. ap (same_id key) (kept a)) apps) (valid.ids_once key);

@@ -71,15 +71,24 @@ module _ (laws : VersionLaws) (agrees : LenientAgrees) (front : List App) (app :
   abbrev stands : List Cohort → List Release → List Diff → List App
   stands cohorts releases diffs = front ++ grown app cohorts releases diffs ∷ []
 
-  good_cohort : (before : List Cohort) (cohort : Cohort) (behind : List Cohort) → app.cohorts ≡ before ++ cohort ∷ behind → GoodCohort app.releases cohort
+  good_cohort :
+      (before : List Cohort) (cohort : Cohort) (behind : List Cohort) →
+      app.cohorts ≡ before ++ cohort ∷ behind →
+      GoodCohort app.releases cohort
   good_cohort before cohort behind cut =
       GoodCohort-from_test app.releases cohort (list_all-at _ before cohort behind (rw cut at valid.cohorts_good))
 
-  good_release : (below : List Release) (release : Release) (above : List Release) → app.releases ≡ below ++ release ∷ above → GoodRelease app.cohorts release
+  good_release :
+      (below : List Release) (release : Release) (above : List Release) →
+      app.releases ≡ below ++ release ∷ above →
+      GoodRelease app.cohorts release
   good_release below release above cut =
       GoodRelease-from_test app.cohorts release (list_all-at _ below release above (rw cut at valid.releases_good))
 
-  good_diff : (below : List Diff) (diff : Diff) (above : List Diff) → app.diffs ≡ below ++ diff ∷ above → GoodDiff app.releases diff
+  good_diff :
+      (below : List Diff) (diff : Diff) (above : List Diff) →
+      app.diffs ≡ below ++ diff ∷ above →
+      GoodDiff app.releases diff
   good_diff below diff above cut =
       GoodDiff-from_test app.releases diff (list_all-at _ below diff above (rw cut at valid.diffs_good))
 
@@ -90,12 +99,19 @@ module _ (laws : VersionLaws) (agrees : LenientAgrees) (front : List App) (app :
       (λ release is_good. (GoodRelease-from_test app.cohorts release is_good).spelled) app.releases valid.releases_good
 
   -- no cohort before another has its name
-  new_name : (before : List Cohort) (cohort : Cohort) (behind : List Cohort) → app.cohorts ≡ before ++ cohort ∷ behind → has_cohort before cohort.name ≡ false
+  new_name :
+      (before : List Cohort) (cohort : Cohort) (behind : List Cohort) →
+      app.cohorts ≡ before ++ cohort ∷ behind →
+      has_cohort before cohort.name ≡ false
   new_name before cohort behind cut =
       list_any-before is_cohort before cohort behind (rw cut at valid.cohorts_once) cohort.name (bytes_eq-same cohort.name)
 
   -- the app with its default cohort, and then its other cohorts
-  makes_cohorts : (cohorts : List Cohort) → app.cohorts ≡ cohorts → 1 ≤ length cohorts → Makes (edit.AddApp (record { app = app.id; default = default_name cohorts }) ∷ map (edit_of_cohort app) (drop 1 cohorts)) front (stands (map bare cohorts) [] [])
+  makes_cohorts :
+      (cohorts : List Cohort) →
+      app.cohorts ≡ cohorts →
+      1 ≤ length cohorts →
+      Makes (edit.AddApp (record { app = app.id; default = default_name cohorts }) ∷ map (edit_of_cohort app) (drop 1 cohorts)) front (stands (map bare cohorts) [] [])
   makes_cohorts [] is some = absurd (omega arith)
   makes_cohorts (default ∷ others) is some = (
     accepts_app front (record { app = app.id; default = default.name }) valid.identified (good_cohort [] default others is).named fresh room,
@@ -144,7 +160,10 @@ module _ (laws : VersionLaws) (agrees : LenientAgrees) (front : List App) (app :
         ∙ ap (λ (rs : List Release). stands cohorts rs [])
         (change-at_item (is_release release.version) f below at [] new_version (ap (bytes_eq release.version) same ∙ bytes_eq-same release.version))
 
-    there : (at : Release) → at.version ≡ release.version → has_release (below ++ at ∷ []) (lenient_version_of release.spelled) ≡ true
+    there :
+        (at : Release) →
+        at.version ≡ release.version →
+        has_release (below ++ at ∷ []) (lenient_version_of release.spelled) ≡ true
     there at same =
         ap (has_release (below ++ at ∷ [])) read
         ∙ list_any-at (is_release release.version) below at [] (ap (bytes_eq release.version) same ∙ bytes_eq-same release.version)
@@ -204,7 +223,9 @@ module _ (laws : VersionLaws) (agrees : LenientAgrees) (front : List App) (app :
       (λ below release above cut. makes_release below release above cut) [] app.releases refl
 
   -- its differentials
-  makes_diffs : (made : List Cohort) → Makes (map (edit_of_diff app) app.diffs) (stands made app.releases []) (stands made app.releases app.diffs)
+  makes_diffs :
+      (made : List Cohort) →
+      Makes (map (edit_of_diff app) app.diffs) (stands made app.releases []) (stands made app.releases app.diffs)
   makes_diffs made =
       Makes-each_one (λ below above. stands made app.releases below) (edit_of_diff app) app.diffs
       (λ below diff above cut.
@@ -243,7 +264,10 @@ module _ (laws : VersionLaws) (agrees : LenientAgrees) (front : List App) (app :
     abbrev with_among : Cohort → App
     with_among at = grown app (among at) app.releases app.diffs
 
-    settled-set : (f : Cohort → Cohort) (at : Cohort) → at.name ≡ cohort.name → change (is_app app.id) (in_cohort cohort.name f) (settled at) ≡ settled (f at)
+    settled-set :
+        (f : Cohort → Cohort) (at : Cohort) →
+        at.name ≡ cohort.name →
+        change (is_app app.id) (in_cohort cohort.name f) (settled at) ≡ settled (f at)
     settled-set f at named =
         change-last front app.id fresh (in_cohort cohort.name f) (with_among at) refl
         ∙ ap (λ (cs : List Cohort). stands cs app.releases app.diffs)
@@ -274,7 +298,10 @@ module _ (laws : VersionLaws) (agrees : LenientAgrees) (front : List App) (app :
           held = option_map (spelling_of app.releases) cohort.held;
         }
 
-        cases : (b : Bool) → (is_some cohort.target || is_some cohort.held) ≡ b → Makes (cond b (edit.SetTarget e ∷ []) []) (settled (bare cohort)) (settled targeted)
+        cases :
+            (b : Bool) →
+            (is_some cohort.target || is_some cohort.held) ≡ b →
+            Makes (cond b (edit.SetTarget e ∷ []) []) (settled (bare cohort)) (settled targeted)
         cases true given =
             Makes-one (edit.SetTarget e) (settled (bare cohort)) (settled targeted)
             (accepts_targets front app.id fresh (with_among (bare cohort)) refl cohort.name e.target e.held (cohort_there (bare cohort) refl)
@@ -339,7 +366,12 @@ module _ (laws : VersionLaws) (agrees : LenientAgrees) (front : List App) (app :
       (makes_cohorts app.cohorts refl valid.some_cohort) makes_releases) (makes_diffs cohorts)) makes_all_settings
 
 -- the edits of a valid content are accepted from the empty content on, and make it
-pub outcome-edits_of_content : VersionLaws → LenientAgrees → (apps : List App) → IsValid apps → outcome (edits_of_content apps) [] ≡ Ok apps
+pub outcome-edits_of_content :
+    VersionLaws →
+    LenientAgrees →
+    (apps : List App) →
+    IsValid apps →
+    outcome (edits_of_content apps) [] ≡ Ok apps
 outcome-edits_of_content laws agrees apps valid =
     outcome_from-Makes 0 (edits_of_content apps) [] apps
     (Makes-each (λ front back. front) edits_of_app apps

@@ -41,7 +41,13 @@ pub bytes_eq-same : (text : List ℕ) → bytes_eq text text ≡ true
 bytes_eq-same text = (bytes_eq-Decides text text).1 refl
 
 -- an app is added after others
-pub accepts_app : (front : List App) (e : AddApp) → is_app_id e.app ≡ true → is_cohort_name e.default ≡ true → list_any (is_app e.app) front ≡ false → length front < max_apps → fault_of front (edit.AddApp e) ≡ None
+pub accepts_app :
+    (front : List App) (e : AddApp) →
+    is_app_id e.app ≡ true →
+    is_cohort_name e.default ≡ true →
+    list_any (is_app e.app) front ≡ false →
+    length front < max_apps →
+    fault_of front (edit.AddApp e) ≡ None
 accepts_app front e identified named fresh room =
     let absent = find-nowhere (is_app e.app) front fresh in
     None-from_NoneHold (tests_of_add_app front e)
@@ -53,10 +59,25 @@ module _ (front : List App) (id : List ℕ) (fresh : list_any (is_app id) front 
   app_of-last app same = find-at (is_app id) front app [] fresh (ap (λ (other : List ℕ). bytes_eq (lowered id) (lowered other)) same ∙ bytes_eq-same (lowered id))
 
   -- and it is the one that is changed
-  pub change-last : (f : App → App) (app : App) → app.id ≡ id → change (is_app id) f (front ++ app ∷ []) ≡ front ++ f app ∷ []
+  pub change-last :
+      (f : App → App) (app : App) →
+      app.id ≡ id →
+      change (is_app id) f (front ++ app ∷ []) ≡ front ++ f app ∷ []
   change-last f app same = change-at_item (is_app id) f front app [] fresh (ap (λ (other : List ℕ). bytes_eq (lowered id) (lowered other)) same ∙ bytes_eq-same (lowered id))
 
-  pub accepts_release : (app : App) → app.id ≡ id → (version name sha256 : List ℕ) (size : ℕ) → is_none (version_of version) ≡ false → is_none (hash_of sha256) ≡ false → is_size size ≡ true → is_package_name name ≡ true → has_release app.releases (lenient_version_of version) ≡ false → list_any (has_hash (hash_named sha256)) app.releases ≡ false → declared_of (front ++ app ∷ []) name ≡ None → length app.releases < max_releases → fault_of (front ++ app ∷ []) (edit.AddRelease (record { app = id; version = version; name = name; size = size; sha256 = sha256 })) ≡ None
+  pub accepts_release :
+      (app : App) →
+      app.id ≡ id →
+      (version name sha256 : List ℕ) (size : ℕ) →
+      is_none (version_of version) ≡ false →
+      is_none (hash_of sha256) ≡ false →
+      is_size size ≡ true →
+      is_package_name name ≡ true →
+      has_release app.releases (lenient_version_of version) ≡ false →
+      list_any (has_hash (hash_named sha256)) app.releases ≡ false →
+      declared_of (front ++ app ∷ []) name ≡ None →
+      length app.releases < max_releases →
+      fault_of (front ++ app ∷ []) (edit.AddRelease (record { app = id; version = version; name = name; size = size; sha256 = sha256 })) ≡ None
   accepts_release app same version name sha256 size spelled hashed sized named new_version new_hash new_name room =
       let apps = front ++ app ∷ [] in
       let e : AddRelease = record { app = id; version = version; name = name; size = size; sha256 = sha256 } in
@@ -88,7 +109,14 @@ module _ (front : List App) (id : List ℕ) (fresh : list_any (is_app id) front 
         ),
       )
 
-  pub accepts_cohort : (app : App) → app.id ≡ id → (name : List ℕ) → is_cohort_name name ≡ true → has_cohort app.cohorts name ≡ false → length app.cohorts < max_cohorts → fault_of (front ++ app ∷ []) (edit.AddCohort (record { app = id; cohort = name })) ≡ None
+  pub accepts_cohort :
+      (app : App) →
+      app.id ≡ id →
+      (name : List ℕ) →
+      is_cohort_name name ≡ true →
+      has_cohort app.cohorts name ≡ false →
+      length app.cohorts < max_cohorts →
+      fault_of (front ++ app ∷ []) (edit.AddCohort (record { app = id; cohort = name })) ≡ None
   accepts_cohort app same name named new_name room =
       let apps = front ++ app ∷ [] in
       let e : AddCohort = record { app = id; cohort = name } in
@@ -105,11 +133,25 @@ module _ (front : List App) (id : List ℕ) (fresh : list_any (is_app id) front 
       )
 
   -- the app's cohort of a name is not missed
-  cohort_there : (app : App) → app.id ≡ id → (name : List ℕ) → has_cohort app.cohorts name ≡ true → not (has_cohort (option_map_or (λ a. a.cohorts) (app_of (front ++ app ∷ []) id) []) name) ≡ false
+  cohort_there :
+      (app : App) →
+      app.id ≡ id →
+      (name : List ℕ) →
+      has_cohort app.cohorts name ≡ true →
+      not (has_cohort (option_map_or (λ a. a.cohorts) (app_of (front ++ app ∷ []) id) []) name) ≡ false
   cohort_there app same name there =
       not_from_true _ (ap (λ (o : Option App). has_cohort (option_map_or (λ a. a.cohorts) o []) name) (app_of-last app same) ∙ there)
 
-  pub accepts_targets : (app : App) → app.id ≡ id → (name : List ℕ) (target held : Option (List ℕ)) → has_cohort app.cohorts name ≡ true → is_misspelled target ≡ false → is_misspelled held ≡ false → is_unreleased app.releases target ≡ false → is_unreleased app.releases held ≡ false → fault_of (front ++ app ∷ []) (edit.SetTarget (record { app = id; cohort = name; target = target; held = held })) ≡ None
+  pub accepts_targets :
+      (app : App) →
+      app.id ≡ id →
+      (name : List ℕ) (target held : Option (List ℕ)) →
+      has_cohort app.cohorts name ≡ true →
+      is_misspelled target ≡ false →
+      is_misspelled held ≡ false →
+      is_unreleased app.releases target ≡ false →
+      is_unreleased app.releases held ≡ false →
+      fault_of (front ++ app ∷ []) (edit.SetTarget (record { app = id; cohort = name; target = target; held = held })) ≡ None
   accepts_targets app same name target held there target_spelled held_spelled target_released held_released =
       let apps = front ++ app ∷ [] in
       let e : SetTarget = record { app = id; cohort = name; target = target; held = held } in
@@ -130,21 +172,37 @@ module _ (front : List App) (id : List ℕ) (fresh : list_any (is_app id) front 
         ),
       )
 
-  pub accepts_share : (app : App) → app.id ≡ id → (name : List ℕ) (share : ℕ) → has_cohort app.cohorts name ≡ true → nat_le share max_share ≡ true → fault_of (front ++ app ∷ []) (edit.SetShare (record { app = id; cohort = name; share = share })) ≡ None
+  pub accepts_share :
+      (app : App) →
+      app.id ≡ id →
+      (name : List ℕ) (share : ℕ) →
+      has_cohort app.cohorts name ≡ true →
+      nat_le share max_share ≡ true →
+      fault_of (front ++ app ∷ []) (edit.SetShare (record { app = id; cohort = name; share = share })) ≡ None
   accepts_share app same name share there within =
       let apps = front ++ app ∷ [] in
       let e : SetShare = record { app = id; cohort = name; share = share } in
       None-from_NoneHold (tests_of_set_share apps e)
       (ap (λ (o : Option App). is_none o) (app_of-last app same), (cohort_there app same name there, (not_from_true _ within, tt)))
 
-  pub accepts_open : (app : App) → app.id ≡ id → (name : List ℕ) (on : Bool) → has_cohort app.cohorts name ≡ true → fault_of (front ++ app ∷ []) (edit.SetOpen (record { app = id; cohort = name; on = on })) ≡ None
+  pub accepts_open :
+      (app : App) →
+      app.id ≡ id →
+      (name : List ℕ) (on : Bool) →
+      has_cohort app.cohorts name ≡ true →
+      fault_of (front ++ app ∷ []) (edit.SetOpen (record { app = id; cohort = name; on = on })) ≡ None
   accepts_open app same name on there =
       let apps = front ++ app ∷ [] in
       let e : SetOpen = record { app = id; cohort = name; on = on } in
       None-from_NoneHold (tests_of_set_open apps e)
       (ap (λ (o : Option App). is_none o) (app_of-last app same), (cohort_there app same name there, tt))
 
-  pub accepts_rollback : (app : App) → app.id ≡ id → (name : List ℕ) (on : Bool) → has_cohort app.cohorts name ≡ true → fault_of (front ++ app ∷ []) (edit.SetRollback (record { app = id; cohort = name; on = on })) ≡ None
+  pub accepts_rollback :
+      (app : App) →
+      app.id ≡ id →
+      (name : List ℕ) (on : Bool) →
+      has_cohort app.cohorts name ≡ true →
+      fault_of (front ++ app ∷ []) (edit.SetRollback (record { app = id; cohort = name; on = on })) ≡ None
   accepts_rollback app same name on there =
       let apps = front ++ app ∷ [] in
       let e : SetRollback = record { app = id; cohort = name; on = on } in

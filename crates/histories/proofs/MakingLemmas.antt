@@ -20,16 +20,27 @@ None-from_NoneHold (test ∷ tests) h =
     ap (λ (b : Bool). first_fault ((b, test.1) ∷ tests)) h.0 ∙ None-from_NoneHold tests h.1
 
 -- what is made may be named otherwise
-pub Makes-same : (edits : List Edit) (apps made other : List App) → Makes edits apps made → made ≡ other → Makes edits apps other
+pub Makes-same :
+    (edits : List Edit) (apps made other : List App) →
+    Makes edits apps made →
+    made ≡ other →
+    Makes edits apps other
 Makes-same [] apps made other h same = sym same ∙ h
 Makes-same (e ∷ edits) apps made other h same = (h.0, Makes-same edits (after apps e) made other h.1 same)
 
 -- one accepted edit
-pub Makes-one : (e : Edit) (apps made : List App) → fault_of apps e ≡ None → after apps e ≡ made → Makes (e ∷ []) apps made
+pub Makes-one :
+    (e : Edit) (apps made : List App) →
+    fault_of apps e ≡ None →
+    after apps e ≡ made →
+    Makes (e ∷ []) apps made
 Makes-one e apps made accepted same = (accepted, sym same)
 
 -- accepted edits are a batch's outcome
-pub outcome_from-Makes : (index : ℕ) (edits : List Edit) (apps made : List App) → Makes edits apps made → outcome_from index edits apps ≡ Ok made
+pub outcome_from-Makes :
+    (index : ℕ) (edits : List Edit) (apps made : List App) →
+    Makes edits apps made →
+    outcome_from index edits apps ≡ Ok made
 outcome_from-Makes index [] apps made same = ap Ok (sym same)
 outcome_from-Makes index (e ∷ edits) apps made h =
     ap (λ (o : Option Fault). unless_refused index o (outcome_from (index + 1) edits (after apps e))) h.0
@@ -37,7 +48,12 @@ outcome_from-Makes index (e ∷ edits) apps made h =
 
 -- if the edits of each item follow from what those before it made, the edits of all items lead
 -- to the end; `state` is the content once the items before are made, and those after are not
-pub Makes-each : {A : Type 0} (state : List A → List A → List App) (edits : A → List Edit) (whole : List A) → ((front : List A) (x : A) (back : List A) → whole ≡ front ++ x ∷ back → Makes (edits x) (state front (x ∷ back)) (state (front ++ x ∷ []) back)) → (front back : List A) → whole ≡ front ++ back → Makes (flat_map edits back) (state front back) (state whole [])
+pub Makes-each :
+    {A : Type 0} (state : List A → List A → List App) (edits : A → List Edit) (whole : List A) →
+    ((front : List A) (x : A) (back : List A) → whole ≡ front ++ x ∷ back → Makes (edits x) (state front (x ∷ back)) (state (front ++ x ∷ []) back)) →
+    (front back : List A) →
+    whole ≡ front ++ back →
+    Makes (flat_map edits back) (state front back) (state whole [])
 Makes-each state edits whole step front [] cut =
     ap (λ items. state items []) (cut ∙ append-nil front)
 Makes-each state edits whole step front (x ∷ back) cut =
@@ -45,11 +61,20 @@ Makes-each state edits whole step front (x ∷ back) cut =
     (Makes-each state edits whole step (front ++ x ∷ []) back (cut ∙ split_next front x back))
 
 -- the same of accepted edits may be said of an equal content
-Makes-from_same : (edits : List Edit) (apps other made : List App) → apps ≡ other → Makes edits other made → Makes edits apps made
+Makes-from_same :
+    (edits : List Edit) (apps other made : List App) →
+    apps ≡ other →
+    Makes edits other made →
+    Makes edits apps made
 Makes-from_same edits apps other made same h = subst (λ (from : List App). Makes edits from made) (sym same) h
 
 -- the same where each item has one edit
-pub Makes-each_one : {A : Type 0} (state : List A → List A → List App) (edit : A → Edit) (whole : List A) → ((front : List A) (x : A) (back : List A) → whole ≡ front ++ x ∷ back → (fault_of (state front (x ∷ back)) (edit x) ≡ None) × (after (state front (x ∷ back)) (edit x) ≡ state (front ++ x ∷ []) back)) → (front back : List A) → whole ≡ front ++ back → Makes (map edit back) (state front back) (state whole [])
+pub Makes-each_one :
+    {A : Type 0} (state : List A → List A → List App) (edit : A → Edit) (whole : List A) →
+    ((front : List A) (x : A) (back : List A) → whole ≡ front ++ x ∷ back → (fault_of (state front (x ∷ back)) (edit x) ≡ None) × (after (state front (x ∷ back)) (edit x) ≡ state (front ++ x ∷ []) back)) →
+    (front back : List A) →
+    whole ≡ front ++ back →
+    Makes (map edit back) (state front back) (state whole [])
 Makes-each_one state edit whole step front [] cut = ap (λ items. state items []) (cut ∙ append-nil front)
 Makes-each_one state edit whole step front (x ∷ back) cut =
     let first = step front x back cut in (

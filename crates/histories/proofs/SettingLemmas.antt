@@ -44,18 +44,27 @@ KeepsName f = (cohort : Cohort) → (f cohort).name ≡ cohort.name
 -- what is read of a cohort, and is `none` of every new one
 module _ {A : Type 0} (read : Cohort → A) (none : A) (first : (name : List ℕ) → read (new_cohort name) ≡ none) where
   -- a new cohort has the first value, as one that is not there
-  read_in-push : (name new : List ℕ) (cohorts : List Cohort) → read_in read none name (cohorts ++ new_cohort new ∷ []) ≡ read_in read none name cohorts
+  read_in-push :
+      (name new : List ℕ) (cohorts : List Cohort) →
+      read_in read none name (cohorts ++ new_cohort new ∷ []) ≡ read_in read none name cohorts
   read_in-push name new cohorts =
       ap (read_found read none) (find-append (is_cohort name) cohorts (new_cohort new ∷ []))
       ∙ cases (find (is_cohort name) cohorts) (bytes_eq name new)
     where
-      cases : (o : Option Cohort) (b : Bool) → read_found read none (option_or o (cond b (Some (new_cohort new)) None)) ≡ read_found read none o
+      cases :
+          (o : Option Cohort) (b : Bool) →
+          read_found read none (option_or o (cond b (Some (new_cohort new)) None)) ≡ read_found read none o
       cases None true = first new
       cases None false = refl
       cases (Some cohort) b = refl
 
   -- what a change of a cohort leaves is what was read
-  read_in-kept : (f : Cohort → Cohort) → KeepsName f → ((cohort : Cohort) → read (f cohort) ≡ read cohort) → (name changed : List ℕ) (cohorts : List Cohort) → read_in read none name (change (is_cohort changed) f cohorts) ≡ read_in read none name cohorts
+  read_in-kept :
+      (f : Cohort → Cohort) →
+      KeepsName f →
+      ((cohort : Cohort) → read (f cohort) ≡ read cohort) →
+      (name changed : List ℕ) (cohorts : List Cohort) →
+      read_in read none name (change (is_cohort changed) f cohorts) ≡ read_in read none name cohorts
   read_in-kept f kept same name changed cohorts =
       ap (read_found read none) (find-change (λ (c : Cohort). c.name) f kept name changed cohorts)
       ∙ cases (bytes_eq name changed) (find (is_cohort name) cohorts)
@@ -66,12 +75,22 @@ module _ {A : Type 0} (read : Cohort → A) (none : A) (first : (name : List ℕ
       cases false o = refl
 
   -- the named cohort, which is there, has what is set, any other what it had
-  read_in-set : (f : Cohort → Cohort) → KeepsName f → (value : A) → ((cohort : Cohort) → read (f cohort) ≡ value) → (name changed : List ℕ) (cohorts : List Cohort) (cohort : Cohort) → find (is_cohort changed) cohorts ≡ Some cohort → read_in read none name (change (is_cohort changed) f cohorts) ≡ cond (bytes_eq name changed) value (read_in read none name cohorts)
+  read_in-set :
+      (f : Cohort → Cohort) →
+      KeepsName f →
+      (value : A) →
+      ((cohort : Cohort) → read (f cohort) ≡ value) →
+      (name changed : List ℕ) (cohorts : List Cohort) (cohort : Cohort) →
+      find (is_cohort changed) cohorts ≡ Some cohort →
+      read_in read none name (change (is_cohort changed) f cohorts) ≡ cond (bytes_eq name changed) value (read_in read none name cohorts)
   read_in-set f kept value sets name changed cohorts cohort found =
       ap (read_found read none) (find-change (λ (c : Cohort). c.name) f kept name changed cohorts)
       ∙ cases (bytes_eq name changed) refl
     where
-      cases : (b : Bool) → bytes_eq name changed ≡ b → read_found read none (cond b (option_map f (find (is_cohort name) cohorts)) (find (is_cohort name) cohorts)) ≡ cond b value (read_in read none name cohorts)
+      cases :
+          (b : Bool) →
+          bytes_eq name changed ≡ b →
+          read_found read none (cond b (option_map f (find (is_cohort name) cohorts)) (find (is_cohort name) cohorts)) ≡ cond b value (read_in read none name cohorts)
       cases true same =
           let decides = bytes_eq-Decides name changed in
           ap (λ (n : List ℕ). read_found read none (option_map f (find (is_cohort n) cohorts))) (decides.0 same)
@@ -80,7 +99,13 @@ module _ {A : Type 0} (read : Cohort → A) (none : A) (first : (name : List ℕ
       cases false other = refl
 
   -- a change of an app that leaves what is read in it
-  read_cohort-kept : (f : App → App) → ((app : App) → (f app).id ≡ app.id) → (name : List ℕ) → ((app : App) → read_in read none name (f app).cohorts ≡ read_in read none name app.cohorts) → (apps : List App) (id changed : List ℕ) → read_cohort read none (change (is_app changed) f apps) id name ≡ read_cohort read none apps id name
+  read_cohort-kept :
+      (f : App → App) →
+      ((app : App) → (f app).id ≡ app.id) →
+      (name : List ℕ) →
+      ((app : App) → read_in read none name (f app).cohorts ≡ read_in read none name app.cohorts) →
+      (apps : List App) (id changed : List ℕ) →
+      read_cohort read none (change (is_app changed) f apps) id name ≡ read_cohort read none apps id name
   read_cohort-kept f kept name same apps id changed =
       read_app-then (read_in read none name) (λ app. app.cohorts) [] (change (is_app changed) f apps) id
       ∙ read_app-kept (λ app. read_in read none name app.cohorts) none f kept same apps id changed

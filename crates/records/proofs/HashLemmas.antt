@@ -26,7 +26,11 @@ pub is_hash-hash_of : (text bytes : List ℕ) → hash_of text ≡ Some bytes �
 unfolding hash_of
 is_hash-hash_of text bytes spelled = cases (list_all is_hash_digit text) spelled
   where
-    decoded : (r : Result (List ℕ) FromHexError) → decode_sized text 32 ≡ r → result_ok r ≡ Some bytes → is_hash bytes ≡ true
+    decoded :
+        (r : Result (List ℕ) FromHexError) →
+        decode_sized text 32 ≡ r →
+        result_ok r ≡ Some bytes →
+        is_hash bytes ≡ true
     decoded (Ok read) is same = let e : read ≡ bytes = cc in is_hash-decoded text bytes (is ∙ ap Ok e)
     decoded (Err e) is same = absurd cc
 

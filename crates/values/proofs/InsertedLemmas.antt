@@ -17,7 +17,10 @@ cond-false : (b : Bool) → b ≡ false → cond {A = ℕ} b 1 0 ≡ 0
 cond-false b is = ap (λ (t : Bool). cond {A = ℕ} t 1 0) is
 
 -- one more is counted where the item passes
-pub count_by-Inserts : {A : Type 0} (p : A → Bool) (item : A) (old new : List A) → Inserts item old new → count_by p new ≡ cond (p item) 1 0 + count_by p old
+pub count_by-Inserts :
+    {A : Type 0} (p : A → Bool) (item : A) (old new : List A) →
+    Inserts item old new →
+    count_by p new ≡ cond (p item) 1 0 + count_by p old
 count_by-Inserts p item old new h =
     let joined = sum_by-append (λ x. cond (p x) 1 0) h.front (item ∷ h.back) in
     let apart = sum_by-append (λ x. cond (p x) 1 0) h.front h.back in
@@ -35,7 +38,12 @@ length-Inserts item old new h =
     omega arith
 
 -- all pass where the old ones and the item do
-pub list_all-Inserts : {A : Type 0} (p : A → Bool) (item : A) (old new : List A) → Inserts item old new → list_all p old ≡ true → p item ≡ true → list_all p new ≡ true
+pub list_all-Inserts :
+    {A : Type 0} (p : A → Bool) (item : A) (old new : List A) →
+    Inserts item old new →
+    list_all p old ≡ true →
+    p item ≡ true →
+    list_all p new ≡ true
 list_all-Inserts p item old new h all passes =
     let parts = and_parts (list_all p h.front) (list_all p h.back) (sym (list_all-append p h.front h.back) ∙ ap (list_all p) (sym h.was) ∙ all) in
     ap (list_all p) h.is
@@ -51,7 +59,10 @@ or_swap false false true = refl
 or_swap false false false = refl
 
 -- some item passes where one did before, or the one that is put in does
-pub list_any-Inserts : {A : Type 0} (p : A → Bool) (item : A) (old new : List A) → Inserts item old new → list_any p new ≡ (list_any p old || p item)
+pub list_any-Inserts :
+    {A : Type 0} (p : A → Bool) (item : A) (old new : List A) →
+    Inserts item old new →
+    list_any p new ≡ (list_any p old || p item)
 list_any-Inserts p item old new h =
     ap (list_any p) h.is
     ∙ list_any-append p h.front (item ∷ h.back)
@@ -59,7 +70,11 @@ list_any-Inserts p item old new h =
     ∙ ap (λ b. b || p item) (sym (ap (list_any p) h.was ∙ list_any-append p h.front h.back))
 
 -- one passes where an old one did
-pub list_any-kept : {A : Type 0} (p : A → Bool) (item : A) (old new : List A) → Inserts item old new → list_any p old ≡ true → list_any p new ≡ true
+pub list_any-kept :
+    {A : Type 0} (p : A → Bool) (item : A) (old new : List A) →
+    Inserts item old new →
+    list_any p old ≡ true →
+    list_any p new ≡ true
 list_any-kept p item old new h any = list_any-Inserts p item old new h ∙ ap (λ b. b || p item) any
 
 -- nothing is counted if nothing passes
@@ -76,20 +91,36 @@ pub list_any-find : {A : Type 0} (p : A → Bool) (xs : List A) → find p xs �
 list_any-find p [] none = refl
 list_any-find p (x ∷ xs) none = cases (p x) none (list_any-find p xs)
   where
-    cases : (b : Bool) → cond b (Some x) (find p xs) ≡ None → (find p xs ≡ None → list_any p xs ≡ false) → (b || list_any p xs) ≡ false
+    cases :
+        (b : Bool) →
+        cond b (Some x) (find p xs) ≡ None →
+        (find p xs ≡ None → list_any p xs ≡ false) →
+        (b || list_any p xs) ≡ false
     cases true found others = cc
     cases false absent others = others absent
 
-pub list_any-lookup : {K X : Type 0} (test : K → Bool) (entries : List (K × X)) → lookup test entries ≡ None → list_any (λ (e : K × X). test e.0) entries ≡ false
+pub list_any-lookup :
+    {K X : Type 0} (test : K → Bool) (entries : List (K × X)) →
+    lookup test entries ≡ None →
+    list_any (λ (e : K × X). test e.0) entries ≡ false
 list_any-lookup test [] none = refl
 list_any-lookup {K} {X} test (e ∷ es) none = cases (test e.0) none (list_any-lookup test es)
   where
-    cases : (b : Bool) → cond b (Some e.1) (lookup test es) ≡ None → (lookup test es ≡ None → list_any (λ (e : K × X). test e.0) es ≡ false) → (b || list_any (λ (e : K × X). test e.0) es) ≡ false
+    cases :
+        (b : Bool) →
+        cond b (Some e.1) (lookup test es) ≡ None →
+        (lookup test es ≡ None → list_any (λ (e : K × X). test e.0) es ≡ false) →
+        (b || list_any (λ (e : K × X). test e.0) es) ≡ false
     cases true found others = cc
     cases false absent others = others absent
 
 -- each key stays once where those of the item were not there
-pub IsOnce-Inserts : {K A : Type 0} (has : K → A → Bool) (item : A) (old new : List A) → Inserts item old new → IsOnce has old → ((key : K) → has key item ≡ true → count_by (has key) old ≡ 0) → IsOnce has new
+pub IsOnce-Inserts :
+    {K A : Type 0} (has : K → A → Bool) (item : A) (old new : List A) →
+    Inserts item old new →
+    IsOnce has old →
+    ((key : K) → has key item ≡ true → count_by (has key) old ≡ 0) →
+    IsOnce has new
 IsOnce-Inserts {K} {A} has item old new h once fresh key =
     cases (has key item) refl
   where
@@ -101,7 +132,12 @@ IsOnce-Inserts {K} {A} has item old new h once fresh key =
     cases false elsewhere = let none = cond-false (has key item) elsewhere in let was = once key in omega (arith, counted)
 
 -- all pass a weaker test too
-pub list_all-weaker : {A : Type 0} (p q : A → Bool) → ((x : A) → p x ≡ true → q x ≡ true) → (xs : List A) → list_all p xs ≡ true → list_all q xs ≡ true
+pub list_all-weaker :
+    {A : Type 0} (p q : A → Bool) →
+    ((x : A) → p x ≡ true → q x ≡ true) →
+    (xs : List A) →
+    list_all p xs ≡ true →
+    list_all q xs ≡ true
 list_all-weaker p q weaker [] all = refl
 list_all-weaker p q weaker (x ∷ xs) all =
     let parts = and_parts (p x) (list_all p xs) all in

@@ -26,7 +26,10 @@ Inserts-insert xs i item = record {
 pub Inserts-push : {A : Type 0} (xs : List A) (item : A) → Inserts item xs (xs ++ item ∷ [])
 Inserts-push xs item = record { front = xs; back = []; was = sym (append-nil xs); is = refl }
 
-pub Inserts-map : {A B : Type 0} (f : A → B) (item : A) (old new : List A) → Inserts item old new → Inserts (f item) (map f old) (map f new)
+pub Inserts-map :
+    {A B : Type 0} (f : A → B) (item : A) (old new : List A) →
+    Inserts item old new →
+    Inserts (f item) (map f old) (map f new)
 Inserts-map f item old new h = record {
   front = map f h.front;
   back = map f h.back;
@@ -34,7 +37,10 @@ Inserts-map f item old new h = record {
   is = ap (map f) h.is ∙ map-append f h.front (item ∷ h.back);
 }
 
-pub Inserts-append_after : {A : Type 0} (item : A) (old new others : List A) → Inserts item old new → Inserts item (old ++ others) (new ++ others)
+pub Inserts-append_after :
+    {A : Type 0} (item : A) (old new others : List A) →
+    Inserts item old new →
+    Inserts item (old ++ others) (new ++ others)
 Inserts-append_after item old new others h = record {
   front = h.front;
   back = h.back ++ others;
@@ -42,7 +48,10 @@ Inserts-append_after item old new others h = record {
   is = ap (λ xs. xs ++ others) h.is ∙ append_assoc h.front (item ∷ h.back) others;
 }
 
-pub Inserts-append_before : {A : Type 0} (item : A) (old new others : List A) → Inserts item old new → Inserts item (others ++ old) (others ++ new)
+pub Inserts-append_before :
+    {A : Type 0} (item : A) (old new others : List A) →
+    Inserts item old new →
+    Inserts item (others ++ old) (others ++ new)
 Inserts-append_before item old new others h = record {
   front = others ++ h.front;
   back = h.back;
@@ -51,12 +60,20 @@ Inserts-append_before item old new others h = record {
 }
 
 -- the found item is changed, and the change puts one more into what it gives
-pub Inserts-flat_map_change : {A B : Type 0} (p : A → Bool) (f : A → A) (g : A → List B) (item : B) (xs : List A) (x : A) → find p xs ≡ Some x → Inserts item (g x) (g (f x)) → Inserts item (flat_map g xs) (flat_map g (change p f xs))
+pub Inserts-flat_map_change :
+    {A B : Type 0} (p : A → Bool) (f : A → A) (g : A → List B) (item : B) (xs : List A) (x : A) →
+    find p xs ≡ Some x →
+    Inserts item (g x) (g (f x)) →
+    Inserts item (flat_map g xs) (flat_map g (change p f xs))
 Inserts-flat_map_change p f g item [] x found h = absurd cc
 Inserts-flat_map_change {A} {B} p f g item (y ∷ ys) x found h =
     cases (p y) found (λ later. Inserts-flat_map_change p f g item ys x later h)
   where
-    cases : (b : Bool) → cond b (Some y) (find p ys) ≡ Some x → (find p ys ≡ Some x → Inserts item (flat_map g ys) (flat_map g (change p f ys))) → Inserts item (flat_map g (y ∷ ys)) (flat_map g (cond b (f y ∷ ys) (y ∷ change p f ys)))
+    cases :
+        (b : Bool) →
+        cond b (Some y) (find p ys) ≡ Some x →
+        (find p ys ≡ Some x → Inserts item (flat_map g ys) (flat_map g (change p f ys))) →
+        Inserts item (flat_map g (y ∷ ys)) (flat_map g (cond b (f y ∷ ys) (y ∷ change p f ys)))
     cases true first others =
         let same : x ≡ y = cc in
         Inserts-append_after item (g y) (g (f y)) (flat_map g ys) (rw same at h)
@@ -64,16 +81,26 @@ Inserts-flat_map_change {A} {B} p f g item (y ∷ ys) x found h =
         Inserts-append_before item (flat_map g ys) (flat_map g (change p f ys)) (g y) (others later)
 
 -- a change that leaves what each item gives leaves what the list gives
-pub flat_map-change : {A B : Type 0} (p : A → Bool) (f : A → A) (g : A → List B) → ((x : A) → g (f x) ≡ g x) → (xs : List A) → flat_map g (change p f xs) ≡ flat_map g xs
+pub flat_map-change :
+    {A B : Type 0} (p : A → Bool) (f : A → A) (g : A → List B) →
+    ((x : A) → g (f x) ≡ g x) →
+    (xs : List A) →
+    flat_map g (change p f xs) ≡ flat_map g xs
 flat_map-change p f g same [] = refl
 flat_map-change p f g same (x ∷ xs) = cases (p x) (flat_map-change p f g same xs)
   where
-    cases : (b : Bool) → flat_map g (change p f xs) ≡ flat_map g xs → flat_map g (cond b (f x ∷ xs) (x ∷ change p f xs)) ≡ g x ++ flat_map g xs
+    cases :
+        (b : Bool) →
+        flat_map g (change p f xs) ≡ flat_map g xs →
+        flat_map g (cond b (f x ∷ xs) (x ∷ change p f xs)) ≡ g x ++ flat_map g xs
     cases true others = ap (λ ys. ys ++ flat_map g xs) (same x)
     cases false others = ap (λ ys. g x ++ ys) others
 
 -- an entry that is put in is found if nothing was, and nothing else changes
-lookup-insert : {K X : Type 0} (test : K → Bool) (entry : K × X) (front back : List (K × X)) → (test entry.0 ≡ true → lookup test (front ++ back) ≡ None) → lookup test (front ++ entry ∷ back) ≡ cond (test entry.0) (Some entry.1) (lookup test (front ++ back))
+lookup-insert :
+    {K X : Type 0} (test : K → Bool) (entry : K × X) (front back : List (K × X)) →
+    (test entry.0 ≡ true → lookup test (front ++ back) ≡ None) →
+    lookup test (front ++ entry ∷ back) ≡ cond (test entry.0) (Some entry.1) (lookup test (front ++ back))
 lookup-insert test entry [] back fresh = refl
 lookup-insert {K} {X} test entry (e ∷ front) back fresh = cases (test e.0) fresh (lookup-insert test entry front back)
   where
@@ -81,7 +108,11 @@ lookup-insert {K} {X} test entry (e ∷ front) back fresh = cases (test e.0) fre
     untested true h = let clash = h refl in cc
     untested false h = refl
 
-    cases : (b : Bool) → (test entry.0 ≡ true → cond b (Some e.1) (lookup test (front ++ back)) ≡ None) → ((test entry.0 ≡ true → lookup test (front ++ back) ≡ None) → lookup test (front ++ entry ∷ back) ≡ cond (test entry.0) (Some entry.1) (lookup test (front ++ back))) → cond b (Some e.1) (lookup test (front ++ entry ∷ back)) ≡ cond (test entry.0) (Some entry.1) (cond b (Some e.1) (lookup test (front ++ back)))
+    cases :
+        (b : Bool) →
+        (test entry.0 ≡ true → cond b (Some e.1) (lookup test (front ++ back)) ≡ None) →
+        ((test entry.0 ≡ true → lookup test (front ++ back) ≡ None) → lookup test (front ++ entry ∷ back) ≡ cond (test entry.0) (Some entry.1) (lookup test (front ++ back))) →
+        cond b (Some e.1) (lookup test (front ++ entry ∷ back)) ≡ cond (test entry.0) (Some entry.1) (cond b (Some e.1) (lookup test (front ++ back)))
     cases true h others = untested (test entry.0) h
     cases false h others = others h
 
@@ -89,7 +120,12 @@ lookup-insert {K} {X} test entry (e ∷ front) back fresh = cases (test e.0) fre
 pub bytes_eq-turn : (xs ys : List ℕ) → bytes_eq xs ys ≡ bytes_eq ys xs
 bytes_eq-turn xs ys = same_from_decides (bytes_eq xs ys) (bytes_eq ys xs) (bytes_eq-Decides xs ys) (let turned = bytes_eq-Decides ys xs in (λ t. sym (turned.0 t), λ e. turned.1 (sym e)))
 
-pub lookup-Inserts : {X : Type 0} (name : List ℕ) (value : X) (old new : List (List ℕ × X)) → Inserts (name, value) old new → lookup (bytes_eq name) old ≡ None → (other : List ℕ) → lookup (bytes_eq other) new ≡ cond (bytes_eq name other) (Some value) (lookup (bytes_eq other) old)
+pub lookup-Inserts :
+    {X : Type 0} (name : List ℕ) (value : X) (old new : List (List ℕ × X)) →
+    Inserts (name, value) old new →
+    lookup (bytes_eq name) old ≡ None →
+    (other : List ℕ) →
+    lookup (bytes_eq other) new ≡ cond (bytes_eq name other) (Some value) (lookup (bytes_eq other) old)
 lookup-Inserts {X} name value old new h fresh other =
     let turned = bytes_eq-Decides other name in
     ap (lookup (bytes_eq other)) h.is

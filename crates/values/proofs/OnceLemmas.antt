@@ -7,7 +7,11 @@ use Rattle.std.proofs.lemmas.List.Sums.{position_or_len_is}
 use Rattle.values.proofs.ChangedLemmas.{count_by-cons}
 
 -- an item that passes is counted
-one-le-count_by : {A : Type 0} (p : A → Bool) (xs : List A) (i : ℕ) (d : A) → i < length xs → p (get_or xs i d) ≡ true → 1 ≤ count_by p xs
+one-le-count_by :
+    {A : Type 0} (p : A → Bool) (xs : List A) (i : ℕ) (d : A) →
+    i < length xs →
+    p (get_or xs i d) ≡ true →
+    1 ≤ count_by p xs
 one-le-count_by p [] i d within passes = absurd (omega arith)
 one-le-count_by p (x ∷ xs) zero d within passes =
     let counted = count_by-cons p x xs in
@@ -19,7 +23,13 @@ one-le-count_by p (x ∷ xs) (suc i) d within passes =
     omega arith
 
 -- so none before it passes
-none_before : {A : Type 0} (p : A → Bool) (xs : List A) (i k : ℕ) (d : A) → count_by p xs ≤ 1 → i < length xs → p (get_or xs i d) ≡ true → k < i → p (get_or xs k d) ≡ false
+none_before :
+    {A : Type 0} (p : A → Bool) (xs : List A) (i k : ℕ) (d : A) →
+    count_by p xs ≤ 1 →
+    i < length xs →
+    p (get_or xs i d) ≡ true →
+    k < i →
+    p (get_or xs k d) ≡ false
 none_before p [] i k d once within passes before = absurd (omega arith)
 none_before p (x ∷ xs) zero k d once within passes before = absurd (omega arith)
 none_before p (x ∷ xs) (suc i) zero d once within passes before = cases (p x) refl
@@ -36,12 +46,21 @@ none_before p (x ∷ xs) (suc i) (suc k) d once within passes before =
     none_before p xs i k d (omega arith) (omega arith) passes (omega arith)
 
 -- and its index is the first one's
-position_or_len-once : {A : Type 0} (p : A → Bool) (xs : List A) (i : ℕ) (d : A) → count_by p xs ≤ 1 → i < length xs → p (get_or xs i d) ≡ true → position_or_len p xs ≡ i
+position_or_len-once :
+    {A : Type 0} (p : A → Bool) (xs : List A) (i : ℕ) (d : A) →
+    count_by p xs ≤ 1 →
+    i < length xs →
+    p (get_or xs i d) ≡ true →
+    position_or_len p xs ≡ i
 position_or_len-once p xs i d once within passes =
     position_or_len_is p xs i d (omega arith) (λ k before. none_before p xs i k d once within passes before) (λ inside. passes)
 
 -- an index in the list is found where it is the place of the first
-position-from_place : {A : Type 0} (p : A → Bool) (xs : List A) (i : ℕ) → i < length xs → position_or_len p xs ≡ i → position p xs ≡ Some i
+position-from_place :
+    {A : Type 0} (p : A → Bool) (xs : List A) (i : ℕ) →
+    i < length xs →
+    position_or_len p xs ≡ i →
+    position p xs ≡ Some i
 position-from_place p xs i within first = cases (ltb i (length xs)) refl
   where
     at_first : position p xs ≡ cond (ltb i (length xs)) (Some i) None
@@ -53,13 +72,21 @@ position-from_place p xs i within first = cases (ltb i (length xs)) refl
         let past : length xs ≤ i = ltb-false i (length xs) is in
         absurd (omega arith)
 
-pub position-once : {A : Type 0} (p : A → Bool) (xs : List A) (i : ℕ) → count_by p xs ≤ 1 → i < length xs → ((d : A) → p (get_or xs i d) ≡ true) → position p xs ≡ Some i
+pub position-once :
+    {A : Type 0} (p : A → Bool) (xs : List A) (i : ℕ) →
+    count_by p xs ≤ 1 →
+    i < length xs →
+    ((d : A) → p (get_or xs i d) ≡ true) →
+    position p xs ≡ Some i
 position-once p [] i once within passes = absurd (omega arith)
 position-once p (x ∷ xs) i once within passes =
     position-from_place p (x ∷ xs) i within (position_or_len-once p (x ∷ xs) i x once within (passes x))
 
 -- where no item passes, there is no first one
-pub position-nowhere : {A : Type 0} (p : A → Bool) (xs : List A) → ((k : ℕ) (d : A) → k < length xs → p (get_or xs k d) ≡ false) → position p xs ≡ None
+pub position-nowhere :
+    {A : Type 0} (p : A → Bool) (xs : List A) →
+    ((k : ℕ) (d : A) → k < length xs → p (get_or xs k d) ≡ false) →
+    position p xs ≡ None
 position-nowhere p [] fails = refl
 position-nowhere p (x ∷ xs) fails = cases (position p (x ∷ xs)) refl
   where

@@ -17,7 +17,10 @@ pub record TakesApp (apps : List App) (e : AddApp) : Type 0 where
   pub new_app : app_of apps e.app ≡ None
   pub room : length apps < max_apps
 
-pub TakesApp-from_no_fault : (apps : List App) (e : AddApp) → first_fault (tests_of_add_app apps e) ≡ None → TakesApp apps e
+pub TakesApp-from_no_fault :
+    (apps : List App) (e : AddApp) →
+    first_fault (tests_of_add_app apps e) ≡ None →
+    TakesApp apps e
 TakesApp-from_no_fault apps e h =
     let tests = NoneHold-first_fault (tests_of_add_app apps e) h in
     record {

@@ -42,7 +42,10 @@ pub record TakesSetting (apps : List App) (id name : List ℕ) (new : CohortSett
       (cohort : Cohort) → is_good_cohort names.app.releases cohort ≡ true →
       is_good_cohort names.app.releases (with_setting new cohort) ≡ true
 
-is_released-from_not_unreleased : (releases : List Release) (text : Option (List ℕ)) → is_unreleased releases text ≡ false → is_released releases (option_map lenient_version_of text) ≡ true
+is_released-from_not_unreleased :
+    (releases : List Release) (text : Option (List ℕ)) →
+    is_unreleased releases text ≡ false →
+    is_released releases (option_map lenient_version_of text) ≡ true
 is_released-from_not_unreleased releases None h = refl
 is_released-from_not_unreleased releases (Some text) h = true-from_not _ h
 

@@ -18,7 +18,10 @@ pub record TakesCohort (apps : List App) (e : AddCohort) : Type 0 where
   pub new_name : has_cohort app.cohorts e.cohort ≡ false
   pub room : length app.cohorts < max_cohorts
 
-pub TakesCohort-from_no_fault : (apps : List App) (e : AddCohort) → first_fault (tests_of_add_cohort apps e) ≡ None → TakesCohort apps e
+pub TakesCohort-from_no_fault :
+    (apps : List App) (e : AddCohort) →
+    first_fault (tests_of_add_cohort apps e) ≡ None →
+    TakesCohort apps e
 TakesCohort-from_no_fault apps e h =
     let tests = NoneHold-first_fault (tests_of_add_cohort apps e) h in
     let some = Some-from_not_none (app_of apps e.app) tests.0 in

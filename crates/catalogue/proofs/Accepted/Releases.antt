@@ -26,7 +26,10 @@ pub record TakesRelease (apps : List App) (e : AddRelease) : Type 0 where
   pub new_name : declared_of apps e.name ≡ None
   pub room : length app.releases < max_releases
 
-pub TakesRelease-from_no_fault : (apps : List App) (e : AddRelease) → first_fault (tests_of_add_release apps e) ≡ None → TakesRelease apps e
+pub TakesRelease-from_no_fault :
+    (apps : List App) (e : AddRelease) →
+    first_fault (tests_of_add_release apps e) ≡ None →
+    TakesRelease apps e
 TakesRelease-from_no_fault apps e h =
     let tests = NoneHold-first_fault (tests_of_add_release apps e) h in
     let some = Some-from_not_none (app_of apps e.app) tests.0 in
