@@ -92,6 +92,13 @@ fn diffs(alloc: Global, count: u32) -> Result<Vec<Edit>, Fail> {
     Ok(edits)
 }
 
+// An app with as many differentials as there may be.
+fn full(alloc: Global) -> Result<Catalogue, Fail> {
+    let mut catalogue = Catalogue::empty(alloc);
+    catalogue.apply(&Batch::new(diffs(alloc, 16384)?))?;
+    Ok(catalogue)
+}
+
 // What a catalogue returns for the batch of one line.
 fn answer(alloc: Global, catalogue: &mut Catalogue, line: &str) -> Result<String, Fail> {
     let mut edits = Vec::new(alloc);
@@ -102,20 +109,36 @@ fn answer(alloc: Global, catalogue: &mut Catalogue, line: &str) -> Result<String
     }
 }
 
+fn rejects(
+    rt: &impl Abort,
+    alloc: Global,
+    catalogue: &mut Catalogue,
+    line: &str,
+    error: &str,
+) -> Result<(), Fail> {
+    let answer = answer(alloc, catalogue, line)?;
+    assert_eq!(rt; answer.as_str(), error);
+    Ok(())
+}
+
+const TAKEN_NAME: &str =
+    "add_diff app0 1.254 1.255 r-0.bin 1 5555555555555555555555555555555555555555555555555555555555555555";
+
+const FREE_NAME: &str =
+    "add_diff app0 1.254 1.255 free.bin 1 5555555555555555555555555555555555555555555555555555555555555555";
+
 #[test]
 fn rejects_a_16385th_differential(rt: HostRuntime) -> Result<(), Fail> {
     let alloc = rt.alloc();
-    let mut catalogue = Catalogue::empty(alloc);
-    assert_eq!(rt; catalogue.apply(&Batch::new(diffs(alloc, 16384)?)), Ok(()));
-    let pair = "add_diff app0 1.254 1.255";
-    let hash = "5555555555555555555555555555555555555555555555555555555555555555";
-    let taken = format!(in alloc; "{pair} r-0.bin 1 {hash}")?;
-    let free = format!(in alloc; "{pair} free.bin 1 {hash}")?;
-    let rejected = answer(alloc, &mut catalogue, taken.as_str())?;
-    assert_eq!(rt; rejected.as_str(), "edit 0: C10 NameTaken");
-    let rejected = answer(alloc, &mut catalogue, free.as_str())?;
-    assert_eq!(rt; rejected.as_str(), "edit 0: C17 Limit");
-    Ok(())
+    let mut catalogue = full(alloc)?;
+    rejects(
+        &rt,
+        alloc,
+        &mut catalogue,
+        TAKEN_NAME,
+        "edit 0: C10 NameTaken",
+    )?;
+    rejects(&rt, alloc, &mut catalogue, FREE_NAME, "edit 0: C17 Limit")
 }
 
 // A string of `count` letters.
