@@ -1,0 +1,4 @@
+mod ChainLemmas
+mod MemberLemmas
+mod PayloadLemmas
+mod TrackLemmas
