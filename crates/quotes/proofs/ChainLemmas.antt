@@ -2,6 +2,7 @@
 use Rattle.std.proofs.Common.{◌≡◌, ℕ, ◌<◌, List, [], ◌∷◌, length, Option, None, Some, refl, sym, ap, ◌∙◌, subst, arith}
 use Rattle.std.specs.Option.{option_and_then, option_map}
 use Rattle.std.proofs.lemmas.List.Sums.{sum_by-cons}
+use Rattle.version.specs.Laws.{BelowIsIrreflexive}
 use Rattle.records.specs.Validity.{IsValidApp}
 use Rattle.records.specs.declared.content.App.{App}
 use Rattle.records.specs.declared.content.Cohort.{Cohort}
@@ -32,12 +33,12 @@ record HasPayloads (app : App) (key : TrackKey) (from : ℕ) (edges : List Edge)
   leads : rules.IsChain app key (At from) payloads
   sum : rules.sum_of app payloads ≡ graph.sum_of edges
 
-module _ (fulls : FullsArePermitted) (differs : DiffersArePermitted) (app : App) (key : TrackKey) (cohort : Cohort) (target : ℕ) (release : Release) (valid : IsValidApp app) (track : IsTrack app key cohort target release) (target_there : lane_target app cohort key.lane ≡ Some target) where
+module _ (irreflexive : BelowIsIrreflexive) (fulls : FullsArePermitted) (differs : DiffersArePermitted) (app : App) (key : TrackKey) (cohort : Cohort) (target : ℕ) (release : Release) (valid : IsValidApp app) (track : IsTrack app key cohort target release) (target_there : lane_target app cohort key.lane ≡ Some target) where
   abbrev net : Net
   net = net_of app key cohort target
 
-  target_is : target_index app key ≡ Some target
-  target_is =
+  pub target-is : target_index app key ≡ Some target
+  target-is =
       ap (λ (o : Option Cohort). option_and_then (λ (c : Cohort). lane_target app c key.lane) o) track.cohort_there ∙ target_there
 
   edges-chain :
@@ -45,11 +46,11 @@ module _ (fulls : FullsArePermitted) (differs : DiffersArePermitted) (app : App)
       from < length app.releases → rules.IsChain app key (At from) payloads →
       HasEdges app net from payloads
   edges-chain [] from within leads =
-      let at : Some (At target) ≡ Some (At from) = sym (ap (λ (o : Option ℕ). option_map (λ n. At n) o) target_is) ∙ leads in
+      let at : Some (At target) ≡ Some (At from) = sym (ap (λ (o : Option ℕ). option_map (λ n. At n) o) target-is) ∙ leads in
       let same : from ≡ target = cc in
       record { edges = []; leads = same; sum = refl }
   edges-chain (payload ∷ payloads) from within leads =
-      let found = edge-permitted fulls differs app key cohort target release valid track from within payload leads.0 in
+      let found = edge-permitted irreflexive fulls differs app key cohort target release valid track from within payload leads.0 in
       let edge = found.edge in
       let matches = found.matches in
       let there = destination-within app key cohort target release (At from) payload track leads.0 in
@@ -69,11 +70,11 @@ module _ (fulls : FullsArePermitted) (differs : DiffersArePermitted) (app : App)
   payloads-chain [] from within leads =
       record {
         payloads = [];
-        leads = ap (λ (o : Option ℕ). option_map (λ n. At n) o) target_is ∙ ap (λ n. Some (At n)) (sym leads);
+        leads = ap (λ (o : Option ℕ). option_map (λ n. At n) o) target-is ∙ ap (λ n. Some (At n)) (sym leads);
         sum = refl;
       }
   payloads-chain (edge ∷ edges) from within leads =
-      let found = payload-edge fulls differs app key cohort target release valid track from within edge leads.0 in
+      let found = payload-edge irreflexive fulls differs app key cohort target release valid track from within edge leads.0 in
       let payload = found.payload in
       let matches = found.matches in
       let there = destination-within app key cohort target release (At from) payload track found.permitted in
@@ -89,7 +90,7 @@ module _ (fulls : FullsArePermitted) (differs : DiffersArePermitted) (app : App)
         sum = omega arith;
       }
 
-  price-track :
+  pub price-track :
       (from : ℕ) → from < length app.releases →
       (price : Option ℕ) → graph.IsPriceOf net from price → IsPriceOf app key (At from) price
   price-track from within None none = λ payloads leads.
@@ -108,7 +109,7 @@ module _ (fulls : FullsArePermitted) (differs : DiffersArePermitted) (app : App)
             omega arith;
       }
 
-module _ (fulls : FullsArePermitted) (differs : DiffersArePermitted) where
+module _ (irreflexive : BelowIsIrreflexive) (fulls : FullsArePermitted) (differs : DiffersArePermitted) where
   pub prices_are_least_on_tracks : PricesAreLeastOnTracks
   prices_are_least_on_tracks app key net rows from valid there are within =
       let has = HasTrack-net_in app key net there in
@@ -116,4 +117,4 @@ module _ (fulls : FullsArePermitted) (differs : DiffersArePermitted) where
       let sized = length-doors app key net has in
       let price = are from (omega arith) in
       let own = subst (λ (n : Net). graph.IsPriceOf n from (price_at rows from)) has.is price in
-      price-track fulls differs app key has.cohort has.target is.release valid is.track has.target_there from within (price_at rows from) own
+      price-track irreflexive fulls differs app key has.cohort has.target is.release valid is.track has.target_there from within (price_at rows from) own

@@ -1,6 +1,6 @@
 -- What is in a list that was filtered, mapped or numbered.
 use Rattle.std.proofs.Common.{◌≡◌, ℕ, zero, suc, ◌+◌, ◌<◌, ◌⊎◌, inl, inr, Bool, true, false, cond, List, [], ◌∷◌, length, get_or, map, Option, None, Some, refl, sym, ap, ◌∙◌, subst, arith}
-use Rattle.std.specs.List.{Contains, enumerate_from, filter, slice_get}
+use Rattle.std.specs.List.{Contains, enumerate_from, filter, find, slice_get}
 use Rattle.std.specs.Option.{option_map_or}
 use Rattle.std.proofs.lemmas.Bool.{false≢true}
 use Rattle.std.proofs.lemmas.List.Elements.{All-contains, filter_passes}
@@ -107,3 +107,14 @@ pub record IsThere {A : Type 0} (o : Option A) : Type 0 where
 pub IsThere-test : {A : Type 0} (f : A → Bool) (o : Option A) → option_map_or f o false ≡ true → IsThere o
 IsThere-test f None test = absurd (false≢true test)
 IsThere-test f (Some x) test = record { item = x; is = refl }
+
+-- what a search finds passes
+pub passes-found : {A : Type 0} (p : A → Bool) (xs : List A) (x : A) → find p xs ≡ Some x → p x ≡ true
+passes-found p [] x found = cc
+passes-found {A} p (y ∷ ys) x found = cases (p y) refl found (λ later. passes-found p ys x later)
+  where
+    cases :
+        (b : Bool) → p y ≡ b → cond b (Some y) (find p ys) ≡ Some x →
+        (find p ys ≡ Some x → p x ≡ true) → p x ≡ true
+    cases true passes found rest = let same : y ≡ x = cc in ap p (sym same) ∙ passes
+    cases false fails found rest = rest found

@@ -24,12 +24,16 @@ use Rattle.payload_graph.specs.Laws.{DiffersArePermitted, FullsArePermitted, IsT
 use Rattle.payload_graph.specs.Net.{Net, differs_of, door_of, doors_of, edge_of, edges_from, full, fulls, leaves, net_of, window}
 use Rattle.payload_graph.specs.declared.door.Door.{Door}
 use Rattle.payload_graph.specs.declared.edge.Edge.{Edge}
-use Rattle.quotes.proofs.MemberLemmas.{ComesFrom-map, Contains-filter, Contains-filtered, Contains-map, Contains-numbered, IsThere, IsThere-test, passes-filtered, slice_get-numbered}
+use Rattle.version.specs.Laws.{BelowIsIrreflexive}
+use Rattle.quotes.specs.Quotes.{kind_of, payload_named}
+use Rattle.quotes.proofs.NamedLemmas.{HasEnds, payload_named-differ}
+use Rattle.quotes.proofs.MemberLemmas.{ComesFrom-map, Contains-filter, Contains-filtered, Contains-map, Contains-numbered, IsThere, IsThere-test, passes-filtered, passes-found, slice_get-numbered}
 
 -- a payload is the same in the catalogue and in the graph
 pub record Matches (app : App) (payload : Payload) (edge : Edge) : Type 0 where
   pub to : destination_of app payload ≡ edge.to
   pub bytes : bytes_of app payload ≡ edge.bytes
+  pub kind : kind_of payload ≡ edge.kind
 
 -- a payload of the catalogue in the graph
 pub record HasEdge (app : App) (net : Net) (from : ℕ) (payload : Payload) : Type 0 where
@@ -42,6 +46,7 @@ pub record HasPayload (app : App) (key : TrackKey) (from : ℕ) (edge : Edge) : 
   pub payload : Payload
   pub permitted : permits app key (At from) payload ≡ true
   pub matches : Matches app payload edge
+  pub named : payload_named app.releases app.diffs from edge.kind edge.to ≡ Some payload
 
 -- what is permitted on a track
 permits-track :
@@ -89,6 +94,31 @@ differ_there app key cohort target release place index track permitted =
       within = slice_get_within app.releases (index_of app.releases diff.to) end.item (sym (find_at (is_release diff.to) app.releases) ∙ end.is);
     }
 
+-- the releases that a permitted differential starts at and leads to
+differ_ends :
+    (app : App) (key : TrackKey) (cohort : Cohort) (target : ℕ) (release : Release) (from index : ℕ) (diff : Diff) →
+    IsTrack app key cohort target release → permits app key (At from) (Differ index) ≡ true →
+    slice_get app.diffs index ≡ Some diff →
+    HasEnds app.releases from diff
+differ_ends app key cohort target release from index diff track permitted there =
+    let test = λ (d : Diff). starts_at app.releases (At from) d && permits_differ app.releases cohort release.version d in
+    let tested : option_map_or test (slice_get app.diffs index) false ≡ true =
+    sym (permits-track app key cohort target release (At from) (Differ index) track) ∙ permitted in
+    let passed : test diff ≡ true = sym (ap (λ (o : Option Diff). option_map_or test o false) there) ∙ tested in
+    let parts = and_parts (starts_at app.releases (At from) diff) (permits_differ app.releases cohort release.version diff) passed in
+    let start = IsThere-test (is_release diff.from) (slice_get app.releases from) parts.0 in
+    let starts : is_release diff.from start.item ≡ true =
+    sym (ap (λ (o : Option Release). option_map_or (is_release diff.from) o false) start.is) ∙ parts.0 in
+    let end = IsThere-test (λ (to : Release). is_offered cohort to && leads_up app.releases release.version diff.from to.version) (end_of app.releases diff) parts.1 in
+    record {
+      start = start.item;
+      start_there = start.is;
+      starts = starts;
+      end = end.item;
+      end_there = sym (find_at (is_release diff.to) app.releases) ∙ end.is;
+      ends = passes-found (is_release diff.to) app.releases end.item end.is;
+    }
+
 -- a permitted payload leads to a release
 pub destination-within :
     (app : App) (key : TrackKey) (cohort : Cohort) (target : ℕ) (release : Release) (place : Place) (payload : Payload) →
@@ -102,7 +132,7 @@ destination-within app key cohort target release place (Differ index) track perm
     let to = ap (λ (o : Option Diff). option_map_or (λ (diff : Diff). index_of app.releases diff.to) o (length app.releases)) found.there in
     subst (λ n. n < length app.releases) (sym to) found.within
 
-module _ (fulls_permitted : FullsArePermitted) (differs_permitted : DiffersArePermitted) (app : App) (key : TrackKey) (cohort : Cohort) (target : ℕ) (release : Release) (valid : IsValidApp app) (track : IsTrack app key cohort target release) (from : ℕ) (within : from < length app.releases) where
+module _ (irreflexive : BelowIsIrreflexive) (fulls_permitted : FullsArePermitted) (differs_permitted : DiffersArePermitted) (app : App) (key : TrackKey) (cohort : Cohort) (target : ℕ) (release : Release) (valid : IsValidApp app) (track : IsTrack app key cohort target release) (from : ℕ) (within : from < length app.releases) where
   abbrev net : Net
   net = net_of app key cohort target
 
@@ -147,6 +177,7 @@ module _ (fulls_permitted : FullsArePermitted) (differs_permitted : DiffersArePe
         matches = record {
           to = refl;
           bytes = ap (λ (o : Option Release). option_map_or (λ (r : Release). r.size) o 0) found.is;
+          kind = refl;
         };
       }
   edge-permitted (Differ index) permitted =
@@ -163,6 +194,7 @@ module _ (fulls_permitted : FullsArePermitted) (differs_permitted : DiffersArePe
         matches = record {
           to = ap (λ (o : Option Diff). option_map_or (λ (d : Diff). index_of app.releases d.to) o (length app.releases)) found.there;
           bytes = ap (λ (o : Option Diff). option_map_or (λ (d : Diff). d.size) o 0) found.there;
+          kind = refl;
         };
       }
 
@@ -186,7 +218,9 @@ module _ (fulls_permitted : FullsArePermitted) (differs_permitted : DiffersArePe
               ap (λ (o : Option Release). option_map_or (λ (r : Release). r.size) o 0) found
               ∙ ap (λ (d : Door). d.bytes) origin.is
               ∙ ap (λ (e : Edge). e.bytes) come.is;
+          kind = ap (λ (e : Edge). e.kind) come.is;
         };
+        named = subst (λ (e : Edge). payload_named app.releases app.diffs from e.kind e.to ≡ Some (Full door.to)) come.is refl;
       }
 
   differ_payload : (edge : Edge) → Contains all_differs edge → HasPayload app key from edge
@@ -195,9 +229,11 @@ module _ (fulls_permitted : FullsArePermitted) (differs_permitted : DiffersArePe
       let come = ComesFrom-map edge_from (filter passes_differ (enumerate_from 0 app.diffs)) edge listed in
       let numbered = come.source in
       let there = slice_get-numbered app.diffs numbered (Contains-filtered passes_differ (enumerate_from 0 app.diffs) numbered come.inside) in
+      let permitted = passes-filtered passes_differ (enumerate_from 0 app.diffs) numbered come.inside in
+      let ends = differ_ends app key cohort target release from numbered.0 numbered.1 track permitted there in
       record {
         payload = Differ numbered.0;
-        permitted = passes-filtered passes_differ (enumerate_from 0 app.diffs) numbered come.inside;
+        permitted = permitted;
         matches = record {
           to =
               ap (λ (o : Option Diff). option_map_or (λ (d : Diff). index_of app.releases d.to) o (length app.releases)) there
@@ -205,7 +241,11 @@ module _ (fulls_permitted : FullsArePermitted) (differs_permitted : DiffersArePe
           bytes =
               ap (λ (o : Option Diff). option_map_or (λ (d : Diff). d.size) o 0) there
               ∙ ap (λ (e : Edge). e.bytes) come.is;
+          kind = ap (λ (e : Edge). e.kind) come.is;
         };
+        named =
+            subst (λ (e : Edge). payload_named app.releases app.diffs from e.kind e.to ≡ Some (Differ numbered.0)) come.is
+            (payload_named-differ irreflexive app.releases app.diffs from numbered.0 numbered.1 valid.diffs_ascend there ends);
       }
 
   -- a payload of the graph is permitted

@@ -7,6 +7,7 @@ ghost use Rattle.quotes.specs.Sums.{PricesAreLeastOnTracks};
 pub fn least()
     ensures { PricesAreLeastOnTracks }
 {
+    version::laws::order();
     payload_graph::laws::fulls();
     payload_graph::laws::differs();
 }
