@@ -1,0 +1,4 @@
+mod InductionLemmas
+mod LeastLemmas
+mod RuleLemmas
+mod UniqueLemmas

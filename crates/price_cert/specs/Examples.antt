@@ -1,0 +1,55 @@
+-- Tables of a small app, worked by hand: releases 1.0, the stone 2.0, 3.0 and 4.0.
+use Rattle.std.specs.Prelude.{◌≡◌, true, false, List, [], ◌∷◌, map, Option, None, Some}
+use Rattle.std.specs.List.{range_with_len}
+use Rattle.cohorts.specs.declared.track.Lane.TheVariants as lane
+use Rattle.payload_rules.specs.Examples.{beta, demo, key_of, stable}
+use Rattle.payload_graph.specs.Net.{Net, net_of}
+use Rattle.payload_graph.specs.declared.edge.Kind.TheVariants.{Full, Differ}
+use Rattle.price_cert.specs.Rules.{broken_at}
+use Rattle.price_cert.specs.declared.row.Row.{Row}
+use Rattle.price_cert.specs.declared.row.Row.TheVariants.{Nothing, End, Price}
+use Rattle.price_cert.specs.declared.rules.Rule.{Rule}
+use Rattle.price_cert.specs.declared.rules.Rule.TheVariants.{C1, C2, C3}
+
+-- the graph of the default cohort, to 4.0; of its held clients, to 3.0; of the cohort that rolls back
+abbrev pub upward : Net
+upward = net_of demo (key_of 0 lane.Target false) stable 3
+
+abbrev pub held : Net
+held = net_of demo (key_of 0 lane.Held false) stable 2
+
+abbrev pub rollback : Net
+rollback = net_of demo (key_of 1 lane.Target true) beta 2
+
+-- the rule that each row breaks, by ascending version
+abbrev pub broken : Net → List Row → List (Option Rule)
+broken net rows = map (broken_at net rows) (range_with_len 0 4)
+
+-- no row breaks one
+abbrev pub none : List (Option Rule)
+none = None ∷ None ∷ None ∷ None ∷ []
+
+-- three certified tables, and wrong ones: a price too low, one too high, none, a longer way, a full
+-- package where the differential is smaller, a target that is not the end
+pub record ExampleIsWorked : Type 0 where
+  pub upward_passes :
+      broken upward (Price 750 Differ 1 ∷ Price 450 Differ 2 ∷ Price 250 Differ 3 ∷ End ∷ []) ≡ none
+  pub held_passes : broken held (Price 500 Differ 1 ∷ Price 200 Differ 2 ∷ End ∷ Nothing ∷ []) ≡ none
+  pub rollback_passes :
+      broken rollback (Price 500 Differ 1 ∷ Price 200 Differ 2 ∷ End ∷ Price 1400 Full 1 ∷ []) ≡ none
+  pub too_low :
+      broken upward (Price 749 Differ 1 ∷ Price 449 Differ 2 ∷ Price 250 Differ 3 ∷ End ∷ [])
+      ≡ None ∷ Some C3 ∷ None ∷ None ∷ []
+  pub too_high :
+      broken upward (Price 751 Differ 1 ∷ Price 451 Differ 2 ∷ Price 250 Differ 3 ∷ End ∷ [])
+      ≡ None ∷ Some C2 ∷ None ∷ None ∷ []
+  pub missing :
+      broken upward (Nothing ∷ Nothing ∷ Price 250 Differ 3 ∷ End ∷ []) ≡ None ∷ Some C2 ∷ None ∷ None ∷ []
+  pub longer_way :
+      broken upward (Price 800 Differ 1 ∷ Price 500 Differ 3 ∷ Price 250 Differ 3 ∷ End ∷ [])
+      ≡ None ∷ Some C2 ∷ None ∷ None ∷ []
+  pub no_end :
+      broken upward (Nothing ∷ Nothing ∷ Nothing ∷ Nothing ∷ []) ≡ None ∷ None ∷ None ∷ Some C1 ∷ []
+  pub early_end :
+      broken held (Price 500 Differ 1 ∷ End ∷ End ∷ Nothing ∷ [])
+      ≡ Some C2 ∷ Some C1 ∷ None ∷ None ∷ []

@@ -1,0 +1,118 @@
+//! Tables of prices that passed the check.
+
+ghost use Rattle.std.specs.Prelude.{◌≡◌, ◌↔◌, ◌<◌, length, IfErr, IfOk, IsOk};
+ghost use Rattle.price_cert.specs.Chains.{IsPriceOf};
+ghost use Rattle.price_cert.specs.Laws.{ArePrices};
+ghost use Rattle.price_cert.specs.Rows.{price_at};
+ghost use Rattle.price_cert.specs.Rules.{AreCertified, IsFirstWrong};
+
+use crate::kept::Kept;
+use crate::row::{Prices, Row, row_at};
+use crate::rules::{Wrong, first_wrong};
+use payload_graph::Graph;
+use payload_rules::TrackKey;
+use std::alloc::AllocError;
+use std::marker::Model;
+
+/// A table of prices that passed the check, which contracts see with the graph that it was checked
+/// against.
+///
+/// It keeps the table alone; the graph is there for contracts only.
+#[derive(Drop)]
+pub struct Certified {
+    prices: Prices,
+    graph: Kept<Graph>,
+}
+
+impl Model for Certified {
+    ghost use Rattle.price_cert.specs.Tables.{Certificate, IsCertificate};
+
+    ghost Value = { Certificate };
+
+    ghost view = { λ c. record { net = c.graph.value; rows = c.prices.rows } };
+
+    ghost invariant = { λ c. IsCertificate c.prices.key (record { net = c.graph.value; rows = c.prices.rows }) };
+}
+
+impl Certified {
+    /// Borrows the rows, one for each release, by ascending version.
+    pub fn rows(&self) -> &[Row]
+        ensures rows { result.now ≡ self.now.rows }
+        ensures certified { AreCertified self.now.net self.now.rows }
+        ensures least { ArePrices self.now.net self.now.rows }
+    {
+        crate::laws::least();
+        self.prices.rows.as_slice()
+    }
+
+    /// Returns the key of the track.
+    pub fn key(&self) -> TrackKey
+        ensures { result ≡ self.now.net.key }
+    {
+        self.prices.key
+    }
+
+    // rule: Least sum
+    /// Returns the least sum of bytes from a release to the target, `None` if no chain leads there.
+    ///
+    /// The release is given by its index, which is in range.
+    pub fn least_sum(&self, release: usize) -> Option<u64>
+        requires { release < length self.now.rows }
+        ensures price { result ≡ price_at self.now.rows release }
+        ensures least { IsPriceOf self.now.net release result }
+    {
+        row_at(self.rows(), release).price()
+    }
+
+    /// Copies the table. If memory runs out, nothing changes.
+    pub fn copy(&self) -> Result<Certified, AllocError>
+        ensures { IfOk result (λ copied. copied ≡ self.now) }
+    {
+        let rows = self.prices.rows.clone()?;
+        Ok(Certified {
+            prices: Prices {
+                key: self.prices.key,
+                rows,
+            },
+            graph: self.graph.copy(),
+        })
+    }
+
+    /// Gives the table back; whoever takes it may change it.
+    pub fn into_prices(self) -> Prices
+        ensures key { result.key ≡ self.net.key }
+        ensures rows { result.rows ≡ self.rows }
+    {
+        let Certified { prices, graph: _ } = self;
+        prices
+    }
+}
+
+// rule: Certified table
+/// Checks a table of prices against the graph of its track.
+///
+/// The table has the graph's key and a row for each release. If a row breaks a rule, it returns the
+/// first such row from the highest version, with the first rule that it breaks, and gives the table
+/// back. It takes no memory.
+pub fn check(graph: &Graph, prices: Prices) -> Result<Certified, (Wrong, Prices)>
+    requires key { prices.key ≡ graph.now.key }
+    requires sized { length prices.rows ≡ length graph.now.doors }
+    ensures succeeds { IsOk result ↔ AreCertified graph.now prices.rows }
+    ensures graph { IfOk result (λ certified. certified.net ≡ graph.now) }
+    ensures rows { IfOk result (λ certified. certified.rows ≡ prices.rows) }
+    ensures least { IfOk result (λ certified. ArePrices certified.net certified.rows) }
+    ensures wrong { IfErr result (λ refusal. IsFirstWrong graph.now prices.rows refusal.0) }
+    ensures given_back { IfErr result (λ refusal. refusal.1 ≡ prices) }
+{
+    crate::laws::least();
+    let _within = graph.target();
+    let _numbered = graph.doors();
+    let _nearing = graph.differs();
+    match first_wrong(graph, prices.rows.as_slice()) {
+        Some(wrong) => Err((wrong, prices)),
+        None => Ok(Certified {
+            prices,
+            graph: Kept::of(graph),
+        }),
+    }
+}

@@ -1,0 +1,24 @@
+//! What holds of all certified tables, each law as a clause of a function.
+
+ghost use Rattle.price_cert.specs.Examples.{ExampleIsWorked};
+ghost use Rattle.price_cert.specs.Laws.{CertifiedPricesAreLeast, CertifiedTablesAreOne};
+
+/// States that the prices of a certified table are the least sums, and that a release without a price
+/// has no chain.
+pub fn least()
+    ensures { CertifiedPricesAreLeast }
+{
+    payload_graph::laws::nearer();
+}
+
+/// States that a graph has one certified table, whoever made it.
+pub fn unique()
+    ensures { CertifiedTablesAreOne }
+{
+    payload_graph::laws::nearer();
+}
+
+/// States which rules the tables of a small app break, worked by hand.
+pub fn example()
+    ensures { ExampleIsWorked }
+{}

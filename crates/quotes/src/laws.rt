@@ -1,0 +1,13 @@
+//! What certified tables say of tracks, each law as a clause of a function.
+
+ghost use Rattle.quotes.specs.Sums.{PricesAreLeastOnTracks};
+
+/// States that the prices of a track's graph are the least sums of permitted payloads from each release,
+/// and that no chain of permitted payloads leads from a release without a price.
+pub fn least()
+    ensures { PricesAreLeastOnTracks }
+{
+    version::laws::order();
+    payload_graph::laws::fulls();
+    payload_graph::laws::differs();
+}
