@@ -1,15 +1,12 @@
 -- The differentials of a release are together.
-use Rattle.std.proofs.Common.{◌≡◌, ℕ, ◌+◌, ◌-◌, ◌<◌, ◌≤◌, inl, inr, true, List, [], ◌∷◌, length, get_or, take, drop, refl, sym, ap, ◌∙◌, arith}
+use Rattle.std.proofs.Common.{◌≡◌, ℕ, ◌+◌, ◌-◌, ◌<◌, ◌≤◌, inl, inr, true, List, [], ◌∷◌, length, get_or, take, drop, sym, ◌∙◌, arith}
 use Rattle.std.specs.List.{AllWithin, filter}
 use Rattle.std.proofs.lemmas.Bool.{cases_lt, eq-eqb, ne_eqb}
+use Rattle.payload_graph.proofs.FlatLemmas.{filter-same}
 use Rattle.payload_graph.proofs.RangeLemmas.{between-range, filter-between}
 use Rattle.payload_graph.specs.Net.{between, leaves}
 use Rattle.payload_graph.specs.declared.edge.Edge.{Edge}
 use Rattle.payload_graph.specs.declared.edge.Kind.TheVariants as kind
-
-filter-all : {A : Type 0} (xs : List A) → filter (λ (x : A). true) xs ≡ xs
-filter-all [] = refl
-filter-all {A} (x ∷ xs) = ap (λ (ys : List A). x ∷ ys) (filter-all xs)
 
 -- two places that part the differentials, at a release and at the next
 pub record AreParted (differs : List Edge) (from start end : ℕ) : Type 0 where
@@ -45,7 +42,7 @@ pub filter-leaves :
     take (end - start) (drop start differs) ≡ filter (leaves from) differs
 filter-leaves differs from start end within parted =
     between-range differs start end (in_order differs from start end within parted)
-    ∙ sym (filter-all (between start end differs))
+    ∙ sym (filter-same true (between start end differs))
     ∙ sym (filter-between (leaves from) (λ (edge : Edge). true) no_edge differs start end (record {
       below = λ k there less.
           let low = parted.before k no_edge (omega arith) less in

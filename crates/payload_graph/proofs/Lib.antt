@@ -1,11 +1,15 @@
 mod DifferLemmas
 mod DoorLemmas
+mod EnterLemmas
+mod FlatLemmas
 mod FullLemmas
+mod IncomingLemmas
 mod IndexLemmas
 mod LeavingLemmas
 mod LoopLemmas
 mod NearerLemmas
 mod OrderLemmas
+mod OriginLemmas
 mod PermittedLemmas
 mod RangeLemmas
 mod ReachLemmas

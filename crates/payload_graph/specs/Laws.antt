@@ -12,7 +12,7 @@ use Rattle.payload_rules.specs.Permitted.{permits}
 use Rattle.payload_rules.specs.declared.payload.Payload.TheVariants.{Full, Differ}
 use Rattle.payload_rules.specs.declared.payload.TrackKey.{TrackKey}
 use Rattle.payload_rules.specs.declared.place.Place.TheVariants.{At}
-use Rattle.payload_graph.specs.Net.{Net, differs_of, doors_of, edge_of, edges_from, full, fulls, leaves, net_with, window}
+use Rattle.payload_graph.specs.Net.{Net, differs_of, doors_of, edge_of, edges_from, edges_into, enters, full, fulls, leaves, net_with, payloads_of, window}
 use Rattle.payload_graph.specs.Soundness.{AreNumbered, IsNearing, LeadsNearer, door_at}
 use Rattle.payload_graph.specs.declared.door.Door.{Door}
 use Rattle.payload_graph.specs.declared.edge.Edge.{Edge}
@@ -85,3 +85,19 @@ EdgesLeadNearer =
     net.target < length net.doors →
     from < length net.doors →
     All (λ (edge : Edge). LeadsNearer net.target from edge.to) (edges_from net from)
+
+-- the payloads from a release are those of the graph that leave it, in the same order
+abbrev pub EdgesFromAreOfGraph : Type 0
+EdgesFromAreOfGraph =
+    (net : Net) (from : ℕ) →
+    AreNumbered net.doors →
+    from < length net.doors →
+    filter (leaves from) (payloads_of net) ≡ edges_from net from
+
+-- of the payloads into one release, those from another are the ones from it that lead to the first
+abbrev pub EdgesIntoAreEdgesFrom : Type 0
+EdgesIntoAreEdgesFrom =
+    (net : Net) (from to : ℕ) →
+    AreNumbered net.doors →
+    from < length net.doors →
+    filter (leaves from) (edges_into net to) ≡ filter (enters to) (edges_from net from)

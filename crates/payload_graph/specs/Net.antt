@@ -2,7 +2,7 @@
 -- app. Full packages are given by rule, each release having a window of others to which its clients
 -- may be led; this project's profile. Releases are given by index, by ascending version.
 use Rattle.std.specs.Prelude.{ℕ, ◌+◌, ◌==◌, Bool, if◌then◌else◌, List, [], ◌∷◌, ◌++◌, drop, map, nat_lt, slice_get, take, Option, option_and_then, option_map}
-use Rattle.std.specs.List.{enumerate_from, filter}
+use Rattle.std.specs.List.{enumerate_from, filter, flat_map}
 use Rattle.std.specs.Option.{option_map_or}
 use Rattle.records.specs.declared.content.App.{App}
 use Rattle.records.specs.declared.content.Cohort.{Cohort}
@@ -60,14 +60,27 @@ window net from =
     then (if net.rollback then take from net.doors else [])
     else to_stone (between (from + 1) (net.target + 1) net.doors)
 
--- the payload leaves the release, or leads to it
+-- the payload leaves the release
 abbrev pub leaves : ℕ → Edge → Bool
 leaves from edge = from == edge.from
+
+-- the payload leads to the release
+abbrev pub enters : ℕ → Edge → Bool
+enters to edge = to == edge.to
 
 -- rule: Payloads from a release
 -- the payloads that leave a release: full packages by ascending destination, then differentials
 abbrev pub edges_from : Net → ℕ → List Edge
 edges_from net from = fulls from (window net from) ++ filter (leaves from) net.differs
+
+-- all payloads of a graph: full packages by ascending origin, then differentials by ascending origin
+abbrev pub payloads_of : Net → List Edge
+payloads_of net = flat_map (λ (origin : Door). fulls origin.to (window net origin.to)) net.doors ++ net.differs
+
+-- rule: Payloads into a release
+-- the payloads that lead to a release, of all those of the graph
+abbrev pub edges_into : Net → ℕ → List Edge
+edges_into net to = filter (enters to) (payloads_of net)
 
 -- a differential between the indexes of its releases
 abbrev pub edge_of : List Release → Diff → Edge

@@ -1,5 +1,5 @@
 -- What a graph keeps: beside what contracts see of it, how far each window reaches.
-use Rattle.std.specs.Prelude.{◌≡◌, ℕ, ◌+◌, ◌<◌, ◌≤◌, ◌&&◌, ◌⊎◌, All, Bool, false, List, length, nat_le, nat_lt, slice_get, slice_index, slice_index_or, Option, option_and_then, option_map}
+use Rattle.std.specs.Prelude.{◌≡◌, ℕ, ◌+◌, ◌<◌, ◌≤◌, ◌&&◌, ◌⊎◌, All, Bool, if◌then◌else◌, false, List, [], drop, length, nat_le, nat_lt, slice_get, slice_index, slice_index_or, take, Option, option_and_then, option_map}
 use Rattle.std.specs.List.Sorted.{IsNonDecreasingBy}
 use Rattle.std.specs.List.{filter}
 use Rattle.records.specs.declared.content.Cohort.{Cohort}
@@ -47,6 +47,17 @@ abbrev pub is_reached : ℕ → List Door → Edge → Bool
 is_reached target doors edge =
     nat_le edge.from target
     && (nat_lt edge.to (reach_of target doors edge.from) && (slice_index_or doors edge.to no_door).offered)
+
+-- the releases below another one whose windows reach it, none if it is above the target
+abbrev pub origins_below : ℕ → List Door → ℕ → List Door
+origins_below target doors to =
+    if nat_lt target to
+    then []
+    else filter (λ (origin : Door). nat_lt to (reach_of target doors origin.to)) (take to doors)
+
+-- the releases above both the target and another one
+abbrev pub origins_above : ℕ → List Door → ℕ → List Door
+origins_above target doors to = drop (if nat_lt target to then to + 1 else target + 1) doors
 
 -- resolved differentials: each leads up between releases, and they are sorted by ascending origin
 pub record AreResolved (count : ℕ) (edges : List Edge) : Type 0 where

@@ -1,4 +1,4 @@
-//! Iterators over the payloads of a graph.
+//! The iterator over the payloads that leave a release.
 
 ghost use Rattle.std.specs.Prelude.{◌≡◌};
 ghost use Rattle.std.specs.Iterator.{item_count, YieldsFirst};
@@ -8,7 +8,8 @@ ghost use Rattle.payload_graph.specs.Net.{full};
 use crate::door::Door;
 use crate::edge::{Edge, Kind};
 
-fn full(from: usize, door: &Door) -> Edge
+/// The full package that leads from a release through a door.
+pub(crate) fn full(from: usize, door: &Door) -> Edge
     ensures { result ≡ full from door.now }
 {
     Edge {

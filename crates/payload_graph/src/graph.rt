@@ -1,7 +1,7 @@
 ghost use Rattle.std.specs.Prelude.{◌≡◌, ◌<◌, All, IfOk, length};
 ghost use Rattle.std.specs.List.{filter};
-ghost use Rattle.payload_graph.specs.Edges.{edges_left};
-ghost use Rattle.payload_graph.specs.Net.{edges_from, leaves, window};
+ghost use Rattle.payload_graph.specs.Edges.{edges_into_left, edges_left};
+ghost use Rattle.payload_graph.specs.Net.{edges_from, edges_into, leaves, window};
 ghost use Rattle.payload_graph.specs.Soundness.{net_from, AreNumbered, AreResolved, IsNearing, LeadsNearer};
 ghost use Rattle.payload_graph.specs.declared.edge.Edge.{Edge};
 
@@ -9,6 +9,8 @@ use crate::differential::{leaving, reached_in};
 use crate::door::{Door, doors_of};
 use crate::edge::Edge;
 use crate::edges::{Edges, Fulls};
+use crate::incoming::EdgesInto;
+use crate::origin::{origins_above, origins_below};
 use crate::reach::{doors_above, reaches_of};
 use catalogue::{Cohort, Release};
 use payload_rules::{TrackKey, rolls_back};
@@ -126,6 +128,30 @@ impl Graph {
     {
         let differs = leaving(self.differs.as_slice(), from);
         Edges::new(Fulls::new(from, self.window(from)), differs)
+    }
+
+    // rule: Payloads into a release
+    /// Goes through the payloads that lead to a release.
+    ///
+    /// The full packages come first, then the differentials, each by ascending origin. It walks along
+    /// the releases that the full packages leave, and along all differentials.
+    pub fn edges_into(&self, to: usize) -> EdgesInto<'_>
+        requires { to < length self.now.doors }
+        ensures { edges_into_left result ≡ edges_into self.now to }
+    {
+        let doors = self.doors.as_slice();
+        let differs = self.differs.as_slice();
+        let door = doors[to];
+        if !door.offered {
+            return EdgesInto::new(door, &[], &[], to, differs);
+        }
+        let below = origins_below(doors, self.reaches.as_slice(), self.target, to);
+        let above = if self.rollback {
+            origins_above(doors, self.target, to)
+        } else {
+            &[]
+        };
+        EdgesInto::new(door, below, above, to, differs)
     }
 
     /// Returns the index of the target.

@@ -1,6 +1,6 @@
 //! What holds of all graphs, each law as a clause of a function.
 
-ghost use Rattle.payload_graph.specs.Laws.{DiffersArePermitted, EdgesLeadNearer, FullsArePermitted, FullsLeadNearer, TargetsLeaveNothing, WindowsGrowDown, WindowsGrowUp};
+ghost use Rattle.payload_graph.specs.Laws.{DiffersArePermitted, EdgesFromAreOfGraph, EdgesIntoAreEdgesFrom, EdgesLeadNearer, FullsArePermitted, FullsLeadNearer, TargetsLeaveNothing, WindowsGrowDown, WindowsGrowUp};
 
 /// States that the full packages of a window are the permitted ones, each once, in order.
 pub fn fulls()
@@ -27,4 +27,10 @@ pub fn windows()
 pub fn nearer()
     ensures fulls { FullsLeadNearer }
     ensures edges { EdgesLeadNearer }
+{}
+
+/// States that the payloads into the releases of a graph are those from them.
+pub fn incoming()
+    ensures from { EdgesFromAreOfGraph }
+    ensures into { EdgesIntoAreEdgesFrom }
 {}

@@ -1,0 +1,281 @@
+#!/usr/bin/env python3
+"""Times how the graph of a track is made, and how much memory it takes.
+
+    bench/graphs.py [--releases N ..] [--turns N] [--runs N] [--keep FOLDER]
+
+It copies the crates that a graph depends on to a folder, adds a program that makes the graph of one
+track again and again, and proves and builds it by `rt run`, which takes some minutes; `--keep` keeps
+the folder for the next time. The app has N releases, all of them offered, and from each release a
+differential to each of the next 32. The program prints the number of payloads of the last graph.
+
+`of_track` resolves the app's differentials and makes the graph; `from resolved` only makes the graph.
+Each is the difference in processor time of two runs, of N turns and of none, divided by N; of each
+the least of the runs counts.
+`KiB` is by how much the peak memory grows for each graph that is kept.
+"""
+
+import argparse
+import os
+import pathlib
+import shutil
+import subprocess
+import sys
+import tempfile
+
+TOP = pathlib.Path(__file__).resolve().parent.parent
+CRATES = ["values", "version", "records", "omaha_json", "catalogue", "cohorts", "payload_rules", "payload_graph"]
+LINE = "graph_times: payload_graph payload_rules catalogue cohorts values\n"
+PROGRAM = r"""//! Makes the graph of a track again and again.
+
+#![tactic(auto)]
+
+ghost use Rattle.std.specs.Prelude.{◌<◌, length};
+
+use catalogue::{AddApp, AddDiff, AddRelease, ApplyError, Batch, Catalogue, Edit, SetTarget};
+use cohorts::Lane;
+use payload_graph::{Differentials, Graph};
+use payload_rules::TrackKey;
+use std::alloc::{AllocError, Global};
+use std::io;
+use values::Text;
+
+fn name_of(alloc: Global, from: u64, to: u64) -> Result<Text, AllocError> {
+    Ok(Text::new(format!(in alloc; "demo-{from}-{to}.bin")?))
+}
+
+fn hash_of(alloc: Global, from: u64, to: u64) -> Result<Text, AllocError> {
+    Ok(Text::new(format!(in alloc; "{from:032}{to:032}")?))
+}
+
+fn version_of(alloc: Global, index: u64) -> Result<Text, AllocError> {
+    Ok(Text::new(format!(in alloc; "1.{index}")?))
+}
+
+fn added_app(alloc: Global) -> Result<Edit, AllocError> {
+    let app = Text::copy_of(alloc, "demo")?;
+    let default = Text::copy_of(alloc, "stable")?;
+    Ok(Edit::AddApp(AddApp { app, default }))
+}
+
+fn added_release(alloc: Global, index: u64) -> Result<Edit, AllocError> {
+    let app = Text::copy_of(alloc, "demo")?;
+    let version = version_of(alloc, index)?;
+    let name = name_of(alloc, index, index)?;
+    let sha256 = hash_of(alloc, index, index)?;
+    Ok(Edit::AddRelease(AddRelease {
+        app,
+        version,
+        name,
+        size: 1000000,
+        sha256,
+    }))
+}
+
+fn added_diff(alloc: Global, from: u64, to: u64) -> Result<Edit, AllocError> {
+    let app = Text::copy_of(alloc, "demo")?;
+    let start = version_of(alloc, from)?;
+    let end = version_of(alloc, to)?;
+    let name = name_of(alloc, from, to)?;
+    let sha256 = hash_of(alloc, from, to)?;
+    Ok(Edit::AddDiff(AddDiff {
+        app,
+        from: start,
+        to: end,
+        name,
+        size: 1000,
+        sha256,
+    }))
+}
+
+fn target_set(alloc: Global, index: u64) -> Result<Edit, AllocError> {
+    let app = Text::copy_of(alloc, "demo")?;
+    let cohort = Text::copy_of(alloc, "stable")?;
+    let target = Some(version_of(alloc, index)?);
+    Ok(Edit::SetTarget(SetTarget {
+        app,
+        cohort,
+        target,
+        held: None,
+    }))
+}
+
+fn push_diffs(alloc: Global, edits: &mut Vec<Edit>, from: u64, releases: u64) -> Result<(), AllocError> {
+    for ahead in 1..33u64 {
+        let to = from.saturating_add(ahead);
+        if to < releases {
+            edits.push(added_diff(alloc, from, to)?)?;
+        }
+    }
+    Ok(())
+}
+
+fn batch_of(alloc: Global, releases: u64) -> Result<Batch, AllocError> {
+    let mut edits = Vec::new(alloc);
+    edits.push(added_app(alloc)?)?;
+    for index in 0..releases {
+        edits.push(added_release(alloc, index)?)?;
+    }
+    for from in 0..releases {
+        push_diffs(alloc, &mut edits, from, releases)?;
+    }
+    edits.push(target_set(alloc, releases.saturating_sub(1))?)?;
+    Ok(Batch::new(edits))
+}
+
+fn key() -> TrackKey {
+    TrackKey {
+        app: 0,
+        cohort: 0,
+        lane: Lane::Target,
+        rollback: false,
+    }
+}
+
+// How many payloads the track's graph has.
+fn count_of(graph: &Graph) -> u64 {
+    let mut count: u64 = 0;
+    for from in 0..graph.doors().len() {
+        for _edge in graph.edges_from(from) {
+            count = count.wrapping_add(1);
+        }
+    }
+    count
+}
+
+fn last_of(graph: Option<Graph>) -> u64 {
+    match graph {
+        Some(graph) => count_of(&graph),
+        None => 0,
+    }
+}
+
+fn whole(alloc: Global, catalogue: &Catalogue, turns: u64) -> Result<u64, AllocError> {
+    let mut graph = None;
+    for _turn in 0..turns {
+        graph = Graph::of_track(alloc, catalogue, &key())?;
+    }
+    Ok(last_of(graph))
+}
+
+fn kept(alloc: Global, catalogue: &Catalogue, turns: u64) -> Result<u64, AllocError> {
+    let mut graphs = Vec::new(alloc);
+    for _turn in 0..turns {
+        graphs.push(Graph::of_track(alloc, catalogue, &key())?)?;
+    }
+    Ok(graphs.len() as u64)
+}
+
+fn lent(alloc: Global, catalogue: &Catalogue, turns: u64) -> Result<u64, AllocError> {
+    let key = key();
+    if key.app >= catalogue.apps().len() {
+        return Ok(0);
+    }
+    let differentials = Differentials::of_app(alloc, catalogue, key.app)?;
+    let mut graph = None;
+    for _turn in 0..turns {
+        graph = Graph::with_differentials(alloc, catalogue, &key, &differentials)?;
+    }
+    Ok(last_of(graph))
+}
+
+fn catalogue_of(alloc: Global, releases: u64) -> Result<Catalogue, ApplyError> {
+    let batch = batch_of(alloc, releases)?;
+    Catalogue::empty(alloc).applied(&batch)
+}
+
+fn run(alloc: Global, mode: &str, releases: u64, turns: u64) -> Result<u64, ApplyError> {
+    let catalogue = catalogue_of(alloc, releases)?;
+    let count = match mode {
+        "whole" => whole(alloc, &catalogue, turns)?,
+        "lent" => lent(alloc, &catalogue, turns)?,
+        _ => kept(alloc, &catalogue, turns)?,
+    };
+    Ok(count)
+}
+
+// Each line of the input: `whole`, `lent` or `kept`, the releases and the turns.
+fn main(rt: HostRuntime) -> io::Result<()> {
+    let alloc = rt.alloc();
+    for line in rt.lines(alloc) {
+        let line = line?;
+        let mut words = line.as_str().split(' ');
+        let mode = words.next().unwrap_or("");
+        let releases = words.next().unwrap_or("").parse().unwrap_or(0);
+        let turns = words.next().unwrap_or("").parse().unwrap_or(0);
+        match run(alloc, mode, releases, turns) {
+            Ok(count) => println!(rt; "{count}")?,
+            Err(_) => println!(rt; "an edit is refused")?,
+        }
+    }
+    Ok(())
+}
+"""
+
+
+def build(folder):
+    """The program, built over copies of the crates."""
+    program = folder / "crates/graph_times/out/graph_times"
+    if not program.exists():
+        for name in CRATES:
+            if not (folder / "crates" / name).exists():
+                shutil.copytree(TOP / "crates" / name, folder / "crates" / name, symlinks=True)
+        shutil.copy(TOP / "HANDLES", folder / "HANDLES")
+        lines = (TOP / "crates.txt").read_text().splitlines(keepends=True)
+        (folder / "crates.txt").write_text("".join(line for line in lines if line.split(":")[0] in CRATES) + LINE)
+        (folder / "crates/graph_times/src").mkdir(parents=True, exist_ok=True)
+        (folder / "crates/graph_times/specs").mkdir(parents=True, exist_ok=True)
+        (folder / "crates/graph_times/specs/Lib.antt").write_text("")
+        (folder / "crates/graph_times/src/main.rt").write_text(PROGRAM)
+        subprocess.run(["rt", "run", "--jobs", "1"], cwd=folder / "crates/graph_times", input=b"", check=True)
+    return program
+
+
+def run_once(program, mode, releases, turns):
+    """Runs the program once: its processor seconds, its peak memory in KiB, and what it prints."""
+    read, write = os.pipe()
+    os.write(write, f"{mode} {releases} {turns}\n".encode())
+    os.close(write)
+    with tempfile.TemporaryFile() as output:
+        child = subprocess.Popen([program], stdin=read, stdout=output)
+        _, status, usage = os.wait4(child.pid, 0)
+        os.close(read)
+        output.seek(0)
+        printed = output.read().decode().strip()
+    if status != 0 or not printed.isdigit():
+        sys.exit(f"{program}: status {status}: {printed}")
+    return usage.ru_utime + usage.ru_stime, usage.ru_maxrss, int(printed)
+
+
+def measure(program, releases, turns, runs):
+    """Microseconds a graph, whole and from resolved differentials; KiB a graph; its payloads."""
+    found = {}
+    for mode in ("whole", "lent"):
+        none = min(run_once(program, mode, releases, 0)[0] for _ in range(runs))
+        many = min(run_once(program, mode, releases, turns)[0] for _ in range(runs))
+        found[mode] = (many - none) / turns * 1e6
+    count = 100_000 // releases
+    few, more = (run_once(program, "kept", releases, number)[1] for number in (count, 2 * count))
+    return found["whole"], found["lent"], (more - few) / count, run_once(program, "whole", releases, 1)[2]
+
+
+def main():
+    options = argparse.ArgumentParser(description=__doc__, formatter_class=argparse.RawTextHelpFormatter)
+    options.add_argument("--releases", type=int, nargs="+", default=[64, 128, 256, 512], help="releases of the app, at most 512")
+    options.add_argument("--turns", type=int, default=2000, help="graphs of a run [default: 2000]")
+    options.add_argument("--runs", type=int, default=5, help="runs of each [default: 5]")
+    options.add_argument("--keep", help="a folder that keeps the program")
+    asked = options.parse_args()
+    folder = pathlib.Path(asked.keep or tempfile.mkdtemp()).resolve()
+    try:
+        program = build(folder)
+        print("releases  payloads  of_track us  from resolved us  KiB", flush=True)
+        for releases in asked.releases:
+            whole, lent, memory, payloads = measure(program, releases, asked.turns, asked.runs)
+            print(f"{releases:8}  {payloads:8}  {whole:11.1f}  {lent:16.1f}  {memory:3.0f}", flush=True)
+    finally:
+        if not asked.keep:
+            shutil.rmtree(folder)
+
+
+if __name__ == "__main__":
+    main()
