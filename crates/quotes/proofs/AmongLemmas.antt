@@ -22,13 +22,13 @@ use Rattle.quotes.proofs.QuoteLemmas.{length-rows, quote-served}
 use Rattle.quotes.specs.Quotes.{IsQuote, IsQuoteAmong, row_quote}
 
 -- the app of a graph's key
-record HasApp (apps : List App) (key : TrackKey) (net : Net) : Type 0 where
-  app : App
-  there : slice_get apps key.app ≡ Some app
-  made : net_in app key ≡ Some net
-  valid : IsValidApp app
+pub record HasApp (apps : List App) (key : TrackKey) (net : Net) : Type 0 where
+  pub app : App
+  pub there : slice_get apps key.app ≡ Some app
+  pub made : net_in app key ≡ Some net
+  pub valid : IsValidApp app
 
-HasApp-net_among :
+pub HasApp-net_among :
     (apps : List App) (key : TrackKey) (net : Net) →
     IsValid apps → net_among apps key ≡ Some net → HasApp apps key net
 HasApp-net_among apps key net valid made = cases (slice_get apps key.app) refl made

@@ -2,6 +2,9 @@ mod AmongLemmas
 mod ChainLemmas
 mod MemberLemmas
 mod NamedLemmas
+mod OutsideAmongLemmas
+mod OutsideLemmas
 mod PayloadLemmas
 mod QuoteLemmas
 mod TrackLemmas
+mod VisitorLemmas

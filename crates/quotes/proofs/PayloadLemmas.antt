@@ -49,7 +49,7 @@ pub record HasPayload (app : App) (key : TrackKey) (from : ℕ) (edge : Edge) : 
   pub named : payload_named app.releases app.diffs from edge.kind edge.to ≡ Some payload
 
 -- what is permitted on a track
-permits-track :
+pub permits-track :
     (app : App) (key : TrackKey) (cohort : Cohort) (target : ℕ) (release : Release) (place : Place) (payload : Payload) →
     IsTrack app key cohort target release →
     permits app key place payload
@@ -59,7 +59,7 @@ permits-track app key cohort target release place payload track =
     ∙ ap (λ (o : Option (List ℕ)). option_map_or (λ (v : List ℕ). permits_from app cohort (rolls_back cohort key) v place payload) o false) track.targeted
 
 -- the release of a full package is there
-full_there :
+pub full_there :
     (app : App) (key : TrackKey) (cohort : Cohort) (target : ℕ) (release : Release) (place : Place) (to : ℕ) →
     IsTrack app key cohort target release → permits app key place (Full to) ≡ true →
     IsThere (slice_get app.releases to)

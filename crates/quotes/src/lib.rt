@@ -11,6 +11,7 @@
 #![tactic(auto)]
 
 pub mod laws;
+mod outside;
 mod quote;
 
-pub use crate::quote::{Quote, quote_at};
+pub use crate::quote::{Quote, quote_at, quote_from};

@@ -1,15 +1,21 @@
 //! What a table says of a place.
 
-ghost use Rattle.std.specs.Prelude.{◌≡◌, ◌<◌, length, Some};
-ghost use Rattle.records.specs.Lookups.{diffs_at, releases_at};
-ghost use Rattle.payload_rules.specs.declared.place.Place.TheVariants.{At};
+ghost use Rattle.std.specs.Prelude.{◌≡◌, ◌<◌, IfSome, Some, length, option_and_then, option_map, slice_get};
+ghost use Rattle.records.specs.Lookups.{cohorts_at, diffs_at, releases_at};
+ghost use Rattle.cohorts.specs.Tracks.{target_of};
+ghost use Rattle.payload_rules.specs.Permitted.{rolls_back};
+ghost use Rattle.payload_rules.specs.Places.{IsWithin};
+ghost use Rattle.payload_rules.specs.declared.place.Place.TheVariants.{At, Outside};
 ghost use Rattle.payload_graph.specs.Net.{net_among};
+ghost use Rattle.quotes.specs.Outside.{best_quote};
 ghost use Rattle.quotes.specs.Quotes.{payload_named, row_quote, IsQuoteAmong};
 
+use crate::outside::{Best, Visitor, find_best};
 use catalogue::Catalogue;
 use payload_graph::Kind;
-use payload_rules::{Payload, TrackKey};
+use payload_rules::{Payload, Place, TrackKey, rolls_back};
 use price_cert::{Certified, Row};
+use version::Version;
 
 /// What the clients of a track at a place are offered.
 #[derive(Clone, Copy, Debug, PartialEq, Eq)]
@@ -67,13 +73,9 @@ fn row_quote(catalogue: &Catalogue, app: usize, from: usize, row: Row) -> Quote
     }
 }
 
-// rule: Quote
-/// Returns what the clients of a track at a release are offered.
+/// Returns what the clients of a track at a release are offered; see `quote_from`.
 ///
-/// `table` is a certified table of the track's graph, and the release, given by its index, is one of its
-/// app. It is `Here` exactly at the target and `NoChain` exactly if no chain leads there. Otherwise it is
-/// the first payload of a chain of the least sum: of all such payloads the one that leads highest, and of
-/// two of these the differential.
+/// The release, given by its index, is one of the track's app.
 pub fn quote_at(catalogue: &Catalogue, key: &TrackKey, release: usize, table: &Certified) -> Quote
     requires app { key.now.app < length catalogue.now }
     requires table { net_among catalogue.now key.now ≡ Some table.now.net }
@@ -87,4 +89,80 @@ pub fn quote_at(catalogue: &Catalogue, key: &TrackKey, release: usize, table: &C
     let _releases = catalogue.releases(key.app);
     let row = table.rows()[release];
     row_quote(catalogue, key.app, release, row)
+}
+
+fn best_quote(best: Option<Best>) -> Quote
+    ensures { result ≡ best_quote best }
+{
+    match best {
+        Some(best) => Quote::Next {
+            payload: Payload::Full(best.to),
+            sum: best.sum,
+        },
+        None => Quote::NoChain,
+    }
+}
+
+// The client of a track at a version, if the track has a target.
+fn find_visitor<'a>(
+    catalogue: &'a Catalogue,
+    key: &TrackKey,
+    version: Version,
+) -> Option<Visitor<'a>>
+    requires { key.now.app < length catalogue.now }
+    ensures target { option_map (λ visitor. visitor.target) result
+        ≡ option_and_then (λ cohort. target_of cohort key.now.lane) (slice_get (cohorts_at catalogue.now key.now.app) key.now.cohort) }
+    ensures cohort { IfSome result (λ visitor.
+        slice_get (cohorts_at catalogue.now key.now.app) key.now.cohort ≡ Some visitor.cohort.now) }
+    ensures rollback { IfSome result (λ visitor. visitor.rollback ≡ rolls_back visitor.cohort.now key.now) }
+    ensures version { IfSome result (λ visitor. visitor.version ≡ version) }
+{
+    let cohort = catalogue.cohorts(key.app).get(key.cohort)?;
+    let target = cohorts::target_in(cohort, key.lane)?;
+    Some(Visitor {
+        cohort,
+        rollback: rolls_back(cohort, key),
+        target,
+        version,
+    })
+}
+
+fn quote_outside(
+    catalogue: &Catalogue,
+    key: &TrackKey,
+    version: Version,
+    table: &Certified,
+) -> Quote
+    requires app { key.now.app < length catalogue.now }
+    requires table { net_among catalogue.now key.now ≡ Some table.now.net }
+    ensures { IsQuoteAmong catalogue.now key.now (Outside version) result }
+{
+    version::laws::order();
+    payload_graph::laws::fulls();
+    payload_graph::laws::differs();
+    catalogue.validity();
+    let releases = catalogue.releases(key.app);
+    let Some(visitor) = find_visitor(catalogue, key, version) else {
+        return Quote::NoChain;
+    };
+    best_quote(find_best(releases, table.rows(), &visitor))
+}
+
+// rule: Quote
+/// Returns what the clients of a track at a place are offered.
+///
+/// `table` is a certified table of the track's graph, and the place is within the track's app. The
+/// quote is `Here` exactly at the target and `NoChain` exactly if no chain leads there. Otherwise it is
+/// the first payload of a chain of the least sum: of all such payloads the one that leads highest, and of
+/// two of these the differential. From a release it looks at one row, from outside at each row once.
+pub fn quote_from(catalogue: &Catalogue, key: &TrackKey, place: &Place, table: &Certified) -> Quote
+    requires app { key.now.app < length catalogue.now }
+    requires table { net_among catalogue.now key.now ≡ Some table.now.net }
+    requires place { IsWithin (releases_at catalogue.now key.now.app) place.now }
+    ensures { IsQuoteAmong catalogue.now key.now place.now result }
+{
+    match place {
+        Place::At(release) => quote_at(catalogue, key, *release, table),
+        Place::Outside(version) => quote_outside(catalogue, key, *version, table),
+    }
 }

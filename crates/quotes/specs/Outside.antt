@@ -1,0 +1,70 @@
+-- What a table says of clients that are at no release but at a version: the least sum among the full
+-- packages that are permitted. Releases are given by index, by ascending version.
+use Rattle.std.specs.Prelude.{◌≡◌, ℕ, ◌+◌, ◌<◌, ◌≤◌, ◌&&◌, ◌||◌, ◌⊎◌, not, Bool, if◌then◌else◌, List, slice_get, Option, None, Some, option_and_then, option_map}
+use Rattle.std.specs.List.{list_any}
+use Rattle.std.specs.Option.{option_map_or}
+use Rattle.version.specs.Versions.{is_below}
+use Rattle.records.specs.declared.content.Cohort.{Cohort}
+use Rattle.records.specs.declared.content.Release.{Release}
+use Rattle.payload_rules.specs.Permitted.{is_offered, leads_down, permits_full}
+use Rattle.payload_rules.specs.declared.payload.Payload.TheVariants.{Full}
+use Rattle.price_cert.specs.Rows.{price_at}
+use Rattle.price_cert.specs.declared.row.Row.{Row}
+use Rattle.quotes.specs.declared.outside.Best.{Best}
+use Rattle.quotes.specs.declared.quote.Quote.{Quote}
+use Rattle.quotes.specs.declared.quote.Quote.TheVariants.{Next, NoChain}
+
+-- a stone above a version
+abbrev pub is_stone_above : List ℕ → Release → Bool
+is_stone_above version release = release.stone && is_below version release.version
+
+-- a stone above a version is among some releases: nothing above them all is permitted
+abbrev pub is_blocked : List ℕ → List Release → Bool
+is_blocked version releases = list_any (is_stone_above version) releases
+
+-- a version is above another one, and not above the target
+abbrev pub rises_to : List ℕ → List ℕ → List ℕ → Bool
+rises_to target version to = is_below version to && not (is_below target to)
+
+-- a full package is permitted from a version, given whether a stone is between
+abbrev pub leads_to : Cohort → Bool → List ℕ → List ℕ → Bool → Release → Bool
+leads_to cohort rollback target version blocked release =
+    is_offered cohort release
+    && ((not blocked && rises_to target version release.version)
+    || (rollback && leads_down target version release.version))
+
+-- the sum by a release's full package, if a chain goes on from there
+abbrev pub sum_through : List Row → ℕ → Release → Option ℕ
+sum_through rows to release = option_map (λ rest. release.size + rest) (price_at rows to)
+
+-- the same if the package is permitted
+abbrev pub sum_if : Bool → List Row → ℕ → Release → Option ℕ
+sum_if permitted rows to release = if permitted then sum_through rows to release else None
+
+-- the least sum of a chain that begins with the full package of the release at an index, if there is one
+abbrev pub sum_into : List Release → Cohort → Bool → List ℕ → List ℕ → List Row → ℕ → Option ℕ
+sum_into releases cohort rollback target version rows to =
+    option_and_then
+    (λ release. sum_if (permits_full releases cohort rollback target version release) rows to release)
+    (slice_get releases to)
+
+-- the best of the sums below an index: the least one and, of equal ones, that of the highest release
+pub record IsBestOf (sums : ℕ → Option ℕ) (count : ℕ) (best : Best) : Type 0 where
+  pub within : best.to < count
+  pub is : sums best.to ≡ Some best.sum
+  pub least :
+      (to sum : ℕ) → to < count → sums to ≡ Some sum →
+      (best.sum < sum) ⊎ ((best.sum ≡ sum) × (to ≤ best.to))
+
+-- the best one, if there is a sum
+abbrev pub IsBest : (ℕ → Option ℕ) → ℕ → Option Best → Type 0
+IsBest sums count None = (to : ℕ) → to < count → sums to ≡ None
+IsBest sums count (Some best) = IsBestOf sums count best
+
+-- prices that can be added to a package's bytes
+abbrev pub AreSmall : List Row → Type 0
+AreSmall rows = (from price : ℕ) → price_at rows from ≡ Some price → price ≤ 562949953421312
+
+-- what the best way says
+abbrev pub best_quote : Option Best → Quote
+best_quote best = option_map_or (λ way. Next (Full way.to) way.sum) best NoChain

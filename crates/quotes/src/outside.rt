@@ -1,0 +1,125 @@
+//! What a table says of clients that are at no release.
+
+ghost use Rattle.std.specs.Prelude.{◌≡◌, ℕ, ◌+◌, ◌≤◌, ◌||◌, All, true, if◌then◌else◌, IfSome, Option, None, length, option_map};
+ghost use Rattle.values.specs.Ordered.{ascend};
+ghost use Rattle.version.specs.Versions.{is_below};
+ghost use Rattle.records.specs.Forms.{is_size};
+ghost use Rattle.records.specs.Validity.{is_release_below};
+ghost use Rattle.payload_rules.specs.Permitted.{leads_down};
+ghost use Rattle.price_cert.specs.Rows.{price_of};
+ghost use Rattle.quotes.specs.Outside.{is_stone_above, leads_to, rises_to, sum_into, AreSmall, IsBest};
+
+use catalogue::{Cohort, Release};
+use payload_rules::is_offered;
+use price_cert::Row;
+use version::Version;
+
+/// A client at no release, on a track with a target.
+#[derive(Drop)]
+pub(crate) struct Visitor<'a> {
+    /// The track's cohort.
+    pub(crate) cohort: &'a Cohort,
+    /// Whether the track leads down from above its target.
+    pub(crate) rollback: bool,
+    /// The track's target.
+    pub(crate) target: Version,
+    /// The client's version.
+    pub(crate) version: Version,
+}
+
+/// A release that a client is best led to.
+#[derive(Clone, Copy)]
+pub(crate) struct Best {
+    /// The release's index.
+    pub(crate) to: usize,
+    /// The sum of the whole chain, in bytes.
+    pub(crate) sum: u64,
+}
+
+impl Visitor<'_> {
+    fn is_below(&self, release: &Release) -> bool
+        ensures { result ≡ is_below self.now.version release.now.version }
+    {
+        self.version.is_below(&release.version)
+    }
+
+    fn rises_to(&self, release: &Release) -> bool
+        ensures { result ≡ rises_to self.now.target self.now.version release.now.version }
+    {
+        self.is_below(release) && !self.target.is_below(&release.version)
+    }
+
+    fn falls_to(&self, release: &Release) -> bool
+        ensures { result ≡ leads_down self.now.target self.now.version release.now.version }
+    {
+        self.target.is_below(&self.version) && release.version.is_below(&self.version)
+    }
+
+    // Whether the full package of a release is permitted, given whether a stone is between.
+    fn is_led_to(&self, release: &Release, blocked: bool) -> bool
+        ensures { result ≡ leads_to self.now.cohort.now self.now.rollback self.now.target self.now.version blocked release.now }
+    {
+        is_offered(self.cohort, release)
+            && ((!blocked && self.rises_to(release)) || (self.rollback && self.falls_to(release)))
+    }
+
+    // Whether a stone above the client's version is at or before a release.
+    fn is_blocked_by(&self, release: &Release, blocked: bool) -> bool
+        ensures { result ≡ (blocked || is_stone_above self.now.version release.now) }
+    {
+        blocked || (release.stone && self.is_below(release))
+    }
+
+    // The sum by the full package of a release, if it is permitted and a chain goes on from there.
+    fn sum_into(&self, release: &Release, row: &Row, blocked: bool) -> Option<u64>
+        requires size { is_size release.now.size ≡ true }
+        requires price { IfSome (price_of row.now) (λ price. price ≤ 562949953421312) }
+        ensures { result ≡ (if leads_to self.now.cohort.now self.now.rollback self.now.target self.now.version blocked release.now
+            then option_map (λ rest. release.now.size + rest) (price_of row.now) else None) }
+    {
+        if !self.is_led_to(release, blocked) {
+            return None;
+        }
+        let rest = row.price()?;
+        Some(release.size + rest)
+    }
+}
+
+// The better of two ways: that of the smaller sum, and of equal ones the later.
+fn better_of(best: Option<Best>, to: usize, sum: Option<u64>) -> Option<Best>
+    ensures { (sums : ℕ → Option ℕ) → sums to ≡ sum → IsBest sums to best → IsBest sums (to + 1) result }
+{
+    match (best, sum) {
+        (best, None) => best,
+        (None, Some(sum)) => Some(Best { to, sum }),
+        (Some(best), Some(sum)) => {
+            if best.sum < sum {
+                Some(best)
+            } else {
+                Some(Best { to, sum })
+            }
+        }
+    }
+}
+
+/// Finds the best release that a client may be led to by its full package.
+///
+/// There is a row for each release. It goes through all releases once.
+pub(crate) fn find_best(releases: &[Release], rows: &[Row], visitor: &Visitor<'_>) -> Option<Best>
+    requires sized { length rows.now ≡ length releases.now }
+    requires ascending { ascend is_release_below releases.now ≡ true }
+    requires sizes { All (λ release. is_size release.size ≡ true) releases.now }
+    requires prices { AreSmall rows.now }
+    ensures { IsBest (sum_into releases.now visitor.now.cohort.now visitor.now.rollback visitor.now.target visitor.now.version rows.now)
+        (length releases.now) result }
+{
+    version::laws::order();
+    let mut best = None;
+    let mut blocked = false;
+    for (to, release) in releases.iter().enumerate() {
+        let sum = visitor.sum_into(release, &rows[to], blocked);
+        best = better_of(best, to, sum);
+        blocked = visitor.is_blocked_by(release, blocked);
+    }
+    best
+}
