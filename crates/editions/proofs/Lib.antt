@@ -1,8 +1,0 @@
-mod ChainLemmas
-mod ClientLemmas
-mod FindingLemmas
-mod FingerprintLemmas
-mod LoopLemmas
-mod PlanLemmas
-mod ReplyLemmas
-mod ZipLemmas

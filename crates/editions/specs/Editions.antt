@@ -39,3 +39,12 @@ Continues history batch (Err (error.Refused refused)) = outcome_after history ba
 Continues history batch (Err error.HistoryFull) =
     IsAccepted history batch × (length history ≡ most_batches)
 Continues history batch (Err error.Memory) = Unit {0}
+
+-- the content, if there is one
+abbrev pub content_or_none : Result (List App) Refused → List App
+content_or_none (Ok apps) = apps
+content_or_none (Err refused) = []
+
+-- the content that a history led to
+abbrev pub content_of : History → List App
+content_of history = content_or_none (run history [])

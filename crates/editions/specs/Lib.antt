@@ -1,9 +1,3 @@
-pub mod Chains
-pub mod Clients
 pub mod Editions
 pub mod FaultTexts
-pub mod Moments
-pub mod Places
-pub mod Plans
 pub mod Refusals
-pub mod Replies

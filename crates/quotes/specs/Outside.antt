@@ -1,6 +1,6 @@
 -- What a table says of clients that are at no release but at a version: the least sum among the full
 -- packages that are permitted. Releases are given by index, by ascending version.
-use Rattle.std.specs.Prelude.{◌≡◌, ℕ, ◌+◌, ◌<◌, ◌≤◌, ◌&&◌, ◌||◌, ◌⊎◌, not, Bool, if◌then◌else◌, List, slice_get, Option, None, Some, option_and_then, option_map}
+use Rattle.std.specs.Prelude.{◌≡◌, ℕ, ◌+◌, ◌<◌, ◌≤◌, ◌&&◌, ◌||◌, ◌⊎◌, not, Bool, if◌then◌else◌, List, length, slice_get, IfSome, Option, None, Some, option_and_then, option_map}
 use Rattle.std.specs.List.{list_any}
 use Rattle.std.specs.Option.{option_map_or}
 use Rattle.version.specs.Versions.{is_below}
@@ -8,6 +8,7 @@ use Rattle.records.specs.declared.content.Cohort.{Cohort}
 use Rattle.records.specs.declared.content.Release.{Release}
 use Rattle.payload_rules.specs.Permitted.{is_offered, leads_down, permits_full}
 use Rattle.payload_rules.specs.declared.payload.Payload.TheVariants.{Full}
+use Rattle.price_cert.specs.Laws.{IsSmall}
 use Rattle.price_cert.specs.Rows.{price_at}
 use Rattle.price_cert.specs.declared.row.Row.{Row}
 use Rattle.quotes.specs.declared.outside.Best.{Best}
@@ -61,9 +62,9 @@ abbrev pub IsBest : (ℕ → Option ℕ) → ℕ → Option Best → Type 0
 IsBest sums count None = (to : ℕ) → to < count → sums to ≡ None
 IsBest sums count (Some best) = IsBestOf sums count best
 
--- prices that can be added to a package's bytes
+-- the prices of a table are small
 abbrev pub AreSmall : List Row → Type 0
-AreSmall rows = (from price : ℕ) → price_at rows from ≡ Some price → price ≤ 562949953421312
+AreSmall rows = (from : ℕ) → from < length rows → IfSome (price_at rows from) IsSmall
 
 -- what the best way says
 abbrev pub best_quote : Option Best → Quote

@@ -1,11 +1,12 @@
 //! What a table says of clients that are at no release.
 
-ghost use Rattle.std.specs.Prelude.{◌≡◌, ℕ, ◌+◌, ◌≤◌, ◌||◌, All, true, if◌then◌else◌, IfSome, Option, None, length, option_map};
+ghost use Rattle.std.specs.Prelude.{◌≡◌, ℕ, ◌+◌, ◌||◌, All, true, if◌then◌else◌, IfSome, Option, None, length, option_map};
 ghost use Rattle.values.specs.Ordered.{ascend};
 ghost use Rattle.version.specs.Versions.{is_below};
 ghost use Rattle.records.specs.Forms.{is_size};
 ghost use Rattle.records.specs.Validity.{is_release_below};
 ghost use Rattle.payload_rules.specs.Permitted.{leads_down};
+ghost use Rattle.price_cert.specs.Laws.{IsSmall};
 ghost use Rattle.price_cert.specs.Rows.{price_of};
 ghost use Rattle.quotes.specs.Outside.{is_stone_above, leads_to, rises_to, sum_into, AreSmall, IsBest};
 
@@ -73,7 +74,7 @@ impl Visitor<'_> {
     // The sum by the full package of a release, if it is permitted and a chain goes on from there.
     fn sum_into(&self, release: &Release, row: &Row, blocked: bool) -> Option<u64>
         requires size { is_size release.now.size ≡ true }
-        requires price { IfSome (price_of row.now) (λ price. price ≤ 562949953421312) }
+        requires price { IfSome (price_of row.now) IsSmall }
         ensures { result ≡ (if leads_to self.now.cohort.now self.now.rollback self.now.target self.now.version blocked release.now
             then option_map (λ rest. release.now.size + rest) (price_of row.now) else None) }
     {

@@ -20,7 +20,9 @@ find_best-requires-clause-sizes c =
     (sizes_among c.order.ensures.irreflexive c.fulls.ensures c.differs.ensures c.args.catalogue.now c.args.key.now c.args.table.now.net c.validity.ensures c.requires.table)
 
 pub find_best-requires-clause-prices : goal.find_best-requires-clause-prices
-find_best-requires-clause-prices c = ?
+find_best-requires-clause-prices c =
+    rw c.rows.ensures.rows
+    (λ from within. c.rows.ensures.small from (let same = c.rows.ensures.certified.sized in omega arith))
 
 pub returns : goal.returns
 returns c =

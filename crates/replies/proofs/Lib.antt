@@ -1,0 +1,5 @@
+mod ClientLemmas
+mod LoopLemmas
+mod PlanLemmas
+mod ReplyLemmas
+mod ZipLemmas

@@ -1,0 +1,49 @@
+-- Who asks in a request: for each of its apps that the catalogue has, a client on its track; this
+-- project's profile.
+use Rattle.std.specs.Prelude.{ℕ, List, Option, option_and_then, option_map, position, slice_get}
+use Rattle.records.specs.Lookups.{is_app}
+use Rattle.records.specs.declared.content.App.{App}
+use Rattle.records.specs.declared.content.Cohort.{Cohort}
+use Rattle.cohorts.specs.CohortTexts.{printed}
+use Rattle.cohorts.specs.Tracks.{cohort_at, track_of}
+use Rattle.cohorts.specs.declared.track.Track.{Track}
+use Rattle.omaha_json.specs.declared.request.AppAsk.{AppAsk}
+use Rattle.payload_rules.specs.declared.payload.TrackKey.{TrackKey}
+
+-- a client of an app, on its track
+pub record Client : Type 0 where
+  pub index : ℕ
+  pub app : App
+  pub track : Track
+
+-- the client of a session that asks for the app at an index
+abbrev pub client_at : List App → List ℕ → AppAsk → ℕ → Option Client
+client_at apps session ask index =
+    option_map (λ app. record { index = index; app = app; track = track_of app.cohorts ask session })
+    (slice_get apps index)
+
+-- rule: Client of an app
+-- the client of a session that asks for an app, none if the app is unknown
+abbrev pub client_of : List App → List ℕ → AppAsk → Option Client
+client_of apps session ask =
+    option_and_then (client_at apps session ask) (position (is_app ask.appid) apps)
+
+-- rule: Key of a client
+-- the key of a client's track
+abbrev pub key_of : Client → TrackKey
+key_of client =
+    record {
+      app = client.index;
+      cohort = client.track.cohort;
+      lane = client.track.lane;
+      rollback = client.track.rollback;
+    }
+
+-- rule: Cohort that a reply names
+-- the cohort that serves a client
+abbrev pub cohort_of : Client → Cohort
+cohort_of client = cohort_at client.app.cohorts client.track.cohort
+
+-- the string by which a client names its cohort and its bucket
+abbrev pub cohort_text : Client → List ℕ
+cohort_text client = printed (cohort_of client).name client.track.bucket

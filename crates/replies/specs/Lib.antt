@@ -1,0 +1,4 @@
+pub mod Clients
+pub mod Moments
+pub mod Plans
+pub mod Replies

@@ -1,0 +1,71 @@
+-- What is chosen for each app of a request; this project's profile.
+use Rattle.std.specs.Prelude.{◌≡◌, ℕ, ◌==◌, ◌&&◌, ◌⊎◌, not, Bool, false, if◌then◌else◌, List, [], length, map, IfSome, MatchOption, Option, Some, None, option_map, slice_get}
+use Rattle.std.specs.List.{AllZip}
+use Rattle.std.specs.Option.{option_map_or}
+use Rattle.records.specs.declared.content.App.{App}
+use Rattle.omaha_json.specs.declared.request.AppAsk.{AppAsk}
+use Rattle.omaha_json.specs.declared.request.Check.{Check}
+use Rattle.omaha_json.specs.declared.request.Request.{Request}
+use Rattle.payload_rules.specs.Chains.{IsAtTarget, bytes_of}
+use Rattle.payload_rules.specs.Places.{place_of}
+use Rattle.payload_rules.specs.declared.payload.Payload.{Payload}
+use Rattle.payload_rules.specs.declared.payload.TrackKey.{TrackKey}
+use Rattle.payload_rules.specs.declared.place.Place.{Place}
+use Rattle.quotes.specs.Quotes.{IsFirst}
+use Rattle.quotes.specs.Sums.{HasNoChain}
+use Rattle.replies.specs.Clients.{Client, client_of, key_of}
+use Rattle.replies.specs.declared.plan.Choice.{Choice}
+
+-- an update check that isn't disabled and asks for no version of its own
+abbrev pub is_open : Check → Bool
+is_open check = not check.disabled && (length check.prefix == 0)
+
+-- rule: App that wants an update
+-- the app wants an update
+abbrev pub wants_update : AppAsk → Bool
+wants_update ask = option_map_or is_open ask.check false
+
+-- the client that wants an update, none if its app is unknown or it wants none
+abbrev pub client_to_update : List App → List ℕ → AppAsk → Option Client
+client_to_update apps session ask = if wants_update ask then client_of apps session ask else None
+
+-- rule: Requested bytes
+-- a payload that is offered: the first one of a chain of the least sum, with its own bytes
+pub record IsOffer (app : App) (key : TrackKey) (place : Place) (choice : Choice) : Type 0 where
+  pub sum : ℕ
+  pub first : IsFirst app key place choice.payload sum
+  pub bytes : choice.bytes ≡ bytes_of app choice.payload
+
+-- rule: No update
+-- what is chosen for a client that wants an update: the first payload of a chain of the least sum; or
+-- nothing, at the target or if no chain leads to it
+abbrev pub IsChoice : App → TrackKey → Place → Option Choice → Type 0
+IsChoice app key place None = IsAtTarget app key place ⊎ HasNoChain app key place
+IsChoice app key place (Some choice) = IsOffer app key place choice
+
+-- the same of a key's app in a content
+abbrev pub IsChoiceAmong : List App → TrackKey → Place → Option Choice → Type 0
+IsChoiceAmong apps key place choice = IfSome (slice_get apps key.app) (λ app. IsChoice app key place choice)
+
+-- what is chosen for a client, at the place that it sent
+abbrev pub IsClientChoice : Client → AppAsk → Option Choice → Type 0
+IsClientChoice client ask choice =
+    IsChoice client.app (key_of client) (place_of client.app.releases ask.fp ask.version) choice
+
+-- rule: Chosen payload
+-- what is chosen for an app of a session's request: nothing if the app is unknown or wants no update
+abbrev pub IsChosen : List App → List ℕ → AppAsk → Option Choice → Type 0
+IsChosen apps session ask choice =
+    MatchOption (client_to_update apps session ask) (choice ≡ None) (λ client. IsClientChoice client ask choice)
+
+-- a plan: what is chosen for each app of the request, in its order
+abbrev pub IsPlan : List App → Request → List (Option Choice) → Type 0
+IsPlan apps request plan = AllZip (IsChosen apps request.session) request.apps plan
+
+-- the payload that was chosen, if any
+abbrev pub payload_in : Option Choice → Option Payload
+payload_in choice = option_map (λ chosen. chosen.payload) choice
+
+-- the payloads of a plan
+abbrev pub payloads_of : List (Option Choice) → List (Option Payload)
+payloads_of plan = map payload_in plan

@@ -1,0 +1,18 @@
+//! Replies to requests, from an edition.
+//!
+//! `plan` chooses a payload for each app of a request: the first one of a chain of the least sum. `render`
+//! writes the reply by the plan and what the mirrors granted. Read `specs/Clients.antt` for who asks,
+//! `specs/Plans.antt` for what is chosen and `specs/Replies.antt` for the reply.
+//!
+//! It grants no bytes: crates above do. A client's track is that of `cohorts`, what is permitted on it that
+//! of `payload_rules`, and a reply's bytes those of `omaha_json`.
+
+#![tactic(auto)]
+
+mod client;
+mod plan;
+mod planning;
+mod rendering;
+
+pub use crate::plan::{Choice, Plan};
+pub use crate::rendering::render;
