@@ -1,10 +1,11 @@
 // How the tests ask an edition, and what it replies.
 
 ghost use Rattle.std.specs.Prelude.{◌≡◌, ◌<◌, length, IfOk, IfSome};
-ghost use Rattle.editions.specs.Replies.{AreOutcomes, IsOutcome};
+ghost use Rattle.replies.specs.Replies.{AreOutcomes, IsOutcome};
 
 use catalogue::Mirror;
-use editions::{Choice, Edition, Plan, plan, render};
+use editions::Edition;
+use replies::{Choice, Plan, plan, render};
 use omaha_json::{Request, read_request};
 use std::alloc::{AllocError, Global};
 use std::process::Abort;

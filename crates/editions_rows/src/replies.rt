@@ -1,6 +1,8 @@
 use crate::asking::{answers, body, reply, request};
 use crate::batches::small;
-use editions::{Choice, Edition, Payload, plan};
+use editions::Edition;
+use payload_rules::Payload;
+use replies::{Choice, plan};
 use omaha_json::{Request, read_request};
 use std::alloc::{AllocError, Global};
 use std::test::Fail;

@@ -1,9 +1,10 @@
 -- What the first mirror grants, and the reply that follows.
 use Rattle.std.proofs.Common.{◌≡◌, ℕ, List, [], ◌∷◌, Option, Some, None, ap, ◌∙◌, arith, rules}
 use Rattle.records.specs.declared.mirror.Mirror.{Mirror}
-use Rattle.editions.specs.Plans.{content_of, payloads_of}
-use Rattle.editions.specs.Replies.{AreOutcomes, reply_of}
-use Rattle.editions.specs.declared.payload.Choice.{Choice}
+use Rattle.editions.specs.Editions.{content_of}
+use Rattle.replies.specs.Plans.{payloads_of}
+use Rattle.replies.specs.Replies.{AreOutcomes, reply_of}
+use Rattle.replies.specs.declared.plan.Choice.{Choice}
 use Rattle.omaha_json.specs.ReplyWriting.{reply_text}
 use Rattle.omaha_json.specs.declared.request.Request.{Request}
 use Rattle.omaha_service.specs.Answering.{granted, reply_by}

@@ -6,8 +6,7 @@ use Rattle.records.specs.Forms.{hash_of}
 use Rattle.records.specs.declared.content.App.{App}
 use Rattle.catalogue.specs.declared.edit.Edit.{Edit}
 use Rattle.catalogue.specs.declared.fault.Refused.{Refused}
-use Rattle.editions.specs.Editions.{Continues, outcome_after}
-use Rattle.editions.specs.Plans.{content_of, content_or_none}
+use Rattle.editions.specs.Editions.{Continues, content_of, content_or_none, outcome_after}
 use Rattle.editions.specs.declared.fault.NextError.TheVariants as error
 use Rattle.hex.proofs.OnLiterals.{hex_on_literals}
 use Rattle.omaha_service.specs.Builtin.{builtin_apps, builtin_batch}

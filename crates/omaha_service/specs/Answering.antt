@@ -2,9 +2,10 @@
 -- time; or its first fault. This project's profile.
 use Rattle.std.specs.Prelude.{◌≡◌, ℕ, List, [], ◌∷◌, map, Option, Some, None, option_and_then, Result, Ok, Err}
 use Rattle.records.specs.declared.mirror.Mirror.{Mirror}
-use Rattle.editions.specs.Plans.{IsPlan, content_of, payloads_of}
-use Rattle.editions.specs.Replies.{reply_of}
-use Rattle.editions.specs.declared.payload.Choice.{Choice}
+use Rattle.editions.specs.Editions.{content_of}
+use Rattle.replies.specs.Plans.{IsPlan, payloads_of}
+use Rattle.replies.specs.Replies.{reply_of}
+use Rattle.replies.specs.declared.plan.Choice.{Choice}
 use Rattle.omaha_json.specs.ReplyWriting.{reply_text}
 use Rattle.omaha_json.specs.RequestReading.{request_of_text}
 use Rattle.omaha_json.specs.declared.fault.RequestFault.{RequestFault}

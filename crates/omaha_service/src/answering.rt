@@ -3,7 +3,7 @@ ghost use Rattle.omaha_service.specs.Answering.{Answers, first_mirror, granted};
 
 use crate::service::Service;
 use catalogue::Mirror;
-use editions::{Plan, plan, render};
+use replies::{Plan, plan, render};
 use omaha_json::{RequestFault, read_request};
 use std::alloc::{AllocError, Global};
 use values::ReadError;

@@ -1,7 +1,7 @@
 // What the program replies from, and how a profile makes it.
 
 ghost use Rattle.std.specs.Prelude.{◌≡◌, IfOk};
-ghost use Rattle.editions.specs.Plans.{content_of};
+ghost use Rattle.editions.specs.Editions.{content_of};
 ghost use Rattle.omaha_service.specs.Builtin.{builtin_apps, builtin_service};
 ghost use Rattle.omaha_service.specs.Services.{service_of, service_of_text};
 ghost use Rattle.values.specs.Reading.{Reads};

@@ -11,23 +11,25 @@ use Rattle.toml_tables.specs.Lists.{element}
 use Rattle.toml_tables.specs.Paths.{bad_key}
 use Rattle.toml_tables.specs.Tables.{PlacedList, PlacedTable, document}
 use Rattle.toml_tables.specs.declared.path.BadEntry.{BadEntry}
-use Rattle.toml_tables.proofs.FaultLemmas.{HasLine, HasLine-cond, HasLine-err, HasLine-ok, HasLine-ok_or, HasLine-then, Tells, each_element, knows, needs, needs_list, reads_each, takes, takes_list}
+use Rattle.toml_tables.proofs.FaultLemmas.{HasLine, HasLine-cond, HasLine-err, HasLine-ok, HasLine-ok_or, HasLine-then, Tells, each_element, knows, needs, needs_list, reads_each, takes, takes_list, takes_texts}
 use Rattle.toml_tables.proofs.LineLemmas.{IsOneLine-append, IsOneLine-decimal}
 use Rattle.toml_tables.proofs.PathLemmas.{IsOneLine-path_of}
 use Rattle.profile_toml.specs.Apps.{app_keys, app_of}
 use Rattle.profile_toml.specs.Cohorts.{cohort_keys, cohort_of, cohorts_after, cohorts_of, is_named, new_name}
+use Rattle.profile_toml.specs.Diffs.{diff_in, diff_keys, diff_of}
 use Rattle.profile_toml.specs.Documents.{check_schema, document_of, entries, is_schema_1}
 use Rattle.profile_toml.specs.FaultTexts.{fault_text}
 use Rattle.profile_toml.specs.Mirrors.{bad_mirror, good_mirrors, mirror_keys, mirror_of}
 use Rattle.profile_toml.specs.Profiles.{profile_keys, profile_of}
 use Rattle.profile_toml.specs.Reading.{profile_of_text, script_of_text}
-use Rattle.profile_toml.specs.Releases.{release_in, release_keys, release_of}
-use Rattle.profile_toml.specs.Scripts.{app_added, cohort_added, edit_in, edit_of, few_edits, keys_of_edit, max_edits, open_set, release_added, script_keys, script_of, share_set, target_set, verb_named, verb_of}
+use Rattle.profile_toml.specs.Releases.{package_in, release_keys, release_of}
+use Rattle.profile_toml.specs.ScriptEdits.{app_added, audience_set, cohort_added, diff_added, edit_in, edit_of, keys_of_edit, open_set, release_added, rollback_set, share_set, stone_set, target_set, verb_named, verb_of, withdrawn_set}
+use Rattle.profile_toml.specs.Scripts.{few_edits, max_edits, script_keys, script_of}
 use Rattle.profile_toml.specs.declared.cohort.CohortEntry.{CohortEntry}
 use Rattle.profile_toml.specs.declared.fault.ProfileFault.{ProfileFault}
 use Rattle.profile_toml.specs.declared.fault.ProfileFault.TheVariants as fault
-use Rattle.profile_toml.specs.declared.script.Verb.{Verb}
-use Rattle.profile_toml.specs.declared.script.Verb.TheVariants as verb
+use Rattle.profile_toml.specs.declared.script_edit.Verb.{Verb}
+use Rattle.profile_toml.specs.declared.script_edit.Verb.TheVariants as verb
 
 Tells-mirror_of : Tells mirror_of
 unfolding mirror_of
@@ -37,9 +39,9 @@ Tells-mirror_of = λ table at.
     needs as_str (codes "codebase") table _ at (λ codebase.
     needs as_natural (codes "budget") table _ at (λ budget. HasLine-ok _))))
 
-Tells-release_in : Tells release_in
-unfolding release_in
-Tells-release_in = λ table at.
+Tells-package_in : Tells package_in
+unfolding package_in
+Tells-package_in = λ table at.
     needs as_str (codes "version") table _ at (λ version.
     needs as_str (codes "name") table _ at (λ name.
     needs as_natural (codes "size") table _ at (λ size.
@@ -48,7 +50,25 @@ Tells-release_in = λ table at.
 Tells-release_of : Tells release_of
 unfolding release_of
 Tells-release_of = λ table at.
-    knows release_keys table _ at (λ all_known. Tells-release_in table at)
+    knows release_keys table _ at (λ all_known.
+    HasLine-then (package_in table) _ (Tells-package_in table at) (λ full.
+    takes as_bool (codes "stone") table _ at (λ stone.
+    takes as_bool (codes "withdrawn") table _ at (λ withdrawn.
+    takes_texts (codes "audience") table _ at (λ audience. HasLine-ok _)))))
+
+Tells-diff_in : Tells diff_in
+unfolding diff_in
+Tells-diff_in = λ table at.
+    needs as_str (codes "from") table _ at (λ from.
+    needs as_str (codes "to") table _ at (λ to.
+    needs as_str (codes "name") table _ at (λ name.
+    needs as_natural (codes "size") table _ at (λ size.
+    needs as_str (codes "sha256") table _ at (λ sha256. HasLine-ok _)))))
+
+Tells-diff_of : Tells diff_of
+unfolding diff_of
+Tells-diff_of = λ table at.
+    knows diff_keys table _ at (λ all_known. Tells-diff_in table at)
 
 Tells-new_name : (before : List CohortEntry) → Tells (new_name before)
 unfolding new_name
@@ -68,7 +88,8 @@ Tells-cohort_of before = λ table at.
     takes as_str (codes "target") table _ at (λ target.
     takes as_str (codes "held") table _ at (λ held.
     takes as_natural (codes "share") table _ at (λ share.
-    takes as_bool (codes "open") table _ at (λ opened. HasLine-ok _))))))
+    takes as_bool (codes "rollback") table _ at (λ rolled.
+    takes as_bool (codes "open") table _ at (λ opened. HasLine-ok _)))))))
 
 HasLine-cohorts_after : (before : List CohortEntry) (list : List ℕ) (index : ℕ) (items : Items)
     → IsOneLine list → HasLine (cohorts_after before list index items)
@@ -86,10 +107,12 @@ Tells-app_of = λ table at.
     needs as_str (codes "default") table _ at (λ default.
     takes_list (codes "cohort") table _ at (λ cohort_list at_cohorts.
     takes_list (codes "release") table _ at (λ release_list at_releases.
+    takes_list (codes "diff") table _ at (λ diff_list at_diffs.
     HasLine-then (cohorts_of cohort_list) _
     (HasLine-cohorts_after [] cohort_list.path 0 cohort_list.items at_cohorts) (λ cohorts.
     reads_each release_of release_list _ Tells-release_of at_releases (λ releases.
-    HasLine-ok _)))))))
+    reads_each diff_of diff_list _ Tells-diff_of at_diffs (λ diffs.
+    HasLine-ok _)))))))))
 
 Tells-profile_of : Tells profile_of
 unfolding profile_of
@@ -109,7 +132,7 @@ Tells-verb_of = λ table at.
 
 -- what an edit of a script says
 Tells-edit_in : (kind : Verb) → Tells (edit_in kind)
-unfolding edit_in app_added release_added cohort_added target_set share_set open_set
+unfolding edit_in app_added release_added cohort_added target_set share_set open_set diff_added stone_set withdrawn_set audience_set rollback_set
 Tells-edit_in verb.AddApp = λ table at.
     HasLine-then (app_added table) _
     (knows (keys_of_edit verb.AddApp) table _ at (λ all_known.
@@ -119,7 +142,7 @@ Tells-edit_in verb.AddRelease = λ table at.
     HasLine-then (release_added table) _
     (knows (keys_of_edit verb.AddRelease) table _ at (λ all_known.
     needs as_str (codes "app") table _ at (λ app.
-    HasLine-then (release_in table) _ (Tells-release_in table at) (λ release. HasLine-ok _))))
+    HasLine-then (package_in table) _ (Tells-package_in table at) (λ full. HasLine-ok _))))
     (λ e. HasLine-ok _)
 Tells-edit_in verb.AddCohort = λ table at.
     HasLine-then (cohort_added table) _
@@ -144,6 +167,36 @@ Tells-edit_in verb.SetOpen = λ table at.
     (knows (keys_of_edit verb.SetOpen) table _ at (λ all_known.
     needs as_str (codes "app") table _ at (λ app.
     needs as_str (codes "cohort") table _ at (λ cohort.
+    needs as_bool (codes "on") table _ at (λ on. HasLine-ok _))))) (λ e. HasLine-ok _)
+Tells-edit_in verb.AddDiff = λ table at.
+    HasLine-then (diff_added table) _
+    (knows (keys_of_edit verb.AddDiff) table _ at (λ all_known.
+    needs as_str (codes "app") table _ at (λ app.
+    HasLine-then (diff_in table) _ (Tells-diff_in table at) (λ diff. HasLine-ok _))))
+    (λ e. HasLine-ok _)
+Tells-edit_in verb.SetStone = λ table at.
+    HasLine-then (stone_set table) _
+    (knows (keys_of_edit verb.SetStone) table _ at (λ all_known.
+    needs as_str (codes "app") table _ at (λ app.
+    needs as_str (codes "version") table _ at (λ named.
+    needs as_bool (codes "on") table _ at (λ on. HasLine-ok _))))) (λ e. HasLine-ok _)
+Tells-edit_in verb.SetWithdrawn = λ table at.
+    HasLine-then (withdrawn_set table) _
+    (knows (keys_of_edit verb.SetWithdrawn) table _ at (λ all_known.
+    needs as_str (codes "app") table _ at (λ app.
+    needs as_str (codes "version") table _ at (λ named.
+    needs as_bool (codes "on") table _ at (λ on. HasLine-ok _))))) (λ e. HasLine-ok _)
+Tells-edit_in verb.SetAudience = λ table at.
+    HasLine-then (audience_set table) _
+    (knows (keys_of_edit verb.SetAudience) table _ at (λ all_known.
+    needs as_str (codes "app") table _ at (λ app.
+    needs as_str (codes "version") table _ at (λ version.
+    takes_texts (codes "cohorts") table _ at (λ cohorts. HasLine-ok _))))) (λ e. HasLine-ok _)
+Tells-edit_in verb.SetRollback = λ table at.
+    HasLine-then (rollback_set table) _
+    (knows (keys_of_edit verb.SetRollback) table _ at (λ all_known.
+    needs as_str (codes "app") table _ at (λ app.
+    needs as_str (codes "cohort") table _ at (λ named.
     needs as_bool (codes "on") table _ at (λ on. HasLine-ok _))))) (λ e. HasLine-ok _)
 
 Tells-edit_of : Tells edit_of

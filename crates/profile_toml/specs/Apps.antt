@@ -10,15 +10,16 @@ use Rattle.toml_tables.specs.Lists.{each, optional_tables}
 use Rattle.toml_tables.specs.Tables.{PlacedTable}
 use Rattle.toml_tables.specs.declared.path.BadEntry.{BadEntry}
 use Rattle.profile_toml.specs.Cohorts.{cohort_edits, cohorts_of, setting_edits}
+use Rattle.profile_toml.specs.Diffs.{diff_edits, diff_of}
 use Rattle.profile_toml.specs.Releases.{release_edits, release_of}
 use Rattle.profile_toml.specs.declared.app.AppEntry.{AppEntry}
 
 -- the keys of an app, in the order in which they are read
 abbrev pub app_keys : List (List ℕ)
-app_keys = codes "id" ∷ codes "default" ∷ codes "cohort" ∷ codes "release" ∷ []
+app_keys = codes "id" ∷ codes "default" ∷ codes "cohort" ∷ codes "release" ∷ codes "diff" ∷ []
 
 -- rule: App of a profile
--- an app: its own keys, then its cohorts, then its releases
+-- an app: its own keys, then its cohorts, its releases and its differentials
 unfoldable pub app_of : PlacedTable → Result AppEntry BadEntry
 app_of table = do
   all_known ← known app_keys table
@@ -26,9 +27,11 @@ app_of table = do
   default ← required as_str (codes "default") table
   cohort_list ← optional_tables (codes "cohort") table
   release_list ← optional_tables (codes "release") table
+  diff_list ← optional_tables (codes "diff") table
   cohorts ← cohorts_of cohort_list
   releases ← each release_of release_list
-  Ok (record { id = id; default = default; cohorts = cohorts; releases = releases })
+  diffs ← each diff_of diff_list
+  Ok (record { id = id; default = default; cohorts = cohorts; releases = releases; diffs = diffs })
 
 -- rule: Edits of a profile
 -- the edits of an app
@@ -37,6 +40,7 @@ app_edits app =
     (edit.AddApp (record { app = app.id; default = app.default }) ∷ [])
     ++ flat_map (cohort_edits app.id app.default) app.cohorts
     ++ flat_map (release_edits app.id) app.releases
+    ++ flat_map (diff_edits app.id) app.diffs
     ++ flat_map (setting_edits app.id) app.cohorts
 
 -- the edits of all apps

@@ -28,7 +28,8 @@ new_name before table = do
 -- the keys of a cohort, in the order in which they are read
 abbrev pub cohort_keys : List (List ℕ)
 cohort_keys =
-    codes "name" ∷ codes "target" ∷ codes "held" ∷ codes "share" ∷ codes "open" ∷ []
+    codes "name" ∷ codes "target" ∷ codes "held" ∷ codes "share" ∷ codes "rollback" ∷ codes "open"
+    ∷ []
 
 -- rule: Cohort of a profile
 -- a cohort of an app, after those before it
@@ -39,9 +40,11 @@ cohort_of before table = do
   target ← optional as_str (codes "target") table
   held ← optional as_str (codes "held") table
   share ← optional as_natural (codes "share") table
+  rolled ← optional as_bool (codes "rollback") table
   opened ← optional as_bool (codes "open") table
+  let rollback = unwrap_or rolled false
   let hintable = unwrap_or opened false
-  Ok (record { name = name; target = target; held = held; share = share; hintable = hintable })
+  Ok (record { name = name; target = target; held = held; share = share; rollback = rollback; hintable = hintable })
 
 -- the cohorts of the list at a path, if those before that index are read already
 abbrev pub cohorts_after : List CohortEntry → List ℕ → ℕ → Items
@@ -79,6 +82,13 @@ share_edits app cohort None = []
 share_edits app cohort (Some share) =
     edit.SetShare (record { app = app; cohort = cohort; share = share }) ∷ []
 
+-- the cohort's clients may be downgraded, if the profile says so
+abbrev pub rollback_edits : List ℕ → CohortEntry → List Edit
+rollback_edits app cohort =
+    if cohort.rollback
+    then edit.SetRollback (record { app = app; cohort = cohort.name; on = true }) ∷ []
+    else []
+
 -- hints may name the cohort, if it is open
 abbrev pub open_edits : List ℕ → CohortEntry → List Edit
 open_edits app cohort =
@@ -89,4 +99,7 @@ open_edits app cohort =
 -- what is set of a cohort
 abbrev pub setting_edits : List ℕ → CohortEntry → List Edit
 setting_edits app cohort =
-    target_edits app cohort ++ share_edits app cohort.name cohort.share ++ open_edits app cohort
+    target_edits app cohort
+    ++ share_edits app cohort.name cohort.share
+    ++ rollback_edits app cohort
+    ++ open_edits app cohort

@@ -1,6 +1,7 @@
 pub mod Apps
 pub mod CohortNames
 pub mod Cohorts
+pub mod Diffs
 pub mod Documents
 pub mod FaultTexts
 pub mod Laws
@@ -8,4 +9,5 @@ pub mod Mirrors
 pub mod Profiles
 pub mod Reading
 pub mod Releases
+pub mod ScriptEdits
 pub mod Scripts

@@ -1,17 +1,19 @@
--- A release of a profile: its keys and its edit; this project's profile.
-use Rattle.std.specs.Prelude.{ℕ, List, [], ◌∷◌, codes, Result, Ok}
-use Rattle.toml.specs.Data.{as_str}
+-- A release of a profile: its keys and its edits; this project's profile.
+use Rattle.std.specs.Prelude.{ℕ, Bool, true, false, List, [], ◌∷◌, ◌++◌, codes, if◌then◌else◌, Option, Some, None, unwrap_or, Result, Ok}
+use Rattle.toml.specs.Data.{as_bool, as_str}
 use Rattle.catalogue.specs.declared.edits.releases.AddRelease.{AddRelease}
 use Rattle.catalogue.specs.declared.edit.Edit.{Edit}
 use Rattle.catalogue.specs.declared.edit.Edit.TheVariants as edit
-use Rattle.toml_tables.specs.Fields.{◌>>=◌, as_natural, known, required}
+use Rattle.toml_tables.specs.Fields.{◌>>=◌, as_natural, known, optional, required}
 use Rattle.toml_tables.specs.Tables.{PlacedTable}
+use Rattle.toml_tables.specs.Texts.{optional_texts}
 use Rattle.toml_tables.specs.declared.path.BadEntry.{BadEntry}
+use Rattle.profile_toml.specs.declared.release.PackageEntry.{PackageEntry}
 use Rattle.profile_toml.specs.declared.release.ReleaseEntry.{ReleaseEntry}
 
--- what is said of a release: its version and its full package
-unfoldable pub release_in : PlacedTable → Result ReleaseEntry BadEntry
-release_in table = do
+-- what is said of a release's version and its full package
+unfoldable pub package_in : PlacedTable → Result PackageEntry BadEntry
+package_in table = do
   version ← required as_str (codes "version") table
   name ← required as_str (codes "name") table
   size ← required as_natural (codes "size") table
@@ -20,26 +22,55 @@ release_in table = do
 
 -- the keys of a release, in the order in which they are read
 abbrev pub release_keys : List (List ℕ)
-release_keys = codes "version" ∷ codes "name" ∷ codes "size" ∷ codes "sha256" ∷ []
+release_keys =
+    codes "version" ∷ codes "name" ∷ codes "size" ∷ codes "sha256" ∷ codes "stone" ∷ codes "withdrawn"
+    ∷ codes "audience" ∷ []
 
 -- rule: Release of a profile
 -- a release of an app
 unfoldable pub release_of : PlacedTable → Result ReleaseEntry BadEntry
 release_of table = do
   all_known ← known release_keys table
-  release_in table
+  full ← package_in table
+  stone ← optional as_bool (codes "stone") table
+  withdrawn ← optional as_bool (codes "withdrawn") table
+  audience ← optional_texts (codes "audience") table
+  let is_stone = unwrap_or stone false
+  let is_withdrawn = unwrap_or withdrawn false
+  Ok (record { full = full; stone = is_stone; withdrawn = is_withdrawn; audience = audience })
 
 -- the release as an edit adds it to an app
-abbrev pub added_to : List ℕ → ReleaseEntry → AddRelease
-added_to app release =
+abbrev pub added_to : List ℕ → PackageEntry → AddRelease
+added_to app full =
     record {
       app = app;
-      version = release.version;
-      name = release.name;
-      size = release.size;
-      sha256 = release.sha256;
+      version = full.version;
+      name = full.name;
+      size = full.size;
+      sha256 = full.sha256;
     }
 
+-- the release is set to be a stone, if it is one
+abbrev pub stone_edits : List ℕ → List ℕ → Bool → List Edit
+stone_edits app version stone =
+    if stone then edit.SetStone (record { app = app; version = version; on = true }) ∷ [] else []
+
+-- it is withdrawn, if the profile says so
+abbrev pub withdrawn_edits : List ℕ → List ℕ → Bool → List Edit
+withdrawn_edits app version withdrawn =
+    if withdrawn then edit.SetWithdrawn (record { app = app; version = version; on = true }) ∷ [] else []
+
+-- its audience is set, if it is given
+abbrev pub audience_edits : List ℕ → List ℕ → Option (List (List ℕ)) → List Edit
+audience_edits app version None = []
+audience_edits app version (Some names) =
+    edit.SetAudience (record { app = app; version = version; cohorts = Some names }) ∷ []
+
+-- rule: Edits of a release of a profile
 -- the edits of a release
 abbrev pub release_edits : List ℕ → ReleaseEntry → List Edit
-release_edits app release = edit.AddRelease (added_to app release) ∷ []
+release_edits app release =
+    (edit.AddRelease (added_to app release.full) ∷ [])
+    ++ stone_edits app release.full.version release.stone
+    ++ withdrawn_edits app release.full.version release.withdrawn
+    ++ audience_edits app release.full.version release.audience

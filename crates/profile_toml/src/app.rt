@@ -6,9 +6,11 @@ ghost use Rattle.values.specs.Reading.{Reads};
 ghost use Rattle.toml_tables.specs.Readers.{placed};
 ghost use Rattle.profile_toml.specs.Apps.{app_edits, app_of, edits_of};
 ghost use Rattle.profile_toml.specs.Cohorts.{cohort_edits, setting_edits};
+ghost use Rattle.profile_toml.specs.Diffs.{diff_edits};
 ghost use Rattle.profile_toml.specs.Releases.{release_edits};
 
 use crate::cohort::{CohortEntry, push_cohort, push_settings, read_cohorts};
+use crate::diff::{DiffEntry, DiffTable, push_diff};
 use crate::release::{ReleaseEntry, ReleaseTable, push_release};
 use catalogue::{AddApp, Edit};
 use std::alloc::{AllocError, Global};
@@ -26,6 +28,8 @@ pub(crate) struct AppEntry {
     pub cohorts: Items<CohortEntry>,
     /// The tables `release`.
     pub releases: Items<ReleaseEntry>,
+    /// The tables `diff`.
+    pub diffs: Items<DiffEntry>,
 }
 
 // rule: App of a profile
@@ -33,16 +37,18 @@ pub(crate) struct AppEntry {
 fn read_app(table: &TableReader<'_>) -> Result<AppEntry, ReadError<BadEntry>>
     ensures { Reads (λ app. app) result (app_of (placed table.now)) }
 {
-    table.check_keys(&["id", "default", "cohort", "release"])?;
+    table.check_keys(&["id", "default", "cohort", "release", "diff"])?;
     let id = table.text("id")?;
     let default = table.text("default")?;
     let cohorts = table.optional_list("cohort")?;
     let releases = table.optional_list("release")?;
+    let diffs = table.optional_list("diff")?;
     Ok(AppEntry {
         id,
         default,
         cohorts: read_cohorts(table.alloc(), &cohorts)?,
         releases: releases.read::<ReleaseTable>()?,
+        diffs: diffs.read::<DiffTable>()?,
     })
 }
 
@@ -90,6 +96,19 @@ fn push_releases(
     Ok(())
 }
 
+fn push_diffs(
+    app: &Text,
+    diffs: Items<DiffEntry>,
+    edits: &mut Items<Edit>,
+) -> Result<(), AllocError>
+    ensures { OnOk result (edits.new ≡ edits.old ++ flat_map (diff_edits app.now) diffs) }
+{
+    for diff in diffs.into_vec() {
+        push_diff(app, diff, edits)?;
+    }
+    Ok(())
+}
+
 fn push_all_settings(
     app: &Text,
     cohorts: &[CohortEntry],
@@ -112,6 +131,7 @@ fn push_app(app: AppEntry, edits: &mut Items<Edit>) -> Result<(), AllocError>
         default,
         cohorts,
         releases,
+        diffs,
     } = app;
     edits.push(Edit::AddApp(AddApp {
         app: id.clone()?,
@@ -119,6 +139,7 @@ fn push_app(app: AppEntry, edits: &mut Items<Edit>) -> Result<(), AllocError>
     }))?;
     push_cohorts(&id, &default, cohorts.as_slice(), edits)?;
     push_releases(&id, releases, edits)?;
+    push_diffs(&id, diffs, edits)?;
     push_all_settings(&id, cohorts.as_slice(), edits)
 }
 

@@ -4,9 +4,9 @@ ghost use Rattle.std.specs.Prelude.{◌≡◌, ◌++◌, [], ◌∷◌, IfOk, On
 ghost use Rattle.std.specs.List.{list_any};
 ghost use Rattle.values.specs.Reading.{Reads};
 ghost use Rattle.toml_tables.specs.Readers.{listed, placed};
-ghost use Rattle.profile_toml.specs.Cohorts.{cohort_edits, cohort_of, cohorts_of, is_named, new_name, open_edits, setting_edits, share_edits, target_edits};
+ghost use Rattle.profile_toml.specs.Cohorts.{cohort_edits, cohort_of, cohorts_of, is_named, new_name, open_edits, rollback_edits, setting_edits, share_edits, target_edits};
 
-use catalogue::{AddCohort, Edit, SetOpen, SetShare, SetTarget};
+use catalogue::{AddCohort, Edit, SetOpen, SetRollback, SetShare, SetTarget};
 use std::alloc::{AllocError, Global};
 use std::collections::BTreeSet;
 use std::marker::Model;
@@ -24,6 +24,8 @@ pub(crate) struct CohortEntry {
     pub held: Option<Text>,
     /// The key `share`, if it is given.
     pub share: Option<u64>,
+    /// The key `rollback`, false if it is not given.
+    pub rollback: bool,
     /// The key `open`, false if it is not given.
     pub hintable: bool,
 }
@@ -105,12 +107,13 @@ fn read_cohort(
 ) -> Result<CohortEntry, ReadError<BadEntry>>
     ensures { Reads (λ cohort. cohort) result (cohort_of before.now (placed table.now)) }
 {
-    table.check_keys(&["name", "target", "held", "share", "open"])?;
+    table.check_keys(&["name", "target", "held", "share", "rollback", "open"])?;
     Ok(CohortEntry {
         name: read_new_name(before, table)?,
         target: table.optional_text("target")?,
         held: table.optional_text("held")?,
         share: table.optional_natural("share")?,
+        rollback: table.optional_flag("rollback")?.unwrap_or(false),
         hintable: table.optional_flag("open")?.unwrap_or(false),
     })
 }
@@ -186,6 +189,24 @@ fn push_share(
     edits.push(Edit::SetShare(edit))
 }
 
+fn push_rollback(
+    app: &Text,
+    cohort: &CohortEntry,
+    edits: &mut Items<Edit>,
+) -> Result<(), AllocError>
+    ensures { OnOk result (edits.new ≡ edits.old ++ rollback_edits app.now cohort.now) }
+{
+    if !cohort.rollback {
+        return Ok(());
+    }
+    let edit = SetRollback {
+        app: app.clone()?,
+        cohort: cohort.name.clone()?,
+        on: true,
+    };
+    edits.push(Edit::SetRollback(edit))
+}
+
 fn push_open(app: &Text, cohort: &CohortEntry, edits: &mut Items<Edit>) -> Result<(), AllocError>
     ensures { OnOk result (edits.new ≡ edits.old ++ open_edits app.now cohort.now) }
 {
@@ -210,5 +231,6 @@ pub(crate) fn push_settings(
 {
     push_targets(app, cohort, edits)?;
     push_share(app, &cohort.name, cohort.share, edits)?;
+    push_rollback(app, cohort, edits)?;
     push_open(app, cohort, edits)
 }

@@ -4,7 +4,7 @@
 //! that makes such a catalogue, and the mirrors. A script lists edits one by one, with the number
 //! of the edition that it is written for; `read_script` returns both. `specs/Reading.antt` says
 //! what a document is read as, or which `ProfileFault` it has: the first one. Read `specs/Apps.antt`
-//! for a profile's edits in their order, `specs/Scripts.antt` for the edits of a script, and `laws`
+//! for a profile's edits in their order, `specs/ScriptEdits.antt` for the edits of a script, and `laws`
 //! for what holds of every profile.
 //!
 //! The keys of a table and their paths are read by `toml_tables`. This crate does not apply a batch
@@ -14,6 +14,7 @@
 
 mod app;
 mod cohort;
+mod diff;
 mod document;
 mod fault;
 pub mod laws;
@@ -21,6 +22,7 @@ mod mirror;
 mod profile;
 mod release;
 mod script;
+mod script_edit;
 
 pub use crate::fault::ProfileFault;
 pub use crate::profile::read_profile;

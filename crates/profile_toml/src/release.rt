@@ -1,21 +1,21 @@
-//! A release of a profile: what its table says, and its edit.
+//! A release of a profile: what its table says, and its edits.
 
 ghost use Rattle.std.specs.Prelude.{◌≡◌, ◌++◌, OnOk};
 ghost use Rattle.values.specs.Reading.{Reads};
 ghost use Rattle.toml_tables.specs.Readers.{placed};
-ghost use Rattle.profile_toml.specs.Releases.{added_to, release_edits, release_in, release_of};
+ghost use Rattle.profile_toml.specs.Releases.{added_to, audience_edits, package_in, release_edits, release_of, stone_edits, withdrawn_edits};
 
-use catalogue::{AddRelease, Edit};
+use catalogue::{AddRelease, Edit, SetAudience, SetStone, SetWithdrawn};
 use std::alloc::AllocError;
 use toml_tables::{BadEntry, TableKind, TableReader};
 use values::{Items, ReadError, Text};
 
-/// A table `release`.
+/// What is said of a release's version and its full package.
 #[derive(Drop)]
-pub(crate) struct ReleaseEntry {
+pub(crate) struct PackageEntry {
     /// The key `version`.
     pub version: Text,
-    /// The key `name`, that of its full package.
+    /// The key `name`.
     pub name: Text,
     /// The key `size`, in bytes.
     pub size: u64,
@@ -23,12 +23,25 @@ pub(crate) struct ReleaseEntry {
     pub sha256: Text,
 }
 
-/// Reads what a table says of a release.
-#[tactic(auto, unfolding(crate::specs::Releases::release_in))]
-pub(crate) fn read_package(table: &TableReader<'_>) -> Result<ReleaseEntry, ReadError<BadEntry>>
-    ensures { Reads (λ release. release) result (release_in (placed table.now)) }
+/// A table `release`.
+#[derive(Drop)]
+pub(crate) struct ReleaseEntry {
+    /// The version and the full package.
+    pub full: PackageEntry,
+    /// The key `stone`, false if it is not given.
+    pub stone: bool,
+    /// The key `withdrawn`, false if it is not given.
+    pub withdrawn: bool,
+    /// The key `audience`, the names of cohorts, if it is given.
+    pub audience: Option<Items<Text>>,
+}
+
+/// Reads what a table says of a release's version and its full package.
+#[tactic(auto, unfolding(crate::specs::Releases::package_in))]
+pub(crate) fn read_package(table: &TableReader<'_>) -> Result<PackageEntry, ReadError<BadEntry>>
+    ensures { Reads (λ full. full) result (package_in (placed table.now)) }
 {
-    Ok(ReleaseEntry {
+    Ok(PackageEntry {
         version: table.text("version")?,
         name: table.text("name")?,
         size: table.natural("size")?,
@@ -41,8 +54,21 @@ pub(crate) fn read_package(table: &TableReader<'_>) -> Result<ReleaseEntry, Read
 fn read_release(table: &TableReader<'_>) -> Result<ReleaseEntry, ReadError<BadEntry>>
     ensures { Reads (λ release. release) result (release_of (placed table.now)) }
 {
-    table.check_keys(&["version", "name", "size", "sha256"])?;
-    read_package(table)
+    table.check_keys(&[
+        "version",
+        "name",
+        "size",
+        "sha256",
+        "stone",
+        "withdrawn",
+        "audience",
+    ])?;
+    Ok(ReleaseEntry {
+        full: read_package(table)?,
+        stone: table.optional_flag("stone")?.unwrap_or(false),
+        withdrawn: table.optional_flag("withdrawn")?.unwrap_or(false),
+        audience: table.optional_texts("audience")?,
+    })
 }
 
 /// The tables `release` of an app.
@@ -61,15 +87,15 @@ impl TableKind for ReleaseTable {
 }
 
 /// Makes the edit that adds a release to an app.
-pub(crate) fn added_to(app: Text, release: ReleaseEntry) -> AddRelease
-    ensures { result ≡ added_to app release }
+pub(crate) fn added_to(app: Text, full: PackageEntry) -> AddRelease
+    ensures { result ≡ added_to app full }
 {
-    let ReleaseEntry {
+    let PackageEntry {
         version,
         name,
         size,
         sha256,
-    } = release;
+    } = full;
     AddRelease {
         app,
         version,
@@ -79,6 +105,64 @@ pub(crate) fn added_to(app: Text, release: ReleaseEntry) -> AddRelease
     }
 }
 
+fn push_stone(
+    app: &Text,
+    version: &Text,
+    stone: bool,
+    edits: &mut Items<Edit>,
+) -> Result<(), AllocError>
+    ensures { OnOk result (edits.new ≡ edits.old ++ stone_edits app.now version.now stone) }
+{
+    if !stone {
+        return Ok(());
+    }
+    let edit = SetStone {
+        app: app.clone()?,
+        version: version.clone()?,
+        on: true,
+    };
+    edits.push(Edit::SetStone(edit))
+}
+
+fn push_withdrawn(
+    app: &Text,
+    version: &Text,
+    withdrawn: bool,
+    edits: &mut Items<Edit>,
+) -> Result<(), AllocError>
+    ensures { OnOk result (edits.new ≡ edits.old ++ withdrawn_edits app.now version.now withdrawn) }
+{
+    if !withdrawn {
+        return Ok(());
+    }
+    let edit = SetWithdrawn {
+        app: app.clone()?,
+        version: version.clone()?,
+        on: true,
+    };
+    edits.push(Edit::SetWithdrawn(edit))
+}
+
+fn push_audience(
+    app: &Text,
+    version: Text,
+    audience: Option<Items<Text>>,
+    edits: &mut Items<Edit>,
+) -> Result<(), AllocError>
+    ensures { OnOk result (edits.new ≡ edits.old ++ audience_edits app.now version audience) }
+{
+    let Some(names) = audience else {
+        return Ok(());
+    };
+    let edit = SetAudience {
+        app: app.clone()?,
+        version,
+        cohorts: Some(names),
+    };
+    edits.push(Edit::SetAudience(edit))
+}
+
+// rule: Edits of a release of a profile
 /// Pushes the edits of a release.
 pub(crate) fn push_release(
     app: &Text,
@@ -87,6 +171,15 @@ pub(crate) fn push_release(
 ) -> Result<(), AllocError>
     ensures { OnOk result (edits.new ≡ edits.old ++ release_edits app.now release) }
 {
-    let app = app.clone()?;
-    edits.push(Edit::AddRelease(added_to(app, release)))
+    let ReleaseEntry {
+        full,
+        stone,
+        withdrawn,
+        audience,
+    } = release;
+    let version = full.version.clone()?;
+    edits.push(Edit::AddRelease(added_to(app.clone()?, full)))?;
+    push_stone(app, &version, stone, edits)?;
+    push_withdrawn(app, &version, withdrawn, edits)?;
+    push_audience(app, version, audience, edits)
 }

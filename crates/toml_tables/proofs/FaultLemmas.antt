@@ -4,12 +4,13 @@ use Rattle.std.proofs.Common.{◌≡◌, ℕ, ◌+◌, List, [], Bool, true, fal
 use Rattle.std.specs.List.{list_any}
 use Rattle.std.specs.Option.{ok_or, option_map_or}
 use Rattle.std.specs.Str.{bytes_eq}
-use Rattle.toml.specs.Data.{Data, Items, no_items, item, Members, no_members, member, get_member, as_array, as_table}
+use Rattle.toml.specs.Data.{Data, Items, no_items, item, Members, no_members, member, get_member, as_array, as_str, as_table}
 use Rattle.toml_tables.specs.Fields.{◌>>=◌, if_given, known, known_among, optional, required}
 use Rattle.toml_tables.specs.Laws.{IsOneLine}
 use Rattle.toml_tables.specs.Lists.{all_tables, each, each_from, element, optional_tables, required_tables, tables_of}
 use Rattle.toml_tables.specs.Paths.{bad_element, bad_key, indexed, path_of}
 use Rattle.toml_tables.specs.Tables.{PlacedList, PlacedTable, element_table, list_at}
+use Rattle.toml_tables.specs.Texts.{optional_texts, text_element, texts_from, texts_if_given, texts_of}
 use Rattle.toml_tables.specs.declared.path.BadEntry.{BadEntry}
 use Rattle.toml_tables.proofs.LineLemmas.{IsOneLine-indexed}
 use Rattle.toml_tables.proofs.PathLemmas.{IsOneLine-element, IsOneLine-path_of}
@@ -214,3 +215,35 @@ pub reads_each : {A Y : Type 0} (reads : PlacedTable → Result A BadEntry) (lis
 reads_each reads list step of_reads of_list of_step =
     HasLine-then (each reads list) step
     (HasLine-each_from reads of_reads list.path of_list 0 list.items) of_step
+
+HasLine-texts_from : (list : List ℕ) (index : ℕ) (items : Items)
+    → IsOneLine list → HasLine (texts_from list index items)
+HasLine-texts_from list index no_items of_list = HasLine-ok []
+HasLine-texts_from list index (item value values) of_list =
+    HasLine-then (text_element list index value) _
+    (HasLine-ok_or (as_str value) (bad_element list index) (IsOneLine-indexed list index of_list)) (λ first.
+    HasLine-then (texts_from list (index + 1) values) _
+    (HasLine-texts_from list (index + 1) values of_list) (λ rest. HasLine-ok _))
+
+HasLine-texts_of : (key : List ℕ) (table : PlacedTable) (value : Data)
+    → IsOneLine table.place → HasLine (texts_of key table value)
+unfolding texts_of
+HasLine-texts_of key table value of_place =
+    HasLine-then (ok_or (as_array value) (bad_key table.place key)) _
+    (HasLine-ok_or (as_array value) (bad_key table.place key) (IsOneLine-path_of table.place key of_place)) (λ items.
+    HasLine-texts_from (path_of table.place key) 0 items (IsOneLine-path_of table.place key of_place))
+
+HasLine-texts_if_given : (key : List ℕ) (table : PlacedTable) (given : Option Data)
+    → IsOneLine table.place → HasLine (texts_if_given key table given)
+HasLine-texts_if_given key table None of_place = HasLine-ok None
+HasLine-texts_if_given key table (Some value) of_place =
+    HasLine-then (texts_of key table value) _ (HasLine-texts_of key table value of_place) (λ texts. HasLine-ok _)
+
+-- the strings under a key
+pub takes_texts : {Y : Type 0} (key : List ℕ) (table : PlacedTable)
+    (step : Option (List (List ℕ)) → Result Y BadEntry) → IsOneLine table.place
+    → ((texts : Option (List (List ℕ))) → HasLine (step texts))
+    → HasLine (optional_texts key table >>= step)
+takes_texts key table step of_place of_step =
+    HasLine-then (optional_texts key table) step
+    (HasLine-texts_if_given key table (get_member key table.members) of_place) of_step

@@ -86,7 +86,7 @@ impl<'t> TableReader<'t> {
         Ok(())
     }
 
-    fn value(&self, key: &str) -> Option<&'t Value>
+    pub(crate) fn value(&self, key: &str) -> Option<&'t Value>
         ensures { option_map (λ value. view value.now) result
             ≡ get_member key.now (placed self.now).members }
     {

@@ -1,5 +1,5 @@
 use Rattle.std.proofs.Common.{take}
-use Rattle.editions.specs.Replies.{AreOutcomes}
+use Rattle.replies.specs.Replies.{AreOutcomes}
 use Rattle.editions_rows.proofs.asking.outcomes.Given as goal
 
 abbrev pub invariant-loop-choice : goal.invariant-loop-choice

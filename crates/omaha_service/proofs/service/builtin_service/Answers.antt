@@ -1,5 +1,5 @@
 use Rattle.std.proofs.Common.{ap, ◌∙◌}
-use Rattle.editions.specs.Plans.{content_of}
+use Rattle.editions.specs.Editions.{content_of}
 use Rattle.omaha_service.proofs.BuiltinLemmas.{content_of-builtin_batch}
 use Rattle.omaha_service.proofs.service.builtin_service.Goals as goal
 

@@ -1,0 +1,231 @@
+//! The edits of a script.
+
+ghost use Rattle.std.specs.Prelude.{◌≡◌};
+ghost use Rattle.values.specs.Reading.{Reads};
+ghost use Rattle.toml_tables.specs.Readers.{placed};
+ghost use Rattle.profile_toml.specs.ScriptEdits.{app_added, audience_set, cohort_added, diff_added, edit_in, edit_of, open_set, release_added, rollback_set, share_set, stone_set, target_set, verb_named, verb_of, withdrawn_set};
+
+use crate::diff::{diff_added_to, read_diff_package};
+use crate::release::{added_to, read_package};
+use catalogue::{
+    AddApp, AddCohort, AddDiff, AddRelease, Edit, SetAudience, SetOpen, SetRollback, SetShare,
+    SetStone, SetTarget, SetWithdrawn,
+};
+use toml_tables::{BadEntry, TableKind, TableReader};
+use values::ReadError;
+
+/// A kind of edit, which a script names by `do`.
+#[derive(Clone, Copy)]
+enum Verb {
+    AddApp,
+    AddRelease,
+    AddCohort,
+    SetTarget,
+    SetShare,
+    SetOpen,
+    AddDiff,
+    SetStone,
+    SetWithdrawn,
+    SetAudience,
+    SetRollback,
+}
+
+impl Verb {
+    fn from_name(name: &str) -> Option<Verb>
+        ensures { result ≡ verb_named name.now }
+    {
+        match name {
+            "add_app" => Some(Verb::AddApp),
+            "add_release" => Some(Verb::AddRelease),
+            "add_cohort" => Some(Verb::AddCohort),
+            "set_target" => Some(Verb::SetTarget),
+            "set_share" => Some(Verb::SetShare),
+            "set_open" => Some(Verb::SetOpen),
+            "add_diff" => Some(Verb::AddDiff),
+            "set_stone" => Some(Verb::SetStone),
+            "set_withdrawn" => Some(Verb::SetWithdrawn),
+            "set_audience" => Some(Verb::SetAudience),
+            "set_rollback" => Some(Verb::SetRollback),
+            _ => None,
+        }
+    }
+}
+
+#[tactic(auto, unfolding(crate::specs::ScriptEdits::verb_of))]
+fn read_verb(table: &TableReader<'_>) -> Result<Verb, ReadError<BadEntry>>
+    ensures { Reads (λ verb. verb) result (verb_of (placed table.now)) }
+{
+    let name = table.text("do")?;
+    match Verb::from_name(name.as_str()) {
+        Some(verb) => Ok(verb),
+        None => Err(ReadError::Fault(table.bad_entry("do")?)),
+    }
+}
+
+#[tactic(auto, unfolding(crate::specs::ScriptEdits::app_added))]
+fn read_add_app(table: &TableReader<'_>) -> Result<AddApp, ReadError<BadEntry>>
+    ensures { Reads (λ edit. edit) result (app_added (placed table.now)) }
+{
+    table.check_keys(&["do", "app", "default"])?;
+    Ok(AddApp {
+        app: table.text("app")?,
+        default: table.text("default")?,
+    })
+}
+
+#[tactic(auto, unfolding(crate::specs::ScriptEdits::release_added))]
+fn read_add_release(table: &TableReader<'_>) -> Result<AddRelease, ReadError<BadEntry>>
+    ensures { Reads (λ edit. edit) result (release_added (placed table.now)) }
+{
+    table.check_keys(&["do", "app", "version", "name", "size", "sha256"])?;
+    let app = table.text("app")?;
+    Ok(added_to(app, read_package(table)?))
+}
+
+#[tactic(auto, unfolding(crate::specs::ScriptEdits::cohort_added))]
+fn read_add_cohort(table: &TableReader<'_>) -> Result<AddCohort, ReadError<BadEntry>>
+    ensures { Reads (λ edit. edit) result (cohort_added (placed table.now)) }
+{
+    table.check_keys(&["do", "app", "cohort"])?;
+    Ok(AddCohort {
+        app: table.text("app")?,
+        cohort: table.text("cohort")?,
+    })
+}
+
+#[tactic(auto, unfolding(crate::specs::ScriptEdits::target_set))]
+fn read_set_target(table: &TableReader<'_>) -> Result<SetTarget, ReadError<BadEntry>>
+    ensures { Reads (λ edit. edit) result (target_set (placed table.now)) }
+{
+    table.check_keys(&["do", "app", "cohort", "target", "held"])?;
+    Ok(SetTarget {
+        app: table.text("app")?,
+        cohort: table.text("cohort")?,
+        target: table.optional_text("target")?,
+        held: table.optional_text("held")?,
+    })
+}
+
+#[tactic(auto, unfolding(crate::specs::ScriptEdits::share_set))]
+fn read_set_share(table: &TableReader<'_>) -> Result<SetShare, ReadError<BadEntry>>
+    ensures { Reads (λ edit. edit) result (share_set (placed table.now)) }
+{
+    table.check_keys(&["do", "app", "cohort", "share"])?;
+    Ok(SetShare {
+        app: table.text("app")?,
+        cohort: table.text("cohort")?,
+        share: table.natural("share")?,
+    })
+}
+
+#[tactic(auto, unfolding(crate::specs::ScriptEdits::open_set))]
+fn read_set_open(table: &TableReader<'_>) -> Result<SetOpen, ReadError<BadEntry>>
+    ensures { Reads (λ edit. edit) result (open_set (placed table.now)) }
+{
+    table.check_keys(&["do", "app", "cohort", "on"])?;
+    Ok(SetOpen {
+        app: table.text("app")?,
+        cohort: table.text("cohort")?,
+        on: table.flag("on")?,
+    })
+}
+
+#[tactic(auto, unfolding(crate::specs::ScriptEdits::diff_added))]
+fn read_add_diff(table: &TableReader<'_>) -> Result<AddDiff, ReadError<BadEntry>>
+    ensures { Reads (λ edit. edit) result (diff_added (placed table.now)) }
+{
+    table.check_keys(&["do", "app", "from", "to", "name", "size", "sha256"])?;
+    let app = table.text("app")?;
+    Ok(diff_added_to(app, read_diff_package(table)?))
+}
+
+#[tactic(auto, unfolding(crate::specs::ScriptEdits::stone_set))]
+fn read_set_stone(table: &TableReader<'_>) -> Result<SetStone, ReadError<BadEntry>>
+    ensures { Reads (λ edit. edit) result (stone_set (placed table.now)) }
+{
+    table.check_keys(&["do", "app", "version", "on"])?;
+    Ok(SetStone {
+        app: table.text("app")?,
+        version: table.text("version")?,
+        on: table.flag("on")?,
+    })
+}
+
+#[tactic(auto, unfolding(crate::specs::ScriptEdits::withdrawn_set))]
+fn read_set_withdrawn(table: &TableReader<'_>) -> Result<SetWithdrawn, ReadError<BadEntry>>
+    ensures { Reads (λ edit. edit) result (withdrawn_set (placed table.now)) }
+{
+    table.check_keys(&["do", "app", "version", "on"])?;
+    Ok(SetWithdrawn {
+        app: table.text("app")?,
+        version: table.text("version")?,
+        on: table.flag("on")?,
+    })
+}
+
+#[tactic(auto, unfolding(crate::specs::ScriptEdits::audience_set))]
+fn read_set_audience(table: &TableReader<'_>) -> Result<SetAudience, ReadError<BadEntry>>
+    ensures { Reads (λ edit. edit) result (audience_set (placed table.now)) }
+{
+    table.check_keys(&["do", "app", "version", "cohorts"])?;
+    Ok(SetAudience {
+        app: table.text("app")?,
+        version: table.text("version")?,
+        cohorts: table.optional_texts("cohorts")?,
+    })
+}
+
+#[tactic(auto, unfolding(crate::specs::ScriptEdits::rollback_set))]
+fn read_set_rollback(table: &TableReader<'_>) -> Result<SetRollback, ReadError<BadEntry>>
+    ensures { Reads (λ edit. edit) result (rollback_set (placed table.now)) }
+{
+    table.check_keys(&["do", "app", "cohort", "on"])?;
+    Ok(SetRollback {
+        app: table.text("app")?,
+        cohort: table.text("cohort")?,
+        on: table.flag("on")?,
+    })
+}
+
+#[tactic(auto, unfolding(crate::specs::ScriptEdits::edit_in))]
+fn read_edit_of(verb: Verb, table: &TableReader<'_>) -> Result<Edit, ReadError<BadEntry>>
+    ensures { Reads (λ edit. edit) result (edit_in verb (placed table.now)) }
+{
+    match verb {
+        Verb::AddApp => Ok(Edit::AddApp(read_add_app(table)?)),
+        Verb::AddRelease => Ok(Edit::AddRelease(read_add_release(table)?)),
+        Verb::AddCohort => Ok(Edit::AddCohort(read_add_cohort(table)?)),
+        Verb::SetTarget => Ok(Edit::SetTarget(read_set_target(table)?)),
+        Verb::SetShare => Ok(Edit::SetShare(read_set_share(table)?)),
+        Verb::SetOpen => Ok(Edit::SetOpen(read_set_open(table)?)),
+        Verb::AddDiff => Ok(Edit::AddDiff(read_add_diff(table)?)),
+        Verb::SetStone => Ok(Edit::SetStone(read_set_stone(table)?)),
+        Verb::SetWithdrawn => Ok(Edit::SetWithdrawn(read_set_withdrawn(table)?)),
+        Verb::SetAudience => Ok(Edit::SetAudience(read_set_audience(table)?)),
+        Verb::SetRollback => Ok(Edit::SetRollback(read_set_rollback(table)?)),
+    }
+}
+
+// rule: Edit of a script
+#[tactic(auto, unfolding(crate::specs::ScriptEdits::edit_of))]
+fn read_edit(table: &TableReader<'_>) -> Result<Edit, ReadError<BadEntry>>
+    ensures { Reads (λ edit. edit) result (edit_of (placed table.now)) }
+{
+    let verb = read_verb(table)?;
+    read_edit_of(verb, table)
+}
+
+/// The tables `edit` of a script.
+pub(crate) struct EditTable;
+
+impl TableKind for EditTable {
+    ghost use Rattle.profile_toml.specs.ScriptEdits.{edit_of};
+
+    type Record = Edit;
+
+    ghost reads = { edit_of };
+
+    fn read(table: &TableReader<'_>) -> Result<Edit, ReadError<BadEntry>> {
+        read_edit(table)
+    }
+}
