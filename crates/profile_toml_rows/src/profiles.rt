@@ -143,7 +143,8 @@ const APPS: &str =
     r#"> schema = 1~mirror = [{ name = "m", codebase = "http://m/", budget = 7 }]~[[app]]~
 F3 BadEntry app[0].id | 
 F3 BadEntry app[0].x | x = 1
-F3 BadEntry app[0].diff | diff = []~id = 1
+F3 BadEntry app[0].diffs | diffs = []~id = 1
+F3 BadEntry app[0].id | diff = 1~id = 1
 F3 BadEntry app[0].id | id = 07:32:00~cohort = 1
 F3 BadEntry app[0].id | default = 1
 F3 BadEntry app[0].default | id = 'a'
@@ -162,7 +163,10 @@ F3 BadEntry app[0].release | release = ''
 F3 BadEntry app[0].release | cohort = [{}]~release = 1
 F3 BadEntry app[0].release[1] | cohort = [{}]~release = [{}, 0]
 F3 BadEntry app[0].cohort[0].name | cohort = [{}]~release = [{}]
-F3 BadEntry app[0].cohort[0].rollback | cohort = [{ rollback = true, open = 1 }]
+F3 BadEntry app[0].diff | diff = {}~release = [{}]
+F3 BadEntry app[0].release | release = 1~diff = 1
+F3 BadEntry app[0].diff[1] | release = [{}]~diff = [{}, 0]
+F3 BadEntry app[0].cohort[0].name | cohort = [{ rollback = 1 }]
 F3 BadEntry app[0].cohort[0].x | cohort = [{ x = 1 }]
 F3 BadEntry app[0].cohort[0].name | cohort = [{}, { x = 1 }]
 F3 BadEntry app[0].cohort[0].name | cohort = [{ name = [] }]
@@ -181,11 +185,12 @@ F3 BadEntry app[0].cohort[2000].name | cohort = [%2000*{name='c#'},%{name='c1000
 F3 BadEntry app[0].cohort[2000].open | cohort = [%2000*{name='c#'},%{name='c',open=1}]
 F3 BadEntry app[0].cohort[0].target | cohort = [{ name = 'c', target = 4, held = 3 }]
 F3 BadEntry app[0].cohort[0].held | cohort = [{ name = 'c', held = 3.0, share = -1 }]
-F3 BadEntry app[0].cohort[0].share | cohort = [{ name = 'c', share = -1, open = 0 }]
+F3 BadEntry app[0].cohort[0].share | cohort = [{ name = 'c', share = -1, rollback = 0 }]
+F3 BadEntry app[0].cohort[0].rollback | cohort = [{ name = 'c', rollback = 1, open = 1 }]
 F3 BadEntry app[0].cohort[0].open | cohort = [{ name = 'c', open = 'true' }]~release = [{}]
-F3 BadEntry app[0].release[0].stone | release = [{ stone = true }]
-F3 BadEntry app[0].release[0].withdrawn | release = [{ version = 1, withdrawn = true }]
-F3 BadEntry app[0].release[0].audience | release = [{ audience = ['b'], withdrawn = true }]
+F3 BadEntry app[0].release[0].version | release = [{ stone = 1 }]
+F3 BadEntry app[0].release[0].stones | release = [{ stones = true }]
+F3 BadEntry app[0].release[0].version | release = [{ version = 1, withdrawn = 1 }]
 F3 BadEntry app[0].release[0].version | [[app.release]]~version.major = 1
 F3 BadEntry app[0].release[0].version | release = [{}, { x = 1 }]
 F3 BadEntry app[0].release[0].version | release = [{ version = 1.0, name = 1 }]
@@ -195,7 +200,24 @@ F3 BadEntry app[0].release[0].size | release = [{ version = '1', name = 'n' }]
 F3 BadEntry app[0].release[0].size | release = [{ version = '1', name = 'n', size = '3' }]
 F3 BadEntry app[0].release[0].size | release = [{ version='1', name='n', size=-3, sha256=1 }]
 F3 BadEntry app[0].release[0].sha256 | release = [{ version = '1', name = 'n', size = 3 }]
-F3 BadEntry app[0].release[0].sha256 | release = [{ version='1', name='n', size=0, sha256=1 }]"#;
+F3 BadEntry app[0].release[0].sha256 | release = [{ version='1', name='n', size=0, sha256=1 }]
+F3 BadEntry app[0].release[0].sha256 | release = [{ version='1', name='n', size=0, stone=1 }]
+F3 BadEntry app[0].release[0].version | release = [{}]~diff = [{}]
+F3 BadEntry app[0].diff[0].x | diff = [{ x = 1 }]
+F3 BadEntry app[0].diff[0].from | diff = [{}, { x = 1 }]
+F3 BadEntry app[0].diff[0].from | diff = [{ from = 1, to = 1 }]
+F3 BadEntry app[0].diff[0].to | diff = [{ from = '', name = 1 }]
+F3 BadEntry app[0].diff[0].name | diff = [{ from = '', to = '', name = 1, size = -1 }]
+F3 BadEntry app[0].diff[0].size | diff = [{ from = '', to = '', name = '', size = -1 }]
+F3 BadEntry app[0].diff[0].sha256 | diff = [{ from = '', to = '', name = '', size = 1 }]
+> schema = 1~mirror = [{ name = "m", codebase = "http://m/", budget = 7 }]~[[app]]~id = "a"~default = "b"~[[app.release]]~version = '1'~name = 'n'~size = 1~sha256 = 'x'~
+F3 BadEntry app[0].release[0].stone | stone = 1~withdrawn = 1
+F3 BadEntry app[0].release[0].withdrawn | stone = true~withdrawn = 'true'~audience = 1
+F3 BadEntry app[0].release[0].audience | audience = 'b'
+F3 BadEntry app[0].release[0].audience | [app.release.audience]~b = true
+F3 BadEntry app[0].release[0].audience[0] | audience = [['b']]
+F3 BadEntry app[0].release[0].audience[1] | audience = ['b', 1, 2]
+F3 BadEntry app[0].release[0].cohorts | audience = 1~cohorts = ['b']"#;
 
 #[test]
 fn reports_the_first_fault_of_an_app(rt: HostRuntime) -> Result<(), Fail> {
@@ -219,6 +241,9 @@ m http://m/ 7; app a b; target a b 1 none; | cohort = [{name='b',target='1',open
 m http://m/ 7; app a b; target a b 2 1; share a b 5; open a b true; | cohort = [{name='b',open=true,share=5,held='1',target='2'}]
 m http://m/ 7; app a b; target a b none 1; share a b 0; | cohort=[{name='b',held='1',share=0}]
 m http://m/ 7; app a b; cohort a c; open a c true; | [[app.cohort]]~name='c'~open=true
+m http://m/ 7; app a b; rollback a b true; | cohort = [{name='b',open=false,rollback=true}]
+m http://m/ 7; app a b; share a b 1; rollback a b true; open a b true; | cohort = [{name='b',rollback=true,open=true,share=1}]
+m http://m/ 7; app a b; cohort a c; release a 1 n 1 x; stone a 1 true; withdrawn a 1 true; audience a 1 [c,b,c,]; release a 2 o 2 y; audience a 2 []; release a 3 p 3 z; diff a 1 2 d 4 w; diff a 9 8 e 5 v; target a b 2 none; | diff=[{from='1',to='2',name='d',size=4,sha256='w'},{from='9',to='8',name='e',size=5,sha256='v'}]~cohort=[{name='b',target='2',rollback=false},{name='c'}]~release=[{version='1',name='n',size=1,sha256='x',audience=['c','b','c'],withdrawn=true,stone=true},{version='2',name='o',size=2,sha256='y',stone=false,withdrawn=false,audience=[]},{version='3',name='p',size=3,sha256='z'}]
 m http://m/ 7; app a b; share a b 1001; | cohort = [{name='b',share=1001}]
 m http://m/ 7; app a b; cohort a c; release a 9 n 1 x; share a c 2; | release=[{version='9',name='n',size=1,sha256='x'}]~cohort=[{name='c',share=2}]
 > schema = 1~mirror = [{ name = "m", codebase = "http://m/", budget = 7 }]~[[app]]~id = "a"~default = "b"~cohort = [{ name = "b", share = 1 }]~[[app.release]]~version = "9"~name = "n"~sha256 = "x"~size = 
@@ -229,7 +254,8 @@ m http://m/ 7; app a b; release a 9 n 0 x; share a b 1; | -0"#;
 
 // Whole profiles with their edits, and the first of them with one key changed.
 const WORKED: &str =
-    r#"m0 http://m0.example/p/ 1000000; app mini stable; release mini 1.0 mini-1.0.bin 3 ba7816bf8f01cfea414140de5dae2223b00361a396177a9cb410ff61f20015ad; release mini 2.0 mini-2.0.bin 56 248d6a61d20638b8e5c026930c3e6039a33ce45964ff2167f6ecedd419db06c1; target mini stable 2.0 none; | schema = 1~~[[mirror]]~name = "m0"~codebase = "http://m0.example/p/"~budget = 1000000~~[[app]]~id = "mini"~default = "stable"~~[[app.cohort]]~name = "stable"~target = "2.0"~~[[app.release]]~version = "1.0"~name = "mini-1.0.bin"~size = 3~sha256 = "ba7816bf8f01cfea414140de5dae2223b00361a396177a9cb410ff61f20015ad"~~[[app.release]]~version = "2.0"~name = "mini-2.0.bin"~size = 56~sha256 = "248d6a61d20638b8e5c026930c3e6039a33ce45964ff2167f6ecedd419db06c1"
+    r#"m0 http://m0.example/p/ 1000000; app demo stable; cohort demo beta; release demo 1.0 demo-1.0.bin 1000 %64*1%; release demo 2.0 demo-2.0.bin 1200 %64*2%; stone demo 2.0 true; release demo 3.0 demo-3.0.bin 1500 %64*3%; release demo 4.0 demo-4.0.bin 1600 %64*4%; diff demo 1.0 2.0 demo-1.0-2.0.bin 300 %32*12%; diff demo 2.0 3.0 demo-2.0-3.0.bin 200 %32*23%; diff demo 3.0 4.0 demo-3.0-4.0.bin 250 %32*34%; diff demo 2.0 4.0 demo-2.0-4.0.bin 500 %32*24%; diff demo 1.0 3.0 demo-1.0-3.0.bin 100 %32*13%; target demo stable 4.0 3.0; share demo stable 500; target demo beta 3.0 none; share demo beta 1000; rollback demo beta true; open demo beta true; | schema = 1~~[[mirror]]~name = "m0"~codebase = "http://m0.example/p/"~budget = 1000000~~[[app]]~id = "demo"~default = "stable"~~[[app.cohort]]~name = "stable"~target = "4.0"~held = "3.0"~share = 500~~[[app.cohort]]~name = "beta"~target = "3.0"~share = 1000~rollback = true~open = true~~[[app.release]]~version = "1.0"~name = "demo-1.0.bin"~size = 1000~sha256 = "%64*1%"~~[[app.release]]~version = "2.0"~name = "demo-2.0.bin"~size = 1200~sha256 = "%64*2%"~stone = true~~[[app.release]]~version = "3.0"~name = "demo-3.0.bin"~size = 1500~sha256 = "%64*3%"~~[[app.release]]~version = "4.0"~name = "demo-4.0.bin"~size = 1600~sha256 = "%64*4%"~~[[app.diff]]~from = "1.0"~to = "2.0"~name = "demo-1.0-2.0.bin"~size = 300~sha256 = "%32*12%"~~[[app.diff]]~from = "2.0"~to = "3.0"~name = "demo-2.0-3.0.bin"~size = 200~sha256 = "%32*23%"~~[[app.diff]]~from = "3.0"~to = "4.0"~name = "demo-3.0-4.0.bin"~size = 250~sha256 = "%32*34%"~~[[app.diff]]~from = "2.0"~to = "4.0"~name = "demo-2.0-4.0.bin"~size = 500~sha256 = "%32*24%"~~[[app.diff]]~from = "1.0"~to = "3.0"~name = "demo-1.0-3.0.bin"~size = 100~sha256 = "%32*13%"
+m0 http://m0.example/p/ 1000000; app mini stable; release mini 1.0 mini-1.0.bin 3 ba7816bf8f01cfea414140de5dae2223b00361a396177a9cb410ff61f20015ad; release mini 2.0 mini-2.0.bin 56 248d6a61d20638b8e5c026930c3e6039a33ce45964ff2167f6ecedd419db06c1; target mini stable 2.0 none; | schema = 1~~[[mirror]]~name = "m0"~codebase = "http://m0.example/p/"~budget = 1000000~~[[app]]~id = "mini"~default = "stable"~~[[app.cohort]]~name = "stable"~target = "2.0"~~[[app.release]]~version = "1.0"~name = "mini-1.0.bin"~size = 3~sha256 = "ba7816bf8f01cfea414140de5dae2223b00361a396177a9cb410ff61f20015ad"~~[[app.release]]~version = "2.0"~name = "mini-2.0.bin"~size = 56~sha256 = "248d6a61d20638b8e5c026930c3e6039a33ce45964ff2167f6ecedd419db06c1"
 F1 NotToml | schema =~~[[mirror]]~name = "m0"~codebase = "http://m0.example/p/"~budget = 1000000~~[[app]]~id = "mini"~default = "stable"~~[[app.cohort]]~name = "stable"~target = "2.0"~~[[app.release]]~version = "1.0"~name = "mini-1.0.bin"~size = 3~sha256 = "ba7816bf8f01cfea414140de5dae2223b00361a396177a9cb410ff61f20015ad"~~[[app.release]]~version = "2.0"~name = "mini-2.0.bin"~size = 56~sha256 = "248d6a61d20638b8e5c026930c3e6039a33ce45964ff2167f6ecedd419db06c1"
 F2 BadSchema | schema = 9~~[[mirror]]~name = "m0"~codebase = "http://m0.example/p/"~budget = 1000000~~[[app]]~id = "mini"~default = "stable"~~[[app.cohort]]~name = "stable"~target = "2.0"~~[[app.release]]~version = "1.0"~name = "mini-1.0.bin"~size = 3~sha256 = "ba7816bf8f01cfea414140de5dae2223b00361a396177a9cb410ff61f20015ad"~~[[app.release]]~version = "2.0"~name = "mini-2.0.bin"~size = 56~sha256 = "248d6a61d20638b8e5c026930c3e6039a33ce45964ff2167f6ecedd419db06c1"
 F3 BadEntry app[0].release[0].size | schema = 1~~[[mirror]]~name = "m0"~codebase = "http://m0.example/p/"~budget = 1000000~~[[app]]~id = "mini"~default = "stable"~~[[app.cohort]]~name = "stable"~target = "2.0"~~[[app.release]]~version = "1.0"~name = "mini-1.0.bin"~size = "3"~sha256 = "ba7816bf8f01cfea414140de5dae2223b00361a396177a9cb410ff61f20015ad"~~[[app.release]]~version = "2.0"~name = "mini-2.0.bin"~size = 56~sha256 = "248d6a61d20638b8e5c026930c3e6039a33ce45964ff2167f6ecedd419db06c1"

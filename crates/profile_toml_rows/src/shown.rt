@@ -4,7 +4,7 @@
 // piece so many times, in which `#` is 1000 and the piece's index. A line `> FRONT` says what comes
 // before the documents of the rows below it.
 
-use catalogue::{AddRelease, App, Catalogue, Edit, Mirror, SetTarget};
+use catalogue::{AddDiff, AddRelease, App, Catalogue, Edit, Mirror, SetAudience, SetTarget};
 use profile_toml::{ProfileFault, read_profile, read_script};
 use std::alloc::{AllocError, Global};
 use values::{ReadError, Text};
@@ -45,9 +45,40 @@ fn share(alloc: Global, app: &Text, cohort: &Text, share: u64) -> Result<String,
     format!(in alloc; "share {app} {cohort} {share}")
 }
 
-fn open(alloc: Global, app: &Text, cohort: &Text, on: bool) -> Result<String, AllocError> {
-    let (app, cohort) = (app.as_str(), cohort.as_str());
-    format!(in alloc; "open {app} {cohort} {on}")
+fn switch(
+    alloc: Global,
+    word: &str,
+    app: &Text,
+    of: &Text,
+    on: bool,
+) -> Result<String, AllocError> {
+    let (app, of) = (app.as_str(), of.as_str());
+    format!(in alloc; "{word} {app} {of} {on}")
+}
+
+fn diff(alloc: Global, edit: &AddDiff) -> Result<String, AllocError> {
+    let (app, from, to) = (edit.app.as_str(), edit.from.as_str(), edit.to.as_str());
+    let (name, size, sha256) = (edit.name.as_str(), edit.size, edit.sha256.as_str());
+    format!(in alloc; "diff {app} {from} {to} {name} {size} {sha256}")
+}
+
+fn names(alloc: Global, names: &[Text]) -> Result<String, AllocError> {
+    let mut line = String::from_str(alloc, "[")?;
+    for name in names {
+        line.push_str(name.as_str())?;
+        line.push_str(",")?;
+    }
+    line.push_str("]")?;
+    Ok(line)
+}
+
+fn audience(alloc: Global, edit: &SetAudience) -> Result<String, AllocError> {
+    let (app, version) = (edit.app.as_str(), edit.version.as_str());
+    let to = match &edit.cohorts {
+        Some(cohorts) => names(alloc, cohorts.as_slice())?,
+        None => String::from_str(alloc, "all")?,
+    };
+    format!(in alloc; "audience {app} {version} {to}")
 }
 
 fn edit(alloc: Global, edit: &Edit) -> Result<String, AllocError> {
@@ -55,14 +86,14 @@ fn edit(alloc: Global, edit: &Edit) -> Result<String, AllocError> {
         Edit::AddApp(e) => other(alloc, "app", &e.app, &e.default),
         Edit::AddCohort(e) => other(alloc, "cohort", &e.app, &e.cohort),
         Edit::AddRelease(e) => release(alloc, e),
-        Edit::AddDiff(e) => other(alloc, "diff", &e.app, &e.name),
-        Edit::SetStone(e) => other(alloc, "stone", &e.app, &e.version),
-        Edit::SetWithdrawn(e) => other(alloc, "withdrawn", &e.app, &e.version),
-        Edit::SetAudience(e) => other(alloc, "audience", &e.app, &e.version),
+        Edit::AddDiff(e) => diff(alloc, e),
+        Edit::SetStone(e) => switch(alloc, "stone", &e.app, &e.version, e.on),
+        Edit::SetWithdrawn(e) => switch(alloc, "withdrawn", &e.app, &e.version, e.on),
+        Edit::SetAudience(e) => audience(alloc, e),
         Edit::SetTarget(e) => target(alloc, e),
         Edit::SetShare(e) => share(alloc, &e.app, &e.cohort, e.share),
-        Edit::SetRollback(e) => other(alloc, "rollback", &e.app, &e.cohort),
-        Edit::SetOpen(e) => open(alloc, &e.app, &e.cohort, e.on),
+        Edit::SetRollback(e) => switch(alloc, "rollback", &e.app, &e.cohort, e.on),
+        Edit::SetOpen(e) => switch(alloc, "open", &e.app, &e.cohort, e.on),
     }
 }
 
