@@ -6,6 +6,8 @@ use Rattle.histories.specs.Histories.{History, LeadsTo}
 use Rattle.records.specs.declared.content.App.{App}
 use Rattle.catalogue.specs.declared.edit.Edit.{Edit}
 use Rattle.catalogue.specs.declared.fault.Refused.{Refused}
+use Rattle.price_cert.specs.Tables.{Certificate}
+use Rattle.par_tables.specs.Tables.{AreTables}
 use Rattle.editions.specs.declared.fault.NextError.{NextError}
 use Rattle.editions.specs.declared.fault.NextError.TheVariants as error
 
@@ -14,10 +16,13 @@ use Rattle.editions.specs.declared.fault.NextError.TheVariants as error
 abbrev pub most_batches : ℕ
 most_batches = 4096
 
--- an edition: its batches are not too many, and lead to its catalogue's content
-pub record IsSound (history : History) (apps : List App) : Type 0 where
+-- rule: Tables of an edition
+-- an edition: its batches are not too many and lead to its catalogue's content, and its tables are those
+-- of that content
+pub record IsSound (history : History) (apps : List App) (tables : List Certificate) : Type 0 where
   pub few : length history ≤ most_batches
   pub led : LeadsTo history apps
+  pub priced : AreTables apps tables
 
 -- the content that a batch leads to after a history, or its first rejected edit
 abbrev pub outcome_after : History → List Edit → Result (List App) Refused

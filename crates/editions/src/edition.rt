@@ -1,17 +1,23 @@
-ghost use Rattle.std.specs.Prelude.{◌≡◌, ◌≤◌, [], ◌∷◌, ◌++◌, length, map, IfOk};
+ghost use Rattle.std.specs.Prelude.{◌≡◌, ◌≤◌, [], ◌∷◌, ◌++◌, Contains, IfOk, length, map, option_map};
 ghost use Rattle.std.specs.Arc.{arc_value};
 ghost use Rattle.histories.specs.Histories.{LeadsTo};
-ghost use Rattle.editions.specs.Editions.{Continues, most_batches};
+ghost use Rattle.payload_graph.specs.Net.{net_among};
+ghost use Rattle.par_tables.specs.Tracks.{keys_of};
+ghost use Rattle.editions.specs.Editions.{content_of, most_batches, Continues};
 
 use crate::fault::NextError;
 use catalogue::{Batch, Catalogue};
+use par_tables::{TrackTables, tables};
+use payload_rules::TrackKey;
+use price_cert::Certified;
 use std::alloc::{AllocError, Global};
 use std::marker::Model;
 use std::sync::Arc;
 
 const MAX_BATCHES: usize = 4096;
 
-/// A history of accepted batches with its catalogue, which contracts see as the history.
+/// A history of accepted batches with its catalogue and the certified tables of its tracks, which
+/// contracts see as the history.
 ///
 /// Its batches are shared with the editions before and after it.
 #[derive(Drop)]
@@ -19,6 +25,7 @@ pub struct Edition {
     alloc: Global,
     batches: Vec<Arc<Batch>>,
     catalogue: Catalogue,
+    tables: TrackTables,
 }
 
 impl Model for Edition {
@@ -32,7 +39,7 @@ impl Model for Edition {
 
     ghost view = { λ e. map arc_value e.batches.items };
 
-    ghost invariant = { λ e. IsSound (map arc_value e.batches.items) e.catalogue };
+    ghost invariant = { λ e. IsSound (map arc_value e.batches.items) e.catalogue e.tables };
 }
 
 // The same batches with one more, in a list of its own.
@@ -61,6 +68,7 @@ impl Edition {
             alloc,
             batches: Vec::new(alloc),
             catalogue: Catalogue::empty(alloc),
+            tables: TrackTables::empty(alloc),
         }
     }
 
@@ -79,6 +87,21 @@ impl Edition {
         &self.catalogue
     }
 
+    // rule: Table of a track
+    /// Finds the certified table of a track, `None` if the track has no target.
+    ///
+    /// The key is one of the catalogue's tracks: its app and its cohort are there, and it allows a
+    /// downgrade only if the cohort does.
+    pub fn table(&self, key: &TrackKey) -> Option<&Certified>
+        requires { Contains (keys_of (content_of self.now)) key.now }
+        ensures { option_map (λ table. table.now.net) result ≡ net_among (content_of self.now) key.now }
+    {
+        match self.tables.find(key) {
+            Some(table) => Some(table),
+            None => None,
+        }
+    }
+
     /// Makes the edition with one more batch, and leaves this one as it is.
     ///
     /// Returns the batch's first rejected edit if there is one, then `HistoryFull` if this edition
@@ -95,10 +118,12 @@ impl Edition {
             return Err(NextError::HistoryFull);
         }
         let batches = followed(self.alloc, &self.batches, batch)?;
+        let tables = tables(self.alloc, &catalogue)?;
         Ok(Edition {
             alloc: self.alloc,
             batches,
             catalogue,
+            tables,
         })
     }
 }

@@ -4,7 +4,7 @@ use Rattle.records.specs.declared.mirror.Mirror.{Mirror}
 use Rattle.editions.specs.Editions.{content_of}
 use Rattle.replies.specs.Plans.{payloads_of}
 use Rattle.replies.specs.Replies.{AreOutcomes, reply_of}
-use Rattle.replies.specs.declared.plan.Choice.{Choice}
+use Rattle.replies.specs.declared.choices.Choice.{Choice}
 use Rattle.omaha_json.specs.ReplyWriting.{reply_text}
 use Rattle.omaha_json.specs.declared.request.Request.{Request}
 use Rattle.omaha_service.specs.Answering.{granted, reply_by}

@@ -5,7 +5,7 @@ use Rattle.records.specs.declared.mirror.Mirror.{Mirror}
 use Rattle.editions.specs.Editions.{content_of}
 use Rattle.replies.specs.Plans.{IsPlan, payloads_of}
 use Rattle.replies.specs.Replies.{reply_of}
-use Rattle.replies.specs.declared.plan.Choice.{Choice}
+use Rattle.replies.specs.declared.choices.Choice.{Choice}
 use Rattle.omaha_json.specs.ReplyWriting.{reply_text}
 use Rattle.omaha_json.specs.RequestReading.{request_of_text}
 use Rattle.omaha_json.specs.declared.fault.RequestFault.{RequestFault}

@@ -23,7 +23,7 @@ abbrev pub CertifiedPricesAreLeast : Type 0
 CertifiedPricesAreLeast =
     (net : Net) (rows : List Row) → IsGraph net → AreCertified net rows → ArePrices net rows
 
--- a sum that is below 2^49 even with the bytes of one more package
+-- a sum that is at most 2^49 even with the bytes of one more package
 abbrev pub IsSmall : ℕ → Type 0
 IsSmall sum = sum + 2 ^ 40 ≤ 2 ^ 49
 

@@ -1,4 +1,5 @@
 mod ClientLemmas
+mod KeyLemmas
 mod LoopLemmas
 mod PlanLemmas
 mod ReplyLemmas

@@ -7,7 +7,7 @@ use Rattle.omaha_json.specs.declared.reply.AppReply.{AppReply}
 use Rattle.omaha_json.specs.declared.request.AppAsk.{AppAsk}
 use Rattle.replies.specs.Plans.{IsChosen, payloads_of}
 use Rattle.replies.specs.Replies.{app_reply}
-use Rattle.replies.specs.declared.plan.Choice.{Choice}
+use Rattle.replies.specs.declared.choices.Choice.{Choice}
 
 -- the first apps have their choices
 pub record HasChoices (apps : List App) (session : List ℕ) (asks : List AppAsk) (index : ℕ)

@@ -19,7 +19,7 @@ use Rattle.quotes.specs.declared.quote.Quote.TheVariants.{Next}
 use Rattle.replies.specs.Clients.{Client, client_of, key_of}
 use Rattle.replies.proofs.ClientLemmas.{releases_at-there}
 use Rattle.replies.specs.Plans.{IsChoice, IsChoiceAmong, IsChosen, IsClientChoice, wants_update}
-use Rattle.replies.specs.declared.plan.Choice.{Choice}
+use Rattle.replies.specs.declared.choices.Choice.{Choice}
 
 -- for the client of a known app that wants an update, what is chosen at its place
 pub IsChosen-known :

@@ -14,7 +14,7 @@ use Rattle.payload_rules.specs.declared.place.Place.{Place}
 use Rattle.quotes.specs.Quotes.{IsFirst}
 use Rattle.quotes.specs.Sums.{HasNoChain}
 use Rattle.replies.specs.Clients.{Client, client_of, key_of}
-use Rattle.replies.specs.declared.plan.Choice.{Choice}
+use Rattle.replies.specs.declared.choices.Choice.{Choice}
 
 -- an update check that isn't disabled and asks for no version of its own
 abbrev pub is_open : Check → Bool

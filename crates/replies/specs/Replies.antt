@@ -24,7 +24,7 @@ use Rattle.payload_rules.specs.declared.payload.Payload.{Payload}
 use Rattle.payload_rules.specs.declared.payload.Payload.TheVariants.{Full, Differ}
 use Rattle.replies.specs.Clients.{Client, client_of, cohort_of, cohort_text}
 use Rattle.replies.specs.Moments.{elapsed_days, elapsed_seconds}
-use Rattle.replies.specs.declared.plan.Choice.{Choice}
+use Rattle.replies.specs.declared.choices.Choice.{Choice}
 
 -- the codebase of the mirror at an index
 abbrev pub codebase_at : List Mirror → ℕ → List ℕ

@@ -9,10 +9,11 @@
 
 #![tactic(auto)]
 
+mod choices;
 mod client;
-mod plan;
 mod planning;
 mod rendering;
 
-pub use crate::plan::{Choice, Plan};
+pub use crate::choices::{Choice, Plan};
+pub use crate::planning::plan;
 pub use crate::rendering::render;

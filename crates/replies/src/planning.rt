@@ -9,8 +9,8 @@ ghost use Rattle.editions.specs.Editions.{content_of};
 ghost use Rattle.replies.specs.Clients.{key_of};
 ghost use Rattle.replies.specs.Plans.{is_open, wants_update, IsChoiceAmong, IsChosen, IsClientChoice, IsPlan};
 
+use crate::choices::{Choice, Plan};
 use crate::client::{Client, find_client};
-use crate::plan::{Choice, Plan};
 use catalogue::{App, Catalogue};
 use cohorts::Session;
 use editions::Edition;
@@ -96,4 +96,37 @@ fn choose_for(
         Some(table) => choose_by(catalogue, &client.key(), &place, table),
         None => None,
     }
+}
+
+// rule: Chosen payload
+fn choose(edition: &Edition, session: &mut Session<'_>, ask: &AppAsk) -> Option<Choice>
+    ensures chosen { IsChosen (content_of edition.now) session.old ask.now result }
+    ensures same { session.new ≡ session.old }
+{
+    if !has_open_check(ask) {
+        return None;
+    }
+    let catalogue = edition.catalogue();
+    let Some(client) = find_client(catalogue, session, ask) else {
+        return None;
+    };
+    let table = edition.table(&client.key());
+    choose_for(catalogue, &client, ask, table)
+}
+
+/// Chooses for each app of a request what its client is offered.
+///
+/// For an app that the catalogue has and that wants an update this is the first payload of a chain of
+/// permitted payloads to the target of the client's track that has the least sum of bytes; of all such
+/// payloads the one that leads highest, and of two of these the differential. It is nothing at the target
+/// and if no chain leads there, for example if the track has no target.
+pub fn plan(alloc: Global, edition: &Edition, request: &Request) -> Result<Plan, AllocError>
+    ensures { IfOk result (λ plan. IsPlan (content_of edition.now) request.now plan) }
+{
+    let mut session = Session::new(request.session.as_str());
+    let mut choices = Vec::with_capacity(alloc, request.apps.len())?;
+    for ask in request.apps.as_slice() {
+        choices.push(choose(edition, &mut session, ask))?;
+    }
+    Plan::new(alloc, choices, &session)
 }

@@ -10,8 +10,8 @@ ghost use Rattle.editions.specs.Editions.{content_of};
 ghost use Rattle.replies.specs.Moments.{elapsed_days, elapsed_seconds};
 ghost use Rattle.replies.specs.Replies.{app_reply, diff_of, diff_part, full_part, offer_of, release_by, reply_of, update_reply, with_check, AreOutcomes, IsOutcome};
 
+use crate::choices::{Choice, Plan};
 use crate::client::{Client, find_client};
-use crate::plan::{Choice, Plan};
 use catalogue::{App, Catalogue, Diff, Mirror, Release};
 use cohorts::{CohortText, Session};
 use editions::Edition;

@@ -39,7 +39,7 @@ pub struct Plan {
 
 impl Model for Plan {
     ghost use Rattle.std.specs.Prelude.{List, Option};
-    ghost use Rattle.replies.specs.declared.plan.Choice.{Choice};
+    ghost use Rattle.replies.specs.declared.choices.Choice.{Choice};
 
     ghost Value = { List (Option Choice) };
 
