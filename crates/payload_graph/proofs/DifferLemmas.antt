@@ -6,6 +6,7 @@ use Rattle.std.proofs.lemmas.Bool.{and_left, and_parts, and_right, cases_lt, le-
 use Rattle.std.proofs.lemmas.List.{get_or-map, length-map}
 use Rattle.std.proofs.lemmas.Option.{slice_get-get_or}
 use Rattle.version.specs.Laws.{BelowIsIrreflexive, BelowIsTransitive}
+use Rattle.records.specs.Forms.{is_size}
 use Rattle.records.specs.Validity.{is_good_diff}
 use Rattle.records.specs.declared.content.App.{App}
 use Rattle.records.specs.declared.content.Cohort.{Cohort}
@@ -70,6 +71,11 @@ module _ (irreflexive : BelowIsIrreflexive) (transitive : BelowIsTransitive) (ap
         let good = LeadsUp-good app.releases (get_or app.diffs k d) (good_at k d (omega arith)) in
         let there = (IsIndex-released app.releases (get_or app.diffs k d).to (released_one app.releases (get_or app.diffs k d).to good.ends) good.ends).within in
         (omega arith, omega arith);
+    sized = λ k e within.
+        let sized = length-map app.diffs (edge_of app.releases) in
+        let d = some_diff app.diffs k (omega arith) in
+        ap (λ (edge : Edge). is_size edge.bytes) (get_or-map (edge_of app.releases) app.diffs k d e (omega arith))
+        ∙ (LeadsUp-good app.releases (get_or app.diffs k d) (good_at k d (omega arith))).sized;
   }
     where
       some_diff : (diffs : List Diff) (k : ℕ) → k < length diffs → Diff

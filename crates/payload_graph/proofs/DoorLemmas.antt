@@ -1,12 +1,13 @@
 -- The doors of an app's releases, by index.
-use Rattle.std.proofs.Common.{◌≡◌, ℕ, ◌+◌, ◌<◌, List, [], ◌∷◌, length, get_or, ap, ◌∙◌, arith}
-use Rattle.std.specs.List.{enumerate_from}
+use Rattle.std.proofs.Common.{◌≡◌, ℕ, ◌+◌, ◌<◌, true, List, [], ◌∷◌, length, get_or, ap, ◌∙◌, arith}
+use Rattle.std.specs.List.{All, enumerate_from}
 use Rattle.std.proofs.lemmas.List.{get_or-map, length-map}
 use Rattle.std.proofs.lemmas.List.FromFn.{get_or-enumerate_from, length-enumerate_from}
+use Rattle.records.specs.Forms.{is_size}
 use Rattle.records.specs.declared.content.Cohort.{Cohort}
 use Rattle.records.specs.declared.content.Release.{Release}
 use Rattle.payload_graph.specs.Net.{door_of, doors_of}
-use Rattle.payload_graph.specs.Soundness.{AreNumbered, no_door}
+use Rattle.payload_graph.specs.Soundness.{AreBounded, AreNumbered, no_door}
 use Rattle.payload_graph.specs.declared.door.Door.{Door}
 
 pub length-doors_of :
@@ -38,3 +39,14 @@ AreNumbered-doors_of cohort releases k within =
     let fits : k < length releases = omega arith in
     ap (λ (door : Door). door.to)
     (get_or-doors_of cohort releases k no_door (some_release releases k fits).0 fits)
+
+-- a door has the size of its release
+pub All-sized-doors_of :
+    (cohort : Cohort) (releases : List Release) →
+    AreBounded releases → All (λ (door : Door). is_size door.bytes ≡ true) (doors_of cohort releases)
+All-sized-doors_of cohort releases bounded k d within =
+    let sized = length-doors_of cohort releases in
+    let fits : k < length releases = omega arith in
+    let e = (some_release releases k fits).0 in
+    ap (λ (door : Door). is_size door.bytes) (get_or-doors_of cohort releases k d e fits)
+    ∙ bounded.sized k e fits

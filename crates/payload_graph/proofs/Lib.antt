@@ -14,6 +14,7 @@ mod PermittedLemmas
 mod RangeLemmas
 mod ReachLemmas
 mod ReachedLemmas
+mod SizeLemmas
 mod TrackLemmas
 mod UpwardLemmas
 mod WalkLemmas

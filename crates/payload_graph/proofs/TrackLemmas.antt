@@ -1,22 +1,25 @@
 -- The graphs of a valid content's tracks.
-use Rattle.std.proofs.Common.{◌≡◌, ℕ, ◌<◌, List, [], length, get_or, ltb, Option, None, Some, refl, sym, ap, ◌∙◌, subst, arith}
+use Rattle.std.proofs.Common.{◌≡◌, ℕ, ◌<◌, ◌&&◌, true, List, [], length, get_or, ltb, Option, None, Some, refl, sym, ap, ◌∙◌, subst, arith}
 use Rattle.std.specs.List.{position, position_or_len, slice_get}
 use Rattle.std.specs.Option.{option_and_then, option_map, option_map_or}
-use Rattle.std.proofs.lemmas.Bool.{ltb-true}
+use Rattle.std.proofs.lemmas.Bool.{and_parts, ltb-true}
 use Rattle.std.proofs.lemmas.List.Elements.{All-from_recursion}
 use Rattle.std.proofs.lemmas.Option.{cond_some, get_or_from_slice_get, slice_get-get_or, slice_get_within}
 use Rattle.version.specs.Laws.{BelowIsIrreflexive, BelowIsTransitive}
+use Rattle.records.specs.Forms.{is_hash, is_package_name, is_size}
 use Rattle.records.specs.Lookups.{is_release}
-use Rattle.records.specs.Validity.{IsValid, IsValidApp}
+use Rattle.records.specs.Validity.{IsValid, IsValidApp, is_good_audience, is_good_release, spells}
 use Rattle.records.specs.declared.content.App.{App}
 use Rattle.records.specs.declared.content.Cohort.{Cohort}
+use Rattle.records.specs.declared.content.Release.{Release}
 use Rattle.cohorts.specs.Tracks.{target_of}
 use Rattle.payload_rules.specs.Chains.{lane_target}
 use Rattle.payload_rules.specs.declared.payload.TrackKey.{TrackKey}
 use Rattle.payload_graph.proofs.DifferLemmas.{net_from-app}
+use Rattle.payload_graph.proofs.OrderLemmas.{list_all-get_or}
 use Rattle.payload_graph.proofs.WalkLemmas.{AreGood}
 use Rattle.payload_graph.specs.Net.{Net, net_among, net_in, net_of, resolved_at, resolved_of}
-use Rattle.payload_graph.specs.Soundness.{net_from, net_in_app, net_in_cohort}
+use Rattle.payload_graph.specs.Soundness.{AreBounded, net_from, net_in_app, net_in_cohort}
 
 -- an app of a valid content has valid differentials
 pub AreGood-app :
@@ -26,6 +29,25 @@ AreGood-app apps index app valid there =
     let within = slice_get_within apps index app there in
     let own = subst IsValidApp (get_or_from_slice_get apps index app app there) (All-from_recursion IsValidApp apps valid.apps_valid index app within) in
     record { rises = own.releases_ascend; sorted = own.diffs_ascend; good = own.diffs_good }
+
+-- it has few releases, of valid sizes
+pub AreBounded-app :
+    (apps : List App) (index : ℕ) (app : App) →
+    IsValid apps → slice_get apps index ≡ Some app → AreBounded app.releases
+AreBounded-app apps index app valid there =
+    let within = slice_get_within apps index app there in
+    let own = subst IsValidApp (get_or_from_slice_get apps index app app there) (All-from_recursion IsValidApp apps valid.apps_valid index app within) in
+    record {
+      few = own.few_releases;
+      sized = λ k d inside.
+          sized-release app.cohorts (get_or app.releases k d) (list_all-get_or (is_good_release app.cohorts) app.releases k d own.releases_good inside);
+    }
+  where
+    sized-release : (cohorts : List Cohort) (release : Release) → is_good_release cohorts release ≡ true → is_size release.size ≡ true
+    sized-release cohorts release good =
+        let audience = and_parts (spells release.spelled release.version && is_package_name release.name && is_size release.size && is_hash release.hash) (is_good_audience cohorts release.audience) good in
+        let hashed = and_parts (spells release.spelled release.version && is_package_name release.name && is_size release.size) (is_hash release.hash) audience.0 in
+        (and_parts (spells release.spelled release.version && is_package_name release.name) (is_size release.size) hashed.0).1
 
 -- a target is a release
 target-within :

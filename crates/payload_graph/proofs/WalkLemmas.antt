@@ -25,6 +25,7 @@ pub record LeadsUp (releases : List Release) (diff : Diff) : Type 0 where
   pub upward : is_below diff.from diff.to ≡ true
   pub starts : has_release releases diff.from ≡ true
   pub ends : has_release releases diff.to ≡ true
+  pub sized : is_size diff.size ≡ true
 
 pub LeadsUp-good : (releases : List Release) (diff : Diff) → is_good_diff releases diff ≡ true → LeadsUp releases diff
 LeadsUp-good releases diff good =
@@ -33,7 +34,7 @@ LeadsUp-good releases diff good =
     let named = and_parts (is_below diff.from diff.to && has_release releases diff.from && has_release releases diff.to) (is_package_name diff.name) sized.0 in
     let ends = and_parts (is_below diff.from diff.to && has_release releases diff.from) (has_release releases diff.to) named.0 in
     let starts = and_parts (is_below diff.from diff.to) (has_release releases diff.from) ends.0 in
-    record { upward = starts.0; starts = starts.1; ends = ends.1 }
+    record { upward = starts.0; starts = starts.1; ends = ends.1; sized = sized.1 }
 
 -- the differentials so far, and where the search for the rest begins
 pub record HasWalked (releases : List Release) (diffs : List Diff) (index from to : ℕ) (edges : List Edge) : Type 0 where

@@ -2,6 +2,7 @@
 use Rattle.std.specs.Prelude.{◌≡◌, ℕ, ◌+◌, ◌<◌, All, true, if◌then◌else◌, List, [], ◌∷◌, ◌++◌, length, map, slice_get, Some}
 use Rattle.std.specs.List.{enumerate_from, filter}
 use Rattle.values.specs.Ordered.{ascend}
+use Rattle.records.specs.Forms.{is_size}
 use Rattle.records.specs.Validity.{IsValidApp, is_release_below}
 use Rattle.records.specs.declared.content.App.{App}
 use Rattle.records.specs.declared.content.Cohort.{Cohort}
@@ -13,7 +14,7 @@ use Rattle.payload_rules.specs.declared.payload.Payload.TheVariants.{Full, Diffe
 use Rattle.payload_rules.specs.declared.payload.TrackKey.{TrackKey}
 use Rattle.payload_rules.specs.declared.place.Place.TheVariants.{At}
 use Rattle.payload_graph.specs.Net.{Net, differs_of, doors_of, edge_of, edges_from, edges_into, enters, full, fulls, leaves, net_with, payloads_of, window}
-use Rattle.payload_graph.specs.Soundness.{AreNumbered, IsNearing, LeadsNearer, door_at}
+use Rattle.payload_graph.specs.Soundness.{AreNumbered, IsBounded, IsNearing, LeadsNearer, door_at}
 use Rattle.payload_graph.specs.declared.door.Door.{Door}
 use Rattle.payload_graph.specs.declared.edge.Edge.{Edge}
 
@@ -85,6 +86,13 @@ EdgesLeadNearer =
     net.target < length net.doors →
     from < length net.doors →
     All (λ (edge : Edge). LeadsNearer net.target from edge.to) (edges_from net from)
+
+-- each payload of a graph has a valid size
+abbrev pub EdgesAreSized : Type 0
+EdgesAreSized =
+    (net : Net) (from : ℕ) →
+    IsBounded net →
+    All (λ (edge : Edge). is_size edge.bytes ≡ true) (edges_from net from)
 
 -- the payloads from a release are those of the graph that leave it, in the same order
 abbrev pub EdgesFromAreOfGraph : Type 0

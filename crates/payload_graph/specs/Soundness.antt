@@ -1,7 +1,9 @@
 -- What a graph keeps: beside what contracts see of it, how far each window reaches.
-use Rattle.std.specs.Prelude.{◌≡◌, ℕ, ◌+◌, ◌<◌, ◌≤◌, ◌&&◌, ◌⊎◌, All, Bool, if◌then◌else◌, false, List, [], drop, length, nat_le, nat_lt, slice_get, slice_index, slice_index_or, take, Option, option_and_then, option_map}
+use Rattle.std.specs.Prelude.{◌≡◌, ℕ, ◌+◌, ◌<◌, ◌≤◌, ◌&&◌, ◌⊎◌, All, Bool, if◌then◌else◌, false, true, List, [], drop, length, nat_le, nat_lt, slice_get, slice_index, slice_index_or, take, Option, option_and_then, option_map}
 use Rattle.std.specs.List.Sorted.{IsNonDecreasingBy}
 use Rattle.std.specs.List.{filter}
+use Rattle.records.specs.Forms.{is_size}
+use Rattle.records.specs.Limits.{max_releases}
 use Rattle.records.specs.declared.content.Cohort.{Cohort}
 use Rattle.records.specs.declared.content.Release.{Release}
 use Rattle.records.specs.declared.content.App.{App}
@@ -59,10 +61,24 @@ origins_below target doors to =
 abbrev pub origins_above : ℕ → List Door → ℕ → List Door
 origins_above target doors to = drop (if nat_lt target to then to + 1 else target + 1) doors
 
--- resolved differentials: each leads up between releases, and they are sorted by ascending origin
+-- the releases of an app: few enough, and each of a valid size
+pub record AreBounded (releases : List Release) : Type 0 where
+  pub few : length releases ≤ max_releases
+  pub sized : All (λ (release : Release). is_size release.size ≡ true) releases
+
+-- resolved differentials: each leads up between releases and has a valid size, and they are sorted by
+-- ascending origin
 pub record AreResolved (count : ℕ) (edges : List Edge) : Type 0 where
   pub sorted : IsNonDecreasingBy (λ (edge : Edge). edge.from) edges
   pub rising : All (λ (edge : Edge). (edge.from < edge.to) × (edge.to < count)) edges
+  pub sized : All (λ (edge : Edge). is_size edge.bytes ≡ true) edges
+
+-- how large a graph is at most: it has as many releases as an app may have, and its packages have valid
+-- sizes
+pub record IsBounded (net : Net) : Type 0 where
+  pub few : length net.doors ≤ max_releases
+  pub doors_sized : All (λ (door : Door). is_size door.bytes ≡ true) net.doors
+  pub differs_sized : All (λ (edge : Edge). is_size edge.bytes ≡ true) net.differs
 
 -- what holds of every graph and its reaches
 pub record IsSound (net : Net) (reaches : List ℕ) : Type 0 where
@@ -71,6 +87,7 @@ pub record IsSound (net : Net) (reaches : List ℕ) : Type 0 where
   pub reached : AreReaches net.target net.doors reaches
   pub sorted : IsNonDecreasingBy (λ (edge : Edge). edge.from) net.differs
   pub nearing : All (IsNearing net.target) net.differs
+  pub bounded : IsBounded net
 
 -- the graph that a cohort's releases and resolved differentials give
 abbrev pub net_from : TrackKey → Cohort → List Release → ℕ → List Edge → Net

@@ -2,7 +2,7 @@ ghost use Rattle.std.specs.Prelude.{◌≡◌, ◌<◌, All, IfOk, length};
 ghost use Rattle.std.specs.List.{filter};
 ghost use Rattle.payload_graph.specs.Edges.{edges_into_left, edges_left};
 ghost use Rattle.payload_graph.specs.Net.{edges_from, edges_into, leaves, window};
-ghost use Rattle.payload_graph.specs.Soundness.{net_from, AreNumbered, AreResolved, IsNearing, LeadsNearer};
+ghost use Rattle.payload_graph.specs.Soundness.{net_from, AreBounded, AreNumbered, AreResolved, IsBounded, IsNearing, LeadsNearer};
 ghost use Rattle.payload_graph.specs.declared.edge.Edge.{Edge};
 
 use crate::differential::{leaving, reached_in};
@@ -65,6 +65,7 @@ impl Graph {
         resolved: &[Edge],
     ) -> Result<Graph, AllocError>
         requires within { target < length releases.now }
+        requires bounded { AreBounded releases.now }
         requires resolved { AreResolved (length releases.now) resolved.now }
         ensures { IfOk result (λ graph. graph ≡ net_from key.now cohort.now releases.now target resolved.now) }
     {
@@ -162,10 +163,20 @@ impl Graph {
         self.target
     }
 
+    /// Whether payloads lead down from above the target.
+    pub fn rolls_back(&self) -> bool
+        ensures { result ≡ self.now.rollback }
+    {
+        self.rollback
+    }
+
     /// Borrows the releases as destinations, in order.
+    ///
+    /// There are at most 512, and each package of the graph has 1 to 2^40 bytes.
     pub fn doors(&self) -> &[Door]
         ensures doors { result.now ≡ self.now.doors }
         ensures numbered { AreNumbered self.now.doors }
+        ensures bounded { IsBounded self.now }
     {
         self.doors.as_slice()
     }

@@ -1,6 +1,6 @@
 //! What holds of all graphs, each law as a clause of a function.
 
-ghost use Rattle.payload_graph.specs.Laws.{DiffersArePermitted, EdgesFromAreOfGraph, EdgesIntoAreEdgesFrom, EdgesLeadNearer, FullsArePermitted, FullsLeadNearer, TargetsLeaveNothing, WindowsGrowDown, WindowsGrowUp};
+ghost use Rattle.payload_graph.specs.Laws.{DiffersArePermitted, EdgesAreSized, EdgesFromAreOfGraph, EdgesIntoAreEdgesFrom, EdgesLeadNearer, FullsArePermitted, FullsLeadNearer, TargetsLeaveNothing, WindowsGrowDown, WindowsGrowUp};
 
 /// States that the full packages of a window are the permitted ones, each once, in order.
 pub fn fulls()
@@ -27,6 +27,11 @@ pub fn windows()
 pub fn nearer()
     ensures fulls { FullsLeadNearer }
     ensures edges { EdgesLeadNearer }
+{}
+
+/// States that each payload has 1 to 2^40 bytes.
+pub fn sized()
+    ensures { EdgesAreSized }
 {}
 
 /// States that the payloads into the releases of a graph are those from them.

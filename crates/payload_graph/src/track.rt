@@ -3,7 +3,7 @@
 ghost use Rattle.std.specs.Prelude.{◌≡◌, ◌<◌, IfOk, IfSome, length};
 ghost use Rattle.payload_rules.specs.Chains.{lane_target};
 ghost use Rattle.payload_graph.specs.Net.{net_among, resolved_at};
-ghost use Rattle.payload_graph.specs.Soundness.{net_in_cohort, net_in_app, AreResolved};
+ghost use Rattle.payload_graph.specs.Soundness.{net_in_cohort, net_in_app, AreBounded, AreResolved};
 
 use crate::differential::resolve;
 use crate::edge::Edge;
@@ -65,7 +65,8 @@ fn graph_in_cohort(
     cohort: &Cohort,
     resolved: &[Edge],
 ) -> Result<Option<Graph>, AllocError>
-    requires { AreResolved (length app.now.releases) resolved.now }
+    requires bounded { AreBounded app.now.releases }
+    requires resolved { AreResolved (length app.now.releases) resolved.now }
     ensures { IfOk result (λ graph. graph ≡ net_in_cohort app.now key.now cohort.now resolved.now) }
 {
     let Some(target) = find_target(app, cohort, key.lane) else {
@@ -82,7 +83,8 @@ fn graph_in_app(
     key: &TrackKey,
     resolved: &[Edge],
 ) -> Result<Option<Graph>, AllocError>
-    requires { AreResolved (length app.now.releases) resolved.now }
+    requires bounded { AreBounded app.now.releases }
+    requires resolved { AreResolved (length app.now.releases) resolved.now }
     ensures { IfOk result (λ graph. graph ≡ net_in_app app.now key.now resolved.now) }
 {
     match app.cohorts.as_slice().get(key.cohort) {
@@ -103,7 +105,7 @@ impl Graph {
         differentials: &Differentials,
     ) -> Result<Option<Graph>, AllocError>
         requires app { key.now.app < length catalogue.now }
-        requires lent { differentials.now ≡ resolved_at catalogue.now key.now.app }
+        requires resolved { differentials.now ≡ resolved_at catalogue.now key.now.app }
         ensures { IfOk result (λ graph. graph ≡ net_among catalogue.now key.now) }
     {
         version::laws::order();

@@ -1,4 +1,5 @@
 mod InductionLemmas
 mod LeastLemmas
 mod RuleLemmas
+mod SmallLemmas
 mod UniqueLemmas

@@ -1,7 +1,7 @@
 -- What the rules of a table imply.
-use Rattle.std.specs.Prelude.{◌≡◌, ℕ, ◌<◌, All, List, length}
+use Rattle.std.specs.Prelude.{◌≡◌, ℕ, ◌+◌, ◌^◌, ◌<◌, ◌≤◌, All, IfSome, List, length}
 use Rattle.payload_graph.specs.Net.{Net}
-use Rattle.payload_graph.specs.Soundness.{AreNumbered, IsNearing}
+use Rattle.payload_graph.specs.Soundness.{AreNumbered, IsBounded, IsNearing}
 use Rattle.price_cert.specs.Chains.{IsPriceOf}
 use Rattle.price_cert.specs.Rows.{price_at}
 use Rattle.price_cert.specs.Rules.{AreCertified}
@@ -12,6 +12,7 @@ pub record IsGraph (net : Net) : Type 0 where
   pub within : net.target < length net.doors
   pub numbered : AreNumbered net.doors
   pub nearing : All (IsNearing net.target) net.differs
+  pub bounded : IsBounded net
 
 -- the prices of a table are the least sums of the releases, and releases without a price have no chain
 abbrev pub ArePrices : Net → List Row → Type 0
@@ -21,6 +22,19 @@ ArePrices net rows = (from : ℕ) → from < length net.doors → IsPriceOf net 
 abbrev pub CertifiedPricesAreLeast : Type 0
 CertifiedPricesAreLeast =
     (net : Net) (rows : List Row) → IsGraph net → AreCertified net rows → ArePrices net rows
+
+-- a sum that is at most 2^49 even with the bytes of one more package
+abbrev pub IsSmall : ℕ → Type 0
+IsSmall sum = sum + 2 ^ 40 ≤ 2 ^ 49
+
+-- the prices of a table are small
+abbrev pub AreSmall : Net → List Row → Type 0
+AreSmall net rows = (from : ℕ) → from < length net.doors → IfSome (price_at rows from) IsSmall
+
+-- those of a certified table are
+abbrev pub CertifiedPricesAreSmall : Type 0
+CertifiedPricesAreSmall =
+    (net : Net) (rows : List Row) → IsGraph net → AreCertified net rows → AreSmall net rows
 
 -- a graph has one certified table
 abbrev pub CertifiedTablesAreOne : Type 0

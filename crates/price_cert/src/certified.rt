@@ -1,8 +1,8 @@
 //! Tables of prices that passed the check.
 
-ghost use Rattle.std.specs.Prelude.{◌≡◌, ◌↔◌, ◌<◌, length, IfErr, IfOk, IsOk};
+ghost use Rattle.std.specs.Prelude.{◌≡◌, ◌↔◌, ◌<◌, length, IfErr, IfOk, IfSome, IsOk};
 ghost use Rattle.price_cert.specs.Chains.{IsPriceOf};
-ghost use Rattle.price_cert.specs.Laws.{ArePrices};
+ghost use Rattle.price_cert.specs.Laws.{ArePrices, AreSmall, IsSmall};
 ghost use Rattle.price_cert.specs.Rows.{price_at};
 ghost use Rattle.price_cert.specs.Rules.{AreCertified, IsFirstWrong};
 
@@ -40,8 +40,10 @@ impl Certified {
         ensures rows { result.now ≡ self.now.rows }
         ensures certified { AreCertified self.now.net self.now.rows }
         ensures least { ArePrices self.now.net self.now.rows }
+        ensures small { AreSmall self.now.net self.now.rows }
     {
         crate::laws::least();
+        crate::laws::small();
         self.prices.rows.as_slice()
     }
 
@@ -55,11 +57,12 @@ impl Certified {
     // rule: Least sum
     /// Returns the least sum of bytes from a release to the target, `None` if no chain leads there.
     ///
-    /// The release is given by its index, which is in range.
+    /// The release is given by its index, which is in range. The sum is at most 511 times 2^40.
     pub fn least_sum(&self, release: usize) -> Option<u64>
         requires { release < length self.now.rows }
         ensures price { result ≡ price_at self.now.rows release }
         ensures least { IsPriceOf self.now.net release result }
+        ensures small { IfSome result IsSmall }
     {
         row_at(self.rows(), release).price()
     }

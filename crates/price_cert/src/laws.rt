@@ -1,7 +1,7 @@
 //! What holds of all certified tables, each law as a clause of a function.
 
 ghost use Rattle.price_cert.specs.Examples.{ExampleIsWorked};
-ghost use Rattle.price_cert.specs.Laws.{CertifiedPricesAreLeast, CertifiedTablesAreOne};
+ghost use Rattle.price_cert.specs.Laws.{CertifiedPricesAreLeast, CertifiedPricesAreSmall, CertifiedTablesAreOne};
 
 /// States that the prices of a certified table are the least sums, and that a release without a price
 /// has no chain.
@@ -9,6 +9,14 @@ pub fn least()
     ensures { CertifiedPricesAreLeast }
 {
     payload_graph::laws::nearer();
+}
+
+/// States that the prices of a certified table are small: at most 511 times 2^40 bytes.
+pub fn small()
+    ensures { CertifiedPricesAreSmall }
+{
+    payload_graph::laws::nearer();
+    payload_graph::laws::sized();
 }
 
 /// States that a graph has one certified table, whoever made it.

@@ -1,9 +1,11 @@
-use Rattle.std.proofs.Common.{subst, length, ap, sym, ◌∙◌, arith}
+use Rattle.std.proofs.Common.{◌≡◌, true, subst, length, ap, sym, ◌∙◌, arith}
+use Rattle.std.proofs.lemmas.List.Elements.{All-filter}
 use Rattle.std.proofs.lemmas.List.Kept.{IsNonDecreasingBy-filter}
+use Rattle.records.specs.Forms.{is_size}
 use Rattle.payload_graph.proofs.ReachedLemmas.{All-reached}
 use Rattle.payload_graph.specs.Soundness.{AreResolved, is_reached}
 use Rattle.payload_graph.specs.declared.edge.Edge.{Edge}
-use Rattle.payload_graph.proofs.DoorLemmas.{AreNumbered-doors_of, length-doors_of}
+use Rattle.payload_graph.proofs.DoorLemmas.{All-sized-doors_of, AreNumbered-doors_of, length-doors_of}
 use Rattle.payload_graph.proofs.graph.Graph.of_parts.Goals as goal
 
 pub reaches_of-requires : goal.reaches_of-requires
@@ -40,4 +42,11 @@ invariant_of-result c =
       nearing =
           rw c.in_ok-differs.ensures
           (All-reached c.args.target (length c.args.releases.now) c.as_slice-2.result.now c.args.resolved.now (omega (arith, ap length c.as_slice-2.ensures.value)) c.requires.resolved);
+      bounded = record {
+        few = omega (arith, c.requires.bounded.few);
+        doors_sized = rw c.in_ok-doors.ensures (All-sized-doors_of c.args.cohort.now c.args.releases.now c.requires.bounded);
+        differs_sized =
+            rw c.in_ok-differs.ensures
+            (All-filter (is_reached c.args.target c.as_slice-2.result.now) (λ (edge : Edge). is_size edge.bytes ≡ true) c.args.resolved.now c.requires.resolved.sized);
+      };
     }
