@@ -1,0 +1,7 @@
+mod DraftLemmas
+mod FindLemmas
+mod JoinLemmas
+mod KeyLemmas
+mod ListingLemmas
+mod OneLemmas
+mod PlaceLemmas

@@ -1,0 +1,70 @@
+-- Tables that are added for some tracks.
+use Rattle.std.proofs.Common.{◌≡◌, ℕ, ◌+◌, ◌<◌, List, [], ◌∷◌, ◌++◌, get_or, length, map, take, Option, None, Some, sym, ap, ◌∙◌, subst}
+use Rattle.std.specs.List.{All, filter_map}
+use Rattle.std.proofs.lemmas.List.{append-nil, append_assoc, map-append, take_more}
+use Rattle.std.proofs.lemmas.List.Elements.{All-push, filter_map-append}
+use Rattle.records.specs.declared.content.App.{App}
+use Rattle.payload_rules.specs.declared.payload.TrackKey.{TrackKey}
+use Rattle.payload_graph.specs.Net.{Net, net_among}
+use Rattle.price_cert.specs.Tables.{Certificate}
+use Rattle.par_tables.specs.Tables.{Adds, AreTables, IsTable, net_of_table, nets_of}
+use Rattle.par_tables.specs.Tracks.{keys_of}
+
+-- a table for a track with a target
+pub Adds-one :
+    (apps : List App) (key : TrackKey) (net : Net) (old new : List Certificate) (table : Certificate) →
+    net_among apps key ≡ Some net → table.net ≡ net → IsTable table → new ≡ old ++ table ∷ [] →
+    Adds apps (key ∷ []) old new
+Adds-one apps key net old new table there own is pushed = record {
+  nets =
+      ap (map net_of_table) pushed
+      ∙ map-append net_of_table old (table ∷ [])
+      ∙ ap (λ (n : Net). map net_of_table old ++ n ∷ []) own
+      ∙ ap (λ (found : Option Net). map net_of_table old ++ filter_map (λ (n : ℕ). found) (0 ∷ [])) (sym there);
+  certified = λ all. subst (All IsTable) (sym pushed) (All-push IsTable old table all is);
+}
+
+-- nothing for a track without one
+pub Adds-none :
+    (apps : List App) (key : TrackKey) (old new : List Certificate) →
+    net_among apps key ≡ None → new ≡ old → Adds apps (key ∷ []) old new
+Adds-none apps key old new there same = record {
+  nets =
+      ap (map net_of_table) same
+      ∙ sym (append-nil (map net_of_table old))
+      ∙ ap (λ (found : Option Net). map net_of_table old ++ filter_map (λ (n : ℕ). found) (0 ∷ [])) (sym there);
+  certified = λ all. subst (All IsTable) (sym same) all;
+}
+
+-- nothing for no track
+pub Adds-nothing : (apps : List App) (old : List Certificate) → Adds apps [] old old
+Adds-nothing apps old = record { nets = sym (append-nil (map net_of_table old)); certified = λ all. all }
+
+-- those of some tracks, then those of others
+pub Adds-both :
+    (apps : List App) (keys others : List TrackKey) (old mid new : List Certificate) →
+    Adds apps keys old mid → Adds apps others mid new → Adds apps (keys ++ others) old new
+Adds-both apps keys others old mid new first second = record {
+  nets =
+      second.nets
+      ∙ ap (λ (nets : List Net). nets ++ nets_of apps others) first.nets
+      ∙ append_assoc (map net_of_table old) (nets_of apps keys) (nets_of apps others)
+      ∙ ap (λ (nets : List Net). map net_of_table old ++ nets) (sym (filter_map-append (net_among apps) keys others));
+  certified = λ all. second.certified (first.certified all);
+}
+
+-- one track more of a list
+pub Adds-more :
+    (apps : List App) (keys : List TrackKey) (index : ℕ) (d : TrackKey) (old mid new : List Certificate) →
+    index < length keys →
+    Adds apps (take index keys) old mid → Adds apps (get_or keys index d ∷ []) mid new →
+    Adds apps (take (index + 1) keys) old new
+Adds-more apps keys index d old mid new within first second =
+    subst (λ (ks : List TrackKey). Adds apps ks old new) (sym (take_more keys index d within))
+    (Adds-both apps (take index keys) (get_or keys index d ∷ []) old mid new first second)
+
+-- the tables of all apps
+pub AreTables-all :
+    (apps : List App) (tables : List Certificate) →
+    Adds apps (keys_of apps) [] tables → All IsTable [] → AreTables apps tables
+AreTables-all apps tables adds none = record { nets = adds.nets; certified = adds.certified none }

@@ -1,0 +1,6 @@
+mod BestLemmas
+mod BetterLemmas
+mod FillLemmas
+mod SettledLemmas
+mod StepLemmas
+mod WriteLemmas
