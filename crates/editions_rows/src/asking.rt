@@ -5,8 +5,8 @@ ghost use Rattle.replies.specs.Replies.{AreOutcomes, IsOutcome};
 
 use catalogue::Mirror;
 use editions::Edition;
-use replies::{Choice, Plan, plan, render};
 use omaha_json::{Request, read_request};
+use replies::{Choice, Plan, plan, render};
 use std::alloc::{AllocError, Global};
 use std::process::Abort;
 use std::test::Fail;

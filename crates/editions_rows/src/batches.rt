@@ -77,6 +77,82 @@ size = 1600
 sha256 = "4444444444444444444444444444444444444444444444444444444444444444"
 "#;
 
+const STONED: &str = r#"schema = 1
+
+[[mirror]]
+name = "m0"
+codebase = "http://m0.example/p/"
+budget = 1000000
+
+[[app]]
+id = "demo"
+default = "stable"
+cohort = [
+    { name = "stable", target = "4.0", held = "3.0", share = 500 },
+    { name = "beta", target = "3.0", share = 1000, rollback = true, open = true },
+]
+
+[[app.release]]
+version = "1.0"
+name = "demo-1.0.bin"
+size = 1000
+sha256 = "1111111111111111111111111111111111111111111111111111111111111111"
+
+[[app.release]]
+version = "2.0"
+name = "demo-2.0.bin"
+size = 1200
+sha256 = "2222222222222222222222222222222222222222222222222222222222222222"
+stone = true
+
+[[app.release]]
+version = "3.0"
+name = "demo-3.0.bin"
+size = 1500
+sha256 = "3333333333333333333333333333333333333333333333333333333333333333"
+
+[[app.release]]
+version = "4.0"
+name = "demo-4.0.bin"
+size = 1600
+sha256 = "4444444444444444444444444444444444444444444444444444444444444444"
+
+[[app.diff]]
+from = "1.0"
+to = "2.0"
+name = "demo-1.0-2.0.bin"
+size = 300
+sha256 = "1212121212121212121212121212121212121212121212121212121212121212"
+
+[[app.diff]]
+from = "2.0"
+to = "3.0"
+name = "demo-2.0-3.0.bin"
+size = 200
+sha256 = "2323232323232323232323232323232323232323232323232323232323232323"
+
+[[app.diff]]
+from = "3.0"
+to = "4.0"
+name = "demo-3.0-4.0.bin"
+size = 250
+sha256 = "3434343434343434343434343434343434343434343434343434343434343434"
+
+[[app.diff]]
+from = "2.0"
+to = "4.0"
+name = "demo-2.0-4.0.bin"
+size = 500
+sha256 = "2424242424242424242424242424242424242424242424242424242424242424"
+
+[[app.diff]]
+from = "1.0"
+to = "3.0"
+name = "demo-1.0-3.0.bin"
+size = 100
+sha256 = "1313131313131313131313131313131313131313131313131313131313131313"
+"#;
+
 // The edits of a profile.
 fn edits(alloc: Global, profile: &str) -> Result<Batch, Fail> {
     let (batch, _mirrors) = read_profile(alloc, profile.as_bytes())?;
@@ -112,4 +188,9 @@ pub(crate) fn small(alloc: Global) -> Result<Edition, Fail> {
 /// 3.0, and `idle` has no target.
 pub(crate) fn demo(alloc: Global) -> Result<Edition, Fail> {
     Ok(Edition::empty(alloc).next(edits(alloc, DEMO)?)?)
+}
+
+/// The edition of app `demo` with differentials, the stone 2.0 and the rollback of `beta`.
+pub(crate) fn stoned(alloc: Global) -> Result<Edition, Fail> {
+    Ok(Edition::empty(alloc).next(edits(alloc, STONED)?)?)
 }

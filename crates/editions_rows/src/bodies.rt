@@ -1,9 +1,9 @@
 use crate::asking::{answers, body, reply, request};
 use crate::batches::small;
 use editions::Edition;
+use omaha_json::{Request, read_request};
 use payload_rules::Payload;
 use replies::{Choice, plan};
-use omaha_json::{Request, read_request};
 use std::alloc::{AllocError, Global};
 use std::test::Fail;
 
@@ -76,7 +76,7 @@ fn tells_a_wish_without_a_mirror_as_internal(rt: HostRuntime) -> Result<(), Fail
     answers(&rt, alloc, &small(alloc)?, false, NOT_GRANTED)
 }
 
-// A choice as `full 1 for 56`, or `none`.
+// A choice as `full 1 for 56` or `differential 0 for 300`, or `none`.
 fn shown(alloc: Global, choice: Option<Choice>) -> Result<String, AllocError> {
     match choice {
         Some(
@@ -85,11 +85,18 @@ fn shown(alloc: Global, choice: Option<Choice>) -> Result<String, AllocError> {
                 bytes,
             },
         ) => format!(in alloc; "full {release} for {bytes}, "),
+        Some(
+            Choice {
+                payload: Payload::Differ(index),
+                bytes,
+            },
+        ) => format!(in alloc; "differential {index} for {bytes}, "),
         None => format!(in alloc; "none, "),
     }
 }
 
-fn planned(alloc: Global, edition: &Edition, request: &Request) -> Result<String, Fail> {
+/// What a plan chooses for each app of a request.
+pub(crate) fn planned(alloc: Global, edition: &Edition, request: &Request) -> Result<String, Fail> {
     let plan = plan(alloc, edition, request)?;
     let mut text = String::new(alloc);
     for choice in plan.choices() {

@@ -1,0 +1,101 @@
+// Plans by least chains, of full packages and differentials.
+
+use crate::asking::{answers, request};
+use crate::batches::{edit, stoned};
+use crate::bodies::planned;
+use editions::Edition;
+use omaha_json::Request;
+use std::alloc::Global;
+use std::process::Abort;
+use std::test::Fail;
+
+// The request of a client whose fingerprint has the digit of its release, and which may be downgraded
+// or not.
+fn client(alloc: Global, digit: &str, cohort: &str, down: &str) -> Result<Request, Fail> {
+    let mut fp = String::from_str(alloc, "1.")?;
+    for _ in 0..64 {
+        fp.push_str(digit)?;
+    }
+    let fp = fp.as_str();
+    let app = format!(in alloc;
+        "{{\"appid\":\"demo\",\"cohort\":\"{cohort}\",\"packages\":{{\"package\":[{{\"fp\":\"{fp}\"}}]}},\"updatecheck\":{{\"rollback_allowed\":{down}}},\"version\":\"{digit}.0\"}}"
+    )?;
+    request(alloc, app.as_str(), "abc")
+}
+
+// Tests rows: the choice, a bar, then the release's digit, the cohort and whether it may be downgraded.
+fn chooses(rt: &impl Abort, alloc: Global, edition: &Edition, rows: &str) -> Result<(), Fail> {
+    for row in rows.lines() {
+        let (wanted, client_of) = row.split_once(", | ").ok_or("no bar")?;
+        let (digit, others) = client_of.split_once(',').ok_or("no cohort")?;
+        let (cohort, down) = others.split_once(',').ok_or("no flag")?;
+        let text = planned(alloc, edition, &client(alloc, digit, cohort, down)?)?;
+        assert!(rt;
+            text.as_str().strip_suffix(", ") == Some(wanted),
+            "{text}in place of {row}"
+        );
+    }
+    Ok(())
+}
+
+// The digits 0 and 5 are of no release, so such a client is at 0.0 or 5.0.
+const CHOICES: &str = "differential 0 for 300, | 1,stable:0,false
+differential 2 for 200, | 2,stable:0,false
+differential 4 for 250, | 3,stable:0,false
+none, | 4,stable:0,false
+full 1 for 1200, | 0,stable:0,false
+none, | 5,stable:0,true
+differential 0 for 300, | 1,stable:499,false
+differential 0 for 300, | 1,stable:500,false
+differential 2 for 200, | 2,stable:500,false
+none, | 3,stable:500,false
+none, | 4,stable:999,true
+full 1 for 1200, | 4,beta:0,true
+none, | 4,beta:0,false
+full 1 for 1200, | 5,beta:0,true
+none, | 5,beta:0,false
+differential 0 for 300, | 1,beta:0,true";
+
+#[test]
+fn chooses_the_first_payload_of_a_least_chain(rt: HostRuntime) -> Result<(), Fail> {
+    let alloc = rt.alloc();
+    chooses(&rt, alloc, &stoned(alloc)?, CHOICES)
+}
+
+const WITHDRAWN: &str = "differential 3 for 500, | 2,stable:0,false
+differential 0 for 300, | 1,stable:0,false
+none, | 2,stable:500,false
+differential 4 for 250, | 3,stable:0,false";
+
+#[test]
+fn goes_round_a_withdrawn_release(rt: HostRuntime) -> Result<(), Fail> {
+    let alloc = rt.alloc();
+    let front = "do = 'set_withdrawn', app = 'demo'";
+    let text = format!(in alloc; "{front}, version = '3.0', on = true")?;
+    let edition = stoned(alloc)?.next(edit(alloc, text.as_str())?)?;
+    chooses(&rt, alloc, &edition, WITHDRAWN)
+}
+
+const CLOSED: &str = "none, | 1,stable:0,false
+none, | 0,stable:0,false
+differential 2 for 200, | 2,stable:0,false
+differential 0 for 300, | 1,beta:0,false";
+
+#[test]
+fn jumps_no_stone_that_is_closed(rt: HostRuntime) -> Result<(), Fail> {
+    let alloc = rt.alloc();
+    let front = "do = 'set_audience', app = 'demo'";
+    let text = format!(in alloc; "{front}, version = '2.0', cohorts = ['beta']")?;
+    let edition = stoned(alloc)?.next(edit(alloc, text.as_str())?)?;
+    chooses(&rt, alloc, &edition, CLOSED)
+}
+
+const DIFFERENTIAL: &str =
+    r#"{"appid":"demo","cohort":"stable:0","cohortname":"stable","status":"ok","updatecheck":{"manifest":{"packages":{"package":[{"fp":"1.2222222222222222222222222222222222222222222222222222222222222222","hash_sha256":"2222222222222222222222222222222222222222222222222222222222222222","hashdiff_sha256":"1212121212121212121212121212121212121212121212121212121212121212","name":"demo-2.0.bin","namediff":"demo-1.0-2.0.bin","size":1200,"sizediff":300}]},"version":"2.0"},"status":"ok","urls":{"url":[{"codebase":"http://m0.example/p/"},{"codebasediff":"http://m0.example/p/"}]}}} | {"appid":"demo","cohort":"stable:0","packages":{"package":[{"fp":"1.1111111111111111111111111111111111111111111111111111111111111111"}]},"updatecheck":{},"version":"1.0"}
+{"appid":"demo","cohort":"stable:0","cohortname":"stable","status":"ok","updatecheck":{"manifest":{"packages":{"package":[{"fp":"1.2222222222222222222222222222222222222222222222222222222222222222","hash_sha256":"2222222222222222222222222222222222222222222222222222222222222222","name":"demo-2.0.bin","size":1200}]},"version":"2.0"},"status":"ok","urls":{"url":[{"codebase":"http://m0.example/p/"}]}}} | {"appid":"demo","cohort":"stable:0","updatecheck":{},"version":"x.y"}"#;
+
+#[test]
+fn offers_a_differential_with_its_full_package(rt: HostRuntime) -> Result<(), Fail> {
+    let alloc = rt.alloc();
+    answers(&rt, alloc, &stoned(alloc)?, true, DIFFERENTIAL)
+}
