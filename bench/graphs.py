@@ -1,17 +1,22 @@
 #!/usr/bin/env python3
-"""Times how the graph of a track is made, and how much memory it takes.
+"""Times how the graph of a track and its table are made, and how much memory they take.
 
-    bench/graphs.py [--releases N ..] [--turns N] [--runs N] [--keep FOLDER]
+    bench/graphs.py [--releases N ..] [--turns N] [--runs N] [--lists N] [--keep FOLDER]
 
-It copies the crates that a graph depends on to a folder, adds a program that makes the graph of one
-track again and again, and proves and builds it by `rt run`, which takes some minutes; `--keep` keeps
-the folder for the next time. The app has N releases, all of them offered, and from each release a
-differential to each of the next 32. The program prints the number of payloads of the last graph.
+It copies the crates that a table depends on to a folder, adds a program that makes the graph or the
+table of one track again and again, and proves and builds it by `rt run`, which takes some minutes;
+`--keep` keeps the folder for the next time. The app has N releases, all of them offered, and from each
+release a differential to each of the next 32. The program prints the number of payloads of the last
+graph, or of the last table's rows.
 
-`of_track` resolves the app's differentials and makes the graph; `from resolved` only makes the graph.
-Each is the difference in processor time of two runs, of N turns and of none, divided by N; of each
-the least of the runs counts.
+`of_track` resolves the app's differentials and makes the graph; `from resolved` only makes the graph;
+`table` makes the graph from resolved differentials, finds the prices and checks them; `solve` is what
+`table` takes beyond the graph. Each is the difference in processor time of two runs, of N turns and of
+none, divided by N; of each the least of the runs counts.
 `KiB` is by how much the peak memory grows for each graph that is kept.
+
+At the end all tables of a catalogue are made: 64 apps of 128 releases and 32 cohorts, each cohort with
+both targets. `--lists 0` leaves that out.
 """
 
 import argparse
@@ -23,24 +28,36 @@ import sys
 import tempfile
 
 TOP = pathlib.Path(__file__).resolve().parent.parent
-CRATES = ["values", "version", "records", "omaha_json", "catalogue", "cohorts", "payload_rules", "payload_graph"]
-LINE = "graph_times: payload_graph payload_rules catalogue cohorts values\n"
-PROGRAM = r"""//! Makes the graph of a track again and again.
+CRATES = ["values", "version", "records", "omaha_json", "catalogue", "cohorts", "payload_rules", "payload_graph", "price_cert", "solver", "par_tables"]
+LINE = "graph_times: par_tables solver price_cert payload_graph payload_rules catalogue cohorts values\n"
+PROGRAM = r"""//! Makes the graph or the table of a track again and again.
 
 #![tactic(auto)]
 
 ghost use Rattle.std.specs.Prelude.{◌<◌, length};
 
-use catalogue::{AddApp, AddDiff, AddRelease, ApplyError, Batch, Catalogue, Edit, SetTarget};
+use catalogue::{
+    AddApp, AddCohort, AddDiff, AddRelease, ApplyError, Batch, Catalogue, Edit, SetTarget,
+};
 use cohorts::Lane;
+use par_tables::{TrackTables, tables};
 use payload_graph::{Differentials, Graph};
 use payload_rules::TrackKey;
+use solver::solve;
 use std::alloc::{AllocError, Global};
 use std::io;
 use values::Text;
 
-fn name_of(alloc: Global, from: u64, to: u64) -> Result<Text, AllocError> {
-    Ok(Text::new(format!(in alloc; "demo-{from}-{to}.bin")?))
+fn id_of(alloc: Global, app: u64) -> Result<Text, AllocError> {
+    Ok(Text::new(format!(in alloc; "demo{app}")?))
+}
+
+fn cohort_of(alloc: Global, cohort: u64) -> Result<Text, AllocError> {
+    Ok(Text::new(format!(in alloc; "stable{cohort}")?))
+}
+
+fn name_of(alloc: Global, app: u64, from: u64, to: u64) -> Result<Text, AllocError> {
+    Ok(Text::new(format!(in alloc; "demo{app}-{from}-{to}.bin")?))
 }
 
 fn hash_of(alloc: Global, from: u64, to: u64) -> Result<Text, AllocError> {
@@ -51,16 +68,22 @@ fn version_of(alloc: Global, index: u64) -> Result<Text, AllocError> {
     Ok(Text::new(format!(in alloc; "1.{index}")?))
 }
 
-fn added_app(alloc: Global) -> Result<Edit, AllocError> {
-    let app = Text::copy_of(alloc, "demo")?;
-    let default = Text::copy_of(alloc, "stable")?;
+fn added_app(alloc: Global, app: u64) -> Result<Edit, AllocError> {
+    let app = id_of(alloc, app)?;
+    let default = cohort_of(alloc, 0)?;
     Ok(Edit::AddApp(AddApp { app, default }))
 }
 
-fn added_release(alloc: Global, index: u64) -> Result<Edit, AllocError> {
-    let app = Text::copy_of(alloc, "demo")?;
+fn added_cohort(alloc: Global, app: u64, cohort: u64) -> Result<Edit, AllocError> {
+    let app = id_of(alloc, app)?;
+    let cohort = cohort_of(alloc, cohort)?;
+    Ok(Edit::AddCohort(AddCohort { app, cohort }))
+}
+
+fn added_release(alloc: Global, app: u64, index: u64) -> Result<Edit, AllocError> {
+    let name = name_of(alloc, app, index, index)?;
+    let app = id_of(alloc, app)?;
     let version = version_of(alloc, index)?;
-    let name = name_of(alloc, index, index)?;
     let sha256 = hash_of(alloc, index, index)?;
     Ok(Edit::AddRelease(AddRelease {
         app,
@@ -71,11 +94,11 @@ fn added_release(alloc: Global, index: u64) -> Result<Edit, AllocError> {
     }))
 }
 
-fn added_diff(alloc: Global, from: u64, to: u64) -> Result<Edit, AllocError> {
-    let app = Text::copy_of(alloc, "demo")?;
+fn added_diff(alloc: Global, app: u64, from: u64, to: u64) -> Result<Edit, AllocError> {
+    let name = name_of(alloc, app, from, to)?;
+    let app = id_of(alloc, app)?;
     let start = version_of(alloc, from)?;
     let end = version_of(alloc, to)?;
-    let name = name_of(alloc, from, to)?;
     let sha256 = hash_of(alloc, from, to)?;
     Ok(Edit::AddDiff(AddDiff {
         app,
@@ -87,38 +110,56 @@ fn added_diff(alloc: Global, from: u64, to: u64) -> Result<Edit, AllocError> {
     }))
 }
 
-fn target_set(alloc: Global, index: u64) -> Result<Edit, AllocError> {
-    let app = Text::copy_of(alloc, "demo")?;
-    let cohort = Text::copy_of(alloc, "stable")?;
+fn target_set(alloc: Global, app: u64, cohort: u64, index: u64) -> Result<Edit, AllocError> {
+    let app = id_of(alloc, app)?;
+    let cohort = cohort_of(alloc, cohort)?;
     let target = Some(version_of(alloc, index)?);
+    let held = Some(version_of(alloc, index / 2)?);
     Ok(Edit::SetTarget(SetTarget {
         app,
         cohort,
         target,
-        held: None,
+        held,
     }))
 }
 
-fn push_diffs(alloc: Global, edits: &mut Vec<Edit>, from: u64, releases: u64) -> Result<(), AllocError> {
+fn push_diffs(alloc: Global, edits: &mut Vec<Edit>, app: u64, from: u64, releases: u64) -> Result<(), AllocError> {
     for ahead in 1..33u64 {
         let to = from.saturating_add(ahead);
         if to < releases {
-            edits.push(added_diff(alloc, from, to)?)?;
+            edits.push(added_diff(alloc, app, from, to)?)?;
         }
     }
     Ok(())
 }
 
-fn batch_of(alloc: Global, releases: u64) -> Result<Batch, AllocError> {
-    let mut edits = Vec::new(alloc);
-    edits.push(added_app(alloc)?)?;
+fn push_releases(alloc: Global, edits: &mut Vec<Edit>, app: u64, releases: u64) -> Result<(), AllocError> {
     for index in 0..releases {
-        edits.push(added_release(alloc, index)?)?;
+        edits.push(added_release(alloc, app, index)?)?;
     }
     for from in 0..releases {
-        push_diffs(alloc, &mut edits, from, releases)?;
+        push_diffs(alloc, edits, app, from, releases)?;
     }
-    edits.push(target_set(alloc, releases.saturating_sub(1))?)?;
+    Ok(())
+}
+
+fn push_cohorts(alloc: Global, edits: &mut Vec<Edit>, app: u64, cohorts: u64, releases: u64) -> Result<(), AllocError> {
+    for cohort in 0..cohorts {
+        if cohort > 0 {
+            edits.push(added_cohort(alloc, app, cohort)?)?;
+        }
+        edits.push(target_set(alloc, app, cohort, releases.saturating_sub(1))?)?;
+    }
+    Ok(())
+}
+
+fn batch_of(alloc: Global, apps: u64, cohorts: u64, releases: u64) -> Result<Batch, AllocError> {
+    let mut edits = Vec::new(alloc);
+    for app in 0..apps {
+        edits.push(added_app(alloc, app)?)?;
+        push_releases(alloc, &mut edits, app, releases)?;
+        push_cohorts(alloc, &mut edits, app, cohorts, releases)?;
+    }
     Ok(Batch::new(edits))
 }
 
@@ -165,7 +206,7 @@ fn kept(alloc: Global, catalogue: &Catalogue, turns: u64) -> Result<u64, AllocEr
     Ok(graphs.len() as u64)
 }
 
-fn lent(alloc: Global, catalogue: &Catalogue, turns: u64) -> Result<u64, AllocError> {
+fn resolved(alloc: Global, catalogue: &Catalogue, turns: u64) -> Result<u64, AllocError> {
     let key = key();
     if key.app >= catalogue.apps().len() {
         return Ok(0);
@@ -178,22 +219,72 @@ fn lent(alloc: Global, catalogue: &Catalogue, turns: u64) -> Result<u64, AllocEr
     Ok(last_of(graph))
 }
 
-fn catalogue_of(alloc: Global, releases: u64) -> Result<Catalogue, ApplyError> {
-    let batch = batch_of(alloc, releases)?;
+fn rows_of(alloc: Global, graph: Option<Graph>) -> Result<u64, AllocError> {
+    match graph {
+        Some(graph) => Ok(solve(alloc, &graph)?.rows().len() as u64),
+        None => Ok(0),
+    }
+}
+
+fn solved(alloc: Global, catalogue: &Catalogue, turns: u64) -> Result<u64, AllocError> {
+    let key = key();
+    if key.app >= catalogue.apps().len() {
+        return Ok(0);
+    }
+    let differentials = Differentials::of_app(alloc, catalogue, key.app)?;
+    let mut rows = 0;
+    for _turn in 0..turns {
+        let graph = Graph::with_differentials(alloc, catalogue, &key, &differentials)?;
+        rows = rows_of(alloc, graph)?;
+    }
+    Ok(rows)
+}
+
+fn count_in(lists: &[TrackTables]) -> u64 {
+    let mut count: u64 = 0;
+    for list in lists {
+        count = count.wrapping_add(list.as_slice().len() as u64);
+    }
+    count
+}
+
+fn listed(alloc: Global, catalogue: &Catalogue, turns: u64) -> Result<u64, AllocError> {
+    let mut lists = Vec::new(alloc);
+    for _turn in 0..turns {
+        lists.push(tables(alloc, catalogue)?)?;
+    }
+    Ok(count_in(lists.as_slice()))
+}
+
+fn catalogue_of(alloc: Global, apps: u64, cohorts: u64, releases: u64) -> Result<Catalogue, ApplyError> {
+    let batch = batch_of(alloc, apps, cohorts, releases)?;
     Catalogue::empty(alloc).applied(&batch)
 }
 
-fn run(alloc: Global, mode: &str, releases: u64, turns: u64) -> Result<u64, ApplyError> {
-    let catalogue = catalogue_of(alloc, releases)?;
+fn run_all(alloc: Global, releases: u64, turns: u64) -> Result<u64, ApplyError> {
+    let catalogue = catalogue_of(alloc, 64, 32, releases)?;
+    Ok(listed(alloc, &catalogue, turns)?)
+}
+
+fn run_one(alloc: Global, mode: &str, releases: u64, turns: u64) -> Result<u64, ApplyError> {
+    let catalogue = catalogue_of(alloc, 1, 1, releases)?;
     let count = match mode {
         "whole" => whole(alloc, &catalogue, turns)?,
-        "lent" => lent(alloc, &catalogue, turns)?,
+        "resolved" => resolved(alloc, &catalogue, turns)?,
+        "solved" => solved(alloc, &catalogue, turns)?,
         _ => kept(alloc, &catalogue, turns)?,
     };
     Ok(count)
 }
 
-// Each line of the input: `whole`, `lent` or `kept`, the releases and the turns.
+fn run(alloc: Global, mode: &str, releases: u64, turns: u64) -> Result<u64, ApplyError> {
+    match mode {
+        "listed" => run_all(alloc, releases, turns),
+        _ => run_one(alloc, mode, releases, turns),
+    }
+}
+
+// Each line of the input: `whole`, `resolved`, `solved`, `kept` or `listed`, the releases and the turns.
 fn main(rt: HostRuntime) -> io::Result<()> {
     let alloc = rt.alloc();
     for line in rt.lines(alloc) {
@@ -246,16 +337,26 @@ def run_once(program, mode, releases, turns):
     return usage.ru_utime + usage.ru_stime, usage.ru_maxrss, int(printed)
 
 
+def per_turn(program, mode, releases, turns, runs):
+    """Microseconds a turn."""
+    none = min(run_once(program, mode, releases, 0)[0] for _ in range(runs))
+    many = min(run_once(program, mode, releases, turns)[0] for _ in range(runs))
+    return (many - none) / turns * 1e6
+
+
 def measure(program, releases, turns, runs):
-    """Microseconds a graph, whole and from resolved differentials; KiB a graph; its payloads."""
-    found = {}
-    for mode in ("whole", "lent"):
-        none = min(run_once(program, mode, releases, 0)[0] for _ in range(runs))
-        many = min(run_once(program, mode, releases, turns)[0] for _ in range(runs))
-        found[mode] = (many - none) / turns * 1e6
+    """Microseconds a graph, whole and from resolved differentials, and a table; KiB a graph; its payloads."""
+    whole, resolved, solved = (per_turn(program, mode, releases, turns, runs) for mode in ("whole", "resolved", "solved"))
     count = 100_000 // releases
     few, more = (run_once(program, "kept", releases, number)[1] for number in (count, 2 * count))
-    return found["whole"], found["lent"], (more - few) / count, run_once(program, "whole", releases, 1)[2]
+    return whole, resolved, solved, (more - few) / count, run_once(program, "whole", releases, 1)[2]
+
+
+def measure_lists(program, turns, runs):
+    """Milliseconds a list of all tables, its KiB, and the number of its tables."""
+    time = per_turn(program, "listed", 128, turns, runs) / 1e3
+    few, more = (run_once(program, "listed", 128, number)[1] for number in (turns, 2 * turns))
+    return time, (more - few) / turns, run_once(program, "listed", 128, 1)[2]
 
 
 def main():
@@ -263,15 +364,19 @@ def main():
     options.add_argument("--releases", type=int, nargs="+", default=[64, 128, 256, 512], help="releases of the app, at most 512")
     options.add_argument("--turns", type=int, default=2000, help="graphs of a run [default: 2000]")
     options.add_argument("--runs", type=int, default=5, help="runs of each [default: 5]")
+    options.add_argument("--lists", type=int, default=4, help="lists of all tables of a run [default: 4]")
     options.add_argument("--keep", help="a folder that keeps the program")
     asked = options.parse_args()
     folder = pathlib.Path(asked.keep or tempfile.mkdtemp()).resolve()
     try:
         program = build(folder)
-        print("releases  payloads  of_track us  from resolved us  KiB", flush=True)
+        print("releases  payloads  of_track us  from resolved us  table us  solve us  KiB", flush=True)
         for releases in asked.releases:
-            whole, lent, memory, payloads = measure(program, releases, asked.turns, asked.runs)
-            print(f"{releases:8}  {payloads:8}  {whole:11.1f}  {lent:16.1f}  {memory:3.0f}", flush=True)
+            whole, resolved, solved, memory, payloads = measure(program, releases, asked.turns, asked.runs)
+            print(f"{releases:8}  {payloads:8}  {whole:11.1f}  {resolved:16.1f}  {solved:8.1f}  {solved - resolved:8.1f}  {memory:3.0f}", flush=True)
+        if asked.lists:
+            time, memory, count = measure_lists(program, asked.lists, asked.runs)
+            print(f"{count} tables of 128 releases: {time:.0f} ms, {memory:.0f} KiB", flush=True)
     finally:
         if not asked.keep:
             shutil.rmtree(folder)

@@ -5,3 +5,4 @@ mod KeyLemmas
 mod ListingLemmas
 mod OneLemmas
 mod PlaceLemmas
+mod TrackLemmas

@@ -17,7 +17,7 @@ use Rattle.par_tables.specs.Places.{ArePlaced, IsPlaced, start_of}
 use Rattle.par_tables.specs.Tables.{nets_of}
 
 -- the graph of a track has its key
-net_among-key : (apps : List App) (key : TrackKey) (net : Net) → net_among apps key ≡ Some net → net.key ≡ key
+pub net_among-key : (apps : List App) (key : TrackKey) (net : Net) → net_among apps key ≡ Some net → net.key ≡ key
 net_among-key apps key net there = in_apps (slice_get apps key.app) there
   where
     in_target : (app : App) (cohort : Cohort) (found : Option ℕ) → option_map (net_of app key cohort) found ≡ Some net → net.key ≡ key
@@ -35,10 +35,10 @@ net_among-key apps key net there = in_apps (slice_get apps key.app) there
     in_apps (Some app) there = in_cohorts app (slice_get app.cohorts key.cohort) there
 
 -- one graph at most
-abbrev found_net : Option Net → List Net
+abbrev pub found_net : Option Net → List Net
 found_net found = filter_map (λ (n : ℕ). found) (0 ∷ [])
 
-nets_of-cons : (apps : List App) (key : TrackKey) (keys : List TrackKey) → nets_of apps (key ∷ keys) ≡ found_net (net_among apps key) ++ nets_of apps keys
+pub nets_of-cons : (apps : List App) (key : TrackKey) (keys : List TrackKey) → nets_of apps (key ∷ keys) ≡ found_net (net_among apps key) ++ nets_of apps keys
 nets_of-cons apps key keys = filter_map-append (net_among apps) (key ∷ []) keys
 
 -- what holds of each key holds of the graphs' keys

@@ -1,5 +1,5 @@
 -- The tables of a catalogue: one for each track that has a target.
-use Rattle.std.specs.Prelude.{◌≡◌, List, ◌++◌, All, filter_map, map}
+use Rattle.std.specs.Prelude.{◌≡◌, List, ◌++◌, All, Any, Some, filter_map, map}
 use Rattle.records.specs.declared.content.App.{App}
 use Rattle.payload_rules.specs.declared.payload.TrackKey.{TrackKey}
 use Rattle.payload_graph.specs.Net.{Net, net_among}
@@ -31,6 +31,21 @@ pub record AreTables (apps : List App) (tables : List Certificate) : Type 0 wher
 pub record Adds (apps : List App) (keys : List TrackKey) (old new : List Certificate) : Type 0 where
   pub nets : map net_of_table new ≡ map net_of_table old ++ nets_of apps keys
   pub certified : All IsTable old → All IsTable new
+
+-- each table is that of the track of its key
+abbrev pub TablesAreOfTracks : Type 0
+TablesAreOfTracks =
+    (apps : List App) (tables : List Certificate) →
+    AreTables apps tables → All (λ (table : Certificate). net_among apps table.net.key ≡ Some table.net) tables
+
+-- each track with a target has a table; one that allows a downgrade only if its cohort does
+abbrev pub TracksHaveTables : Type 0
+TracksHaveTables =
+    (apps : List App) (tables : List Certificate) (key : TrackKey) (net : Net) →
+    AreTables apps tables →
+    net_among apps key ≡ Some net →
+    net.rollback ≡ key.rollback →
+    Any (λ (table : Certificate). table.net ≡ net) tables
 
 -- a content has one list of tables
 abbrev pub TablesAreOne : Type 0

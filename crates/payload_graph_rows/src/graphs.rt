@@ -11,7 +11,8 @@ use std::alloc::{AllocError, Global};
 use std::process::Abort;
 use std::test::Fail;
 
-const DEMO: &str = "add_app demo stable
+/// An app with four releases, of which 2.0 is a stone, and five differentials.
+pub(crate) const DEMO: &str = "add_app demo stable
 add_cohort demo beta
 add_release demo 1.0 demo-1.0.bin 1000 1111111111111111111111111111111111111111111111111111111111111111
 add_release demo 2.0 demo-2.0.bin 1200 2222222222222222222222222222222222222222222222222222222222222222
@@ -27,8 +28,8 @@ set_target demo stable 4.0 3.0
 set_target demo beta 3.0 -
 set_rollback demo beta on";
 
-// A key from its words: `stable target no`, the last one is whether the client allows a downgrade.
-fn key_of(words: &str) -> TrackKey {
+/// A key from its words: `stable target no`, the last one is whether the client allows a downgrade.
+pub(crate) fn key_of(words: &str) -> TrackKey {
     let cohort = if words.starts_with("stable") {
         0
     } else if words.starts_with("beta") {

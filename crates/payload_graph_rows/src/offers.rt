@@ -1,0 +1,110 @@
+// First payloads and tables of tracks, by key.
+
+use crate::graphs::{DEMO, key_of};
+use crate::lines::catalogue_of;
+use crate::tables::push_table;
+use catalogue::Catalogue;
+use par_tables::tables;
+use payload_graph::Graph;
+use payload_rules::{Payload, TrackKey};
+use quotes::{Quote, quote_at};
+use solver::solve;
+use std::alloc::{AllocError, Global};
+use std::process::Abort;
+use std::test::Fail;
+
+fn word_of(alloc: Global, quote: Quote) -> Result<String, AllocError> {
+    match quote {
+        Quote::Here => String::from_str(alloc, "here"),
+        Quote::NoChain => String::from_str(alloc, "no chain"),
+        Quote::Next {
+            payload: Payload::Full(release),
+            sum,
+        } => format!(in alloc; "f{release} {sum}"),
+        Quote::Next {
+            payload: Payload::Differ(index),
+            sum,
+        } => format!(in alloc; "d{index} {sum}"),
+    }
+}
+
+fn quoted(
+    alloc: Global,
+    catalogue: &Catalogue,
+    key: &TrackKey,
+    release: usize,
+) -> Result<String, AllocError> {
+    if key.app >= catalogue.apps().len() || release >= catalogue.releases(key.app).len() {
+        return String::from_str(alloc, "no release");
+    }
+    let Some(graph) = Graph::of_track(alloc, catalogue, key)? else {
+        return String::from_str(alloc, "no track");
+    };
+    let table = solve(alloc, &graph)?;
+    word_of(alloc, quote_at(catalogue, key, release, &table))
+}
+
+fn quoted_after(alloc: Global, key: &str, release: &str) -> Result<String, Fail> {
+    let catalogue = catalogue_of(alloc, DEMO, "")?;
+    let index = release.parse().unwrap_or(9);
+    Ok(quoted(alloc, &catalogue, &key_of(key), index)?)
+}
+
+// Each row: a key, a bar, a release, a bar, and what its clients are offered: a full package by its release
+// or a differential by its index, with the sum.
+const OFFERS: &str = "stable target no|0|d0 750
+stable target no|1|d2 450
+stable target no|2|d4 250
+stable target no|3|here
+stable held no|0|d0 500
+stable held no|3|no chain
+beta target yes|3|f1 1400
+beta target no|3|no chain
+beta held no|0|no track
+stable target no|4|no release";
+
+#[test]
+fn offers_the_first_payload_of_a_least_chain(rt: HostRuntime) -> Result<(), Fail> {
+    for row in OFFERS.lines() {
+        let (key, others) = row.split_once('|').ok_or("no bar")?;
+        let (release, want) = others.split_once('|').ok_or("no second bar")?;
+        let found = quoted_after(rt.alloc(), key, release)?;
+        assert_eq!(rt; found.as_str(), want, "{row}");
+    }
+    Ok(())
+}
+
+fn found_words(alloc: Global, catalogue: &Catalogue, key: &TrackKey) -> Result<String, AllocError> {
+    let mut words = String::new(alloc);
+    match tables(alloc, catalogue)?.find(key) {
+        Some(table) => push_table(alloc, &mut words, table)?,
+        None => words.push_str(" no table")?,
+    }
+    Ok(words)
+}
+
+fn found_after(alloc: Global, more: &str, key: &str) -> Result<String, Fail> {
+    let catalogue = catalogue_of(alloc, DEMO, more)?;
+    Ok(found_words(alloc, &catalogue, &key_of(key))?)
+}
+
+const TABLES: &str = "stable target no|| 750d1 450d2 250d3 end
+stable held no|| 500d1 200d2 end none
+stable target yes|| no table
+beta target no|| 500d1 200d2 end none
+beta target yes|| 500d1 200d2 end 1400f1
+beta held no|| no table
+gone target no|| no table
+beta held yes|set_target demo beta - 3.0| 500d1 200d2 end 1400f1
+stable target yes|set_rollback demo stable on| 750d1 450d2 250d3 end";
+
+#[test]
+fn finds_the_table_of_a_key(rt: HostRuntime) -> Result<(), Fail> {
+    for row in TABLES.lines() {
+        let (key, others) = row.split_once('|').ok_or("no bar")?;
+        let (more, want) = others.split_once('|').ok_or("no second bar")?;
+        let found = found_after(rt.alloc(), more, key)?;
+        assert_eq!(rt; found.as_str(), want, "{row}");
+    }
+    Ok(())
+}

@@ -1,0 +1,225 @@
+// Tables of prices, worked by hand, and against a plain slow program.
+
+use crate::graphs::{DEMO, key_of};
+use crate::lines::catalogue_of;
+use crate::random::lines_of;
+use crate::slow::slow_words;
+use catalogue::Catalogue;
+use par_tables::tables;
+use payload_graph::{Graph, Kind};
+use payload_rules::TrackKey;
+use price_cert::{Certified, Row};
+use solver::solve;
+use std::alloc::{AllocError, Global};
+use std::process::Abort;
+use std::test::Fail;
+
+/// Puts a priced row's word at the end.
+pub(crate) fn push_price(
+    alloc: Global,
+    words: &mut String,
+    price: u64,
+    kind: Kind,
+    to: usize,
+) -> Result<(), AllocError> {
+    let letter = match kind {
+        Kind::Full => "f",
+        Kind::Differ => "d",
+    };
+    let word = format!(in alloc; " {price}{letter}{to}")?;
+    words.push_str(word.as_str())
+}
+
+fn push_row(alloc: Global, words: &mut String, row: &Row) -> Result<(), AllocError> {
+    match row {
+        Row::Nothing => words.push_str(" none"),
+        Row::End => words.push_str(" end"),
+        Row::Price { price, kind, to } => push_price(alloc, words, *price, *kind, *to),
+    }
+}
+
+/// Puts a table's words at the end.
+pub(crate) fn push_table(
+    alloc: Global,
+    words: &mut String,
+    table: &Certified,
+) -> Result<(), AllocError> {
+    for row in table.rows() {
+        push_row(alloc, words, row)?;
+    }
+    Ok(())
+}
+
+fn solved_words(alloc: Global, graph: &Graph) -> Result<String, AllocError> {
+    let mut words = String::new(alloc);
+    let table = solve(alloc, graph)?;
+    push_table(alloc, &mut words, &table)?;
+    Ok(words)
+}
+
+fn words_of(alloc: Global, catalogue: &Catalogue, key: &TrackKey) -> Result<String, AllocError> {
+    match Graph::of_track(alloc, catalogue, key)? {
+        Some(graph) => solved_words(alloc, &graph),
+        None => String::from_str(alloc, " no track"),
+    }
+}
+
+fn words_after(alloc: Global, more: &str, key: &str) -> Result<String, Fail> {
+    let catalogue = catalogue_of(alloc, DEMO, more)?;
+    Ok(words_of(alloc, &catalogue, &key_of(key))?)
+}
+
+// Each row: a key, a bar, edits after those of `demo`, a bar, and the table's rows, each after a space: its
+// price, `f` or `d`, and the index of the release that the payload leads to.
+const ROWS: &str = "stable target no|| 750d1 450d2 250d3 end
+stable held no|| 500d1 200d2 end none
+beta target yes|| 500d1 200d2 end 1400f1
+beta target no|| 500d1 200d2 end none
+beta held yes|| no track
+gone target no|| no track
+stable target no|set_stone demo 2.0 off| 350d2 450d2 250d3 end
+stable target no|set_withdrawn demo 3.0 on| 800d1 500d3 250d3 end
+stable target no|set_withdrawn demo 4.0 on| none none none end
+stable target no|set_target demo stable 3.0 -| 500d1 200d2 end none
+stable target no|set_audience demo 2.0 beta| none 450d2 250d3 end
+beta target yes|set_target demo beta 1.0 -| end 1000f0 1000f0 1000f0
+beta target yes|set_withdrawn demo 1.0 on;set_target demo beta 1.0 -| end none none none
+stable target no|set_target demo stable 2.0 -;add_release demo 5.0 demo-5.0.bin 7 5555555555555555555555555555555555555555555555555555555555555555| 300d1 end none none none";
+
+#[test]
+fn solves_the_tables_of_tracks(rt: HostRuntime) -> Result<(), Fail> {
+    for row in ROWS.lines() {
+        let (key, others) = row.split_once('|').ok_or("no bar")?;
+        let (more, want) = others.split_once('|').ok_or("no second bar")?;
+        let found = words_after(rt.alloc(), more, key)?;
+        assert_eq!(rt; found.as_str(), want, "{row}");
+    }
+    Ok(())
+}
+
+// Releases 2.0, 3.0 and 4.0, and differentials of 200, 250 and 450 bytes: two chains of the same sum.
+const TIE: &str = "add_app demo stable
+add_release demo 2.0 demo-2.0.bin 1200 2222222222222222222222222222222222222222222222222222222222222222
+add_release demo 3.0 demo-3.0.bin 200 3333333333333333333333333333333333333333333333333333333333333333
+add_release demo 4.0 demo-4.0.bin 1600 4444444444444444444444444444444444444444444444444444444444444444
+add_diff demo 2.0 3.0 demo-2.0-3.0.bin 200 2323232323232323232323232323232323232323232323232323232323232323
+add_diff demo 3.0 4.0 demo-3.0-4.0.bin 250 3434343434343434343434343434343434343434343434343434343434343434
+set_target demo stable 4.0 -";
+
+fn tie_words(alloc: Global, more: &str) -> Result<String, Fail> {
+    let catalogue = catalogue_of(alloc, TIE, more)?;
+    Ok(words_of(alloc, &catalogue, &key_of("stable target no"))?)
+}
+
+#[test]
+fn of_equal_sums_the_highest_release_and_then_the_differential_comes_first(
+    rt: HostRuntime,
+) -> Result<(), Fail> {
+    let level = tie_words(rt.alloc(), "")?;
+    assert_eq!(rt; level.as_str(), " 450d1 250d2 end");
+    let higher = tie_words(
+        rt.alloc(),
+        "add_diff demo 2.0 4.0 demo-2.0-4.0.bin 450 2424242424242424242424242424242424242424242424242424242424242424",
+    )?;
+    assert_eq!(rt; higher.as_str(), " 450d2 250d2 end");
+    Ok(())
+}
+
+fn push_line(alloc: Global, lines: &mut String, release: u64) -> Result<(), AllocError> {
+    let line = format!(in alloc;
+        "add_release demo {release} demo-{release}.bin 1099511627776 {release:064}\nset_stone demo {release} on\n"
+    )?;
+    lines.push_str(line.as_str())
+}
+
+fn push_step(alloc: Global, lines: &mut String, from: u64, to: u64) -> Result<(), AllocError> {
+    let line = format!(in alloc;
+        "add_diff demo {from} {to} demo-{from}-{to}.bin 1099511627776 {from:032}{to:032}\n"
+    )?;
+    lines.push_str(line.as_str())
+}
+
+fn stone_lines(alloc: Global) -> Result<String, AllocError> {
+    let mut lines = String::from_str(alloc, "add_app demo stable\n")?;
+    for release in 1..513u64 {
+        push_line(alloc, &mut lines, release)?;
+    }
+    for from in 1..512u64 {
+        push_step(alloc, &mut lines, from, from.saturating_add(1))?;
+    }
+    lines.push_str("set_target demo stable 512 -")?;
+    Ok(lines)
+}
+
+fn stone_words(alloc: Global) -> Result<String, Fail> {
+    let lines = stone_lines(alloc)?;
+    let catalogue = catalogue_of(alloc, lines.as_str(), "")?;
+    Ok(words_of(alloc, &catalogue, &key_of("stable target no"))?)
+}
+
+// 512 releases, each a stone, and each package of 2^40 bytes: 511 differentials from the lowest.
+#[test]
+fn sums_the_largest_packages_of_the_most_releases(rt: HostRuntime) -> Result<(), Fail> {
+    let words = stone_words(rt.alloc())?;
+    let start = words
+        .as_str()
+        .starts_with(" 561850441793536d1 560750930165760d2 ");
+    assert!(rt; start);
+    let end = words.as_str().ends_with(" 1099511627776d511 end");
+    assert!(rt; end);
+    Ok(())
+}
+
+fn all_words(alloc: Global, catalogue: &Catalogue) -> Result<String, AllocError> {
+    let mut words = String::new(alloc);
+    for table in tables(alloc, catalogue)?.as_slice() {
+        words.push_str(";")?;
+        push_table(alloc, &mut words, table)?;
+    }
+    Ok(words)
+}
+
+fn all_words_after(alloc: Global, more: &str) -> Result<String, Fail> {
+    let catalogue = catalogue_of(alloc, DEMO, more)?;
+    Ok(all_words(alloc, &catalogue)?)
+}
+
+const LISTS: &str =
+    "|; 750d1 450d2 250d3 end; 500d1 200d2 end none; 500d1 200d2 end none; 500d1 200d2 end 1400f1
+set_target demo beta - 3.0|; 750d1 450d2 250d3 end; 500d1 200d2 end none; 500d1 200d2 end none; 500d1 200d2 end 1400f1
+set_target demo stable - -;set_rollback demo beta off|; 500d1 200d2 end none
+set_target demo stable - -;add_app other main;add_release other 1.0 other-1.0.bin 5 6666666666666666666666666666666666666666666666666666666666666666;set_target other main 1.0 1.0|; 500d1 200d2 end none; 500d1 200d2 end 1400f1; end; end";
+
+#[test]
+fn lists_the_tables_in_the_order_of_tracks(rt: HostRuntime) -> Result<(), Fail> {
+    for row in LISTS.lines() {
+        let (more, want) = row.split_once('|').ok_or("no bar")?;
+        let found = all_words_after(rt.alloc(), more)?;
+        assert_eq!(rt; found.as_str(), want, "{row}");
+    }
+    Ok(())
+}
+
+fn same_as_slow(alloc: Global, catalogue: &Catalogue, key: &TrackKey) -> Result<bool, AllocError> {
+    let Some(app) = catalogue.apps().get(key.app) else {
+        return Ok(false);
+    };
+    let want = slow_words(alloc, catalogue, app, key)?;
+    let found = words_of(alloc, catalogue, key)?;
+    Ok(found.as_str() == want.as_str())
+}
+
+fn agrees(alloc: Global, seed: u64) -> Result<bool, Fail> {
+    let lines = lines_of(alloc, seed)?;
+    let catalogue = catalogue_of(alloc, lines.as_str(), "")?;
+    Ok(same_as_slow(alloc, &catalogue, &key_of("stable target yes"))?)
+}
+
+#[test]
+fn agrees_with_a_slow_program(rt: HostRuntime) -> Result<(), Fail> {
+    for seed in 0..40u64 {
+        let same = agrees(rt.alloc(), seed)?;
+        assert!(rt; same, "{seed}");
+    }
+    Ok(())
+}
