@@ -1,0 +1,31 @@
+-- The book of a mirror: the bytes that it may be granted, and those that it was granted. The budget is
+-- this project's profile; no public standard has it.
+use Rattle.std.specs.Prelude.{◌≡◌, ℕ, ◌+◌, ◌-◌, ◌≤◌, ◌^◌}
+
+-- a mirror's budget, and the bytes that it was granted
+pub record Account : Type 0 where
+  pub budget : ℕ
+  pub total : ℕ
+
+-- how many bytes may still be granted
+abbrev pub bytes_left : Account → ℕ
+bytes_left account = account.budget - account.total
+
+-- a grant of that many bytes stays within the budget
+abbrev pub HasRoom : Account → ℕ → Type 0
+HasRoom account bytes = account.total + bytes ≤ account.budget
+
+-- rule: Grant of bytes
+-- the bytes were added to what was granted, and the budget did not change
+pub record Grants (old new : Account) (bytes : ℕ) : Type 0 where
+  pub total : new.total ≡ old.total + bytes
+  pub budget : new.budget ≡ old.budget
+
+-- rule: Budget of a mirror
+-- what holds of every book: its ledger counts the total, which is within the budget; the budget is that
+-- of the ledger's name, at most 2^60
+pub record IsKept (named counted : ℕ) (account : Account) : Type 0 where
+  pub adds_up : counted ≡ account.total
+  pub within : account.total ≤ account.budget
+  pub carried : account.budget ≡ named
+  pub bounded : account.budget ≤ 2 ^ 60

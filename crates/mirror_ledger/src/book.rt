@@ -1,0 +1,140 @@
+//! The book of one mirror.
+
+ghost use Rattle.std.specs.Prelude.{◌≡◌, ◌↔◌, ℕ, ◌+◌, ◌-◌, ◌^◌, ◌<◌, ◌≤◌, IfErr, IsOk, OnOk, OnErr};
+ghost use Rattle.mirror_ledger.specs.Budgets.{Account, Grants, HasRoom, bytes_left};
+
+use std::marker::{Brand, Model};
+use std::sync::ledger;
+use std::sync::ledger::{Blank, Ledger};
+
+/// The name of a mirror's ledger, which also has the mirror's budget, for contracts.
+pub trait BudgetName: Ledger {
+    ghost budget: { ℕ };
+}
+
+impl BudgetName for Brand {
+    ghost budget = { 0 };
+}
+
+// rule: Budget of a mirror
+/// The book of a mirror: its budget and the bytes that it was granted, which never exceed it.
+///
+/// Contracts see it as an `Account`. Its total is the sum of all shares of its ledger.
+#[derive(Drop)]
+pub struct Book<P: BudgetName> {
+    total: u64,
+    budget: u64,
+    counted: ledger::Book<P>,
+}
+
+impl<P: BudgetName> Model for Book<P> {
+    ghost use Rattle.mirror_ledger.specs.Budgets.{Account, IsKept};
+
+    ghost Value = { Account };
+
+    ghost view = { λ b. record { budget = b.budget; total = b.total } };
+
+    ghost invariant = { λ b. IsKept P.budget b.counted.total (record { budget = b.budget; total = b.total }) };
+}
+
+/// A worker's part of a mirror's book, which contracts see as the bytes that the worker was granted.
+#[derive(Drop)]
+pub struct Share<P: BudgetName> {
+    mark: ledger::Share<P>,
+}
+
+impl<P: BudgetName> Model for Share<P> {
+    ghost use Rattle.std.specs.Prelude.{◌≡◌, ℕ};
+
+    ghost Value = { ℕ };
+
+    ghost view = { λ share. share.mark.amount };
+
+    ghost invariant = { λ share. share.mark.parts ≡ 1 };
+}
+
+/// The budget has no room for the bytes.
+#[derive(Debug, Drop)]
+pub struct NoRoom {
+    /// How many bytes may still be granted.
+    pub left: u64,
+}
+
+impl<P: BudgetName> Book<P> {
+    /// Opens the book of a budget in bytes, and its ledger with all parts.
+    pub(crate) fn open(blank: Blank, budget: u64) -> (Book<P>, ledger::Share<P>)
+        requires name { blank.name ≡ P.name }
+        requires parts { blank.parts ≡ P.parts }
+        requires budget { budget ≡ P.budget }
+        requires bounded { budget ≤ 2 ^ 60 }
+        ensures budget { result.0.budget ≡ budget }
+        ensures total { result.0.total ≡ 0 }
+        ensures parts { result.1.parts ≡ P.parts }
+        ensures amount { result.1.amount ≡ 0 }
+    {
+        let (counted, all) = blank.open::<P>();
+        let book = Book {
+            total: 0,
+            budget,
+            counted,
+        };
+        (book, all)
+    }
+
+    // rule: Grant of bytes
+    /// Grants bytes if they fit the budget; 0 bytes always do.
+    ///
+    /// The bytes are added to the total and to the share. Otherwise it returns `NoRoom` and changes
+    /// nothing. It takes no memory.
+    pub fn grant(&mut self, share: &mut Share<P>, bytes: u64) -> Result<(), NoRoom>
+        ensures succeeds { IsOk result ↔ HasRoom self.old bytes }
+        ensures granted { OnOk result (Grants self.old self.new bytes) }
+        ensures share { OnOk result (share.new ≡ share.old + bytes) }
+
+        ensures left { IfErr result (λ refusal. refusal.left ≡ bytes_left self.old) }
+        ensures err { OnErr result ((self.new ≡ self.old) × (share.new ≡ share.old)) }
+    {
+        let left = self.budget - self.total;
+        if bytes > left {
+            return Err(NoRoom { left });
+        }
+        let Book { total, counted, .. } = self;
+        counted.add(&mut share.mark, bytes);
+        *total += bytes;
+        Ok(())
+    }
+
+    /// Returns the total, which is the amount of all parts of the ledger and within the budget.
+    pub(crate) fn gather(&mut self, all: &mut ledger::Share<P>) -> u64
+        requires { all.old.parts ≡ P.parts }
+        ensures total { result ≡ all.old.amount }
+        ensures within { result ≤ P.budget }
+    {
+        self.counted.audit(all);
+        self.total
+    }
+}
+
+impl<P: BudgetName> Share<P> {
+    /// Takes one part off the ledger's parts, with no amount.
+    pub(crate) fn split_from(rest: &mut ledger::Share<P>) -> Share<P>
+        requires some { 0 < rest.old.parts }
+        requires empty { rest.old.amount ≡ 0 }
+        ensures share { result ≡ 0 }
+        ensures parts { rest.new.parts + 1 ≡ rest.old.parts }
+        ensures amount { rest.new.amount ≡ 0 }
+    {
+        Share {
+            mark: rest.split_off(1, 0),
+        }
+    }
+
+    /// Gives the part of the ledger.
+    pub(crate) fn into_mark(self) -> ledger::Share<P>
+        ensures parts { result.parts ≡ 1 }
+        ensures amount { result.amount ≡ self }
+    {
+        let Share { mark } = self;
+        mark
+    }
+}

@@ -1,0 +1,135 @@
+//! The books of all mirrors, and a worker's shares of them.
+
+ghost use Rattle.std.specs.Prelude.{◌≡◌, ◌+◌, ◌++◌, ◌∷◌, [], ◌<◌, if◌then◌else◌, length, IfSome, Some};
+ghost use Rattle.mirror_ledger.specs.Asks.{AreTallied, booked};
+
+use crate::asks::AskList;
+use crate::book::{Book, BudgetName, Share};
+use records::Mirror;
+use std::marker::Model;
+use std::sync::{Mutex, Wait};
+
+/// The books of one to four mirrors, which contracts see as the list of these mirrors.
+///
+/// Each book is under a lock of its own. A place without a mirror has a book of the budget 0, which
+/// nothing asks.
+#[derive(Drop)]
+pub struct Books<A: BudgetName, B: BudgetName, C: BudgetName, D: BudgetName> {
+    pub(crate) given: Vec<Mirror>,
+    /// The book of the first mirror.
+    pub first: Mutex<Book<A>>,
+    /// The book of the second mirror.
+    pub second: Mutex<Book<B>>,
+    /// The book of the third mirror.
+    pub third: Mutex<Book<C>>,
+    /// The book of the fourth mirror.
+    pub fourth: Mutex<Book<D>>,
+}
+
+impl<A: BudgetName, B: BudgetName, C: BudgetName, D: BudgetName> Model for Books<A, B, C, D> {
+    ghost use Rattle.std.specs.Prelude.{List};
+    ghost use Rattle.records.specs.declared.mirror.Mirror.{Mirror};
+    ghost use Rattle.mirror_ledger.specs.Named.{AreGiven};
+
+    ghost Value = { List Mirror };
+
+    ghost view = { λ books. books.given.items };
+
+    ghost invariant = { λ books. AreGiven books.given.items A.budget B.budget C.budget D.budget };
+}
+
+/// A worker's shares of the books of all mirrors, and its asks.
+#[derive(Drop)]
+pub struct Shares<A: BudgetName, B: BudgetName, C: BudgetName, D: BudgetName> {
+    /// What the first mirror granted to the worker.
+    pub first: Share<A>,
+    /// What the second mirror granted to the worker.
+    pub second: Share<B>,
+    /// What the third mirror granted to the worker.
+    pub third: Share<C>,
+    /// What the fourth mirror granted to the worker.
+    pub fourth: Share<D>,
+    /// What the worker asked for, and the index of the mirror that granted it; for contracts alone.
+    pub asks: AskList,
+}
+
+impl<A: BudgetName, B: BudgetName, C: BudgetName, D: BudgetName> Books<A, B, C, D> {
+    /// Borrows the mirrors, as they were handed in.
+    pub fn given(&self) -> &[Mirror]
+        ensures { result.now ≡ self.now }
+    {
+        self.given.as_slice()
+    }
+}
+
+impl<A: BudgetName, B: BudgetName, C: BudgetName, D: BudgetName> Shares<A, B, C, D> {
+    fn ask_at<R: Wait>(
+        &mut self,
+        rt: &R,
+        books: &Books<A, B, C, D>,
+        index: usize,
+        bytes: u64,
+    ) -> bool
+        requires { index < 4 }
+        ensures first { self.new.first ≡ self.old.first + (if result then booked 0 bytes (Some index) else 0) }
+        ensures second { self.new.second ≡ self.old.second + (if result then booked 1 bytes (Some index) else 0) }
+        ensures third { self.new.third ≡ self.old.third + (if result then booked 2 bytes (Some index) else 0) }
+        ensures fourth { self.new.fourth ≡ self.old.fourth + (if result then booked 3 bytes (Some index) else 0) }
+        ensures asks { self.new.asks ≡ self.old.asks }
+    {
+        match index {
+            0 => books.first.lock(rt).grant(&mut self.first, bytes).is_ok(),
+            1 => books.second.lock(rt).grant(&mut self.second, bytes).is_ok(),
+            2 => books.third.lock(rt).grant(&mut self.third, bytes).is_ok(),
+            _ => books.fourth.lock(rt).grant(&mut self.fourth, bytes).is_ok(),
+        }
+    }
+
+    fn first_with_room<R: Wait>(
+        &mut self,
+        rt: &R,
+        books: &Books<A, B, C, D>,
+        bytes: u64,
+    ) -> Option<usize>
+        ensures range { IfSome result (λ index. index < length books.now) }
+        ensures first { self.new.first ≡ self.old.first + booked 0 bytes result }
+        ensures second { self.new.second ≡ self.old.second + booked 1 bytes result }
+        ensures third { self.new.third ≡ self.old.third + booked 2 bytes result }
+        ensures fourth { self.new.fourth ≡ self.old.fourth + booked 3 bytes result }
+        ensures asks { self.new.asks ≡ self.old.asks }
+    {
+        for index in 0..books.given.len() {
+            if self.ask_at(rt, books, index, bytes) {
+                return Some(index);
+            }
+        }
+        None
+    }
+
+    // rule: Ask of a worker
+    // rule: Shares and asks
+    /// Grants bytes on the first mirror that has room for them, and returns its index.
+    ///
+    /// The mirrors are asked in the order in which they were handed in; `None` if none has room. The
+    /// bytes are added to that mirror's total and to the share of it. Each ask joins the list of asks. It
+    /// takes no memory, and may wait for a lock.
+    pub fn grant_first<R: Wait>(
+        &mut self,
+        rt: &R,
+        books: &Books<A, B, C, D>,
+        bytes: u64,
+    ) -> Option<usize>
+        ensures range { IfSome result (λ index. index < length books.now) }
+        ensures asks { self.new.asks ≡ self.old.asks ++ (bytes, result) ∷ [] }
+        ensures first { self.new.first ≡ self.old.first + booked 0 bytes result }
+        ensures second { self.new.second ≡ self.old.second + booked 1 bytes result }
+        ensures third { self.new.third ≡ self.old.third + booked 2 bytes result }
+        ensures fourth { self.new.fourth ≡ self.old.fourth + booked 3 bytes result }
+        ensures tally { AreTallied self.old.first self.old.second self.old.third self.old.fourth self.old.asks
+            → AreTallied self.new.first self.new.second self.new.third self.new.fourth self.new.asks }
+    {
+        let granted = self.first_with_room(rt, books, bytes);
+        self.asks.push(bytes, granted);
+        granted
+    }
+}

@@ -1,0 +1,25 @@
+//! Budgets of mirrors: how many bytes each mirror may be granted in all.
+//!
+//! `open_books` makes a `Book` for each mirror, under a `Mutex` of its own, and `Shares` for each worker.
+//! `Shares::grant_first` grants bytes on the first mirror that has room for them; `close` gathers all
+//! shares and returns each mirror's total, which is the sum of its shares and within its budget. A `Hand`
+//! is a `Till` over the books: what serves update checks knows its till alone. Read `specs/Budgets.antt`
+//! for what a grant does and `specs/Asks.antt` for how shares follow from the asks of a worker.
+//!
+//! It does not measure downloads: a mirror's total counts what clients were offered.
+
+#![tactic(auto)]
+
+mod asks;
+mod book;
+mod books;
+mod closing;
+mod opening;
+mod till;
+
+pub use crate::asks::AskList;
+pub use crate::book::{Book, BudgetName, NoRoom, Share};
+pub use crate::books::{Books, Shares};
+pub use crate::closing::close;
+pub use crate::opening::{Blanks, open_books};
+pub use crate::till::{Hand, Till};

@@ -1,0 +1,153 @@
+//! How books are opened.
+
+ghost use Rattle.std.specs.Prelude.{◌≡◌, ◌+◌, ◌<◌, ◌≤◌, ◌^◌, All, IfOk, true, vec_len};
+ghost use Rattle.mirror_ledger.specs.Named.{are_bounded, budget_at, IsNamed};
+ghost use Rattle.mirror_ledger.specs.Asks.{AreUnused};
+
+use crate::asks::AskList;
+use crate::book::{Book, BudgetName, Share};
+use crate::books::{Books, Shares};
+use records::Mirror;
+use std::alloc::{AllocError, Global};
+use std::sync::ledger::Blank;
+use std::sync::{Mutex, Wait, ledger};
+
+/// Four new ledgers, one for the mirror at each index.
+#[derive(Drop)]
+pub struct Blanks {
+    /// That of the first mirror.
+    pub first: Blank,
+    /// That of the second mirror.
+    pub second: Blank,
+    /// That of the third mirror.
+    pub third: Blank,
+    /// That of the fourth mirror.
+    pub fourth: Blank,
+}
+
+impl Blanks {
+    /// Makes four ledgers with a part for each worker.
+    pub fn new(workers: u64) -> Blanks
+        ensures first { result.first.parts ≡ workers }
+        ensures second { result.second.parts ≡ workers }
+        ensures third { result.third.parts ≡ workers }
+        ensures fourth { result.fourth.parts ≡ workers }
+    {
+        Blanks {
+            first: Blank::new(workers),
+            second: Blank::new(workers),
+            third: Blank::new(workers),
+            fourth: Blank::new(workers),
+        }
+    }
+}
+
+// The parts of the four ledgers that no worker has.
+#[derive(Drop)]
+struct Rest<A: BudgetName, B: BudgetName, C: BudgetName, D: BudgetName> {
+    first: ledger::Share<A>,
+    second: ledger::Share<B>,
+    third: ledger::Share<C>,
+    fourth: ledger::Share<D>,
+}
+
+impl<A: BudgetName, B: BudgetName, C: BudgetName, D: BudgetName> Rest<A, B, C, D> {
+    fn split_off(&mut self) -> Shares<A, B, C, D>
+        requires first { (0 < self.old.first.parts) × (self.old.first.amount ≡ 0) }
+        requires second { (0 < self.old.second.parts) × (self.old.second.amount ≡ 0) }
+        requires third { (0 < self.old.third.parts) × (self.old.third.amount ≡ 0) }
+        requires fourth { (0 < self.old.fourth.parts) × (self.old.fourth.amount ≡ 0) }
+        ensures unused { AreUnused result.first result.second result.third result.fourth result.asks }
+        ensures first { (self.new.first.parts + 1 ≡ self.old.first.parts) × (self.new.first.amount ≡ 0) }
+        ensures second { (self.new.second.parts + 1 ≡ self.old.second.parts) × (self.new.second.amount ≡ 0) }
+        ensures third { (self.new.third.parts + 1 ≡ self.old.third.parts) × (self.new.third.amount ≡ 0) }
+        ensures fourth { (self.new.fourth.parts + 1 ≡ self.old.fourth.parts) × (self.new.fourth.amount ≡ 0) }
+    {
+        Shares {
+            first: Share::split_from(&mut self.first),
+            second: Share::split_from(&mut self.second),
+            third: Share::split_from(&mut self.third),
+            fourth: Share::split_from(&mut self.fourth),
+            asks: AskList::new(),
+        }
+    }
+}
+
+fn budget_of(mirrors: &[Mirror], index: usize) -> u64
+    requires { are_bounded mirrors.now ≡ true }
+    ensures budget { result ≡ budget_at mirrors.now index }
+    ensures bounded { result ≤ 2 ^ 60 }
+{
+    match mirrors.get(index) {
+        Some(mirror) => mirror.budget,
+        None => 0,
+    }
+}
+
+fn split_shares<A: BudgetName, B: BudgetName, C: BudgetName, D: BudgetName>(
+    alloc: Global,
+    rest: Rest<A, B, C, D>,
+    workers: usize,
+) -> Result<Vec<Shares<A, B, C, D>>, AllocError>
+    requires first { (rest.first.parts ≡ workers) × (rest.first.amount ≡ 0) }
+    requires second { (rest.second.parts ≡ workers) × (rest.second.amount ≡ 0) }
+    requires third { (rest.third.parts ≡ workers) × (rest.third.amount ≡ 0) }
+    requires fourth { (rest.fourth.parts ≡ workers) × (rest.fourth.amount ≡ 0) }
+    ensures workers { IfOk result (λ shares. vec_len shares ≡ workers) }
+    ensures unused { IfOk result (λ shares. All (λ s. AreUnused s.first s.second s.third s.fourth s.asks) shares.items) }
+{
+    let mut rest = rest;
+    let mut shares = Vec::new(alloc);
+    for _worker in 0..workers {
+        shares.push(rest.split_off())?;
+    }
+    Ok(shares)
+}
+
+// rule: Shares at the opening
+/// Opens a book for each mirror, with the total 0, and shares of 0 for each worker.
+///
+/// There are 1 to 4 mirrors of budgets to 2^60, and 1 to 8 workers. The four ledgers have a part for
+/// each worker, and their names carry the mirrors' budgets, 0 after the last mirror. Out of memory is
+/// the only error.
+pub fn open_books<A: BudgetName, B: BudgetName, C: BudgetName, D: BudgetName, R: Wait>(
+    rt: &R,
+    alloc: Global,
+    blanks: Blanks,
+    mirrors: Vec<Mirror>,
+    workers: usize,
+) -> Result<(Books<A, B, C, D>, Vec<Shares<A, B, C, D>>), AllocError>
+    requires some_mirror { 0 < vec_len mirrors }
+    requires few_mirrors { vec_len mirrors ≤ 4 }
+    requires bounded { are_bounded mirrors.items ≡ true }
+    requires some_worker { 0 < workers }
+    requires few_workers { workers ≤ 8 }
+    requires first { IsNamed blanks.first A.name A.parts A.budget workers mirrors.items 0 }
+    requires second { IsNamed blanks.second B.name B.parts B.budget workers mirrors.items 1 }
+    requires third { IsNamed blanks.third C.name C.parts C.budget workers mirrors.items 2 }
+    requires fourth { IsNamed blanks.fourth D.name D.parts D.budget workers mirrors.items 3 }
+    ensures given { IfOk result (λ opened. opened.0 ≡ mirrors.items) }
+    ensures workers { IfOk result (λ opened. vec_len opened.1 ≡ workers) }
+    ensures unused { IfOk result (λ opened. All (λ s. AreUnused s.first s.second s.third s.fourth s.asks) opened.1.items) }
+{
+    let _ = rt;
+    let (first_book, first) = Book::open(blanks.first, budget_of(&mirrors, 0));
+    let (second_book, second) = Book::open(blanks.second, budget_of(&mirrors, 1));
+    let (third_book, third) = Book::open(blanks.third, budget_of(&mirrors, 2));
+    let (fourth_book, fourth) = Book::open(blanks.fourth, budget_of(&mirrors, 3));
+    let rest = Rest {
+        first,
+        second,
+        third,
+        fourth,
+    };
+    let shares = split_shares(alloc, rest, workers)?;
+    let books = Books {
+        given: mirrors,
+        first: Mutex::new(first_book),
+        second: Mutex::new(second_book),
+        third: Mutex::new(third_book),
+        fourth: Mutex::new(fourth_book),
+    };
+    Ok((books, shares))
+}

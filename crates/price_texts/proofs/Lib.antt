@@ -1,0 +1,7 @@
+mod BackLemmas
+mod EntryLemmas
+mod LengthLemmas
+mod NumberLemmas
+mod ReadingLemmas
+mod TrackLemmas
+mod WritingLemmas

@@ -1,0 +1,5 @@
+pub mod Forms
+pub mod Headings
+pub mod Laws
+pub mod Reading
+pub mod Texts

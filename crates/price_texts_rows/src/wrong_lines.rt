@@ -1,0 +1,151 @@
+// Certificates with a wrong line.
+
+use crate::certificates::STABLE;
+use crate::outcomes::outcome_of;
+use std::alloc::{AllocError, Global};
+use std::test::Fail;
+
+// The certificate with another line at a number, counted from 1.
+fn with_line(alloc: Global, n: usize, line: &str) -> Result<String, AllocError> {
+    let mut changed = String::new(alloc);
+    for (index, old) in STABLE.lines().enumerate() {
+        let next = if index + 1 == n { line } else { old };
+        changed.push_str(next)?;
+        changed.push_str("\n")?;
+    }
+    Ok(changed)
+}
+
+fn outcome_with(alloc: Global, n: &str, line: &str) -> Result<String, Fail> {
+    let changed = with_line(alloc, n.parse().unwrap_or(0), line)?;
+    outcome_of(alloc, "stable", changed.as_str().as_bytes())
+}
+
+// Each row: the number of a line, what it is instead, and what that is.
+const LINES: &str = "8|1.0 0750 diff 2.0|P1 8
+4|lane held|P2 4
+9|2.0 1125899906842624 diff 3.0|P1 9
+9|2.0 1125899906842623 diff 3.0|wrong 1 C2
+11|4.0 5 end|P1 11
+3|cohort beta|P2 3
+8|2.0 450 diff 3.0|P2 8
+8|1.0 750 diff 9.9|P2 8
+8|1.0 750 diff 3.0|wrong 0 C3
+8|1.0 750 full 2.0|wrong 0 C3
+8|1.0 0 diff 2.0|wrong 0 C3
+10|3.0 0 end|wrong 2 C1
+8|1.0.0 750 diff 2.0|P2 8
+8|1.0 750 diff 2.0.0|P2 8
+8|1.0  750 diff 2.0|P1 8
+8|1.0 750 diff|P1 8
+8|1.0 750 diff 2.0 |P1 8
+8|1.0 750 Diff 2.0|P1 8
+8|01.0 750 diff 2.0|P1 8
+8|1.0 +750 diff 2.0|P1 8
+8||P1 8
+1|prices 2|P1 1
+1|prices 1 |P1 1
+2|app DEMO|P2 2
+2|app |P1 2
+3|cohort Beta|P1 3
+5|rollback yes|P2 5
+5|rollback true|P1 5
+6|target 3.0 4444444444444444444444444444444444444444444444444444444444444444|P2 6
+6|target 4.0 3333333333333333333333333333333333333333333333333333333333333333|P2 6
+6|target 4.0 AAAAAAAAAAAAAAAAAAAAAAAAAAAAAAAAAAAAAAAAAAAAAAAAAAAAAAAAAAAAAAAA|P1 6
+6|target 4.0 444|P1 6
+7|rows 5|P2 7
+7|rows 0|P2 7
+7|rows 512|P2 7
+7|rows 513|P1 7
+7|rows 04|P1 7";
+
+#[test]
+fn names_the_wrong_line(rt: HostRuntime) -> Result<(), Fail> {
+    for row in LINES.lines() {
+        let (n, others) = row.split_once('|').ok_or("no bar")?;
+        let (line, want) = others.split_once('|').ok_or("no second bar")?;
+        let outcome = outcome_with(rt.alloc(), n, line)?;
+        assert_eq!(rt; outcome.as_str(), want, "{row}");
+    }
+    Ok(())
+}
+
+fn outcome_of_part(alloc: Global, length: usize, more: &str) -> Result<String, Fail> {
+    let mut bytes = Vec::new(alloc);
+    bytes.extend_from_slice(STABLE.as_bytes())?;
+    bytes.truncate(length);
+    bytes.extend_from_slice(more.as_bytes())?;
+    outcome_of(alloc, "stable", &bytes)
+}
+
+// Each row: how many bytes there are of the certificate, what is after them, and what that is.
+const PARTS: [(usize, &str, &str); 9] = [
+    (0, "", "P1 1"),
+    (8, "", "P1 1"),
+    (9, "", "P1 2"),
+    (8, "\r\n", "P1 1"),
+    (200, "", "certified"),
+    (199, "", "P1 11"),
+    (200, "\n", "P1 12"),
+    (200, "5.0 none\n", "P1 12"),
+    (200, "x", "P1 12"),
+];
+
+#[test]
+fn ends_at_its_last_line_feed(rt: HostRuntime) -> Result<(), Fail> {
+    for (length, more, want) in PARTS {
+        let outcome = outcome_of_part(rt.alloc(), length, more)?;
+        assert_eq!(rt; outcome.as_str(), want, "{length}");
+    }
+    Ok(())
+}
+
+// The number of the line of a byte.
+fn line_of(index: usize) -> usize {
+    STABLE
+        .as_bytes()
+        .iter()
+        .take(index)
+        .filter(|byte| **byte == b'\n')
+        .count()
+        .saturating_add(1)
+}
+
+fn outcome_with_byte(alloc: Global, index: usize, byte: u8) -> Result<String, Fail> {
+    let mut bytes = Vec::new(alloc);
+    bytes.extend_from_slice(STABLE.as_bytes())?;
+    if let Some(place) = bytes.get_mut(index) {
+        *place = byte;
+    }
+    outcome_of(alloc, "stable", &bytes)
+}
+
+fn is_fault_at(outcome: &str, n: usize) -> bool {
+    match outcome.split_once(' ') {
+        Some((_, number)) => outcome.starts_with('P') && number.parse() == Ok(n),
+        None => false,
+    }
+}
+
+#[test]
+fn notices_each_changed_byte(rt: HostRuntime) -> Result<(), Fail> {
+    for index in 0..STABLE.len() {
+        let visible = outcome_with_byte(rt.alloc(), index, b'#')?;
+        assert!(rt; is_fault_at(visible.as_str(), line_of(index)), "{index}");
+        let invalid = outcome_with_byte(rt.alloc(), index, 0xff)?;
+        assert!(rt; is_fault_at(invalid.as_str(), line_of(index)), "{index}");
+    }
+    Ok(())
+}
+
+#[test]
+fn rejects_a_line_of_a_mebibyte(rt: HostRuntime) -> Result<(), Fail> {
+    let mut bytes = Vec::new(rt.alloc());
+    for _digit in 0..1048576 {
+        bytes.push(b'1')?;
+    }
+    let outcome = outcome_of(rt.alloc(), "stable", &bytes)?;
+    assert_eq!(rt; outcome.as_str(), "P1 1");
+    Ok(())
+}
