@@ -1,0 +1,5 @@
+mod LengthLemmas
+mod ReadingLemmas
+mod SessionLemmas
+mod TurnLemmas
+mod RunLemmas

@@ -1,0 +1,4 @@
+pub mod Messages
+pub mod Stops
+pub mod Readings
+pub mod Sessions
