@@ -3,3 +3,5 @@ mod ReadingLemmas
 mod SessionLemmas
 mod TurnLemmas
 mod RunLemmas
+mod CutLemmas
+mod AlikeLemmas

@@ -11,6 +11,7 @@ use Rattle.http_sessions.specs.declared.session.Session.{Session}
 use Rattle.http_sessions.specs.declared.session.Turn.{Turn}
 use Rattle.http_sessions.specs.declared.session.Turn.TheVariants.{Open, Ended}
 use Rattle.http_sessions.specs.Stops.{Ends, More, Stop, begun}
+use Rattle.http_sessions.specs.Laws.{AreJoined, Comes}
 use Rattle.http_sessions.specs.Sessions.{Serves, SessionEnds, TurnEnds, failed_reads, failed_writes, replies, waiting, wrote}
 use Rattle.http_sessions.proofs.ReadingLemmas.{Consumes-nothing}
 use Rattle.http_sessions.proofs.SessionLemmas.{Appends-nothing, joined, stopped}
@@ -119,6 +120,18 @@ module _ {D : Type 0} (IsFit : Method → List ℕ → Use → Type 0) (steps : 
   unserved left old desk =
       stopped IsFit steps kind 0 (SessionEnds left 0 (Err fault.Memory)) true [] [] left left old old desk desk More
       (Consumes-nothing left) (omega arith) tt (Appends-nothing old) refl (refl, refl)
+
+  -- a part that goes on where the one before ended
+  pub parts_joined : AreJoined IsFit steps kind
+  parts_joined start count more first waits rest stop whole left mid after old between new before amid behind one two =
+      let (so_far, open_still, waited) = one.ends in
+      let same : start + count ≡ start + length one.exchanges = omega (arith, so_far) in
+      let moved = subst (λ (h : ℕ). Serves IsFit steps kind h (Comes more stop rest) whole waits mid after between new amid behind) same two in
+      let next = subst (λ (w : List ℕ). Serves IsFit steps kind (start + length one.exchanges) (Comes more stop rest) whole w mid after between new amid behind) (sym waited) moved in
+      let (then, stops, left_over) = next.ends in
+      let all : length one.exchanges + length next.exchanges ≡ count + more = omega (arith, so_far, then) in
+      joined IsFit steps kind start (Comes count More waits) (Comes more stop rest) (Comes (count + more) stop rest) whole first
+      left mid after old between new before amid behind one open_still next (all, stops, left_over)
 
 -- a fault is the same of a turn and of a session
 pub fault_reads : (why : Fault) → failed_reads {A = Turn} (Err why) ≡ failed_reads {A = Served} (Err why)

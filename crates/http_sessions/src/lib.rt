@@ -11,6 +11,7 @@
 
 mod buffers;
 mod ends;
+pub mod laws;
 mod message;
 mod serving;
 mod session;
