@@ -65,7 +65,7 @@ fn shorten<R: AllocGlobal>(rt: &R, bytes: &[u8]) -> Result<String, AllocError> {
 
 fn end_of(served: Result<Served, Fault>) -> (u32, &'static str) {
     match served {
-        Ok(served) => match served.how {
+        Ok(served) => match served.end {
             End::Finished => (served.requests, "finished"),
             End::Unfinished => (served.requests, "unfinished"),
             End::Refused => (served.requests, "refused"),

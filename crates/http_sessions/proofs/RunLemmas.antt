@@ -49,7 +49,7 @@ turn_ends :
 turn_ends after start here count more served stop rest so_far (none, requests, ends) =
     let same : here ≡ start + (count + more) = omega (arith, so_far, none) in
     let total : served.requests ≡ start + (count + more) + begun stop = omega (arith, same, requests) in
-    (total, subst (λ (n : ℕ). Ends (n == 999) after stop rest served.how) same ends)
+    (total, subst (λ (n : ℕ). Ends (n == 999) after stop rest served.end) same ends)
 
 module _ {D : Type 0} (IsFit : Method → List ℕ → Use → Type 0) (steps : D → Call → D → Type 0) (kind : List ℕ) where
   -- before the first turn

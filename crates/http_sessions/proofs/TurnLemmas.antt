@@ -92,11 +92,11 @@ module _ {D : Type 0} (IsFit : Method → List ℕ → Use → Type 0) (steps : 
       IsPart (first ++ given) →
       IsAtEnd after →
       how ≡ end_with (first ++ given) →
-      Serves IsFit steps kind start (TurnEnds after start (Ok (Ended (record { requests = start; how = how })))) true
+      Serves IsFit steps kind start (TurnEnds after start (Ok (Ended (record { requests = start; end = how })))) true
       first left after old old desk desk
   ended start how first given left after old desk consumed few part at_end same =
       let none : start ≡ start + 0 = omega arith in
-      stopped IsFit steps kind start (TurnEnds after start (Ok (Ended (record { requests = start; how = how })))) true
+      stopped IsFit steps kind start (TurnEnds after start (Ok (Ended (record { requests = start; end = how })))) true
       first given left after old old desk desk Waits consumed few part (Appends-nothing old) refl (refl, none, (at_end, same))
 
   -- less than a message, and a read failed
@@ -140,7 +140,7 @@ module _ {D : Type 0} (IsFit : Method → List ℕ → Use → Type 0) (steps : 
       stopped IsFit steps kind (replies session) (TurnEnds after (replies session) (Ok (Ended served))) true first given
       left after old new before behind (Last e) consumed session.few (session.window, cut, exchange)
       (subst (λ (b : Bool). Appends old new (reply_to kind b e.used)) closed sent) calls
-      (refl, count, go_on_ends (replies session == 999) after (first ++ given) e closes outcome served.how came closed ends)
+      (refl, count, go_on_ends (replies session == 999) after (first ++ given) e closes outcome served.end came closed ends)
   replied_so session first given e closes left after old new before behind (Ok outcome) (Err failed)
       consumed cut exchange closed calls written never = absurd never
   replied_so session first given e closes left after old new before behind (Err failed) (Ok turn)

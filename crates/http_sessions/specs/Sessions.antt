@@ -83,7 +83,7 @@ abbrev pub TurnEnds : Option (List ℕ) → ℕ → Result Turn Fault → ℕ �
 TurnEnds left start (Ok (Open session)) count stop rest =
     (count ≡ 1) × (stop ≡ More) × (waiting session ≡ rest) × (replies session ≡ start + 1)
 TurnEnds left start (Ok (Ended served)) count stop rest =
-    (count ≡ 0) × (served.requests ≡ start + begun stop) × Ends (start == 999) left stop rest served.how
+    (count ≡ 0) × (served.requests ≡ start + begun stop) × Ends (start == 999) left stop rest served.end
 TurnEnds left start (Err fault.Read) count stop rest = (count ≡ 0) × (stop ≡ Waits)
 TurnEnds left start (Err fault.Write) count stop rest = count ≡ 0
 TurnEnds left start (Err fault.Memory) count stop rest = ⊥
@@ -91,7 +91,7 @@ TurnEnds left start (Err fault.Memory) count stop rest = ⊥
 -- how a whole session ends
 abbrev pub SessionEnds : Option (List ℕ) → ℕ → Result Served Fault → ℕ → Stop → List ℕ → Type 0
 SessionEnds left start (Ok served) count stop rest =
-    (served.requests ≡ start + count + begun stop) × Ends (start + count == 999) left stop rest served.how
+    (served.requests ≡ start + count + begun stop) × Ends (start + count == 999) left stop rest served.end
 SessionEnds left start (Err fault.Read) count stop rest = stop ≡ Waits
 SessionEnds left start (Err fault.Write) count stop rest = ⊤
 SessionEnds left start (Err fault.Memory) count stop rest = (count ≡ 0) × (stop ≡ More)
@@ -101,13 +101,13 @@ abbrev pub GoesOn : Session → Bool → Handled → Turn → Type 0
 GoesOn session closes outcome (Open next) =
     (closes ≡ false) × (outcome ≡ handled.Answered) × (waiting next ≡ waiting session) × (replies next ≡ replies session + 1)
 GoesOn session closes outcome (Ended served) =
-    (served.requests ≡ replies session + 1) × (end_after closes (Some outcome) ≡ Some served.how)
+    (served.requests ≡ replies session + 1) × (end_after closes (Some outcome) ≡ Some served.end)
 
 -- the reply that rejects a message was written, or a first part of it
 abbrev pub Rejects : ℕ → Status → Option (List ℕ) → Option (List ℕ) → Result Turn Fault → Type 0
 Rejects start status old new (Ok (Open session)) = ⊥
 Rejects start status old new (Ok (Ended served)) =
-    (served.requests ≡ start + 1) × (served.how ≡ Refused) × Appends old new (empty_reply status None true)
+    (served.requests ≡ start + 1) × (served.end ≡ Refused) × Appends old new (empty_reply status None true)
 Rejects start status old new (Err fault.Read) = ⊥
 Rejects start status old new (Err fault.Write) = AppendsPart old new (empty_reply status None true)
 Rejects start status old new (Err fault.Memory) = ⊥

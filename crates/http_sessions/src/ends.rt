@@ -19,7 +19,7 @@ pub struct Served {
     /// How many replies were begun, at most 1000.
     pub requests: u32,
     /// How the session ended.
-    pub how: End,
+    pub end: End,
 }
 
 /// Why a session was given up.

@@ -2,7 +2,7 @@
 //!
 //! A `Session` is advanced message by message: `turn` reads one, replies and returns the session
 //! if the connection stays open. `serve` is a loop over `turn`. Read `specs/Messages.antt`,
-//! `specs/Stops.antt` and `specs/Sessions.antt`.
+//! `specs/Stops.antt` and `specs/Sessions.antt`; `laws` says that a stream is cut in one way.
 //!
 //! `Buffers` and `Session` take their memory when they are made, and no message takes any. The crate
 //! does not open connections, and sets no limit of time.

@@ -43,7 +43,7 @@ impl Session {
             Handled::Off => End::Refused,
             Handled::Cut => End::Cut,
         };
-        Turn::Ended(Served { requests, how })
+        Turn::Ended(Served { requests, end: how })
     }
 
     // rule: Rejection of a message
@@ -55,7 +55,7 @@ impl Session {
         match refuse(sink, block, status, None, true) {
             Ok(()) => Ok(Turn::Ended(Served {
                 requests: self.begun + 1,
-                how: End::Refused,
+                end: End::Refused,
             })),
             Err(_) => Err(Fault::Write),
         }
@@ -136,7 +136,7 @@ impl Session {
             Ok(Message::Rejected(status)) => self.reject(status, sink, block),
             Ok(Message::Ended(how)) => Ok(Turn::Ended(Served {
                 requests: self.begun,
-                how,
+                end: how,
             })),
             Err(_) => Err(Fault::Read),
         }
