@@ -1,11 +1,14 @@
-//! Rows of heads, bodies, replies and packages, over devices in memory that give and take pieces.
+//! Rows of heads, bodies, replies, packages and sessions, over devices in memory that give and take
+//! pieces.
 //!
-//! It has tests alone, so that `http_heads`, `http_wire` and `http_packages` are proved once.
+//! It has tests alone, so that the crates of HTTP are proved once.
 
 #![tactic(auto)]
 
 #[cfg(test)]
 mod body_tests;
+#[cfg(test)]
+mod desks;
 #[cfg(test)]
 mod devices;
 #[cfg(test)]
@@ -14,3 +17,5 @@ mod head_tests;
 mod package_tests;
 #[cfg(test)]
 mod reply_tests;
+#[cfg(test)]
+mod session_tests;

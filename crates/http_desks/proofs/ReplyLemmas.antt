@@ -1,0 +1,151 @@
+-- The reply to a message, by the parts that were written.
+use Rattle.std.proofs.Common.{◌≡◌, ◌≢◌, ℕ, Bool, true, false, not, eqb, List, [], ◌++◌, append-nil, length, Option, None, Some, Result, Ok, Err, inl, inr, refl, sym, subst, ap, cond, arith}
+use Rattle.std.proofs.lemmas.Bool.{eqb-true, eq-eqb}
+use Rattle.std.specs.Prelude.{codes}
+use Rattle.std.specs.Option.{option_eq}
+use Rattle.std.specs.Io.KnownBytes.{Appends}
+use Rattle.http_heads.specs.Replies.{head_bytes}
+use Rattle.http_heads.specs.declared.reply.ReplyHead.{ReplyHead}
+use Rattle.http_heads.specs.declared.status.Status.{Status}
+use Rattle.http_heads.specs.declared.status.Status.TheVariants as status
+use Rattle.http_packages.specs.Downloads.{Downloads, Reads, download, joined_blocks}
+use Rattle.http_wire.specs.Sending.{AppendsPart}
+use Rattle.http_wire.specs.declared.device.Failed.{Failed}
+use Rattle.http_wire.proofs.KnownLemmas.{Appends-then, AppendsPart-then}
+use Rattle.http_desks.specs.declared.answering.Handled.{Handled}
+use Rattle.http_desks.specs.declared.answering.Handled.TheVariants.{Answered, Cut}
+use Rattle.http_desks.specs.declared.desk.Declared.{Declared}
+use Rattle.http_desks.specs.Calls.{Call}
+use Rattle.http_desks.specs.Uses.{Mismatched, Read, Broken, Use}
+use Rattle.http_desks.specs.Replies.{Answers, Fetches, head_lines}
+
+-- the head of a reply is the lines of its parts
+pub head_bytes-lines :
+    (head : ReplyHead) →
+    head_bytes head ≡ head_lines head.status head.kind.now head.allow head.size head.closes
+unfolding head_bytes head_lines
+head_bytes-lines head = refl
+
+-- the reply of a desk, its parts said otherwise
+pub answer_text :
+    (line real : Status) (kind given body items : List ℕ) (size : ℕ) (closes : Bool) →
+    line ≡ real →
+    kind ≡ given →
+    body ≡ items →
+    size ≡ length items →
+    head_lines line kind None size closes ++ body ≡ head_lines real given None (length items) closes ++ items
+answer_text line real kind given body items size closes lines kinds bodies sizes = cc
+
+-- a use that fits the narrower fits the wider
+pub Answers-wider :
+    {D : Type 0} (IsFit IsWide : Use → Type 0) (steps : D → Call → D → Type 0) (kind body : List ℕ) (closes : Bool)
+    (before after : D) (old new : Option (List ℕ)) (result : Result Handled Failed) →
+    ((used : Use) → IsFit used → IsWide used) →
+    Answers IsFit steps kind body closes before after old new result →
+    Answers IsWide steps kind body closes before after old new result
+Answers-wider IsFit IsWide steps kind body closes before after old new result wider answers = record {
+  used = answers.used;
+  fits = wider answers.used answers.fits;
+  calls = answers.calls;
+  writes = answers.writes;
+}
+
+not_true : (b : Bool) → false ≡ not b → b ≡ true
+not_true true e = refl
+not_true false e = cc
+
+-- two sizes that are the same
+pub same_size : (told : Option ℕ) (size : ℕ) → false ≡ not (option_eq eqb told (Some size)) → told ≡ Some size
+same_size None size told_same = cc
+same_size (Some other) size told_same = ap Some (eqb-true other size (not_true (eqb other size) told_same))
+
+-- two sizes that differ
+pub other_size : (told : Option ℕ) (size : ℕ) → true ≡ not (option_eq eqb told (Some size)) → told ≢ Some size
+other_size None size told_other = λ e. cc
+other_size (Some other) size told_other =
+    λ e. let n : other ≡ size = cc in let same = eq-eqb other size n in cc
+
+-- the head of a package
+abbrev pub package_head : Declared → Bool → List ℕ
+package_head declared closes = head_lines status.Success (codes "application/octet-stream") None declared.size closes
+
+failed_by :
+    (b : Bool) (sizes : Option ℕ → Type 0) (reads : Reads) (declared : Declared) (closes : Bool) (told : Option ℕ)
+    (old new : Option (List ℕ)) (failed : Failed) →
+    b ≡ not (option_eq eqb told (Some declared.size)) →
+    sizes told →
+    AppendsPart old new (package_head declared closes ++ []) →
+    Fetches sizes reads declared closes old new (Err failed)
+failed_by true sizes reads declared closes told old new failed e tells part =
+    (Mismatched, (told, tells, other_size told declared.size e), part)
+failed_by false sizes reads declared closes told old new failed e tells part =
+    (Broken [], (subst sizes (same_size told declared.size e) tells, omega arith, tt), part)
+
+-- the head was written in part: the file has the declared size, or another
+pub head_failed :
+    (sizes : Option ℕ → Type 0) (reads : Reads) (declared : Declared) (closes : Bool) (told : Option ℕ)
+    (old new : Option (List ℕ)) (failed : Failed) →
+    sizes told →
+    AppendsPart old new (package_head declared closes ++ []) →
+    Fetches sizes reads declared closes old new (Err failed)
+head_failed sizes reads declared closes told old new failed tells part =
+    failed_by (not (option_eq eqb told (Some declared.size))) sizes reads declared closes told old new failed refl tells part
+
+-- the file has another size
+pub head_alone :
+    (sizes : Option ℕ → Type 0) (reads : Reads) (declared : Declared) (closes : Bool) (told : Option ℕ)
+    (old new : Option (List ℕ)) →
+    sizes told →
+    true ≡ not (option_eq eqb told (Some declared.size)) →
+    Appends old new (package_head declared closes ++ []) →
+    Fetches sizes reads declared closes old new (Ok Cut)
+head_alone sizes reads declared closes told old new tells other head =
+    (Mismatched, (told, tells, other_size told declared.size other), (refl, head))
+
+-- the package was sent, in whole or not
+pub download_done :
+    (sizes : Option ℕ → Type 0) (reads : Reads) (declared : Declared) (closes whole : Bool) (told : Option ℕ)
+    (old between new : Option (List ℕ)) →
+    sizes told →
+    false ≡ not (option_eq eqb told (Some declared.size)) →
+    Appends old between (package_head declared closes) →
+    Downloads reads declared.size declared.hash between new (Ok whole) →
+    Fetches sizes reads declared closes old new (Ok (cond whole Answered Cut))
+download_done sizes reads declared closes whole told old between new tells same head (blocks, last, read, is_whole, sent) = (
+  Read blocks last,
+  (subst sizes (same_size told declared.size same) tells, read),
+  (
+    ap (λ (b : Bool). Some (cond b Answered Cut)) (sym is_whole),
+    Appends-then old between new (package_head declared closes) (download declared.hash blocks last) head sent,
+  ),
+)
+
+AppendsPart-behind :
+    (old between new : Option (List ℕ)) (first text : List ℕ) →
+    Appends old between first →
+    AppendsPart between new text →
+    AppendsPart old new (first ++ text)
+AppendsPart-behind old between new first text whole part =
+    subst (AppendsPart old new) (ap (λ (end : List ℕ). first ++ end) (append-nil text))
+    (AppendsPart-then old between new first text [] whole part)
+
+-- a write failed after some blocks of the package, or at the last one
+pub download_failed :
+    (sizes : Option ℕ → Type 0) (reads : Reads) (declared : Declared) (closes : Bool) (told : Option ℕ)
+    (old between new : Option (List ℕ)) (failed : Failed) →
+    sizes told →
+    false ≡ not (option_eq eqb told (Some declared.size)) →
+    Appends old between (package_head declared closes) →
+    Downloads reads declared.size declared.hash between new (Err failed) →
+    Fetches sizes reads declared closes old new (Err failed)
+download_failed sizes reads declared closes told old between new failed tells same head (inl (blocks, few, read, part)) = (
+  Broken blocks,
+  (subst sizes (same_size told declared.size same) tells, few, read),
+  AppendsPart-behind old between new (package_head declared closes) (joined_blocks blocks) head part,
+)
+download_failed sizes reads declared closes told old between new failed tells same head (inr (blocks, last, read, right, part)) = (
+  Read blocks (Some last),
+  (subst sizes (same_size told declared.size same) tells, read),
+  AppendsPart-behind old between new (package_head declared closes) (download declared.hash blocks (Some last)) head
+      (subst (AppendsPart between new) (sym (ap (λ b. cond b (joined_blocks blocks ++ last) (joined_blocks blocks)) right)) part),
+)

@@ -1,0 +1,95 @@
+-- What becomes of a whole message; this project's profile.
+use Rattle.std.specs.Prelude.{◌≡◌, ◌≢◌, ◌≤◌, ℕ, List, [], ◌∷◌, length, Option, None, Some, if◌then◌else◌, bytes_eq, codes}
+use Rattle.http_heads.specs.Targets.{package_in, path_in}
+use Rattle.http_packages.specs.Downloads.{IsRead, Reads, ReadsFrom, full_blocks}
+use Rattle.http_desks.specs.declared.desk.AnswerStatus.{AnswerStatus}
+use Rattle.http_desks.specs.declared.desk.Declared.{Declared}
+use Rattle.http_desks.specs.declared.method.Method.{Method}
+use Rattle.http_desks.specs.declared.method.Method.TheVariants.{Get, Post, Other}
+use Rattle.http_desks.specs.Calls.{Call, Asks, Looks}
+
+-- the method of this name; case matters
+abbrev pub method_of : List ℕ → Method
+method_of name = if bytes_eq name (codes "GET") then Get else (if bytes_eq name (codes "POST") then Post else Other)
+
+-- what a target names
+pub data Route : Type 0 where
+  AtDesk : Route
+  AtPackage : List ℕ → Route
+  Elsewhere : Route
+
+abbrev pub package_route : Option (List ℕ) → Route
+package_route None = Elsewhere
+package_route (Some name) = AtPackage name
+
+-- rule: Route of a message
+-- the desk, if the path is the desk's, else the package of the path, if it is below `/p/`
+abbrev pub route_of : List ℕ → List ℕ → Route
+route_of path target = if bytes_eq (path_in target) path then AtDesk else package_route (package_in (path_in target))
+
+-- what becomes of a package that is sent: its file has another size than declared; or these blocks
+-- were read, and this of the last one; or a write failed after these blocks
+pub data Fetch : Type 0 where
+  Mismatched : Fetch
+  Read : List (List ℕ) → Option (List ℕ) → Fetch
+  Broken : List (List ℕ) → Fetch
+
+-- what becomes of a message: its target names nothing; it has another method than POST at the desk;
+-- the desk was asked at this timestamp, and this was returned; no package has the name; it
+-- has another method than GET at a package; or the package is sent
+pub data Use : Type 0 where
+  Nowhere : Use
+  Misused : Use
+  Asked : ℕ → Option (AnswerStatus × List ℕ) → Use
+  Unknown : List ℕ → Use
+  Untaken : List ℕ → Declared → Use
+  Fetched : List ℕ → Declared → Fetch → Use
+
+-- the calls of the desk for a message with this body
+abbrev pub calls_of : List ℕ → Use → List Call
+calls_of body Nowhere = []
+calls_of body Misused = []
+calls_of body (Asked moment answer) = Asks body moment answer ∷ []
+calls_of body (Unknown name) = Looks name None ∷ []
+calls_of body (Untaken name declared) = Looks name (Some declared) ∷ []
+calls_of body (Fetched name declared fetch) = Looks name (Some declared) ∷ []
+
+-- the file may have another size; or it may have this one, and these blocks may be read of it
+abbrev pub IsFetch : (Option ℕ → Type 0) → Reads → ℕ → Fetch → Type 0
+IsFetch sizes reads size Mismatched = (other : Option ℕ) × sizes other × (other ≢ Some size)
+IsFetch sizes reads size (Read blocks last) = sizes (Some size) × IsRead reads size blocks last
+IsFetch sizes reads size (Broken blocks) =
+    sizes (Some size) × (length blocks ≤ full_blocks size) × ReadsFrom reads 0 blocks
+
+-- rule: Use of a message
+-- the use agrees with the route, the method, the clock and the packages
+abbrev pub IsUse :
+    List ℕ → (ℕ → Type 0) → (List ℕ → Option ℕ → Type 0) → (List ℕ → Reads) → Method → List ℕ → Use → Type 0
+IsUse path tells sizes reads method target Nowhere = route_of path target ≡ Elsewhere
+IsUse path tells sizes reads method target Misused = (route_of path target ≡ AtDesk) × (method ≢ Post)
+IsUse path tells sizes reads method target (Asked moment answer) =
+    (route_of path target ≡ AtDesk) × (method ≡ Post) × tells moment
+IsUse path tells sizes reads method target (Unknown name) = route_of path target ≡ AtPackage name
+IsUse path tells sizes reads method target (Untaken name declared) =
+    (route_of path target ≡ AtPackage name) × (method ≢ Get)
+IsUse path tells sizes reads method target (Fetched name declared fetch) =
+    (route_of path target ≡ AtPackage name) × (method ≡ Get) × IsFetch (sizes name) (reads name) declared.size fetch
+
+-- the desk was asked at a timestamp that the clock may give
+abbrev pub IsAsked : (ℕ → Type 0) → Use → Type 0
+IsAsked tells (Asked moment answer) = tells moment
+IsAsked tells Nowhere = ⊥
+IsAsked tells Misused = ⊥
+IsAsked tells (Unknown name) = ⊥
+IsAsked tells (Untaken name declared) = ⊥
+IsAsked tells (Fetched name declared fetch) = ⊥
+
+-- the desk was asked for the package of this name
+abbrev pub IsTaken : (Option ℕ → Type 0) → Reads → Method → List ℕ → Use → Type 0
+IsTaken sizes reads method path (Unknown name) = name ≡ path
+IsTaken sizes reads method path (Untaken name declared) = (name ≡ path) × (method ≢ Get)
+IsTaken sizes reads method path (Fetched name declared fetch) =
+    (name ≡ path) × (method ≡ Get) × IsFetch sizes reads declared.size fetch
+IsTaken sizes reads method path Nowhere = ⊥
+IsTaken sizes reads method path Misused = ⊥
+IsTaken sizes reads method path (Asked moment answer) = ⊥

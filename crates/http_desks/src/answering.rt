@@ -1,0 +1,176 @@
+ghost use Rattle.std.specs.Prelude.{◌≡◌, ◌+◌, ℕ, length, Some, is_ok, if◌then◌else◌};
+ghost use Rattle.http_desks.specs.declared.answering.Handled.TheVariants.{Answered};
+ghost use Rattle.http_desks.specs.Replies.{Answers, Writes, empty_reply, kind_for};
+ghost use Rattle.http_desks.specs.Uses.{IsAsked, IsTaken, IsUse};
+
+use crate::clock::Clock;
+use crate::desk::Desk;
+use crate::fetching::fetch;
+use crate::method::Method;
+use crate::refusing::refuse;
+use http_heads::{Allow, ReplyHead, Status, package_name, path_of};
+use http_packages::Packages;
+use http_wire::{Failed, Sink, send_reply};
+
+/// How a reply came out.
+#[derive(Clone, Copy, Debug, Drop, PartialEq, Eq)]
+pub enum Handled {
+    /// It is whole, and the connection may go on.
+    Answered,
+    /// It says that the desk is off.
+    Off,
+    /// A package that is not whole.
+    Cut,
+}
+
+/// A whole message.
+#[derive(Clone, Copy, Drop)]
+pub struct Request<'a> {
+    /// The method.
+    pub method: Method,
+    /// The target, with its query.
+    pub target: &'a [u8],
+    /// The body.
+    pub body: &'a [u8],
+    /// Whether the connection ends after the reply.
+    pub closes: bool,
+}
+
+// The type of the body, if it has any bytes.
+fn type_for<'a>(kind: &'a str, body: &[u8]) -> &'a str
+    ensures { result.now ≡ kind_for kind.now body.now }
+{
+    if body.is_empty() { "" } else { kind }
+}
+
+// rule: Calls of a desk
+// Asks the desk, and writes its reply.
+fn ask<R, W: Sink, D: Desk<R>, C: Clock>(
+    rt: &R,
+    sink: &mut W,
+    block: &mut [u8],
+    desk: &mut D,
+    clock: &C,
+    body: &[u8],
+    closes: bool,
+) -> Result<Handled, Failed>
+    ensures asked { Answers (IsAsked (C.tells clock.now)) D.steps (D.content_type desk.old) body.now closes
+        desk.old desk.new (W.contents sink.old) (W.contents sink.new) result }
+    ensures path { D.path desk.new ≡ D.path desk.old }
+    ensures content_type { D.content_type desk.new ≡ D.content_type desk.old }
+    ensures failed { W.failures sink.new ≡ W.failures sink.old + (if is_ok result then 0 else 1) }
+{
+    let moment = clock.now();
+    match desk.answer(rt, body, moment) {
+        Ok(answer) => {
+            let head = ReplyHead {
+                status: answer.status.status(),
+                kind: type_for(desk.content_type(), &answer.body),
+                allow: None,
+                size: answer.body.len(),
+                closes,
+            };
+            match send_reply(sink, block, &head, &answer.body) {
+                Ok(()) => Ok(Handled::Answered),
+                Err(error) => Err(error),
+            }
+        }
+        Err(_) => match refuse(sink, block, Status::InternalServerError, None, true) {
+            Ok(()) => Ok(Handled::Off),
+            Err(error) => Err(error),
+        },
+    }
+}
+
+// Sends the package of this name, if the desk knows it and the method is GET.
+fn take<R, W: Sink, D: Desk<R>, P: Packages>(
+    sink: &mut W,
+    block: &mut [u8],
+    desk: &mut D,
+    packages: &P,
+    name: &[u8],
+    request: &Request<'_>,
+) -> Result<Handled, Failed>
+    requires { length block.old ≡ 65536 }
+    ensures taken { Answers (IsTaken (P.sizes packages.now name.now) (P.reads packages.now name.now) request.now.method name.now)
+        D.steps (D.content_type desk.old) request.now.body.now request.now.closes
+        desk.old desk.new (W.contents sink.old) (W.contents sink.new) result }
+    ensures path { D.path desk.new ≡ D.path desk.old }
+    ensures content_type { D.content_type desk.new ≡ D.content_type desk.old }
+    ensures failed { W.failures sink.new ≡ W.failures sink.old + (if is_ok result then 0 else 1) }
+{
+    let Some(declared) = desk.package(name) else {
+        return deny(sink, block, Status::NotFound, None, request.closes);
+    };
+    match request.method {
+        Method::Get => fetch(sink, block, packages, name, &declared, request.closes),
+        _ => deny(
+            sink,
+            block,
+            Status::MethodNotAllowed,
+            Some(Allow::Get),
+            request.closes,
+        ),
+    }
+}
+
+// Writes a reply without a body, after which the connection may go on.
+fn deny<W: Sink>(
+    sink: &mut W,
+    block: &mut [u8],
+    status: Status,
+    allow: Option<Allow>,
+    closes: bool,
+) -> Result<Handled, Failed>
+    ensures sends { Writes (empty_reply status allow closes) (Some Answered) (W.contents sink.old) (W.contents sink.new) result }
+    ensures failed { W.failures sink.new ≡ W.failures sink.old + (if is_ok result then 0 else 1) }
+{
+    match refuse(sink, block, status, allow, closes) {
+        Ok(()) => Ok(Handled::Answered),
+        Err(error) => Err(error),
+    }
+}
+
+// rule: Route of a message
+// rule: Use of a message
+/// Writes the reply to a message, and returns how it came out.
+///
+/// 404 if the target names neither the desk nor a package that the desk knows; 405 if the method is
+/// another; the desk's reply, or 500 if the desk is off; or the package. `block` has 65536 bytes.
+/// A failure finds a first part of the reply written, and not all.
+pub fn answer<R, W: Sink, D: Desk<R>, P: Packages, C: Clock>(
+    rt: &R,
+    sink: &mut W,
+    block: &mut [u8],
+    desk: &mut D,
+    packages: &P,
+    clock: &C,
+    request: &Request<'_>,
+) -> Result<Handled, Failed>
+    requires { length block.old ≡ 65536 }
+    ensures answers { Answers (IsUse (D.path desk.old) (C.tells clock.now) (P.sizes packages.now) (P.reads packages.now)
+        request.now.method request.now.target.now)
+        D.steps (D.content_type desk.old) request.now.body.now request.now.closes
+        desk.old desk.new (W.contents sink.old) (W.contents sink.new) result }
+    ensures path { D.path desk.new ≡ D.path desk.old }
+    ensures content_type { D.content_type desk.new ≡ D.content_type desk.old }
+    ensures failed { W.failures sink.new ≡ W.failures sink.old + (if is_ok result then 0 else 1) }
+{
+    let path = path_of(request.target);
+    if path == desk.path().as_bytes() {
+        return match request.method {
+            Method::Post => ask(rt, sink, block, desk, clock, request.body, request.closes),
+            _ => deny(
+                sink,
+                block,
+                Status::MethodNotAllowed,
+                Some(Allow::Post),
+                request.closes,
+            ),
+        };
+    }
+    match package_name(path) {
+        Some(name) => take(sink, block, desk, packages, name, request),
+        None => deny(sink, block, Status::NotFound, None, request.closes),
+    }
+}

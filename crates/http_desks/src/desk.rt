@@ -1,0 +1,89 @@
+ghost use Rattle.std.specs.Prelude.{◌≡◌, ℕ, List};
+ghost use Rattle.http_desks.specs.Calls.{Call, Asks, Looks, answer_in};
+ghost use Rattle.http_desks.specs.Replies.{status_of};
+
+use http_heads::Status;
+
+/// The status that a desk gives its reply.
+#[derive(Clone, Copy, Debug, Drop, PartialEq, Eq)]
+pub enum AnswerStatus {
+    /// 200: what was asked for.
+    Success,
+    /// 400: the body is malformed.
+    BadRequest,
+    /// 409: the base is not the current one.
+    Conflict,
+    /// 422: the body is rejected for what it says.
+    UnprocessableContent,
+}
+
+impl AnswerStatus {
+    /// Returns the status of the reply.
+    pub fn status(self) -> Status
+        ensures { result ≡ status_of self }
+    {
+        match self {
+            AnswerStatus::Success => Status::Success,
+            AnswerStatus::BadRequest => Status::BadRequest,
+            AnswerStatus::Conflict => Status::Conflict,
+            AnswerStatus::UnprocessableContent => Status::UnprocessableContent,
+        }
+    }
+}
+
+/// The reply of a desk.
+#[derive(Drop)]
+pub struct Answer {
+    /// How the desk took the message.
+    pub status: AnswerStatus,
+    /// The body of the reply, which may be empty.
+    pub body: Vec<u8>,
+}
+
+/// Why a desk has no reply.
+#[derive(Clone, Copy, Debug, Drop, PartialEq, Eq)]
+pub enum Off {
+    /// Out of memory.
+    Memory,
+    /// The service has closed.
+    Closed,
+}
+
+/// What the catalogue says of a package's file.
+#[derive(Clone, Copy, Debug, Drop, PartialEq, Eq)]
+pub struct Declared {
+    /// The file's length in bytes.
+    pub size: u64,
+    /// The SHA-256 of the file.
+    pub hash: [u8; 32],
+}
+
+/// Replies to the messages to one path, and knows the packages.
+pub trait Desk<R> {
+    ghost path: { Self → List ℕ };
+
+    ghost content_type: { Self → List ℕ };
+
+    // the call leads from the first state to the second
+    ghost steps: { Self → Call → Self → Type 0 };
+
+    /// Returns the path.
+    fn path(&self) -> &str
+        ensures { result.now ≡ path self.now };
+
+    /// Returns the type of the replies' bodies.
+    fn content_type(&self) -> &str
+        ensures { result.now ≡ content_type self.now };
+
+    /// Returns the reply to a message with this body, at this timestamp.
+    fn answer(&mut self, rt: &R, body: &[u8], moment: u64) -> Result<Answer, Off>
+        ensures steps { steps self.old (Asks body.now moment (answer_in result)) self.new }
+        ensures path { path self.new ≡ path self.old }
+        ensures content_type { content_type self.new ≡ content_type self.old };
+
+    /// Returns what is declared of a package, or `None` if there is none of this name.
+    fn package(&mut self, name: &[u8]) -> Option<Declared>
+        ensures steps { steps self.old (Looks name.now result) self.new }
+        ensures path { path self.new ≡ path self.old }
+        ensures content_type { content_type self.new ≡ content_type self.old };
+}

@@ -1,0 +1,109 @@
+// A desk, packages and a clock in memory.
+
+ghost use Rattle.std.specs.Prelude.{codes};
+ghost use Rattle.http_desks.specs.Calls.{Call};
+
+use http_desks::{Answer, AnswerStatus, Clock, Declared, Desk, Off};
+use http_packages::Packages;
+use http_wire::Failed;
+
+// The SHA-256 of `abc`, as FIPS 180 has it.
+const ABC: [u8; 32] = [
+    0xba, 0x78, 0x16, 0xbf, 0x8f, 0x01, 0xcf, 0xea, 0x41, 0x41, 0x40, 0xde, 0x5d, 0xae, 0x22, 0x23,
+    0xb0, 0x03, 0x61, 0xa3, 0x96, 0x17, 0x7a, 0x9c, 0xb4, 0x10, 0xff, 0x61, 0xf2, 0x00, 0x15, 0xad,
+];
+
+const EMPTY_REPLY: &[u8] =
+    b")]}'\n{\"response\":{\"app\":[],\"daystart\":{\"elapsed_days\":0,\"elapsed_seconds\":0},\"protocol\":\"3.1\"}}";
+
+/// Replies to some bodies with a status, to one as an update service, and to others with the body.
+#[derive(Drop)]
+pub(crate) struct Echo;
+
+impl<R: AllocGlobal> Desk<R> for Echo {
+    ghost path = { λ _. codes "/service/update2/json" };
+
+    ghost content_type = { λ _. codes "application/json" };
+
+    ghost steps = { λ _ _ _. Unit {0} };
+
+    fn path(&self) -> &str {
+        "/service/update2/json"
+    }
+
+    fn content_type(&self) -> &str {
+        "application/json"
+    }
+
+    fn answer(&mut self, rt: &R, body: &[u8], _moment: u64) -> Result<Answer, Off> {
+        let (status, text) = match body {
+            b"{" => (AnswerStatus::BadRequest, b"".as_slice()),
+            b"base" => (AnswerStatus::Conflict, b"stale 2\n".as_slice()),
+            b"fault" => (
+                AnswerStatus::UnprocessableContent,
+                b"refused 0\n".as_slice(),
+            ),
+            b"memory" => return Err(Off::Memory),
+            b"closed" => return Err(Off::Closed),
+            b"{\"request\":{\"protocol\":\"3.1\"}}" => (AnswerStatus::Success, EMPTY_REPLY),
+            other => (AnswerStatus::Success, other),
+        };
+        match Vec::from_slice(rt.alloc(), text) {
+            Ok(body) => Ok(Answer { status, body }),
+            Err(_) => Err(Off::Memory),
+        }
+    }
+
+    fn package(&mut self, name: &[u8]) -> Option<Declared> {
+        if name == b"none.bin".as_slice() {
+            return None;
+        }
+        Some(Declared { size: 3, hash: ABC })
+    }
+}
+
+/// The files of some packages, of which one is `abc`, one has other bytes and one is short.
+#[derive(Drop)]
+pub(crate) struct Files;
+
+impl Packages for Files {
+    ghost reads = { λ _ _ _ _ _. Unit {0} };
+
+    ghost sizes = { λ _ _ _. Unit {0} };
+
+    fn size(&self, name: &[u8]) -> Option<u64> {
+        if name == b"short.bin".as_slice() {
+            return Some(2);
+        }
+        if name == b"missing.bin".as_slice() {
+            return None;
+        }
+        Some(3)
+    }
+
+    fn read_at(&self, name: &[u8], at: u64, into: &mut [u8]) -> Result<(), Failed> {
+        let file = if name == b"changed.bin".as_slice() {
+            b"abd".as_slice()
+        } else {
+            b"abc".as_slice()
+        };
+        if at != 0 || into.len() > file.len() {
+            return Err(Failed);
+        }
+        let count = into.len();
+        into.copy_from_slice(&file[..count]);
+        Ok(())
+    }
+}
+
+/// Always 1970.
+#[derive(Drop)]
+pub(crate) struct Stopped;
+
+impl Clock for Stopped {
+    ghost tells = { λ _ _. Unit {0} };
+
+    fn now(&self) -> u64 {
+        0
+    }
+}

@@ -1,0 +1,7 @@
+mod LengthLemmas
+mod ReadingLemmas
+mod SessionLemmas
+mod TurnLemmas
+mod RunLemmas
+mod CutLemmas
+mod AlikeLemmas

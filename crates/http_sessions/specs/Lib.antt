@@ -1,0 +1,5 @@
+pub mod Messages
+pub mod Stops
+pub mod Readings
+pub mod Sessions
+pub mod Laws

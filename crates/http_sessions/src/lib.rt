@@ -1,0 +1,23 @@
+//! Sessions: the bytes of a connection in, the replies out, however the bytes come in pieces.
+//!
+//! A `Session` is advanced message by message: `turn` reads one, replies and returns the session
+//! if the connection stays open. `serve` is a loop over `turn`. Read `specs/Messages.antt`,
+//! `specs/Stops.antt` and `specs/Sessions.antt`; `laws` says that a stream is cut in one way.
+//!
+//! `Buffers` and `Session` take their memory when they are made, and no message takes any. The crate
+//! does not open connections, and sets no limit of time.
+
+#![tactic(auto)]
+
+mod buffers;
+mod ends;
+pub mod laws;
+mod message;
+mod serving;
+mod session;
+mod turning;
+
+pub use crate::buffers::Buffers;
+pub use crate::ends::{End, Fault, Served};
+pub use crate::serving::serve;
+pub use crate::session::{MAX_MESSAGES, Session, Turn};
