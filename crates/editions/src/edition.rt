@@ -87,7 +87,7 @@ impl Edition {
         &self.catalogue
     }
 
-    // rule: Table of a track
+    // rule: Tables of an edition
     /// Finds the certified table of a track, `None` if the track has no target.
     ///
     /// The key is one of the catalogue's tracks: its app and its cohort are there, and it allows a

@@ -28,7 +28,7 @@ use Rattle.quotes.specs.Outside.{IsBest, best_quote, sum_into}
 use Rattle.quotes.specs.Quotes.{IsQuote, IsQuoteAmong}
 use Rattle.quotes.specs.declared.outside.Best.{Best}
 
--- the sizes of good releases are within bounds
+-- the sizes of valid releases are within bounds
 sizes_good :
     (cohorts : List Cohort) (releases : List Release) →
     ((k : ℕ) (d : Release) → k < length releases → is_good_release cohorts (get_or releases k d) ≡ true) →

@@ -45,7 +45,7 @@ abbrev pub diff_of : App → Payload → Option Diff
 diff_of app (Full release) = None
 diff_of app (Differ index) = slice_get app.diffs index
 
--- rule: Offer
+-- rule: Offer of a payload
 -- the offer of a release, by its full package and by a differential, if there is one
 abbrev pub offer_of : List ℕ → Release → Option Diff → Offer
 offer_of codebase release diff =

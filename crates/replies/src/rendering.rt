@@ -75,7 +75,7 @@ fn copy_diff(codebase: &Text, diff: &Diff) -> Result<Part, AllocError>
     })
 }
 
-// rule: Offer
+// rule: Offer of a payload
 fn make_offer(
     alloc: Global,
     codebase: &Text,
