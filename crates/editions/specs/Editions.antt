@@ -1,11 +1,13 @@
 -- Editions: histories of accepted batches, and what one more batch makes of one; this project's
 -- profile.
-use Rattle.std.specs.Prelude.{◌≡◌, ℕ, ◌<◌, ◌≤◌, List, [], ◌∷◌, ◌++◌, length, IsOk, Result, Ok, Err}
+use Rattle.std.specs.Prelude.{◌≡◌, ℕ, ◌<◌, ◌≤◌, List, [], ◌∷◌, ◌++◌, length, IfSome, IsOk, Result, Ok, Err}
 use Rattle.catalogue.specs.Batches.{outcome, run, then_run}
 use Rattle.histories.specs.Histories.{History, LeadsTo}
 use Rattle.records.specs.declared.content.App.{App}
 use Rattle.catalogue.specs.declared.edit.Edit.{Edit}
 use Rattle.catalogue.specs.declared.fault.Refused.{Refused}
+use Rattle.payload_rules.specs.declared.payload.TrackKey.{TrackKey}
+use Rattle.payload_graph.specs.Net.{net_among}
 use Rattle.price_cert.specs.Tables.{Certificate}
 use Rattle.par_tables.specs.Tables.{AreTables}
 use Rattle.editions.specs.declared.fault.NextError.{NextError}
@@ -53,3 +55,7 @@ content_or_none (Err refused) = []
 -- the content that a history led to
 abbrev pub content_of : History → List App
 content_of history = content_or_none (run history [])
+
+-- a key allows a downgrade only if its cohort does, if its track has a target
+abbrev pub IsTrackKey : List App → TrackKey → Type 0
+IsTrackKey apps key = IfSome (net_among apps key) (λ net. net.rollback ≡ key.rollback)

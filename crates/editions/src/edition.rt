@@ -1,9 +1,8 @@
-ghost use Rattle.std.specs.Prelude.{◌≡◌, ◌≤◌, [], ◌∷◌, ◌++◌, Contains, IfOk, length, map, option_map};
+ghost use Rattle.std.specs.Prelude.{◌≡◌, ◌≤◌, [], ◌∷◌, ◌++◌, IfOk, length, map, option_map};
 ghost use Rattle.std.specs.Arc.{arc_value};
 ghost use Rattle.histories.specs.Histories.{LeadsTo};
 ghost use Rattle.payload_graph.specs.Net.{net_among};
-ghost use Rattle.par_tables.specs.Tracks.{keys_of};
-ghost use Rattle.editions.specs.Editions.{content_of, most_batches, Continues};
+ghost use Rattle.editions.specs.Editions.{content_of, most_batches, Continues, IsTrackKey};
 
 use crate::fault::NextError;
 use catalogue::{Batch, Catalogue};
@@ -90,12 +89,12 @@ impl Edition {
     // rule: Tables of an edition
     /// Finds the certified table of a track, `None` if the track has no target.
     ///
-    /// The key is one of the catalogue's tracks: its app and its cohort are there, and it allows a
-    /// downgrade only if the cohort does.
+    /// The key allows a downgrade only if its cohort does.
     pub fn table(&self, key: &TrackKey) -> Option<&Certified>
-        requires { Contains (keys_of (content_of self.now)) key.now }
+        requires { IsTrackKey (content_of self.now) key.now }
         ensures { option_map (λ table. table.now.net) result ≡ net_among (content_of self.now) key.now }
     {
+        par_tables::laws::tracks();
         match self.tables.find(key) {
             Some(table) => Some(table),
             None => None,

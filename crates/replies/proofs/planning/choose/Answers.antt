@@ -1,7 +1,7 @@
 use Rattle.std.proofs.Common.{sym, ap, ◌∙◌}
 use Rattle.editions.specs.Editions.{content_or_none}
 use Rattle.replies.specs.Clients.{Client}
-use Rattle.replies.proofs.KeyLemmas.{Contains-key_of, track-client_of}
+use Rattle.replies.proofs.KeyLemmas.{IsTrackKey-key_of, track-client_of}
 use Rattle.replies.proofs.PlanLemmas.{IsChosen-known}
 use Rattle.replies.proofs.planning.choose.Goals as goal
 
@@ -12,7 +12,7 @@ table-table-requires c =
     let track =
     track-client_of c.catalogue-catalogue.result.now c.args.session.now c.args.ask.now client.index client.app.now client.track c.in-Some.ensures.found in
     rw (content, c.key.ensures)
-    (Contains-key_of c.catalogue-catalogue.result.now c.args.session.now c.args.ask.now client.index client.app.now client.track c.in-Some.ensures.app c.in-Some.ensures.cohort track)
+    (IsTrackKey-key_of c.catalogue-catalogue.result.now c.args.session.now c.args.ask.now client.index client.app.now client.track c.in-Some.ensures.app c.in-Some.ensures.cohort track)
 
 pub returns-clause-chosen : goal.returns-clause-chosen
 returns-clause-chosen c =

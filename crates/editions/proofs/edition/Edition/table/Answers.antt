@@ -9,7 +9,7 @@ returns-in-Some c =
     let content = ap content_of (sym c.self.view_is) ∙ content_of-led (map arc_value c.self.inside.batches.items) c.self.inside.catalogue c.self.invariant.led in
     let found = rw c.in-Some.is at c.find.ensures in
     rw content
-    (sym (net_among-found c.self.inside.catalogue c.self.inside.tables c.args.key.now c.in-Some.table.now c.self.invariant.priced found.0 found.1))
+    (sym (net_among-found c.tracks.ensures.tables c.self.inside.catalogue c.self.inside.tables c.args.key.now c.in-Some.table.now c.self.invariant.priced found.0 found.1))
 
 pub returns-in-None : goal.returns-in-None
 returns-in-None c =
@@ -17,4 +17,4 @@ returns-in-None c =
     let others = rw c.in-None.is at c.find.ensures in
     let listed = rw content at c.requires in
     rw content
-    (sym (net_among-missing c.self.inside.catalogue c.self.inside.tables c.args.key.now c.self.invariant.priced listed others))
+    (sym (net_among-missing c.tracks.ensures.tracks c.self.inside.catalogue c.self.inside.tables c.args.key.now c.self.invariant.priced listed others))
