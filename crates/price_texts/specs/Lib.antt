@@ -1,5 +1,6 @@
 pub mod Forms
 pub mod Headings
+pub mod Keys
 pub mod Laws
 pub mod Reading
 pub mod Texts

@@ -1,7 +1,9 @@
 //! The lines before the rows.
 
-ghost use Rattle.std.specs.Prelude.{◌≡◌, ◌∷◌, ◌++◌, IfOk, codes, string_bytes};
+ghost use Rattle.std.specs.Prelude.{◌≡◌, ◌∷◌, ◌++◌, IfOk, IfSome, codes, string_bytes};
 ghost use Rattle.hex.specs.Hex.{encode_lower};
+ghost use Rattle.std.specs.Option.{is_some};
+ghost use Rattle.price_texts.specs.Forms.{rest_of};
 ghost use Rattle.price_texts.specs.Headings.{has_value, heading_line, heading_word, is_heading, lane_word, rollback_word};
 ghost use Rattle.price_texts.specs.Reading.{heading_flaw};
 
@@ -130,14 +132,20 @@ fn has_value(heading: Heading, value: &str) -> bool
     }
 }
 
-fn is_heading(heading: Heading, line: &[u8]) -> bool
-    ensures { result ≡ is_heading heading line.now }
+/// What is after the first space of a line, if it has this form.
+pub(crate) fn value_in(heading: Heading, line: &[u8]) -> Option<&str>
+    ensures rest { IfSome result (λ value. value.now ≡ rest_of line.now) }
+    ensures formed { is_some result ≡ is_heading heading line.now }
 {
     let Some(line) = as_string(line) else {
-        return false;
+        return None;
     };
     let (word, value) = split_first(line);
-    word == word_of(heading) && has_value(heading, value)
+    if word == word_of(heading) && has_value(heading, value) {
+        Some(value)
+    } else {
+        None
+    }
 }
 
 // rule: Flaw of a heading
@@ -148,7 +156,7 @@ pub(crate) fn flaw_of(heading: Heading, line: &[u8], expected: &str) -> Option<F
     if line == expected.as_bytes() {
         return None;
     }
-    if is_heading(heading, line) {
+    if value_in(heading, line).is_some() {
         Some(Flaw::Other)
     } else {
         Some(Flaw::Form)

@@ -1,10 +1,10 @@
 //! Certificates: a table of prices as lines that anybody can check.
 //!
 //! `write_prices` writes a table with the names that its catalogue gives to releases. `read_prices` reads
-//! it back against the graph of its track, or returns the first line that is wrong. A table has one
-//! certificate, by `laws`: each line is accepted in one spelling. Read `specs/Texts.antt` for the bytes of
-//! a table, `specs/Forms.antt` for the forms of its lines and `specs/Reading.antt` for the fault of a
-//! wrong one.
+//! it back against the graph of its track, or returns the first line that is wrong; `read_key` finds out
+//! which track that is. A table has one certificate, by `laws`: each line is accepted in one spelling.
+//! Read `specs/Texts.antt` for the bytes of a table, `specs/Forms.antt` for the forms of its lines and
+//! `specs/Reading.antt` for the fault of a wrong one.
 //!
 //! It does not check prices: `price_cert::check` does.
 
@@ -14,6 +14,7 @@ mod entry;
 mod fault;
 mod form;
 mod heading;
+mod key;
 pub mod laws;
 mod lines;
 mod reader;
@@ -21,5 +22,6 @@ mod track;
 mod writer;
 
 pub use crate::fault::Fault;
+pub use crate::key::read_key;
 pub use crate::reader::read_prices;
 pub use crate::writer::write_prices;

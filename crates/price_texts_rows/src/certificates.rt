@@ -24,7 +24,7 @@ rows 4
 4.0 0 end
 ";
 
-const HELD: &str = "prices 1
+pub(crate) const HELD: &str = "prices 1
 app demo
 cohort stable
 lane held
@@ -37,7 +37,7 @@ rows 4
 4.0 none
 ";
 
-const BETA: &str = "prices 1
+pub(crate) const BETA: &str = "prices 1
 app demo
 cohort beta
 lane target

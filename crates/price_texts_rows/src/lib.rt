@@ -9,6 +9,8 @@ mod certificates;
 #[cfg(test)]
 mod demo;
 #[cfg(test)]
+mod keys;
+#[cfg(test)]
 mod outcomes;
 #[cfg(test)]
 mod wrong_lines;

@@ -5,8 +5,8 @@ use crate::outcomes::outcome_of;
 use std::alloc::{AllocError, Global};
 use std::test::Fail;
 
-// The certificate with another line at a number, counted from 1.
-fn with_line(alloc: Global, n: usize, line: &str) -> Result<String, AllocError> {
+/// The certificate with another line at a number, counted from 1.
+pub(crate) fn with_line(alloc: Global, n: usize, line: &str) -> Result<String, AllocError> {
     let mut changed = String::new(alloc);
     for (index, old) in STABLE.lines().enumerate() {
         let next = if index + 1 == n { line } else { old };
