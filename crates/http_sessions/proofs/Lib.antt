@@ -3,5 +3,6 @@ mod ReadingLemmas
 mod SessionLemmas
 mod TurnLemmas
 mod RunLemmas
+mod StopLemmas
 mod CutLemmas
 mod AlikeLemmas
