@@ -3,8 +3,8 @@ ghost use Rattle.omaha_service.specs.Answering.{Answers, first_mirror, granted};
 
 use crate::service::Service;
 use catalogue::Mirror;
-use replies::{Plan, plan, render};
 use omaha_json::{RequestFault, read_request};
+use replies::{Plan, plan, render};
 use std::alloc::{AllocError, Global};
 use values::ReadError;
 
