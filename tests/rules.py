@@ -23,9 +23,13 @@ NO_EDIT = {
     "App of a profile": "its parts are rules of their own",
     "Edit of a script": "its readers are those of a table",
     "Faults of a script": "its parts are rules of their own",
+    "Next ask": "a client's, and no code of this repository",
+    "Reply to an ask": "its parts are rules of their own",
+    "Status of an update check": "its parts are rules of their own",
     "Tables of a profile": "its parts are rules of their own",
     "Tables of a script": "its parts are rules of their own",
     "TOML of a profile": "the reading is that of the crate toml",
+    "Walk": "a client's, and no code of this repository",
 }
 
 MARK = re.compile(r"^\s*(?:--|//|#) rule: (.+?)\s*$")

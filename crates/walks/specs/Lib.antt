@@ -1,0 +1,5 @@
+pub mod Asks
+pub mod Examples
+pub mod Laws
+pub mod Statuses
+pub mod Walks

@@ -1,0 +1,13 @@
+//! Walks: what a client gets that takes each offer and asks again.
+//!
+//! It has no code of its own. `laws::walk` states that a client which follows the replies of a catalogue
+//! that stays as it is comes to its target, for the least sum of bytes in all, and `laws::statuses` what
+//! the status of an update check says. Both are about the replies of `replies`, as a client sees them.
+//! Read `specs/Asks.antt` for the reply to an ask and the next ask, `specs/Walks.antt` for walks,
+//! `specs/Statuses.antt` for statuses, and `specs/Laws.antt` for what holds of them.
+//!
+//! It says nothing of a catalogue that changes on the way, and is no client.
+
+#![tactic(auto)]
+
+pub mod laws;
