@@ -1,7 +1,6 @@
 -- Bytes that are read are those that are written of what they give.
 use Rattle.std.proofs.Common.{◌≡◌, ℕ, ◌+◌, ◌-◌, ◌<◌, Bool, true, false, cond, suc, List, [], ◌∷◌, ◌++◌, length, get_or, drop, take, ◌&&◌, Option, None, Some, unwrap_or, Result, Ok, Err, refl, sym, ap, ◌∙◌, add-one, append_assoc, arith, drop-cons}
 use Rattle.std.specs.Prelude.{position}
-use Rattle.std.specs.List.{slice_get}
 use Rattle.std.specs.Option.{option_map, option_map_or}
 use Rattle.std.specs.Str.{bytes_eq, is_utf8}
 use Rattle.std.proofs.Math.Seq.{split_at}
@@ -18,7 +17,7 @@ use Rattle.price_cert.specs.declared.row.Row.{Row}
 use Rattle.price_texts.specs.Forms.{first_of, is_version, rest_of}
 use Rattle.price_texts.specs.Headings.{heading_line, headings, is_heading}
 use Rattle.price_texts.specs.Reading.{entry_of, heading_flaw, is_entry, is_feed, is_row, line_split, on_line, or_other, past_heading, read_headings, read_row, read_rows, read_text, row_of, rows_after, with_row}
-use Rattle.price_texts.specs.Texts.{ended, entry_text, headings_text, row_line, rows_from, spelled_at, text_of}
+use Rattle.price_texts.specs.Texts.{ended, headings_text, row_line, rows_from, spelled_at, text_of}
 use Rattle.price_texts.specs.declared.fault.Fault.{Fault}
 use Rattle.price_texts.specs.declared.fault.Flaw.{Flaw}
 use Rattle.price_texts.specs.declared.fault.Flaw.TheVariants.{Form, Other}
@@ -37,8 +36,10 @@ split-whole text line rest split = by_place (position is_feed text) refl split
     by_place (Some at) found split =
         let there = position-Some is_feed text at 0 found in
         let feed : get_or text at 0 ≡ 10 = eqb-true (get_or text at 0) 10 there.1 in
-        let same_line : take at text ≡ line = ap (λ (read : Option (List ℕ × List ℕ)). (unwrap_or read (line, rest)).0) split in
-        let same_rest : drop (at + 1) text ≡ rest = ap (λ (read : Option (List ℕ × List ℕ)). (unwrap_or read (line, rest)).1) split in
+        let same_line : take at text ≡ line = ap (λ (read : Option (List ℕ × List ℕ)). (unwrap_or read (line, rest)).0)
+        split in
+        let same_rest : drop (at + 1) text ≡ rest = ap
+        (λ (read : Option (List ℕ × List ℕ)). (unwrap_or read (line, rest)).1) split in
         split_at text at 0 there.0
         ∙ ap (λ byte. take at text ++ (byte ∷ drop (suc at) text)) feed
         ∙ ap (λ next. take at text ++ (10 ∷ drop next text)) (sym (add-one at))
@@ -116,11 +117,13 @@ rows-back all (release ∷ others) index n text rows at read =
 
     spelled : spelled_at all index ≡ release.spelled
     spelled =
-        ap (λ (r : Option Release). option_map_or (λ (own : Release). own.spelled) r []) (slice_get-get_or all index release within)
+        ap (λ (r : Option Release). option_map_or (λ (own : Release). own.spelled) r [])
+        (slice_get-get_or all index release within)
         ∙ ap (λ (own : Release). own.spelled) (sym head)
 
     Later : Type 0
-    Later = (rest : List ℕ) (found : List Row) → read_rows all others (n + 1) rest ≡ Ok found → rest ≡ rows_from all (index + 1) found
+    Later = (rest : List ℕ) (found : List Row) → read_rows all others (n + 1) rest ≡ Ok found →
+        rest ≡ rows_from all (index + 1) found
 
     by_rest :
         (line rest : List ℕ) (row : Row) (found : Result (List Row) Fault) → Later →
@@ -139,16 +142,19 @@ rows-back all (release ∷ others) index n text rows at read =
         text ≡ ended line ++ rest → read_row all release.spelled line ≡ found →
         with_row n found (read_rows all others (n + 1) rest) ≡ Ok rows → text ≡ rows_from all index rows
     by_row line rest (Ok row) later whole own read =
-        by_rest line rest row (read_rows all others (n + 1) rest) later whole (row-back all index release.spelled line row spelled own) refl read
+        by_rest line rest row (read_rows all others (n + 1) rest) later whole
+        (row-back all index release.spelled line row spelled own) refl read
     by_row line rest (Err flaw) later whole own read = cc
 
     by_line :
         (split : Option (List ℕ × List ℕ)) → line_split text ≡ split → Later →
-        on_line n split (λ line rest. with_row n (read_row all release.spelled line) (read_rows all others (n + 1) rest)) ≡ Ok rows →
+        on_line n split (λ line rest. with_row n (read_row all release.spelled line)
+        (read_rows all others (n + 1) rest)) ≡ Ok rows →
         text ≡ rows_from all index rows
     by_line None is later read = cc
     by_line (Some parts) is later read =
-        by_row parts.0 parts.1 (read_row all release.spelled parts.0) later (split-whole text parts.0 parts.1 is) refl read
+        by_row parts.0 parts.1 (read_row all release.spelled parts.0) later (split-whole text parts.0 parts.1 is) refl
+        read
 
 abbrev text_or : Result (List ℕ) Fault → List ℕ → List ℕ
 text_or (Ok found) other = found
@@ -156,7 +162,8 @@ text_or (Err fault) other = other
 
 -- the headings that are left
 headings-back :
-    (app : App) (cohort : Cohort) (key : TrackKey) (target : Release) (left : List Heading) (n : ℕ) (text rest : List ℕ) →
+    (app : App) (cohort : Cohort) (key : TrackKey) (target : Release) (left : List Heading) (n : ℕ) (text rest : List ℕ)
+    →
     read_headings app cohort key target left n text ≡ Ok rest →
     text ≡ headings_text app cohort key target left ++ rest
 unfolding read_headings headings_text
@@ -168,12 +175,14 @@ headings-back app cohort key target (heading ∷ others) n text rest read =
     wanted = heading_line app cohort key target heading
 
     Later : Type 0
-    Later = (behind : List ℕ) → read_headings app cohort key target others (n + 1) behind ≡ Ok rest → behind ≡ headings_text app cohort key target others ++ rest
+    Later = (behind : List ℕ) → read_headings app cohort key target others (n + 1) behind ≡ Ok rest →
+        behind ≡ headings_text app cohort key target others ++ rest
 
     by_same :
         (line behind : List ℕ) → Later → text ≡ ended line ++ behind →
         (same formed : Bool) → bytes_eq line wanted ≡ same →
-        past_heading n (cond {A = Option Flaw} same None (cond formed (Some Other) (Some Form))) (read_headings app cohort key target others (n + 1) behind) ≡ Ok rest →
+        past_heading n (cond {A = Option Flaw} same None (cond formed (Some Other) (Some Form)))
+        (read_headings app cohort key target others (n + 1) behind) ≡ Ok rest →
         text ≡ headings_text app cohort key target (heading ∷ others) ++ rest
     by_same line behind later whole true formed same read =
         whole
@@ -185,11 +194,13 @@ headings-back app cohort key target (heading ∷ others) n text rest read =
 
     by_line :
         (split : Option (List ℕ × List ℕ)) → line_split text ≡ split → Later →
-        on_line n split (λ line behind. past_heading n (heading_flaw heading line wanted) (read_headings app cohort key target others (n + 1) behind)) ≡ Ok rest →
+        on_line n split (λ line behind. past_heading n (heading_flaw heading line wanted)
+        (read_headings app cohort key target others (n + 1) behind)) ≡ Ok rest →
         text ≡ headings_text app cohort key target (heading ∷ others) ++ rest
     by_line None is later read = cc
     by_line (Some parts) is later read =
-        by_same parts.0 parts.1 later (split-whole text parts.0 parts.1 is) (bytes_eq parts.0 wanted) (is_heading heading parts.0) refl read
+        by_same parts.0 parts.1 later (split-whole text parts.0 parts.1 is) (bytes_eq parts.0 wanted)
+        (is_heading heading parts.0) refl read
 
 -- all of them
 pub read_text-back :
@@ -203,5 +214,6 @@ read_text-back app cohort key target text rows read =
         rows_after app.releases found ≡ Ok rows → text_of app cohort key target rows ≡ text
     by_headings (Err fault) is read = cc
     by_headings (Ok rest) is read =
-        ap (λ behind. headings_text app cohort key target headings ++ behind) (sym (rows-back app.releases app.releases 0 8 rest rows refl read))
+        ap (λ behind. headings_text app cohort key target headings ++ behind)
+        (sym (rows-back app.releases app.releases 0 8 rest rows refl read))
         ∙ sym (headings-back app cohort key target headings 1 text rest is)

@@ -1,5 +1,5 @@
 -- What the line of a release states is what is written of it.
-use Rattle.std.proofs.Common.{◌≡◌, ℕ, ◌+◌, ◌-◌, ◌^◌, ◌<◌, Bool, true, false, cond, codes, List, [], ◌∷◌, ◌++◌, length, get_or, nat_lt, ◌&&◌, ◌||◌, Option, None, Some, unwrap_or, refl, sym, ap, ◌∙◌, subst, arith}
+use Rattle.std.proofs.Common.{◌≡◌, ℕ, ◌+◌, ◌-◌, ◌^◌, ◌<◌, Bool, true, false, cond, codes, List, [], ◌∷◌, ◌++◌, length, get_or, nat_lt, ◌&&◌, ◌||◌, Option, None, Some, unwrap_or, refl, sym, ap, ◌∙◌, arith}
 use Rattle.std.specs.Prelude.{position}
 use Rattle.std.specs.Fmt.{decimal}
 use Rattle.std.specs.List.{position_or_len}
@@ -51,14 +51,16 @@ entry-some [] is = absurd (false≢true is)
 entry-some (byte ∷ entry) is = omega arith
 
 -- a number is written as it was read
-number-back : (bound : ℕ) (digits : List ℕ) (number : ℕ) → number_below bound digits ≡ Some number → decimal number ≡ digits
+number-back : (bound : ℕ) (digits : List ℕ) (number : ℕ) → number_below bound digits ≡ Some number →
+    decimal number ≡ digits
 number-back bound digits number read = by_form (is_plain digits) refl (nat_lt (digits_value 10 digits) bound) read
   where
     written : is_plain digits ≡ true → decimal (digits_value 10 digits) ≡ digits
     written is =
         let plain = IsPlain-is_plain digits is in
         let short : digits_value 10 digits < 10 ^ 16 = digits_value_short numerals digits 16 plain.are_digits plain.few in
-        decimal-digits_value numerals digits plain.are_digits plain.some (λ zero. grind (arith, nat_tests, plain.plain, plain.some)) (omega (arith, short))
+        decimal-digits_value numerals digits plain.are_digits plain.some
+        (λ zero. grind (arith, nat_tests, plain.plain, plain.some)) (omega (arith, short))
 
     by_form :
         (form : Bool) → is_plain digits ≡ form → (below : Bool) →
@@ -70,7 +72,8 @@ number-back bound digits number read = by_form (is_plain digits) refl (nat_lt (d
     by_form false is below read = cc
 
 -- the release that is found is spelled so
-spelled-back : (releases : List Release) (text : List ℕ) (to : ℕ) → position (is_spelled text) releases ≡ Some to → spelled_at releases to ≡ text
+spelled-back : (releases : List Release) (text : List ℕ) (to : ℕ) → position (is_spelled text) releases ≡ Some to →
+    spelled_at releases to ≡ text
 spelled-back [] text to found = cc
 spelled-back (release ∷ others) text to found =
     let at = position-Some (is_spelled text) (release ∷ others) to release found in
@@ -82,7 +85,8 @@ spelled-back (release ∷ others) text to found =
 kind-back : (word : List ℕ) → is_either (codes "full") (codes "diff") word ≡ true → kind_word (kind_named word) ≡ word
 kind-back word is = by_word (bytes_eq word (codes "full")) refl is
   where
-    by_word : (full : Bool) → bytes_eq word (codes "full") ≡ full → (full || bytes_eq word (codes "diff")) ≡ true → kind_word (cond full Full Differ) ≡ word
+    by_word : (full : Bool) → bytes_eq word (codes "full") ≡ full → (full || bytes_eq word (codes "diff")) ≡ true →
+        kind_word (cond full Full Differ) ≡ word
     by_word true same is = sym ((bytes_eq-Decides word (codes "full")).0 same)
     by_word false other is = sym ((bytes_eq-Decides word (codes "diff")).0 is)
 
@@ -99,34 +103,43 @@ payload-back releases entry row is read =
     version : List ℕ
     version = rest_of rest
 
-    outer : (is_some (number_below price_bound (first_of entry)) && is_either (codes "full") (codes "diff") (first_of rest) ≡ true) × (is_version version ≡ true)
-    outer = and_parts (is_some (number_below price_bound (first_of entry)) && is_either (codes "full") (codes "diff") (first_of rest)) (is_version version) is
+    outer : (is_some (number_below price_bound (first_of entry)) && is_either (codes "full") (codes "diff")
+        (first_of rest) ≡ true) × (is_version version ≡ true)
+    outer = and_parts (is_some (number_below price_bound (first_of entry)) && is_either (codes "full") (codes "diff")
+        (first_of rest)) (is_version version) is
 
     is_kind : is_either (codes "full") (codes "diff") (first_of rest) ≡ true
-    is_kind = (and_parts (is_some (number_below price_bound (first_of entry))) (is_either (codes "full") (codes "diff") (first_of rest)) outer.0).1
+    is_kind = (and_parts (is_some (number_below price_bound (first_of entry)))
+        (is_either (codes "full") (codes "diff") (first_of rest)) outer.0).1
 
     whole : entry ≡ first_of entry ++ 32 ∷ (first_of rest ++ 32 ∷ version)
-    whole = fields-whole entry (kind-some rest is_kind) ∙ ap (λ r. first_of entry ++ 32 ∷ r) (fields-whole rest (version-some version outer.1))
+    whole = fields-whole entry (kind-some rest is_kind) ∙ ap (λ r. first_of entry ++ 32 ∷ r)
+        (fields-whole rest (version-some version outer.1))
 
     by_place :
-        (price : ℕ) → decimal price ≡ first_of entry → (found : Option ℕ) → position (is_spelled version) releases ≡ found →
-        option_map (λ to. Price price (kind_named (first_of rest)) to) found ≡ Some row → entry ≡ entry_text releases row
+        (price : ℕ) → decimal price ≡ first_of entry → (found : Option ℕ) →
+        position (is_spelled version) releases ≡ found →
+        option_map (λ to. Price price (kind_named (first_of rest)) to) found ≡ Some row →
+        entry ≡ entry_text releases row
     by_place price written None found read = cc
     by_place price written (Some to) found read =
         let same : Price price (kind_named (first_of rest)) to ≡ row = ap (λ (r : Option Row). unwrap_or r row) read in
         whole
         ∙ ap (λ digits. digits ++ 32 ∷ (first_of rest ++ 32 ∷ version)) (sym written)
         ∙ ap (λ word. decimal price ++ 32 ∷ (word ++ 32 ∷ version)) (sym (kind-back (first_of rest) is_kind))
-        ∙ ap (λ spelled. decimal price ++ 32 ∷ (kind_word (kind_named (first_of rest)) ++ 32 ∷ spelled)) (sym (spelled-back releases version to found))
+        ∙ ap (λ spelled. decimal price ++ 32 ∷ (kind_word (kind_named (first_of rest)) ++ 32 ∷ spelled))
+        (sym (spelled-back releases version to found))
         ∙ ap (entry_text releases) same
 
     by_price :
         (found : Option ℕ) → number_below price_bound (first_of entry) ≡ found →
-        option_and_then (λ price. option_map (λ to. Price price (kind_named (first_of rest)) to) (position (is_spelled version) releases)) found ≡ Some row →
+        option_and_then (λ price. option_map (λ to. Price price (kind_named (first_of rest)) to)
+        (position (is_spelled version) releases)) found ≡ Some row →
         entry ≡ entry_text releases row
     by_price None found read = cc
     by_price (Some price) found read =
-        by_place price (number-back price_bound (first_of entry) price found) (position (is_spelled version) releases) refl read
+        by_place price (number-back price_bound (first_of entry) price found) (position (is_spelled version) releases)
+        refl read
 
 -- so is all that a line states of its release
 pub entry-back :
@@ -145,7 +158,8 @@ entry-back releases entry row is read = by_nothing (bytes_eq entry (codes "none"
     by_nothing :
         (nothing : Bool) → bytes_eq entry (codes "none") ≡ nothing →
         ((nothing || bytes_eq entry (codes "0 end")) || is_payload entry) ≡ true →
-        cond nothing (Some Nothing) (cond (bytes_eq entry (codes "0 end")) (Some End) (payload_of releases entry)) ≡ Some row →
+        cond nothing (Some Nothing) (cond (bytes_eq entry (codes "0 end")) (Some End) (payload_of releases entry)) ≡
+        Some row →
         entry ≡ entry_text releases row
     by_nothing true same is read =
         (bytes_eq-Decides entry (codes "none")).0 same

@@ -1,6 +1,5 @@
 -- A reading has a row for each release.
 use Rattle.std.proofs.Common.{◌≡◌, ℕ, ◌+◌, suc, List, [], ◌∷◌, length, Option, None, Some, Result, Ok, Err, refl, sym, ap, ◌∙◌}
-use Rattle.std.specs.Result.{result_ok}
 use Rattle.records.specs.declared.content.Release.{Release}
 use Rattle.price_cert.specs.declared.row.Row.{Row}
 use Rattle.price_texts.specs.Reading.{line_split, on_line, read_row, read_rows, rows_after, with_row}
@@ -23,7 +22,8 @@ length-read_rows all (release ∷ others) n text rows read =
     by_line (line_split text) (λ rest found is. length-read_rows all others (n + 1) rest found is) read
   where
     Counted : Type 0
-    Counted = (rest : List ℕ) (found : List Row) → read_rows all others (n + 1) rest ≡ Ok found → length found ≡ length others
+    Counted = (rest : List ℕ) (found : List Row) → read_rows all others (n + 1) rest ≡ Ok found →
+        length found ≡ length others
 
     result_or : Result (List Row) Fault → List Row → List Row
     result_or (Ok found) other = found
@@ -46,7 +46,8 @@ length-read_rows all (release ∷ others) n text rows read =
 
     by_line :
         (split : Option (List ℕ × List ℕ)) → Counted →
-        on_line n split (λ line rest. with_row n (read_row all release.spelled line) (read_rows all others (n + 1) rest)) ≡ Ok rows →
+        on_line n split (λ line rest. with_row n (read_row all release.spelled line)
+        (read_rows all others (n + 1) rest)) ≡ Ok rows →
         length rows ≡ suc (length others)
     by_line None counted read = cc
     by_line (Some parts) counted read = by_row parts.1 (read_row all release.spelled parts.0) counted read

@@ -1,5 +1,5 @@
 -- Reading, line by line.
-use Rattle.std.proofs.Common.{◌≡◌, ℕ, ◌+◌, ◌-◌, ◌<◌, ◌≤◌, List, [], ◌∷◌, ◌++◌, length, get_or, drop, suc, Some, None, Result, Ok, Err, refl, sym, ap, ◌∙◌, add-one, arith, drop-cons, append_assoc, length-drop}
+use Rattle.std.proofs.Common.{◌≡◌, ℕ, ◌+◌, ◌-◌, ◌<◌, ◌≤◌, List, [], ◌∷◌, ◌++◌, length, get_or, drop, Some, None, Result, Ok, Err, refl, sym, ap, ◌∙◌, add-one, arith, drop-cons, append_assoc, length-drop}
 use Rattle.std.proofs.lemmas.List.{drop_all}
 use Rattle.records.specs.declared.content.App.{App}
 use Rattle.records.specs.declared.content.Cohort.{Cohort}
@@ -14,18 +14,21 @@ use Rattle.price_texts.specs.declared.fault.Flaw.{Flaw}
 use Rattle.price_texts.specs.declared.heading.Heading.{Heading}
 
 -- what is left of a list is its next item and what is left after that
-drop-next : {A : Type 0} (items : List A) (index : ℕ) (item : A) → index < length items → drop index items ≡ get_or items index item ∷ drop (index + 1) items
+drop-next : {A : Type 0} (items : List A) (index : ℕ) (item : A) → index < length items →
+    drop index items ≡ get_or items index item ∷ drop (index + 1) items
 drop-next items index item within =
     drop-cons items index item within ∙ ap (λ next. get_or items index item ∷ drop next items) (sym (add-one index))
 
 -- the heading at an index is read, and then those after it
 read_headings-at :
-    (app : App) (cohort : Cohort) (key : TrackKey) (target : Release) (headings : List Heading) (index : ℕ) (heading : Heading) (n : ℕ) (text : List ℕ) →
+    (app : App) (cohort : Cohort) (key : TrackKey) (target : Release) (headings : List Heading) (index : ℕ)
+    (heading : Heading) (n : ℕ) (text : List ℕ) →
     index < length headings →
     read_headings app cohort key target (drop index headings) n text
     ≡ on_line n (line_split text) (λ line rest.
     past_heading n
-    (heading_flaw (get_or headings index heading) line (heading_line app cohort key target (get_or headings index heading)))
+    (heading_flaw (get_or headings index heading) line
+    (heading_line app cohort key target (get_or headings index heading)))
     (read_headings app cohort key target (drop (index + 1) headings) (n + 1) rest))
 unfolding read_headings
 read_headings-at app cohort key target headings index heading n text within =
@@ -33,7 +36,8 @@ read_headings-at app cohort key target headings index heading n text within =
 
 -- a heading without its line feed is a wrong line
 pub read_headings-missing :
-    (app : App) (cohort : Cohort) (key : TrackKey) (target : Release) (headings : List Heading) (index : ℕ) (heading : Heading) (n : ℕ) (text : List ℕ) →
+    (app : App) (cohort : Cohort) (key : TrackKey) (target : Release) (headings : List Heading) (index : ℕ)
+    (heading : Heading) (n : ℕ) (text : List ℕ) →
     index < length headings →
     line_split text ≡ None →
     read_headings app cohort key target (drop index headings) n text ≡ Err (BadLine n)
@@ -42,20 +46,24 @@ read_headings-missing app cohort key target headings index heading n text within
 
 -- so is one with a flaw
 pub read_headings-flawed :
-    (app : App) (cohort : Cohort) (key : TrackKey) (target : Release) (headings : List Heading) (index : ℕ) (heading : Heading) (n : ℕ) (text line rest : List ℕ) (flaw : Flaw) →
+    (app : App) (cohort : Cohort) (key : TrackKey) (target : Release) (headings : List Heading) (index : ℕ)
+    (heading : Heading) (n : ℕ) (text line rest : List ℕ) (flaw : Flaw) →
     index < length headings →
     line_split text ≡ Some (line, rest) →
-    heading_flaw (get_or headings index heading) line (heading_line app cohort key target (get_or headings index heading)) ≡ Some flaw →
+    heading_flaw (get_or headings index heading) line
+    (heading_line app cohort key target (get_or headings index heading)) ≡ Some flaw →
     read_headings app cohort key target (drop index headings) n text ≡ Err (fault_at n flaw)
 read_headings-flawed app cohort key target headings index heading n text line rest flaw within split flawed =
     read_headings-at app cohort key target headings index heading n text within ∙ rw (split, flawed) refl
 
 -- after one without a flaw the others are read
 pub read_headings-next :
-    (app : App) (cohort : Cohort) (key : TrackKey) (target : Release) (headings : List Heading) (index : ℕ) (heading : Heading) (n : ℕ) (text line rest : List ℕ) →
+    (app : App) (cohort : Cohort) (key : TrackKey) (target : Release) (headings : List Heading) (index : ℕ)
+    (heading : Heading) (n : ℕ) (text line rest : List ℕ) →
     index < length headings →
     line_split text ≡ Some (line, rest) →
-    heading_flaw (get_or headings index heading) line (heading_line app cohort key target (get_or headings index heading)) ≡ None →
+    heading_flaw (get_or headings index heading) line
+    (heading_line app cohort key target (get_or headings index heading)) ≡ None →
     read_headings app cohort key target (drop index headings) n text
     ≡ read_headings app cohort key target (drop (index + 1) headings) (n + 1) rest
 read_headings-next app cohort key target headings index heading n text line rest within split fits =
@@ -63,7 +71,8 @@ read_headings-next app cohort key target headings index heading n text line rest
 
 -- the rest is what is left after the last heading
 pub read_headings-end :
-    (app : App) (cohort : Cohort) (key : TrackKey) (target : Release) (headings : List Heading) (index n : ℕ) (text : List ℕ) →
+    (app : App) (cohort : Cohort) (key : TrackKey) (target : Release) (headings : List Heading) (index n : ℕ)
+    (text : List ℕ) →
     length headings ≤ index →
     read_headings app cohort key target (drop index headings) n text ≡ Ok text
 unfolding read_headings
@@ -118,7 +127,8 @@ pub read_rows-next :
     next ≡ n + 1 →
     line_split text ≡ Some (line, rest) →
     read_row all (get_or releases index release).spelled line ≡ Ok row →
-    read_rows all (drop index releases) n text ≡ with_row n (Ok row) (read_rows all (drop (index + 1) releases) next rest)
+    read_rows all (drop index releases) n text ≡ with_row n (Ok row)
+    (read_rows all (drop (index + 1) releases) next rest)
 read_rows-next all releases index release n next text line rest row within follows split read =
     read_rows-at all releases index release n text within ∙ rw (split, read, follows) refl
 

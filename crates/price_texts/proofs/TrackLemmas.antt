@@ -1,5 +1,5 @@
 -- The graph of a track, and the app of the track.
-use Rattle.std.proofs.Common.{◌≡◌, ℕ, List, length, Option, None, Some, unwrap_or, refl, sym, ap, ◌∙◌}
+use Rattle.std.proofs.Common.{◌≡◌, ℕ, List, length, Option, None, Some, unwrap_or, sym, ap, ◌∙◌}
 use Rattle.std.specs.List.{enumerate_from, slice_get}
 use Rattle.std.specs.Option.{option_and_then, option_map}
 use Rattle.std.proofs.lemmas.List.{length-map}
@@ -42,7 +42,8 @@ length-doors-track apps key net app cohort there made = by_app (slice_get apps k
 
     by_app :
         (found : Option App) →
-        option_and_then (λ (a : App). option_map {U = App × Cohort} (λ (c : Cohort). (a, c)) (slice_get a.cohorts key.cohort)) found ≡ Some (app, cohort) →
+        option_and_then (λ (a : App). option_map {U = App × Cohort} (λ (c : Cohort). (a, c))
+        (slice_get a.cohorts key.cohort)) found ≡ Some (app, cohort) →
         option_and_then (λ a. net_in a key) found ≡ Some net →
         length net.doors ≡ length app.releases
     by_app None there made = cc

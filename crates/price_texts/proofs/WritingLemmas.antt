@@ -1,5 +1,5 @@
 -- Writing, line by line.
-use Rattle.std.proofs.Common.{◌≡◌, ℕ, ◌+◌, ◌<◌, ◌≤◌, List, [], ◌∷◌, ◌++◌, length, get_or, drop, refl, sym, ap, ◌∙◌, add-one, append_assoc, append-nil, arith, drop-cons}
+use Rattle.std.proofs.Common.{◌≡◌, ℕ, ◌+◌, ◌<◌, ◌≤◌, List, ◌∷◌, ◌++◌, length, get_or, drop, refl, sym, ap, ◌∙◌, add-one, append_assoc, append-nil, drop-cons}
 use Rattle.std.proofs.lemmas.List.{drop_all}
 use Rattle.records.specs.declared.content.App.{App}
 use Rattle.records.specs.declared.content.Cohort.{Cohort}
@@ -11,15 +11,18 @@ use Rattle.price_texts.specs.Texts.{ended, headings_text, row_line, rows_from}
 use Rattle.price_texts.specs.declared.heading.Heading.{Heading}
 
 -- what is left of a list is its next item and what is left after that
-drop-next : {A : Type 0} (items : List A) (index : ℕ) (item : A) → index < length items → drop index items ≡ get_or items index item ∷ drop (index + 1) items
+drop-next : {A : Type 0} (items : List A) (index : ℕ) (item : A) → index < length items →
+    drop index items ≡ get_or items index item ∷ drop (index + 1) items
 drop-next items index item within =
     drop-cons items index item within ∙ ap (λ next. get_or items index item ∷ drop next items) (sym (add-one index))
 
 -- the line of a heading joins those before it
 pub headings_text-next :
-    (text : List ℕ) (app : App) (cohort : Cohort) (key : TrackKey) (target : Release) (headings : List Heading) (index : ℕ) (heading : Heading) →
+    (text : List ℕ) (app : App) (cohort : Cohort) (key : TrackKey) (target : Release) (headings : List Heading)
+    (index : ℕ) (heading : Heading) →
     index < length headings →
-    (text ++ ended (heading_line app cohort key target (get_or headings index heading))) ++ headings_text app cohort key target (drop (index + 1) headings)
+    (text ++ ended (heading_line app cohort key target (get_or headings index heading))) ++ headings_text app cohort key
+    target (drop (index + 1) headings)
     ≡ text ++ headings_text app cohort key target (drop index headings)
 unfolding headings_text
 headings_text-next text app cohort key target headings index heading within =
@@ -27,7 +30,8 @@ headings_text-next text app cohort key target headings index heading within =
 
 -- no heading is left after the last
 pub headings_text-end :
-    (text : List ℕ) (app : App) (cohort : Cohort) (key : TrackKey) (target : Release) (headings : List Heading) (index : ℕ) →
+    (text : List ℕ) (app : App) (cohort : Cohort) (key : TrackKey) (target : Release) (headings : List Heading)
+    (index : ℕ) →
     length headings ≤ index →
     text ++ headings_text app cohort key target (drop index headings) ≡ text
 unfolding headings_text
@@ -38,7 +42,8 @@ headings_text-end text app cohort key target headings index past =
 pub rows_from-next :
     (text : List ℕ) (releases : List Release) (rows : List Row) (index : ℕ) (row : Row) →
     index < length rows →
-    (text ++ ended (row_line releases index (get_or rows index row))) ++ rows_from releases (index + 1) (drop (index + 1) rows)
+    (text ++ ended (row_line releases index (get_or rows index row))) ++ rows_from releases (index + 1)
+    (drop (index + 1) rows)
     ≡ text ++ rows_from releases index (drop index rows)
 unfolding rows_from
 rows_from-next text releases rows index row within =

@@ -1,5 +1,5 @@
 -- The forms of the parts of a line; this project's profile. The parts are separated by one space.
-use Rattle.std.specs.Prelude.{ℕ, ◌^◌, ◌==◌, ◌&&◌, ◌||◌, not, Bool, if◌then◌else◌, codes, List, length, nat_lt, slice_index, Option, None, Some}
+use Rattle.std.specs.Prelude.{ℕ, ◌^◌, ◌==◌, ◌&&◌, ◌||◌, not, Bool, if◌then◌else◌, List, length, nat_lt, slice_index, Option, None, Some}
 use Rattle.std.specs.Char.{is_ascii_digit}
 use Rattle.std.specs.List.{after_first, before_first, list_all}
 use Rattle.std.specs.Option.{is_some}

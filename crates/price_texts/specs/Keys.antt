@@ -1,6 +1,6 @@
 -- How the key of a certificate is read: its first five lines, by the names of a catalogue.
 use Rattle.std.specs.Prelude.{◌≡◌, ℕ, Bool, if◌then◌else◌, codes, List, Option, None, Some, position, Result, Ok, Err}
-use Rattle.std.specs.Str.{bytes_eq, is_utf8}
+use Rattle.std.specs.Str.{bytes_eq}
 use Rattle.records.specs.Lookups.{cohorts_at, is_cohort}
 use Rattle.records.specs.declared.content.App.{App}
 use Rattle.cohorts.specs.declared.track.Lane.{Lane}

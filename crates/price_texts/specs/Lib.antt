@@ -1,3 +1,4 @@
+pub mod FaultTexts
 pub mod Forms
 pub mod Headings
 pub mod Keys

@@ -1,7 +1,11 @@
 //! Why bytes are no certificate of a graph.
 
-ghost use Rattle.std.specs.Prelude.{◌≡◌};
+ghost use Rattle.std.specs.Prelude.{◌≡◌, Some};
+ghost use Rattle.price_texts.specs.FaultTexts.{fault_text};
 ghost use Rattle.price_texts.specs.Reading.{fault_at};
+
+use std::error::Error;
+use std::fmt;
 
 /// The first wrong line of a certificate; lines are counted from 1.
 #[derive(Clone, Copy, Debug, Drop, PartialEq, Eq)]
@@ -17,6 +21,20 @@ pub enum Fault {
         n: usize,
     },
 }
+
+// rule: Printed fault of a certificate
+impl fmt::Display for Fault {
+    ghost output = { λ f. Some (fault_text f) };
+
+    fn fmt<W: fmt::Write>(&self, f: &mut fmt::Formatter<W>) -> fmt::Result {
+        match self {
+            Fault::BadLine { n } => write!(f, "P1 BadLine {n}"),
+            Fault::NotOfThisGraph { n } => write!(f, "P2 NotOfThisGraph {n}"),
+        }
+    }
+}
+
+impl Error for Fault {}
 
 /// What is wrong with a line.
 #[derive(Clone, Copy)]

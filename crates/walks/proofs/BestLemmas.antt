@@ -27,8 +27,7 @@ module _ (app : App) (key : TrackKey) (place : Place) (ahead : (payload : Payloa
   Begins-one : (payload : Payload) (sum other : ℕ) → Begins app key place payload sum → Begins app key place payload other →
       sum ≡ other
   Begins-one payload sum other begins others =
-      let rest = IsLeast-one app key (At (destination_of app payload)) begins.rest others.rest begins.rest_least others.rest_least
-      in
+      let rest = IsLeast-one app key (At (destination_of app payload)) begins.rest others.rest begins.rest_least others.rest_least in
       let one = begins.adds_up in
       let two = others.adds_up in
       omega arith
