@@ -62,12 +62,22 @@ fn rewritten(
     Ok(write_prices(alloc, catalogue, &prices)?)
 }
 
-fn read_and_written(alloc: Global, track: &str, bytes: &[u8]) -> Result<Vec<u8>, Fail> {
-    let catalogue = catalogue_of_demo(alloc)?;
-    let Some(graph) = Graph::of_track(alloc, &catalogue, &key_of(track))? else {
+/// Reads a certificate of a track and writes it again.
+pub(crate) fn rewritten_in(
+    alloc: Global,
+    catalogue: &Catalogue,
+    track: &str,
+    bytes: &[u8],
+) -> Result<Vec<u8>, Fail> {
+    let Some(graph) = Graph::of_track(alloc, catalogue, &key_of(track))? else {
         return Err("no target".into());
     };
-    rewritten(alloc, &catalogue, &graph, bytes)
+    rewritten(alloc, catalogue, &graph, bytes)
+}
+
+fn read_and_written(alloc: Global, track: &str, bytes: &[u8]) -> Result<Vec<u8>, Fail> {
+    let catalogue = catalogue_of_demo(alloc)?;
+    rewritten_in(alloc, &catalogue, track, bytes)
 }
 
 #[test]

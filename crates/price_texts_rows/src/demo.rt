@@ -99,9 +99,16 @@ fn rollback_of(alloc: Global) -> Result<Edit, AllocError> {
     }))
 }
 
-fn edits_of(alloc: Global) -> Result<Batch, Fail> {
+// The same, but the way from 2.0 to 4.0 by 3.0 has as many bytes as the one past it.
+const DIFFS_WITH_A_TIE: &str = "1.0 2.0 300 12
+2.0 3.0 200 23
+3.0 4.0 250 34
+2.0 4.0 450 24
+1.0 3.0 100 13";
+
+fn edits_of(alloc: Global, diffs: &str) -> Result<Batch, Fail> {
     let mut edits = Vec::new(alloc);
-    for line in DIFFS.lines() {
+    for line in diffs.lines() {
         let edit = diff_of_line(alloc, line)?;
         edits.push(edit)?;
     }
@@ -110,14 +117,23 @@ fn edits_of(alloc: Global) -> Result<Batch, Fail> {
     Ok(Batch::new(edits))
 }
 
-/// The catalogue of the profile, with the differentials, the stone and the downgrade of `beta`.
-pub(crate) fn catalogue_of_demo(alloc: Global) -> Result<Catalogue, Fail> {
+fn catalogue_with(alloc: Global, diffs: &str) -> Result<Catalogue, Fail> {
     let (releases, _mirrors) = read_profile(alloc, PROFILE.as_bytes())?;
-    let more = edits_of(alloc)?;
+    let more = edits_of(alloc, diffs)?;
     let mut catalogue = Catalogue::empty(alloc);
     catalogue.apply(&releases)?;
     catalogue.apply(&more)?;
     Ok(catalogue)
+}
+
+/// The catalogue of the profile, with the differentials, the stone and the downgrade of `beta`.
+pub(crate) fn catalogue_of_demo(alloc: Global) -> Result<Catalogue, Fail> {
+    catalogue_with(alloc, DIFFS)
+}
+
+/// The same with a differential of 450 bytes from 2.0 to 4.0.
+pub(crate) fn catalogue_with_a_tie(alloc: Global) -> Result<Catalogue, Fail> {
+    catalogue_with(alloc, DIFFS_WITH_A_TIE)
 }
 
 /// The key of `stable`, its held clients or `beta`, whose clients allow a downgrade.

@@ -11,6 +11,8 @@ mod demo;
 #[cfg(test)]
 mod keys;
 #[cfg(test)]
+mod largest;
+#[cfg(test)]
 mod outcomes;
 #[cfg(test)]
 mod wrong_lines;

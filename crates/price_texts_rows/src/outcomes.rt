@@ -3,7 +3,7 @@
 ghost use Rattle.std.specs.Prelude.{◌≡◌, length, Some};
 ghost use Rattle.payload_graph.specs.Net.{net_among};
 
-use crate::demo::{catalogue_of_demo, key_of};
+use crate::demo::{catalogue_of_demo, catalogue_with_a_tie, key_of};
 use catalogue::Catalogue;
 use payload_graph::Graph;
 use price_cert::{Prices, Rule, check};
@@ -50,11 +50,27 @@ fn read(
     }
 }
 
-/// What bytes are to the graph of a track: `certified`, `wrong` with a row and a rule, `P1` or `P2`.
-pub(crate) fn outcome_of(alloc: Global, track: &str, bytes: &[u8]) -> Result<String, Fail> {
-    let catalogue = catalogue_of_demo(alloc)?;
-    let Some(graph) = Graph::of_track(alloc, &catalogue, &key_of(track))? else {
+/// What bytes are to a track's graph: `certified`, `wrong` with a row and a rule, `P1` or `P2`.
+pub(crate) fn outcome_in(
+    alloc: Global,
+    catalogue: &Catalogue,
+    track: &str,
+    bytes: &[u8],
+) -> Result<String, Fail> {
+    let Some(graph) = Graph::of_track(alloc, catalogue, &key_of(track))? else {
         return Err("no target".into());
     };
-    Ok(read(alloc, &catalogue, &graph, bytes)?)
+    Ok(read(alloc, catalogue, &graph, bytes)?)
+}
+
+/// What bytes are to the graph of a track of the demo catalogue.
+pub(crate) fn outcome_of(alloc: Global, track: &str, bytes: &[u8]) -> Result<String, Fail> {
+    let catalogue = catalogue_of_demo(alloc)?;
+    outcome_in(alloc, &catalogue, track, bytes)
+}
+
+/// What bytes are to the graph of `stable` if 2.0 to 4.0 has a differential of 450 bytes.
+pub(crate) fn outcome_with_a_tie(alloc: Global, bytes: &[u8]) -> Result<String, Fail> {
+    let catalogue = catalogue_with_a_tie(alloc)?;
+    outcome_in(alloc, &catalogue, "stable", bytes)
 }

@@ -1,7 +1,8 @@
 // Certificates with a wrong line.
 
 use crate::certificates::STABLE;
-use crate::outcomes::outcome_of;
+use crate::outcomes::{outcome_of, outcome_with_a_tie};
+use price_texts::Fault;
 use std::alloc::{AllocError, Global};
 use std::test::Fail;
 
@@ -68,6 +69,26 @@ fn names_the_wrong_line(rt: HostRuntime) -> Result<(), Fail> {
         let outcome = outcome_with(rt.alloc(), n, line)?;
         assert_eq!(rt; outcome.as_str(), want, "{row}");
     }
+    Ok(())
+}
+
+// Of two ways of 450 bytes a line names the one that leads higher.
+#[test]
+fn breaks_a_tie_by_the_higher_release(rt: HostRuntime) -> Result<(), Fail> {
+    let lower = outcome_with_a_tie(rt.alloc(), STABLE.as_bytes())?;
+    assert_eq!(rt; lower.as_str(), "wrong 1 C4");
+    let changed = with_line(rt.alloc(), 9, "2.0 450 diff 4.0")?;
+    let higher = outcome_with_a_tie(rt.alloc(), changed.as_str().as_bytes())?;
+    assert_eq!(rt; higher.as_str(), "certified");
+    Ok(())
+}
+
+#[test]
+fn prints_its_faults(rt: HostRuntime) -> Result<(), Fail> {
+    let malformed = format!(in rt.alloc(); "{}", Fault::BadLine { n: 8 })?;
+    assert_eq!(rt; malformed.as_str(), "P1 BadLine 8");
+    let other = format!(in rt.alloc(); "{}", Fault::NotOfThisGraph { n: 7 })?;
+    assert_eq!(rt; other.as_str(), "P2 NotOfThisGraph 7");
     Ok(())
 }
 
