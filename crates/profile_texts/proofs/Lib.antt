@@ -1,0 +1,10 @@
+mod AppEntryLemmas
+mod DepthLemmas
+mod EditLemmas
+mod EntryLemmas
+mod KeyLemmas
+mod MirrorLemmas
+mod ReadBackLemmas
+mod ReaderLemmas
+mod SizeLemmas
+mod WritingLemmas

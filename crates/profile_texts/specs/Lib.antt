@@ -1,0 +1,4 @@
+pub mod Fields
+pub mod Profiles
+pub mod Tables
+pub mod Writers
