@@ -8,6 +8,7 @@ use Rattle.records.specs.Lookups.{has_cohort, is_cohort}
 use Rattle.records.specs.Validity.{IsValidApp}
 use Rattle.records.specs.declared.content.App.{App}
 use Rattle.records.specs.declared.content.Cohort.{Cohort}
+use Rattle.records.specs.declared.content.Diff.{Diff}
 use Rattle.records.specs.declared.content.Release.{Release}
 use Rattle.records.specs.declared.mirror.Mirror.{Mirror}
 use Rattle.toml.specs.Data.{Members, get_member}
@@ -15,11 +16,15 @@ use Rattle.toml_tables.specs.Fields.{known}
 use Rattle.toml_tables.specs.Tables.{document, table_at}
 use Rattle.profile_toml.specs.Apps.{app_keys, app_of}
 use Rattle.profile_toml.specs.Cohorts.{cohort_keys, cohort_of, cohorts_after, is_named, new_name}
+use Rattle.profile_toml.specs.Diffs.{diff_of}
+use Rattle.profile_toml.specs.Mirrors.{mirror_of}
 use Rattle.profile_toml.specs.Profiles.{profile_keys, profile_of}
+use Rattle.profile_toml.specs.Releases.{release_of}
+use Rattle.toml_tables.specs.Lists.{each_from}
 use Rattle.values.proofs.SplitLemmas.{list_any-before, split_next}
 use Rattle.values.specs.Lists.{IsOnce}
 use Rattle.profile_texts.proofs.EntryLemmas.{Read, diff_of-diff_table, entry_of_diff, entry_of_release, mirror_of-mirror_table, release_of-release_table, unwrap_or-given}
-use Rattle.profile_texts.proofs.KeyLemmas.{get_member-table_of, known_among-table_of}
+use Rattle.profile_texts.proofs.KeyLemmas.{get_member-filled_table, known_among-filled_table}
 use Rattle.profile_texts.proofs.ReaderLemmas.{each_from-again, optional-flag, optional-natural, optional-text, optional_tables-given, required-text, required_tables-given}
 use Rattle.profile_texts.specs.Fields.{app_fields, app_table, cohort_fields, cohort_table, diff_table, mirror_table, profile_fields, profile_table, release_table, share_given}
 use Rattle.profile_texts.specs.Tables.{Field, flag, optional_natural, optional_text, table_items, tables, text}
@@ -43,10 +48,10 @@ cohort_of-cohort_table : (before : List CohortEntry) (place : List ℕ) (release
     → cohort_of before (table_at place (cohort_table releases cohort)) ≡ Ok (entry_of_cohort releases cohort)
 unfolding cohort_of new_name
 cohort_of-cohort_table before place releases cohort new =
-    by_keys (cohort_table releases cohort) (known_among-table_of cohort_keys place fields refl)
-    (get_member-table_of (codes "name") fields) (get_member-table_of (codes "target") fields)
-    (get_member-table_of (codes "held") fields) (get_member-table_of (codes "share") fields)
-    (get_member-table_of (codes "rollback") fields) (get_member-table_of (codes "open") fields)
+    by_keys (cohort_table releases cohort) (known_among-filled_table cohort_keys place fields refl)
+    (get_member-filled_table (codes "name") fields) (get_member-filled_table (codes "target") fields)
+    (get_member-filled_table (codes "held") fields) (get_member-filled_table (codes "share") fields)
+    (get_member-filled_table (codes "rollback") fields) (get_member-filled_table (codes "open") fields)
   where
     fields : List Field
     fields = cohort_fields releases cohort
@@ -89,7 +94,8 @@ cohorts_after-tables list index releases front (cohort ∷ back) once =
     let new = list_any-before is_cohort front cohort back once cohort.name same in
     let unnamed = is_named-entries cohort.name releases front ∙ new in
     let P : List Cohort → Type 0 = λ cohorts. IsOnce is_cohort cohorts in
-    let rest = cohorts_after-tables list (index + 1) releases (front ++ cohort ∷ []) back (subst P (split_next front cohort back) once) in
+    let once_more = subst P (split_next front cohort back) once in
+    let rest = cohorts_after-tables list (index + 1) releases (front ++ cohort ∷ []) back once_more in
     let one_more = map-append (entry_of_cohort releases) front (cohort ∷ []) in
     rw (cohort_of-cohort_table (map (entry_of_cohort releases) front) _ releases cohort unnamed, ← one_more, split_next front cohort back) rest
 
@@ -111,14 +117,32 @@ none_asked : {A : Type 0} (xs : List A) → AllByRecursion (λ x. Unit {0}) xs
 none_asked [] = tt
 none_asked (x ∷ xs) = (tt, none_asked xs)
 
+releases_again : (list : List ℕ) (releases : List Release)
+    → each_from release_of list 0 (table_items (map release_table releases)) ≡ Ok (map entry_of_release releases)
+releases_again list releases =
+    each_from-again (λ release. Unit {0}) release_of release_table entry_of_release
+    (λ place release asked. release_of-release_table place release) list 0 releases (none_asked releases)
+
+diffs_again : (list : List ℕ) (releases : List Release) (diffs : List Diff)
+    → each_from diff_of list 0 (table_items (map (diff_table releases) diffs)) ≡ Ok (map (entry_of_diff releases) diffs)
+diffs_again list releases diffs =
+    each_from-again (λ diff. Unit {0}) diff_of (diff_table releases) (entry_of_diff releases)
+    (λ place diff asked. diff_of-diff_table place releases diff) list 0 diffs (none_asked diffs)
+
+mirrors_again : (list : List ℕ) (mirrors : List Mirror)
+    → each_from mirror_of list 0 (table_items (map mirror_table mirrors)) ≡ Ok (map (λ mirror. mirror) mirrors)
+mirrors_again list mirrors =
+    each_from-again (λ mirror. Unit {0}) mirror_of mirror_table (λ mirror. mirror)
+    (λ place mirror asked. mirror_of-mirror_table place mirror) list 0 mirrors (none_asked mirrors)
+
 app_of-app_table : (place : List ℕ) (app : App) → IsValidApp app
     → app_of (table_at place (app_table app)) ≡ Ok (entry_of_app app)
 unfolding app_of
 app_of-app_table place app valid =
-    by_keys (app_table app) (known_among-table_of app_keys place fields refl)
-    (get_member-table_of (codes "id") fields) (get_member-table_of (codes "default") fields)
-    (get_member-table_of (codes "cohort") fields) (get_member-table_of (codes "release") fields)
-    (get_member-table_of (codes "diff") fields)
+    by_keys (app_table app) (known_among-filled_table app_keys place fields refl)
+    (get_member-filled_table (codes "id") fields) (get_member-filled_table (codes "default") fields)
+    (get_member-filled_table (codes "cohort") fields) (get_member-filled_table (codes "release") fields)
+    (get_member-filled_table (codes "diff") fields)
   where
     fields : List Field
     fields = app_fields app
@@ -139,8 +163,8 @@ app_of-app_table place app valid =
           optional_tables-given place (codes "release") members (map release_table app.releases) release,
           optional_tables-given place (codes "diff") members (map (diff_table app.releases) app.diffs) diff,
           cohorts_after-tables _ 0 app.releases [] app.cohorts valid.cohorts_once,
-          each_from-again (λ r. Unit {0}) _ release_table entry_of_release (λ at r asked. release_of-release_table at r) _ 0 app.releases (none_asked app.releases),
-          each_from-again (λ d. Unit {0}) _ (diff_table app.releases) (entry_of_diff app.releases) (λ at d asked. diff_of-diff_table at app.releases d) _ 0 app.diffs (none_asked app.diffs),
+          releases_again _ app.releases,
+          diffs_again _ app.releases app.diffs,
         ) refl
 
 abbrev pub Profile : Type 0
@@ -151,8 +175,8 @@ pub profile_of-profile_table : (apps : List App) (mirrors : List Mirror) → All
 unfolding profile_of
 profile_of-profile_table apps [] valid some = absurd (omega arith)
 profile_of-profile_table apps (first ∷ others) valid some =
-    by_keys (profile_table apps (first ∷ others)) (known_among-table_of profile_keys [] fields refl)
-    (get_member-table_of (codes "mirror") fields) (get_member-table_of (codes "app") fields)
+    by_keys (profile_table apps (first ∷ others)) (known_among-filled_table profile_keys [] fields refl)
+    (get_member-filled_table (codes "mirror") fields) (get_member-filled_table (codes "app") fields)
   where
     fields : List Field
     fields = profile_fields apps (first ∷ others)
@@ -166,7 +190,7 @@ profile_of-profile_table apps (first ∷ others) valid some =
           all_known,
           required_tables-given [] (codes "mirror") members (mirror_table first) (map mirror_table others) mirror,
           optional_tables-given [] (codes "app") members (map app_table apps) app,
-          each_from-again (λ m. Unit {0}) _ mirror_table (λ m. m) (λ at m asked. mirror_of-mirror_table at m) _ 0 (first ∷ others) (none_asked (first ∷ others)),
+          mirrors_again _ (first ∷ others),
           each_from-again IsValidApp _ app_table entry_of_app app_of-app_table _ 0 apps valid,
           map-id (first ∷ others),
         ) refl

@@ -7,9 +7,9 @@ use Rattle.records.specs.declared.content.Diff.{Diff}
 use Rattle.records.specs.declared.content.Release.{Release}
 use Rattle.records.specs.declared.mirror.Mirror.{Mirror}
 use Rattle.toml.specs.Data.{Members, items_depth, members_depth}
-use Rattle.profile_texts.proofs.KeyLemmas.{members_depth-table_of, value_depth}
+use Rattle.profile_texts.proofs.KeyLemmas.{members_depth-filled_table, value_depth}
 use Rattle.profile_texts.specs.Fields.{app_fields, app_table, cohort_fields, cohort_table, diff_fields, diff_table, mirror_fields, mirror_table, profile_fields, profile_table, release_fields, release_table, share_given}
-use Rattle.profile_texts.specs.Tables.{flag, optional_natural, optional_text, optional_texts, table_items, tables, text_items}
+use Rattle.profile_texts.specs.Tables.{flag, optional_natural, optional_text, optional_list, table_items, tables, text_items}
 
 items_depth-text_items : (texts : List (List ℕ)) → items_depth (text_items texts) ≡ 0
 items_depth-text_items [] = refl
@@ -41,9 +41,9 @@ value_depth-optional_natural : (number : Option ℕ) → value_depth (optional_n
 value_depth-optional_natural None = omega arith
 value_depth-optional_natural (Some number) = omega arith
 
-value_depth-optional_texts : (texts : Option (List (List ℕ))) → value_depth (optional_texts texts) ≤ 1
-value_depth-optional_texts None = omega arith
-value_depth-optional_texts (Some texts) = let flat = items_depth-text_items texts in omega arith
+value_depth-optional_list : (texts : Option (List (List ℕ))) → value_depth (optional_list texts) ≤ 1
+value_depth-optional_list None = omega arith
+value_depth-optional_list (Some texts) = let flat = items_depth-text_items texts in omega arith
 
 all_shallow : {X : Type 0} (write : X → Members) (bound : ℕ) → ((x : X) → members_depth (write x) ≤ bound)
     → (xs : List X) → AllByRecursion (λ one. members_depth one ≤ bound) (map write xs)
@@ -52,11 +52,11 @@ all_shallow write bound shallow (x ∷ xs) = (shallow x, all_shallow write bound
 
 mirror_shallow : (mirror : Mirror) → members_depth (mirror_table mirror) ≤ 1
 mirror_shallow mirror =
-    members_depth-table_of 1 (mirror_fields mirror) (omega arith, (omega arith, (omega arith, tt)))
+    members_depth-filled_table 1 (mirror_fields mirror) (omega arith, (omega arith, (omega arith, tt)))
 
 release_shallow : (release : Release) → members_depth (release_table release) ≤ 1
 release_shallow release =
-    members_depth-table_of 1 (release_fields release) (
+    members_depth-filled_table 1 (release_fields release) (
       omega arith,
       (
         omega arith,
@@ -66,7 +66,7 @@ release_shallow release =
             omega arith,
             (
               value_depth-flag release.stone,
-              (value_depth-flag release.withdrawn, (value_depth-optional_texts release.audience, tt)),
+              (value_depth-flag release.withdrawn, (value_depth-optional_list release.audience, tt)),
             ),
           ),
         ),
@@ -75,12 +75,12 @@ release_shallow release =
 
 diff_shallow : (releases : List Release) (diff : Diff) → members_depth (diff_table releases diff) ≤ 1
 diff_shallow releases diff =
-    members_depth-table_of 1 (diff_fields releases diff)
+    members_depth-filled_table 1 (diff_fields releases diff)
     (omega arith, (omega arith, (omega arith, (omega arith, (omega arith, tt)))))
 
 cohort_shallow : (releases : List Release) (cohort : Cohort) → members_depth (cohort_table releases cohort) ≤ 1
 cohort_shallow releases cohort =
-    members_depth-table_of 1 (cohort_fields releases cohort) (
+    members_depth-filled_table 1 (cohort_fields releases cohort) (
       omega arith,
       (
         value_depth-optional_text _,
@@ -99,7 +99,7 @@ cohort_shallow releases cohort =
 
 app_shallow : (app : App) → members_depth (app_table app) ≤ 3
 app_shallow app =
-    members_depth-table_of 3 (app_fields app) (
+    members_depth-filled_table 3 (app_fields app) (
       omega arith,
       (
         omega arith,
@@ -117,7 +117,7 @@ pub profile_shallow : (apps : List App) (mirrors : List Mirror) → members_dept
 profile_shallow apps mirrors =
     let deep = all_shallow mirror_table 1 mirror_shallow mirrors in
     let mirror_list = value_depth-tables 1 (map mirror_table mirrors) deep in
-    members_depth-table_of 5 (profile_fields apps mirrors) (
+    members_depth-filled_table 5 (profile_fields apps mirrors) (
       omega arith,
       (
         omega arith,

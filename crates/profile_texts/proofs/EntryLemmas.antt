@@ -12,10 +12,10 @@ use Rattle.toml_tables.specs.declared.path.BadEntry.{BadEntry}
 use Rattle.profile_toml.specs.Diffs.{diff_in, diff_keys, diff_of}
 use Rattle.profile_toml.specs.Mirrors.{mirror_keys, mirror_of}
 use Rattle.profile_toml.specs.Releases.{package_in, release_keys, release_of}
-use Rattle.profile_texts.proofs.KeyLemmas.{get_member-table_of, known_among-table_of}
+use Rattle.profile_texts.proofs.KeyLemmas.{get_member-filled_table, known_among-filled_table}
 use Rattle.profile_texts.proofs.ReaderLemmas.{given, optional-flag, optional_texts-given, required-natural, required-text}
 use Rattle.profile_texts.specs.Fields.{diff_fields, diff_table, mirror_fields, mirror_table, release_fields, release_table}
-use Rattle.profile_texts.specs.Tables.{Field, flag, natural, optional_texts, text}
+use Rattle.profile_texts.specs.Tables.{Field, flag, natural, optional_list, text}
 
 -- what a table is read as
 abbrev pub Read : {A : Type 0} → (PlacedTable → Result A BadEntry) → Type 0
@@ -29,8 +29,8 @@ unwrap_or-given false = refl
 pub mirror_of-mirror_table : (place : List ℕ) (mirror : Mirror)
     → mirror_of (table_at place (mirror_table mirror)) ≡ Ok mirror
 unfolding mirror_of
-mirror_of-mirror_table place mirror = by_keys (mirror_table mirror) (known_among-table_of mirror_keys place fields refl)
-    (get_member-table_of (codes "name") fields) (get_member-table_of (codes "codebase") fields) (get_member-table_of (codes "budget") fields)
+mirror_of-mirror_table place mirror = by_keys (mirror_table mirror) (known_among-filled_table mirror_keys place fields refl)
+    (get_member-filled_table (codes "name") fields) (get_member-filled_table (codes "codebase") fields) (get_member-filled_table (codes "budget") fields)
   where
     fields : List Field
     fields = mirror_fields mirror
@@ -69,11 +69,11 @@ pub release_of-release_table : (place : List ℕ) (release : Release)
     → release_of (table_at place (release_table release)) ≡ Ok (entry_of_release release)
 unfolding release_of package_in
 release_of-release_table place release =
-    by_keys (release_table release) (known_among-table_of release_keys place fields refl)
-    (get_member-table_of (codes "version") fields) (get_member-table_of (codes "name") fields)
-    (get_member-table_of (codes "size") fields) (get_member-table_of (codes "sha256") fields)
-    (get_member-table_of (codes "stone") fields) (get_member-table_of (codes "withdrawn") fields)
-    (get_member-table_of (codes "audience") fields)
+    by_keys (release_table release) (known_among-filled_table release_keys place fields refl)
+    (get_member-filled_table (codes "version") fields) (get_member-filled_table (codes "name") fields)
+    (get_member-filled_table (codes "size") fields) (get_member-filled_table (codes "sha256") fields)
+    (get_member-filled_table (codes "stone") fields) (get_member-filled_table (codes "withdrawn") fields)
+    (get_member-filled_table (codes "audience") fields)
   where
     fields : List Field
     fields = release_fields release
@@ -85,7 +85,7 @@ release_of-release_table place release =
         → get_member (codes "sha256") members ≡ text (encode_lower release.hash)
         → get_member (codes "stone") members ≡ flag release.stone
         → get_member (codes "withdrawn") members ≡ flag release.withdrawn
-        → get_member (codes "audience") members ≡ optional_texts release.audience
+        → get_member (codes "audience") members ≡ optional_list release.audience
         → release_of (table_at place members) ≡ Ok (entry_of_release release)
     by_keys members all_known version name size sha256 stone withdrawn audience =
         rw (
@@ -118,10 +118,10 @@ pub diff_of-diff_table : (place : List ℕ) (releases : List Release) (diff : Di
     → diff_of (table_at place (diff_table releases diff)) ≡ Ok (entry_of_diff releases diff)
 unfolding diff_of diff_in
 diff_of-diff_table place releases diff =
-    by_keys (diff_table releases diff) (known_among-table_of diff_keys place fields refl)
-    (get_member-table_of (codes "from") fields) (get_member-table_of (codes "to") fields)
-    (get_member-table_of (codes "name") fields) (get_member-table_of (codes "size") fields)
-    (get_member-table_of (codes "sha256") fields)
+    by_keys (diff_table releases diff) (known_among-filled_table diff_keys place fields refl)
+    (get_member-filled_table (codes "from") fields) (get_member-filled_table (codes "to") fields)
+    (get_member-filled_table (codes "name") fields) (get_member-filled_table (codes "size") fields)
+    (get_member-filled_table (codes "sha256") fields)
   where
     fields : List Field
     fields = diff_fields releases diff

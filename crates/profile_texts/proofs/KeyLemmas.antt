@@ -11,7 +11,7 @@ use Rattle.std.specs.Ordering.{match_ordering}
 use Rattle.std.specs.Str.{bytes_eq}
 use Rattle.toml.specs.Data.{Data, Members, member, no_members, get_member, same_key, depth, members_depth}
 use Rattle.toml_tables.specs.Fields.{known_among}
-use Rattle.profile_texts.specs.Tables.{Field, put, table_of, with_fields, with_value}
+use Rattle.profile_texts.specs.Tables.{Field, put, filled_table, with_fields, with_key}
 
 -- keys that compare as equal are equal
 same_key-is : (key other : List ℕ) → same_key key other ≡ true → key ≡ other
@@ -42,15 +42,17 @@ apart true false first second rest both = refl
 apart false c first second rest both = refl
 
 -- what is put under a key is under it, and under no other key
-get_member-put : (key other : List ℕ) (value : Data) (members : Members)
-    → get_member key (put other value members) ≡ cond (same_key key other) (Some value) (get_member key members)
+get_member-put : (key other : List ℕ) (value : Data) (filled : Members)
+    → get_member key (put other value filled) ≡ cond (same_key key other) (Some value) (get_member key filled)
 get_member-put key other value no_members = get_member-member key other value no_members
 get_member-put key other value (member first here rest) =
     cases (slice_cmp nat_cmp other first) refl (get_member-put key other value rest)
   where
     cases : (o : Ordering) → slice_cmp nat_cmp other first ≡ o
         → get_member key (put other value rest) ≡ cond (same_key key other) (Some value) (get_member key rest)
-        → get_member key (match_ordering o (member other value (member first here rest)) (member first value rest) (member first here (put other value rest)))
+        → get_member key
+        (match_ordering o (member other value (member first here rest)) (member first value rest)
+        (member first here (put other value rest)))
         ≡ cond (same_key key other) (Some value) (get_member key (member first here rest))
     cases Less is later_on = get_member-member key other value (member first here rest)
     cases Equal is later_on =
@@ -89,73 +91,77 @@ later-Some false before value = refl
 later-Some true None value = refl
 later-Some true (Some here) value = refl
 
-get_member-with_value : (key other : List ℕ) (value : Option Data) (members : Members)
-    → get_member key (with_value other value members) ≡ later (same_key key other) (get_member key members) value
-get_member-with_value key other None members = later-None (same_key key other) (get_member key members)
-get_member-with_value key other (Some value) members =
-    get_member-put key other value members ∙ later-Some (same_key key other) (get_member key members) value
+get_member-with_key : (key other : List ℕ) (value : Option Data) (filled : Members)
+    → get_member key (with_key other value filled) ≡ later (same_key key other) (get_member key filled) value
+get_member-with_key key other None filled = later-None (same_key key other) (get_member key filled)
+get_member-with_key key other (Some value) filled =
+    get_member-put key other value filled ∙ later-Some (same_key key other) (get_member key filled) value
 
 -- the value under a key by the fields of a table
 abbrev pub found : List ℕ → Option Data → List Field → Option Data
 found key before [] = before
 found key before (field ∷ fields) = found key (later (same_key key field.0) before field.1) fields
 
-get_member-with_fields : (key : List ℕ) (members : Members) (fields : List Field)
-    → get_member key (with_fields members fields) ≡ found key (get_member key members) fields
-get_member-with_fields key members [] = refl
-get_member-with_fields key members (field ∷ fields) =
-    get_member-with_fields key (with_value field.0 field.1 members) fields
-    ∙ ap (λ before. found key before fields) (get_member-with_value key field.0 field.1 members)
+get_member-with_fields : (key : List ℕ) (filled : Members) (fields : List Field)
+    → get_member key (with_fields filled fields) ≡ found key (get_member key filled) fields
+get_member-with_fields key filled [] = refl
+get_member-with_fields key filled (field ∷ fields) =
+    get_member-with_fields key (with_key field.0 field.1 filled) fields
+    ∙ ap (λ before. found key before fields) (get_member-with_key key field.0 field.1 filled)
 
-pub get_member-table_of : (key : List ℕ) (fields : List Field)
-    → get_member key (table_of fields) ≡ found key None fields
-get_member-table_of key fields = get_member-with_fields key no_members fields
+pub get_member-filled_table : (key : List ℕ) (fields : List Field)
+    → get_member key (filled_table fields) ≡ found key None fields
+get_member-filled_table key fields = get_member-with_fields key no_members fields
 
 -- a key that is known may be put
-known_among-put : (keys : List (List ℕ)) (place key : List ℕ) (value : Data) (members : Members)
+known_among-put : (keys : List (List ℕ)) (place key : List ℕ) (value : Data) (filled : Members)
     → list_any (bytes_eq key) keys ≡ true
-    → known_among keys place (put key value members) ≡ known_among keys place members
+    → known_among keys place (put key value filled) ≡ known_among keys place filled
 known_among-put keys place key value no_members is = rw is refl
 known_among-put keys place key value (member first here rest) is =
     cases (slice_cmp nat_cmp key first) (known_among-put keys place key value rest is)
   where
     cases : (o : Ordering) → known_among keys place (put key value rest) ≡ known_among keys place rest
-        → known_among keys place (match_ordering o (member key value (member first here rest)) (member first value rest) (member first here (put key value rest)))
+        → known_among keys place
+        (match_ordering o (member key value (member first here rest)) (member first value rest)
+        (member first here (put key value rest)))
         ≡ known_among keys place (member first here rest)
     cases Less below = rw is refl
     cases Equal below = refl
     cases Greater below = rw below refl
 
-known_among-with_value : (keys : List (List ℕ)) (place key : List ℕ) (value : Option Data) (members : Members)
+known_among-with_key : (keys : List (List ℕ)) (place key : List ℕ) (value : Option Data) (filled : Members)
     → list_any (bytes_eq key) keys ≡ true
-    → known_among keys place (with_value key value members) ≡ known_among keys place members
-known_among-with_value keys place key None members is = refl
-known_among-with_value keys place key (Some value) members is = known_among-put keys place key value members is
+    → known_among keys place (with_key key value filled) ≡ known_among keys place filled
+known_among-with_key keys place key None filled is = refl
+known_among-with_key keys place key (Some value) filled is = known_among-put keys place key value filled is
 
-known_among-with_fields : (keys : List (List ℕ)) (place : List ℕ) (members : Members) (fields : List Field)
+known_among-with_fields : (keys : List (List ℕ)) (place : List ℕ) (filled : Members) (fields : List Field)
     → list_all (λ field. list_any (bytes_eq field.0) keys) fields ≡ true
-    → known_among keys place (with_fields members fields) ≡ known_among keys place members
-known_among-with_fields keys place members [] known = refl
-known_among-with_fields keys place members (field ∷ fields) known =
+    → known_among keys place (with_fields filled fields) ≡ known_among keys place filled
+known_among-with_fields keys place filled [] known = refl
+known_among-with_fields keys place filled (field ∷ fields) known =
     let (here, others) = and_parts (list_any (bytes_eq field.0) keys) (list_all (λ f. list_any (bytes_eq f.0) keys) fields) known in
-    known_among-with_fields keys place (with_value field.0 field.1 members) fields others
-    ∙ known_among-with_value keys place field.0 field.1 members here
+    known_among-with_fields keys place (with_key field.0 field.1 filled) fields others
+    ∙ known_among-with_key keys place field.0 field.1 filled here
 
 -- a table of known keys has no other
-pub known_among-table_of : (keys : List (List ℕ)) (place : List ℕ) (fields : List Field)
+pub known_among-filled_table : (keys : List (List ℕ)) (place : List ℕ) (fields : List Field)
     → list_all (λ field. list_any (bytes_eq field.0) keys) fields ≡ true
-    → known_among keys place (table_of fields) ≡ Ok tt
-known_among-table_of keys place fields known = known_among-with_fields keys place no_members fields known
+    → known_among keys place (filled_table fields) ≡ Ok tt
+known_among-filled_table keys place fields known = known_among-with_fields keys place no_members fields known
 
 -- a table is as deep as the deepest value that is put
-members_depth-put : (key : List ℕ) (value : Data) (members : Members)
-    → members_depth (put key value members) ≤ max (depth value) (members_depth members)
+members_depth-put : (key : List ℕ) (value : Data) (filled : Members)
+    → members_depth (put key value filled) ≤ max (depth value) (members_depth filled)
 members_depth-put key value no_members = omega arith
 members_depth-put key value (member first here rest) =
     cases (slice_cmp nat_cmp key first) (members_depth-put key value rest)
   where
     cases : (o : Ordering) → members_depth (put key value rest) ≤ max (depth value) (members_depth rest)
-        → members_depth (match_ordering o (member key value (member first here rest)) (member first value rest) (member first here (put key value rest)))
+        → members_depth
+        (match_ordering o (member key value (member first here rest)) (member first value rest)
+        (member first here (put key value rest)))
         ≤ max (depth value) (max (depth here) (members_depth rest))
     cases Less below = omega arith
     cases Equal below = omega arith
@@ -166,20 +172,20 @@ abbrev pub value_depth : Option Data → ℕ
 value_depth None = 0
 value_depth (Some value) = depth value
 
-members_depth-with_value : (bound : ℕ) (key : List ℕ) (value : Option Data) (members : Members)
-    → value_depth value ≤ bound → members_depth members ≤ bound → members_depth (with_value key value members) ≤ bound
-members_depth-with_value bound key None members shallow rest = rest
-members_depth-with_value bound key (Some value) members shallow rest =
-    let deepest = members_depth-put key value members in omega arith
+members_depth-with_key : (bound : ℕ) (key : List ℕ) (value : Option Data) (filled : Members)
+    → value_depth value ≤ bound → members_depth filled ≤ bound → members_depth (with_key key value filled) ≤ bound
+members_depth-with_key bound key None filled shallow rest = rest
+members_depth-with_key bound key (Some value) filled shallow rest =
+    let deepest = members_depth-put key value filled in omega arith
 
-members_depth-with_fields : (bound : ℕ) (members : Members) (fields : List Field)
-    → members_depth members ≤ bound → AllByRecursion (λ field. value_depth field.1 ≤ bound) fields
-    → members_depth (with_fields members fields) ≤ bound
-members_depth-with_fields bound members [] rest shallow = rest
-members_depth-with_fields bound members (field ∷ fields) rest shallow =
-    members_depth-with_fields bound (with_value field.0 field.1 members) fields
-    (members_depth-with_value bound field.0 field.1 members shallow.0 rest) shallow.1
+members_depth-with_fields : (bound : ℕ) (filled : Members) (fields : List Field)
+    → members_depth filled ≤ bound → AllByRecursion (λ field. value_depth field.1 ≤ bound) fields
+    → members_depth (with_fields filled fields) ≤ bound
+members_depth-with_fields bound filled [] rest shallow = rest
+members_depth-with_fields bound filled (field ∷ fields) rest shallow =
+    members_depth-with_fields bound (with_key field.0 field.1 filled) fields
+    (members_depth-with_key bound field.0 field.1 filled shallow.0 rest) shallow.1
 
-pub members_depth-table_of : (bound : ℕ) (fields : List Field)
-    → AllByRecursion (λ field. value_depth field.1 ≤ bound) fields → members_depth (table_of fields) ≤ bound
-members_depth-table_of bound fields shallow = members_depth-with_fields bound no_members fields (omega arith) shallow
+pub members_depth-filled_table : (bound : ℕ) (fields : List Field)
+    → AllByRecursion (λ field. value_depth field.1 ≤ bound) fields → members_depth (filled_table fields) ≤ bound
+members_depth-filled_table bound fields shallow = members_depth-with_fields bound no_members fields (omega arith) shallow

@@ -4,6 +4,8 @@ mod EditLemmas
 mod EntryLemmas
 mod KeyLemmas
 mod MirrorLemmas
+mod OneTextLemmas
+mod PlainLemmas
 mod ReadBackLemmas
 mod ReaderLemmas
 mod SizeLemmas

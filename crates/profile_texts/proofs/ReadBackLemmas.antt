@@ -14,7 +14,7 @@ use Rattle.profile_toml.specs.Laws.{AreMirrors}
 use Rattle.profile_toml.specs.Reading.{profile_of_text}
 use Rattle.profile_texts.proofs.AppEntryLemmas.{profile_of-profile_table}
 use Rattle.profile_texts.proofs.EditLemmas.{edits_of-entries}
-use Rattle.profile_texts.proofs.KeyLemmas.{get_member-table_of}
+use Rattle.profile_texts.proofs.KeyLemmas.{get_member-filled_table}
 use Rattle.profile_texts.proofs.MirrorLemmas.{good_mirrors-AreMirrors}
 use Rattle.profile_texts.proofs.ReaderLemmas.{required-natural}
 use Rattle.profile_texts.specs.Fields.{profile_fields, profile_table}
@@ -22,7 +22,8 @@ use Rattle.profile_texts.specs.Fields.{profile_fields, profile_table}
 check_schema-written : (apps : List App) (mirrors : List Mirror)
     → check_schema (document (profile_table apps mirrors)) ≡ Ok tt
 check_schema-written apps mirrors =
-    rw (required-natural [] (codes "schema") (profile_table apps mirrors) 1 (get_member-table_of (codes "schema") (profile_fields apps mirrors))) refl
+    let given = get_member-filled_table (codes "schema") (profile_fields apps mirrors) in
+    rw (required-natural [] (codes "schema") (profile_table apps mirrors) 1 given) refl
 
 pub profile_of_text-written : (text : List ℕ) (apps : List App) (mirrors : List Mirror)
     → IsUtf8 text → parse_document text ≡ Some (profile_table apps mirrors)

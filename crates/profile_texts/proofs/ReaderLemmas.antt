@@ -8,7 +8,7 @@ use Rattle.toml_tables.specs.Paths.{path_of}
 use Rattle.toml_tables.specs.Tables.{PlacedTable, list_at, table_at}
 use Rattle.toml_tables.specs.Texts.{optional_texts, texts_from, texts_of}
 use Rattle.toml_tables.specs.declared.path.BadEntry.{BadEntry}
-use Rattle.profile_texts.specs.Tables.{flag, natural, optional_natural, optional_text, optional_texts as texts_value, table_items, tables, text, text_items}
+use Rattle.profile_texts.specs.Tables.{flag, natural, optional_natural, optional_text, optional_list, table_items, tables, text, text_items}
 
 -- a flag as it is given
 abbrev pub given : Bool → Option Bool
@@ -23,7 +23,7 @@ texts_from-text_items list index (text ∷ texts) = rw (texts_from-text_items li
 all_tables-table_items : (list : List ℕ) (index : ℕ) (tables : List Members)
     → all_tables list index (table_items tables) ≡ Ok tt
 all_tables-table_items list index [] = refl
-all_tables-table_items list index (members ∷ tables) = all_tables-table_items list (index + 1) tables
+all_tables-table_items list index (first ∷ others) = all_tables-table_items list (index + 1) others
 
 module _ (place key : List ℕ) (members : Members) where
   pub required-text : (string : List ℕ) → get_member key members ≡ text string
@@ -49,7 +49,7 @@ module _ (place key : List ℕ) (members : Members) where
   optional-flag true is = rw is refl
   optional-flag false is = rw is refl
 
-  pub optional_texts-given : (texts : Option (List (List ℕ))) → get_member key members ≡ texts_value texts
+  pub optional_texts-given : (texts : Option (List (List ℕ))) → get_member key members ≡ optional_list texts
       → optional_texts key (table_at place members) ≡ Ok texts
   unfolding texts_of
   optional_texts-given None is = rw is refl

@@ -11,7 +11,7 @@ use Rattle.records.specs.declared.content.Diff.{Diff}
 use Rattle.records.specs.declared.content.Release.{Release}
 use Rattle.records.specs.declared.mirror.Mirror.{Mirror}
 use Rattle.toml.specs.Data.{Members}
-use Rattle.profile_texts.specs.Tables.{Field, flag, natural, optional_natural, optional_text, optional_texts, table_of, tables, text}
+use Rattle.profile_texts.specs.Tables.{Field, flag, natural, optional_natural, optional_text, optional_list, filled_table, tables, text}
 
 -- rule: Written mirror
 -- a mirror
@@ -48,7 +48,7 @@ release_fields release =
     ∷ (codes "sha256", text (encode_lower release.hash))
     ∷ (codes "stone", flag release.stone)
     ∷ (codes "withdrawn", flag release.withdrawn)
-    ∷ (codes "audience", optional_texts release.audience)
+    ∷ (codes "audience", optional_list release.audience)
     ∷ []
 
 -- rule: Written differential
@@ -64,16 +64,16 @@ diff_fields releases diff =
 
 -- their tables
 abbrev pub mirror_table : Mirror → Members
-mirror_table mirror = table_of (mirror_fields mirror)
+mirror_table mirror = filled_table (mirror_fields mirror)
 
 abbrev pub cohort_table : List Release → Cohort → Members
-cohort_table releases cohort = table_of (cohort_fields releases cohort)
+cohort_table releases cohort = filled_table (cohort_fields releases cohort)
 
 abbrev pub release_table : Release → Members
-release_table release = table_of (release_fields release)
+release_table release = filled_table (release_fields release)
 
 abbrev pub diff_table : List Release → Diff → Members
-diff_table releases diff = table_of (diff_fields releases diff)
+diff_table releases diff = filled_table (diff_fields releases diff)
 
 -- rule: Written app
 -- an app: all its cohorts, the default one first, its releases and its differentials
@@ -87,7 +87,7 @@ app_fields app =
     ∷ []
 
 abbrev pub app_table : App → Members
-app_table app = table_of (app_fields app)
+app_table app = filled_table (app_fields app)
 
 -- rule: Written tables
 -- a content with its mirrors
@@ -99,4 +99,4 @@ profile_fields apps mirrors =
     ∷ []
 
 abbrev pub profile_table : List App → List Mirror → Members
-profile_table apps mirrors = table_of (profile_fields apps mirrors)
+profile_table apps mirrors = filled_table (profile_fields apps mirrors)

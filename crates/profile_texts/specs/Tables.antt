@@ -19,18 +19,18 @@ abbrev pub Field : Type 0
 Field = List ℕ × Option Data
 
 -- a table with one more key, which is left out if it has no value
-abbrev pub with_value : List ℕ → Option Data → Members → Members
-with_value key None members = members
-with_value key (Some value) members = put key value members
+abbrev pub with_key : List ℕ → Option Data → Members → Members
+with_key key None members = members
+with_key key (Some value) members = put key value members
 
 -- a table with more keys
 abbrev pub with_fields : Members → List Field → Members
 with_fields members [] = members
-with_fields members (field ∷ fields) = with_fields (with_value field.0 field.1 members) fields
+with_fields members (field ∷ fields) = with_fields (with_key field.0 field.1 members) fields
 
 -- the table of these keys
-abbrev pub table_of : List Field → Members
-table_of fields = with_fields no_members fields
+abbrev pub filled_table : List Field → Members
+filled_table fields = with_fields no_members fields
 
 -- the strings of a list
 abbrev pub text_items : List (List ℕ) → Items
@@ -60,8 +60,8 @@ optional_text bytes = option_map string bytes
 abbrev pub optional_natural : Option ℕ → Option Data
 optional_natural number = option_map (λ n. integer (pos n)) number
 
-abbrev pub optional_texts : Option (List (List ℕ)) → Option Data
-optional_texts texts = option_map (λ list. array (text_items list)) texts
+abbrev pub optional_list : Option (List (List ℕ)) → Option Data
+optional_list texts = option_map (λ list. array (text_items list)) texts
 
 -- a list of tables, which is left out if it is empty
 abbrev pub tables : List Members → Option Data

@@ -7,7 +7,7 @@ ghost use Rattle.records.specs.Validity.{is_release_below};
 ghost use Rattle.toml.specs.View.{table_view};
 ghost use Rattle.values.specs.Ordered.{ascend};
 ghost use Rattle.profile_texts.specs.Fields.{cohort_table, share_given};
-ghost use Rattle.profile_texts.specs.Tables.{optional_natural, with_value};
+ghost use Rattle.profile_texts.specs.Tables.{optional_natural, with_key};
 ghost use Rattle.profile_texts.specs.Writers.{filled};
 
 use crate::release::spelling;
@@ -33,7 +33,7 @@ fn write_share(table: &mut TableWriter, share: u64) -> Result<(), AllocError>
     requires { share < 2 ^ 63 }
     ensures { OnOk result
         (filled table.new
-        ≡ with_value (codes "share") (optional_natural (share_given share)) (filled table.old)) }
+        ≡ with_key (codes "share") (optional_natural (share_given share)) (filled table.old)) }
 {
     if share == ALL_CLIENTS {
         return Ok(());

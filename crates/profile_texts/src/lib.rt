@@ -2,7 +2,8 @@
 //!
 //! `write_profile` writes a document that `profile_toml::read_profile` reads back, as the same mirrors and
 //! as edits that make the same content. `specs/Fields.antt` says which keys each table of a content's
-//! profile has, and `specs/Profiles.antt` what its bytes are and are read as.
+//! profile has, `specs/Profiles.antt` what its bytes are and are read as, and `laws` that a content has one
+//! such profile.
 //!
 //! The kit's `toml` prints the document. This crate does not read profiles: `profile_toml` does.
 
@@ -10,6 +11,7 @@
 
 mod app;
 mod cohort;
+pub mod laws;
 mod profile;
 mod release;
 mod table;

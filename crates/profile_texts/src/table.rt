@@ -3,7 +3,7 @@
 ghost use Rattle.std.specs.Prelude.{◌≡◌, ◌<◌, ◌^◌, map, option_map, IfOk, OnOk};
 ghost use Rattle.toml.specs.Data.{no_members};
 ghost use Rattle.toml.specs.View.{items_view, table_view, view};
-ghost use Rattle.profile_texts.specs.Tables.{flag, natural, optional_natural, optional_text, optional_texts, put, table_items, tables, text, text_items, with_value};
+ghost use Rattle.profile_texts.specs.Tables.{flag, natural, optional_natural, optional_text, optional_list, put, table_items, tables, text, text_items, with_key};
 ghost use Rattle.profile_texts.specs.Writers.{filled};
 
 use std::alloc::{AllocError, Global};
@@ -28,7 +28,8 @@ fn text_values(alloc: Global, texts: &[Text]) -> Result<Vec<Value>, AllocError>
 }
 
 fn table_values(alloc: Global, tables: Vec<Table>) -> Result<Vec<Value>, AllocError>
-    ensures { IfOk result (λ values. items_view values.items ≡ table_items (map table_view tables.items)) }
+    ensures { IfOk result (λ values. items_view values.items
+        ≡ table_items (map table_view tables.items)) }
 {
     let mut values = Vec::new(alloc);
     for table in tables {
@@ -59,7 +60,7 @@ impl TableWriter {
     /// Puts a string under a key.
     pub fn text(&mut self, key: &str, string: &str) -> Result<(), AllocError>
         ensures { OnOk result
-            (filled self.new ≡ with_value key.now (text string.now) (filled self.old)) }
+            (filled self.new ≡ with_key key.now (text string.now) (filled self.old)) }
     {
         self.put(key, Value::string(self.alloc, string)?)
     }
@@ -67,14 +68,14 @@ impl TableWriter {
     /// Puts a number under a key.
     pub fn natural(&mut self, key: &str, number: u64) -> Result<(), AllocError>
         requires { number < 2 ^ 63 }
-        ensures { OnOk result (filled self.new ≡ with_value key.now (natural number) (filled self.old)) }
+        ensures { OnOk result (filled self.new ≡ with_key key.now (natural number) (filled self.old)) }
     {
         self.put(key, Value::from(number as i64))
     }
 
     /// Puts `true` under a key if the flag is on.
     pub fn flag(&mut self, key: &str, on: bool) -> Result<(), AllocError>
-        ensures { OnOk result (filled self.new ≡ with_value key.now (flag on) (filled self.old)) }
+        ensures { OnOk result (filled self.new ≡ with_key key.now (flag on) (filled self.old)) }
     {
         if !on {
             return Ok(());
@@ -85,7 +86,8 @@ impl TableWriter {
     /// Puts a string under a key if there is one.
     pub fn optional_text(&mut self, key: &str, string: Option<&str>) -> Result<(), AllocError>
         ensures { OnOk result
-            (filled self.new ≡ with_value key.now (optional_text (option_map (λ bytes. bytes.now) string.entry)) (filled self.old)) }
+            (let given = option_map (λ bytes. bytes.now) string.entry in
+            filled self.new ≡ with_key key.now (optional_text given) (filled self.old)) }
     {
         match string {
             Some(string) => self.text(key, string),
@@ -99,7 +101,8 @@ impl TableWriter {
         key: &str,
         strings: &Option<Items<Text>>,
     ) -> Result<(), AllocError>
-        ensures { OnOk result (filled self.new ≡ with_value key.now (optional_texts strings.now) (filled self.old)) }
+        ensures { OnOk result
+            (filled self.new ≡ with_key key.now (optional_list strings.now) (filled self.old)) }
     {
         match strings {
             Some(strings) => {
@@ -113,7 +116,7 @@ impl TableWriter {
     /// Puts a list of tables under a key if it is not empty.
     pub fn tables(&mut self, key: &str, list: Vec<Table>) -> Result<(), AllocError>
         ensures { OnOk result
-            (filled self.new ≡ with_value key.now (tables (map table_view list.items)) (filled self.old)) }
+            (filled self.new ≡ with_key key.now (tables (map table_view list.items)) (filled self.old)) }
     {
         if list.is_empty() {
             return Ok(());

@@ -1,3 +1,4 @@
+use Rattle.std.proofs.Common.{rules}
 use Rattle.profile_texts.proofs.SizeLemmas.{cohorts_below, diffs_below, releases_below}
 use Rattle.profile_texts.proofs.app.write_app.Goals as goal
 
@@ -15,3 +16,6 @@ pub write_diffs-requires-clause-sized : goal.write_diffs-requires-clause-sized
 write_diffs-requires-clause-sized c =
     rw c.as_slice.ensures
     (diffs_below c.args.app.now.releases c.args.app.now.diffs c.requires.diffs_good)
+
+pub returns : goal.returns
+returns c = search rules
