@@ -1,10 +1,10 @@
 -- The edits of a valid content make it: each one adds at the end of what is there, or sets something
 -- of the last app.
-use Rattle.std.proofs.Common.{◌≡◌, ℕ, ◌<◌, ◌≤◌, ◌||◌, Bool, true, false, cond, List, [], ◌∷◌, ◌++◌, drop, map, length, Option, Some, None, Ok, option_map, refl, ap, sym, ◌∙◌, arith}
+use Rattle.std.proofs.Common.{◌≡◌, ℕ, ◌<◌, ◌≤◌, ◌==◌, ◌||◌, Bool, true, false, cond, List, [], ◌∷◌, ◌++◌, drop, map, length, Option, Some, None, Ok, option_map, refl, ap, sym, ◌∙◌, arith}
 use Rattle.std.specs.List.{list_all, list_any, flat_map}
 use Rattle.std.specs.Option.{is_some, is_none}
 use Rattle.std.specs.Str.{bytes_eq}
-use Rattle.std.proofs.lemmas.Bool.{or_parts}
+use Rattle.std.proofs.lemmas.Bool.{eqb-true, or_parts}
 use Rattle.std.proofs.lemmas.List.{append-nil, map-append}
 use Rattle.version.specs.Laws.{LenientAgrees}
 use Rattle.version.specs.Versions.{is_below, lenient_version_of, version_of}
@@ -25,9 +25,9 @@ use Rattle.values.proofs.SplitLemmas.{AllByRecursion-at, ascend-before, change-a
 use Rattle.catalogue.specs.Batches.{outcome}
 use Rattle.catalogue.specs.Changes.{in_cohort, in_release, new_cohort, new_diff, new_release, with_cohort, with_diff, with_release, with_release_setting, with_setting}
 use Rattle.values.specs.Lists.{change}
-use Rattle.histories.specs.Contents.{default_name, edit_of_cohort, edit_of_diff, edit_of_open, edit_of_release, edit_of_rollback, edit_of_share, edits_of_app, edits_of_audience, edits_of_content, edits_of_open, edits_of_release, edits_of_rollback, edits_of_settings, edits_of_stone, edits_of_targets, edits_of_withdrawn, spelling_of}
+use Rattle.histories.specs.Contents.{default_name, edit_of_cohort, edit_of_diff, edit_of_open, edit_of_release, edit_of_rollback, edit_of_share, edits_of_app, edits_of_audience, edits_of_content, edits_of_open, edits_of_release, edits_of_rollback, edits_of_settings, edits_of_share, edits_of_stone, edits_of_targets, edits_of_withdrawn, spelling_of}
 use Rattle.catalogue.specs.Edits.CohortSettings.{setting_of_set_target}
-use Rattle.records.specs.Limits.{max_apps, max_cohorts, max_diffs, max_releases}
+use Rattle.records.specs.Limits.{max_apps, max_cohorts, max_diffs, max_releases, max_share}
 use Rattle.records.specs.Lookups.{has_cohort, has_diff, has_hash, has_release, is_app, is_cohort, is_pair_below, is_release, packages_of, pair_of, same_pair}
 use Rattle.records.specs.Validity.{IsValid, IsValidApp, is_diff_before, is_good_audience, is_good_release, is_package, is_release_below, spells}
 use Rattle.values.specs.Lists.{IsOnce}
@@ -317,11 +317,19 @@ module _ (laws : VersionLaws) (agrees : LenientAgrees) (front : List App) (app :
             ap (λ (t : Option (List ℕ)). settled (with_setting (setting.Targets t cohort.held) (bare cohort))) no_target
             ∙ ap (λ (h : Option (List ℕ)). settled (with_setting (setting.Targets None h) (bare cohort))) no_held
 
-    makes_share : Makes (edit_of_share app cohort ∷ []) (settled targeted) (settled shared)
-    makes_share =
-        Makes-one (edit_of_share app cohort) (settled targeted) (settled shared)
-        (accepts_share front app.id fresh (with_among targeted) refl cohort.name cohort.share (cohort_there targeted refl) (good_cohort before cohort behind cut).shared)
-        (settled-set (with_setting (setting.Share cohort.share)) targeted refl)
+    makes_share : Makes (edits_of_share app cohort) (settled targeted) (settled shared)
+    makes_share = cases (cohort.share == max_share) refl
+      where
+        cases :
+            (b : Bool) →
+            (cohort.share == max_share) ≡ b →
+            Makes (cond b [] (edit_of_share app cohort ∷ [])) (settled targeted) (settled shared)
+        cases true all =
+            ap (λ (n : ℕ). settled (with_setting (setting.Share n) targeted)) (eqb-true cohort.share max_share all)
+        cases false given =
+            Makes-one (edit_of_share app cohort) (settled targeted) (settled shared)
+            (accepts_share front app.id fresh (with_among targeted) refl cohort.name cohort.share (cohort_there targeted refl) (good_cohort before cohort behind cut).shared)
+            (settled-set (with_setting (setting.Share cohort.share)) targeted refl)
 
     -- the content by the cohort's rollback flag, and by its open flag
     abbrev by_rollback : Bool → List App
@@ -333,12 +341,12 @@ module _ (laws : VersionLaws) (agrees : LenientAgrees) (front : List App) (app :
     makes_settings : Makes (edits_of_settings app cohort) (settled (bare cohort)) (settled cohort)
     makes_settings =
         let closed = record cohort { hintable = false } in
-        Makes-append (edits_of_targets app cohort ++ edit_of_share app cohort ∷ edits_of_rollback app cohort) (edits_of_open app cohort) (settled (bare cohort)) (by_rollback cohort.rollback) (settled cohort)
-        (Makes-append (edits_of_targets app cohort) (edit_of_share app cohort ∷ edits_of_rollback app cohort) (settled (bare cohort)) (settled targeted) (by_rollback cohort.rollback) makes_targets
-        (Makes-append (edit_of_share app cohort ∷ []) (edits_of_rollback app cohort) (settled targeted) (settled shared) (by_rollback cohort.rollback) makes_share
+        Makes-append (edits_of_targets app cohort ++ edits_of_share app cohort ++ edits_of_rollback app cohort) (edits_of_open app cohort) (settled (bare cohort)) (by_rollback cohort.rollback) (settled cohort)
+        (Makes-append (edits_of_targets app cohort ++ edits_of_share app cohort) (edits_of_rollback app cohort) (settled (bare cohort)) (settled shared) (by_rollback cohort.rollback)
+        (Makes-append (edits_of_targets app cohort) (edits_of_share app cohort) (settled (bare cohort)) (settled targeted) (settled shared) makes_targets makes_share)
         (Makes-flag cohort.rollback (edit_of_rollback app cohort) by_rollback
         (accepts_rollback front app.id fresh (with_among shared) refl cohort.name true (cohort_there shared refl))
-        (settled-set (with_setting (setting.Rollback true)) shared refl))))
+        (settled-set (with_setting (setting.Rollback true)) shared refl)))
         (Makes-flag cohort.hintable (edit_of_open app cohort) by_open
         (accepts_open front app.id fresh (with_among closed) refl cohort.name true (cohort_there closed refl))
         (settled-set (with_setting (setting.Open true)) closed refl))

@@ -102,7 +102,6 @@ small_edits =
       held = Some (codes "1.0");
     })
     ∷ edit.SetShare (record { app = codes "mini"; cohort = codes "stable"; share = 500 })
-    ∷ edit.SetShare (record { app = codes "mini"; cohort = codes "beta"; share = 1000 })
     ∷ edit.SetOpen (record { app = codes "mini"; cohort = codes "beta"; on = true })
     ∷ []
 

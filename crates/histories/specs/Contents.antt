@@ -1,9 +1,10 @@
 -- The edits that make a content anew, in the order of a profile; this project's profile.
-use Rattle.std.specs.Prelude.{◌≡◌, ℕ, ◌||◌, true, List, [], ◌∷◌, ◌++◌, drop, find, map, if◌then◌else◌, is_some, option_map, Ok}
+use Rattle.std.specs.Prelude.{◌≡◌, ℕ, ◌==◌, ◌||◌, true, List, [], ◌∷◌, ◌++◌, drop, find, map, if◌then◌else◌, is_some, option_map, Ok}
 use Rattle.std.specs.List.{flat_map}
 use Rattle.std.specs.Option.{option_map_or}
 use Rattle.hex.specs.Hex.{encode_lower}
 use Rattle.catalogue.specs.Batches.{outcome}
+use Rattle.records.specs.Limits.{max_share}
 use Rattle.records.specs.Lookups.{is_release}
 use Rattle.records.specs.Validity.{IsValid}
 use Rattle.records.specs.declared.content.App.{App}
@@ -96,6 +97,10 @@ edits_of_targets app cohort =
 abbrev pub edit_of_share : App → Cohort → Edit
 edit_of_share app cohort = edit.SetShare (record { app = app.id; cohort = cohort.name; share = cohort.share })
 
+-- and only if it is not that of all clients, which a new cohort has
+abbrev pub edits_of_share : App → Cohort → List Edit
+edits_of_share app cohort = if cohort.share == max_share then [] else edit_of_share app cohort ∷ []
+
 -- a cohort's rollback flag is set
 abbrev pub edit_of_rollback : App → Cohort → Edit
 edit_of_rollback app cohort = edit.SetRollback (record { app = app.id; cohort = cohort.name; on = true })
@@ -115,7 +120,7 @@ edits_of_open app cohort = if cohort.hintable then edit_of_open app cohort ∷ [
 -- all settings of a cohort
 abbrev pub edits_of_settings : App → Cohort → List Edit
 edits_of_settings app cohort =
-    edits_of_targets app cohort ++ edit_of_share app cohort ∷ edits_of_rollback app cohort ++ edits_of_open app cohort
+    edits_of_targets app cohort ++ edits_of_share app cohort ++ edits_of_rollback app cohort ++ edits_of_open app cohort
 
 -- an app: with its default cohort, then its other cohorts, its releases, each with its settings, its
 -- differentials, the settings of its cohorts

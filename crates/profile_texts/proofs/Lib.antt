@@ -1,0 +1,12 @@
+mod AppEntryLemmas
+mod DepthLemmas
+mod EditLemmas
+mod EntryLemmas
+mod KeyLemmas
+mod MirrorLemmas
+mod OneTextLemmas
+mod PlainLemmas
+mod ReadBackLemmas
+mod ReaderLemmas
+mod SizeLemmas
+mod WritingLemmas
