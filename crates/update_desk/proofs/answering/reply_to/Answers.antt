@@ -1,0 +1,11 @@
+use Rattle.editions.specs.Editions.{content_of}
+use Rattle.update_desk.specs.Answering.{Stock}
+use Rattle.update_desk.proofs.AnswerLemmas.{HasBegun-all, OnErr-always}
+use Rattle.update_desk.proofs.answering.reply_to.Goals as goal
+
+pub returns-clause-err : goal.returns-clause-err
+returns-clause-err g c =
+    let stock : Stock = record { content = content_of c.args.edition.now; mirrors = g.T.Till.mirrors c.args.till.now } in
+    OnErr-always c.render.result
+    (HasBegun-all stock c.args.request.now c.in-Ok.plan c.choices.result.now c.in-Ok-ask_each.outcomes.items
+    (g.T.Till.asks c.args.till.now) (g.T.Till.asks c.ask_each.new.till) c.choices.ensures c.in-Ok.ensures c.in-Ok-ask_each.ensures.ok)

@@ -1,0 +1,10 @@
+-- The first choices were asked for.
+use Rattle.std.proofs.Common.{◌≡◌, take}
+use Rattle.update_desk.specs.Asking.{AsksFor}
+use Rattle.update_desk.proofs.asking.ask_each.Given as goal
+
+abbrev pub invariant-loop-choice : goal.invariant-loop-choice
+invariant-loop-choice g l = record {
+  same : g.T.Till.mirrors l.till ≡ g.T.Till.mirrors l.fn.till;
+  asks : AsksFor (g.T.Till.mirrors l.fn.till) (take l.choice-index l.plan) l.outcomes.items (g.T.Till.asks l.fn.till) (g.T.Till.asks l.till);
+}
