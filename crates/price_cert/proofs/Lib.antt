@@ -1,5 +1,9 @@
+mod BestLemmas
+mod BetterLemmas
 mod InductionLemmas
 mod LeastLemmas
+mod PassLemmas
 mod RuleLemmas
 mod SmallLemmas
+mod StepLemmas
 mod UniqueLemmas

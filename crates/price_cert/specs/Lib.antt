@@ -1,3 +1,4 @@
+pub mod Best
 pub mod Chains
 pub mod Examples
 pub mod Laws

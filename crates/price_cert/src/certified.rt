@@ -1,12 +1,13 @@
 //! Tables of prices that passed the check.
 
-ghost use Rattle.std.specs.Prelude.{◌≡◌, ◌↔◌, ◌<◌, length, IfErr, IfOk, IfSome, IsOk};
+ghost use Rattle.std.specs.Prelude.{◌≡◌, ◌↔◌, ◌<◌, length, IfErr, IfOk, IfSome, IsOk, MatchOption};
 ghost use Rattle.price_cert.specs.Chains.{IsPriceOf};
 ghost use Rattle.price_cert.specs.Laws.{ArePrices, AreSmall, IsSmall};
 ghost use Rattle.price_cert.specs.Rows.{price_at};
 ghost use Rattle.price_cert.specs.Rules.{AreCertified, IsFirstWrong};
 
 use crate::kept::Kept;
+use crate::passing::passes;
 use crate::row::{Prices, Row, row_at};
 use crate::rules::{Wrong, first_wrong};
 use payload_graph::Graph;
@@ -91,12 +92,24 @@ impl Certified {
     }
 }
 
+// The first wrong row, which is sought only if the table doesn't pass in one go.
+fn find_wrong(graph: &Graph, rows: &[Row]) -> Option<Wrong>
+    requires { length rows.now ≡ length graph.now.doors }
+    ensures { MatchOption result (AreCertified graph.now rows.now) (IsFirstWrong graph.now rows.now) }
+{
+    if passes(graph, rows) {
+        None
+    } else {
+        first_wrong(graph, rows)
+    }
+}
+
 // rule: Certified table
 /// Checks a table of prices against the graph of its track.
 ///
 /// The table has the graph's key and a row for each release. If a row breaks a rule, it returns the
 /// first such row from the highest version, with the first rule that it breaks, and gives the table
-/// back. It takes no memory.
+/// back. It takes no memory, and for a right table a step for each release and each differential.
 pub fn check(graph: &Graph, prices: Prices) -> Result<Certified, (Wrong, Prices)>
     requires key { prices.key ≡ graph.now.key }
     requires sized { length prices.rows ≡ length graph.now.doors }
@@ -111,7 +124,7 @@ pub fn check(graph: &Graph, prices: Prices) -> Result<Certified, (Wrong, Prices)
     let _within = graph.target();
     let _numbered = graph.doors();
     let _nearing = graph.differs();
-    match first_wrong(graph, prices.rows.as_slice()) {
+    match find_wrong(graph, prices.rows.as_slice()) {
         Some(wrong) => Err((wrong, prices)),
         None => Ok(Certified {
             prices,

@@ -1,5 +1,6 @@
 //! What holds of all certified tables, each law as a clause of a function.
 
+ghost use Rattle.price_cert.specs.Best.{BestTablesAreCertified};
 ghost use Rattle.price_cert.specs.Examples.{ExampleIsWorked};
 ghost use Rattle.price_cert.specs.Laws.{CertifiedPricesAreLeast, CertifiedPricesAreSmall, CertifiedTablesAreOne};
 
@@ -18,6 +19,11 @@ pub fn small()
     payload_graph::laws::nearer();
     payload_graph::laws::sized();
 }
+
+/// States that a table whose rows name the best payloads of their releases is certified.
+pub fn best()
+    ensures { BestTablesAreCertified }
+{}
 
 /// States that a graph has one certified table, whoever made it.
 pub fn unique()

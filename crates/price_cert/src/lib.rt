@@ -6,16 +6,24 @@
 //! price has no chain. Read `specs/Rules.antt` for the rules, `specs/Chains.antt` for chains and least
 //! sums, `laws` for what the rules imply, and `specs/Examples.antt` for tables that are worked by hand.
 //!
+//! Most tables are right, so the check first goes along the releases once, with the best payload of each:
+//! read `specs/Best.antt`. Only a table that fails there is tested rule by rule. Whoever finds prices goes
+//! along the releases in the same way, by `best_below`, `best_above` and `best_row`.
+//!
 //! It does not find prices: whoever does is checked here.
 
 #![tactic(auto)]
 
+mod best;
 mod certified;
 mod kept;
 pub mod laws;
+mod passing;
 mod row;
 mod rules;
+mod windows;
 
 pub use crate::certified::{Certified, check};
 pub use crate::row::{Prices, Row};
 pub use crate::rules::{Rule, Wrong};
+pub use crate::windows::{best_above, best_below, best_row, best_to_target};

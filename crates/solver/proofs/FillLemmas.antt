@@ -13,8 +13,8 @@ use Rattle.price_cert.specs.Rows.{price_at, price_of, row_at}
 use Rattle.price_cert.specs.declared.row.Row.{Row}
 use Rattle.price_cert.specs.declared.row.Row.TheVariants.{Nothing, End}
 use Rattle.solver.proofs.WriteLemmas.{AreSettled-write, IsBest-write}
-use Rattle.solver.specs.Best.{IsBest}
-use Rattle.solver.specs.Settled.{AreSettled, IsWithin, lower}
+use Rattle.price_cert.specs.Best.{IsBest, lower}
+use Rattle.solver.specs.Settled.{AreSettled, IsWithin}
 
 -- a way up doesn't come back, nor does a way down
 not_up : (target from to : ℕ) → to ≤ from → from ≤ target → LeadsNearer target from to → ⊥

@@ -1,6 +1,4 @@
-mod BestLemmas
-mod BetterLemmas
 mod FillLemmas
+mod ListLemmas
 mod SettledLemmas
-mod StepLemmas
 mod WriteLemmas

@@ -13,9 +13,9 @@ use Rattle.price_cert.specs.Rows.{price_at, price_of, row_at}
 use Rattle.price_cert.specs.Rules.{adds_up, is_named, is_next}
 use Rattle.price_cert.specs.declared.row.Row.{Row}
 use Rattle.price_cert.specs.declared.row.Row.TheVariants.{Nothing, End, Price}
-use Rattle.solver.proofs.BestLemmas.{list_all-agree, list_any-agree}
+use Rattle.solver.proofs.ListLemmas.{list_all-agree, list_any-agree}
 use Rattle.solver.proofs.SettledLemmas.{IsWithin-best}
-use Rattle.solver.specs.Best.{IsBest, is_behind, is_behind_by, names_one}
+use Rattle.price_cert.specs.Best.{IsBest, is_behind, is_behind_by, names_one}
 use Rattle.solver.specs.Settled.{AreSettled, AreWithin, IsWithin}
 
 -- a row that is written changes no other one

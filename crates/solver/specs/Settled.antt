@@ -1,12 +1,11 @@
 -- Rows that are settled, of a table that is filled in from the target on.
-use Rattle.std.specs.Prelude.{◌≡◌, ℕ, ◌+◌, ◌*◌, ◌^◌, ◌<◌, ◌≤◌, IfSome, if◌then◌else◌, List, [], length, take}
+use Rattle.std.specs.Prelude.{◌≡◌, ℕ, ◌+◌, ◌*◌, ◌^◌, ◌<◌, ◌≤◌, IfSome, List, length}
 use Rattle.payload_graph.specs.Net.{Net, edges_from}
-use Rattle.payload_graph.specs.declared.door.Door.{Door}
 use Rattle.price_cert.specs.Laws.{IsSmall}
 use Rattle.price_cert.specs.Rows.{price_at, row_at}
 use Rattle.price_cert.specs.declared.row.Row.{Row}
 use Rattle.price_cert.specs.declared.row.Row.TheVariants.{End}
-use Rattle.solver.specs.Best.{IsBest}
+use Rattle.price_cert.specs.Best.{IsBest}
 
 -- a sum of at most the largest package for each release on the way: up to the target, or down from
 -- above it
@@ -18,10 +17,6 @@ pub record IsWithin (target release sum : ℕ) : Type 0 where
 -- all prices so far are such sums
 abbrev pub AreWithin : ℕ → List Row → Type 0
 AreWithin target rows = (release : ℕ) → IfSome (price_at rows release) (IsWithin target release)
-
--- the doors that a release above the target leads down through
-abbrev pub lower : Net → ℕ → List Door
-lower net from = if net.rollback then take from net.doors else []
 
 -- rule: Settled rows
 -- the rows of the releases from one index on, before another, are settled: the target's is the end, and

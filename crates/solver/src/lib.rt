@@ -9,7 +9,6 @@
 
 #![tactic(auto)]
 
-mod best;
 mod filling;
 mod table;
 

@@ -1,6 +1,6 @@
 use Rattle.payload_graph.specs.Net.{fulls}
-use Rattle.solver.specs.Best.{IsBest}
-use Rattle.solver.specs.Settled.{lower, AreSettled}
+use Rattle.price_cert.specs.Best.{IsBest, lower}
+use Rattle.solver.specs.Settled.{AreSettled}
 use Rattle.solver.proofs.filling.fill_above.Given as goal
 
 abbrev pub invariant-loop-from : goal.invariant-loop-from

@@ -14,6 +14,6 @@ loop-from-preserved c =
     let settled = subst (λ n. AreSettled net rows n (net.target + 1)) step c.loop-from.invariant.settled in
     let within = c.target-from.ensures.within in
     record {
-      settled = AreSettled-below c.nearer.ensures.edges c.nearer.ensures.fulls c.sized.ensures net graph rows from c.settled.result (omega arith) settled c.settled.ensures;
-      best = IsBest-window c.nearer.ensures.edges c.nearer.ensures.fulls c.sized.ensures net graph rows from c.settled.result c.best_below-best.result (omega arith) c.best_below-best.ensures;
+      settled = AreSettled-below c.nearer.ensures.edges c.nearer.ensures.fulls c.sized.ensures net graph rows from c.best_row.result (omega arith) settled c.best_row.ensures;
+      best = IsBest-window c.nearer.ensures.edges c.nearer.ensures.fulls c.sized.ensures net graph rows from c.best_row.result c.best_below-best.result (omega arith) c.best_below-best.ensures;
     }

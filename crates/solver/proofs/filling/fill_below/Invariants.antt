@@ -1,6 +1,6 @@
 use Rattle.std.proofs.Common.{◌+◌}
 use Rattle.payload_graph.specs.Net.{fulls, window}
-use Rattle.solver.specs.Best.{IsBest}
+use Rattle.price_cert.specs.Best.{IsBest}
 use Rattle.solver.specs.Settled.{AreSettled}
 use Rattle.solver.proofs.filling.fill_below.Given as goal
 
