@@ -1,17 +1,22 @@
 // First payloads and tables of tracks, by key.
 
+ghost use Rattle.std.specs.Prelude.{◌<◌, IfSome, length};
+ghost use Rattle.records.specs.Lookups.{releases_at};
+ghost use Rattle.payload_rules.specs.Places.{IsWithin};
+
 use crate::graphs::{DEMO, key_of};
 use crate::lines::catalogue_of;
-use crate::tables::push_table;
+use crate::tables::{push_table, stone_lines};
 use catalogue::Catalogue;
 use par_tables::tables;
 use payload_graph::Graph;
-use payload_rules::{Payload, TrackKey};
-use quotes::{Quote, quote_at};
+use payload_rules::{Payload, Place, TrackKey};
+use quotes::{Quote, quote_from};
 use solver::solve;
 use std::alloc::{AllocError, Global};
 use std::process::Abort;
 use std::test::Fail;
+use version::Version;
 
 fn word_of(alloc: Global, quote: Quote) -> Result<String, AllocError> {
     match quote {
@@ -28,30 +33,48 @@ fn word_of(alloc: Global, quote: Quote) -> Result<String, AllocError> {
     }
 }
 
+// The place that a word names: a release by its index, or a version outside of all.
+fn place_of_word(catalogue: &Catalogue, app: usize, word: &str) -> Option<Place>
+    requires { app < length catalogue.now }
+    ensures { IfSome result (λ place. IsWithin (releases_at catalogue.now app) place) }
+{
+    if let Some(version) = word.strip_prefix("outside ") {
+        return Some(Place::Outside(Version::lenient(version)));
+    }
+    let release = word.parse().unwrap_or(9);
+    if release < catalogue.releases(app).len() {
+        Some(Place::At(release))
+    } else {
+        None
+    }
+}
+
 fn quoted(
     alloc: Global,
     catalogue: &Catalogue,
     key: &TrackKey,
-    release: usize,
+    place: &str,
 ) -> Result<String, AllocError> {
-    if key.app >= catalogue.apps().len() || release >= catalogue.releases(key.app).len() {
-        return String::from_str(alloc, "no release");
+    if key.app >= catalogue.apps().len() {
+        return String::from_str(alloc, "no app");
     }
+    let Some(place) = place_of_word(catalogue, key.app, place) else {
+        return String::from_str(alloc, "no release");
+    };
     let Some(graph) = Graph::of_track(alloc, catalogue, key)? else {
         return String::from_str(alloc, "no track");
     };
     let table = solve(alloc, &graph)?;
-    word_of(alloc, quote_at(catalogue, key, release, &table))
+    word_of(alloc, quote_from(catalogue, key, &place, &table))
 }
 
-fn quoted_after(alloc: Global, key: &str, release: &str) -> Result<String, Fail> {
+fn quoted_after(alloc: Global, key: &str, place: &str) -> Result<String, Fail> {
     let catalogue = catalogue_of(alloc, DEMO, "")?;
-    let index = release.parse().unwrap_or(9);
-    Ok(quoted(alloc, &catalogue, &key_of(key), index)?)
+    Ok(quoted(alloc, &catalogue, &key_of(key), place)?)
 }
 
-// Each row: a key, a bar, a release, a bar, and what its clients are offered: a full package by its release
-// or a differential by its index, with the sum.
+// Each row: a key, a bar, a release or a version outside of all, a bar, and what the clients there are
+// offered: a full package by its release or a differential by its index, with the sum.
 const OFFERS: &str = "stable target no|0|d0 750
 stable target no|1|d2 450
 stable target no|2|d4 250
@@ -61,7 +84,14 @@ stable held no|3|no chain
 beta target yes|3|f1 1400
 beta target no|3|no chain
 beta held no|0|no track
-stable target no|4|no release";
+stable target no|4|no release
+stable target no|outside 0|f1 1650
+stable target no|outside 1.0|f1 1650
+stable target no|outside 2.0|f3 1600
+stable target no|outside 3.5|f3 1600
+stable target no|outside 4.0|no chain
+beta target yes|outside 3.5|f1 1400
+beta target no|outside 3.5|no chain";
 
 #[test]
 fn offers_the_first_payload_of_a_least_chain(rt: HostRuntime) -> Result<(), Fail> {
@@ -71,6 +101,28 @@ fn offers_the_first_payload_of_a_least_chain(rt: HostRuntime) -> Result<(), Fail
         let found = quoted_after(rt.alloc(), key, release)?;
         assert_eq!(rt; found.as_str(), want, "{row}");
     }
+    Ok(())
+}
+
+fn stone_offer(alloc: Global, place: &str) -> Result<String, Fail> {
+    let lines = stone_lines(alloc)?;
+    let catalogue = catalogue_of(alloc, lines.as_str(), "")?;
+    Ok(quoted(
+        alloc,
+        &catalogue,
+        &key_of("stable target no"),
+        place,
+    )?)
+}
+
+// 512 releases, each a stone, and each package of 2^40 bytes: the full package of the lowest, and 511
+// differentials.
+#[test]
+fn sums_the_largest_packages_from_outside(rt: HostRuntime) -> Result<(), Fail> {
+    let outside = stone_offer(rt.alloc(), "outside 0")?;
+    assert_eq!(rt; outside.as_str(), "f0 562949953421312");
+    let lowest = stone_offer(rt.alloc(), "0")?;
+    assert_eq!(rt; lowest.as_str(), "d0 561850441793536");
     Ok(())
 }
 

@@ -1,4 +1,4 @@
-// The table of a track by a plain slow program: rounds over all permitted payloads.
+// The table of a track by a plain slow program: all chains of permitted payloads, one by one.
 
 use crate::rule::permitted;
 use crate::tables::push_price;
@@ -8,83 +8,105 @@ use payload_graph::{Edge, Kind};
 use payload_rules::TrackKey;
 use std::alloc::{AllocError, Global};
 
-fn sum_by(sums: &[Option<u64>], edge: &Edge) -> Option<u64> {
-    match sums.get(edge.to) {
-        Some(Some(rest)) => Some(edge.bytes.saturating_add(*rest)),
-        _ => None,
-    }
+// A list of payloads, each from where the one before it leads, by its first one, its end and its sum.
+#[derive(Clone, Copy)]
+struct Chain {
+    first: Edge,
+    end: usize,
+    sum: u64,
 }
 
-fn is_less(sum: u64, known: Option<u64>) -> bool {
+fn push_starts(chains: &mut Vec<Chain>, edges: &[Edge], from: usize) -> Result<(), AllocError> {
+    for edge in edges {
+        if edge.from == from {
+            chains.push(Chain {
+                first: *edge,
+                end: edge.to,
+                sum: edge.bytes,
+            })?;
+        }
+    }
+    Ok(())
+}
+
+fn push_longer(longer: &mut Vec<Chain>, edges: &[Edge], chain: &Chain) -> Result<(), AllocError> {
+    for edge in edges {
+        if edge.from == chain.end {
+            longer.push(Chain {
+                first: chain.first,
+                end: edge.to,
+                sum: chain.sum.saturating_add(edge.bytes),
+            })?;
+        }
+    }
+    Ok(())
+}
+
+fn all_longer(alloc: Global, edges: &[Edge], chains: &[Chain]) -> Result<Vec<Chain>, AllocError> {
+    let mut longer = Vec::new(alloc);
+    for chain in chains {
+        push_longer(&mut longer, edges, chain)?;
+    }
+    Ok(longer)
+}
+
+fn leads_higher(edge: &Edge, other: &Edge) -> bool {
+    edge.to > other.to || (edge.to == other.to && matches!(edge.kind, Kind::Differ))
+}
+
+fn is_better(chain: &Chain, known: Option<Chain>) -> bool {
     match known {
-        Some(known) => sum < known,
+        Some(known) => {
+            chain.sum < known.sum
+                || (chain.sum == known.sum && leads_higher(&chain.first, &known.first))
+        }
         None => true,
     }
 }
 
-fn relax(sums: &mut [Option<u64>], edge: &Edge) {
-    if let Some(sum) = sum_by(sums, edge) {
-        if edge.from < sums.len() && is_less(sum, sums[edge.from]) {
-            sums[edge.from] = Some(sum);
+fn better_of(chains: &[Chain], target: usize, known: Option<Chain>) -> Option<Chain> {
+    let mut best = known;
+    for chain in chains {
+        if chain.end == target && is_better(chain, best) {
+            best = Some(*chain);
         }
     }
+    best
 }
 
-fn relax_all(sums: &mut [Option<u64>], edges: &[Edge]) {
-    for edge in edges {
-        relax(sums, edge);
-    }
-}
-
-fn least_sums(
+// The chain of the least sum, of those the one whose first payload leads highest, and then by a differential.
+// No chain has more payloads than the app has releases, since none comes back to a release.
+fn least_chain(
     alloc: Global,
     edges: &[Edge],
     count: usize,
+    from: usize,
     target: usize,
-) -> Result<Vec<Option<u64>>, AllocError> {
-    let mut sums = vec![in alloc; None; count]?;
-    if target < sums.len() {
-        sums[target] = Some(0);
+) -> Result<Option<Chain>, AllocError> {
+    let mut chains = Vec::new(alloc);
+    push_starts(&mut chains, edges, from)?;
+    let mut best = None;
+    for _length in 0..count {
+        best = better_of(chains.as_slice(), target, best);
+        chains = all_longer(alloc, edges, chains.as_slice())?;
     }
-    for _round in 0..count {
-        relax_all(sums.as_mut_slice(), edges);
-    }
-    Ok(sums)
-}
-
-fn comes_after(edge: &Edge, known: Option<Edge>) -> bool {
-    match known {
-        Some(known) => {
-            edge.to > known.to || (edge.to == known.to && matches!(edge.kind, Kind::Differ))
-        }
-        None => true,
-    }
-}
-
-// The last payload from a release, by destination and kind, of those that give its sum.
-fn first_payload(edges: &[Edge], sums: &[Option<u64>], from: usize, sum: u64) -> Option<Edge> {
-    let mut found = None;
-    for edge in edges {
-        if edge.from == from && sum_by(sums, edge) == Some(sum) && comes_after(edge, found) {
-            found = Some(*edge);
-        }
-    }
-    found
+    Ok(best)
 }
 
 fn push_release(
     alloc: Global,
     words: &mut String,
     edges: &[Edge],
-    sums: &[Option<u64>],
+    count: usize,
     from: usize,
+    target: usize,
 ) -> Result<(), AllocError> {
-    let Some(Some(sum)) = sums.get(from).copied() else {
-        return words.push_str(" none");
-    };
-    match first_payload(edges, sums, from, sum) {
-        Some(edge) => push_price(alloc, words, sum, edge.kind, edge.to),
-        None => words.push_str(" end"),
+    if from == target {
+        return words.push_str(" end");
+    }
+    match least_chain(alloc, edges, count, from, target)? {
+        Some(chain) => push_price(alloc, words, chain.sum, chain.first.kind, chain.first.to),
+        None => words.push_str(" none"),
     }
 }
 
@@ -105,10 +127,9 @@ pub(crate) fn slow_words(
     };
     let count = app.releases.as_slice().len();
     let edges = permitted(alloc, catalogue, app, key)?;
-    let sums = least_sums(alloc, edges.as_slice(), count, target)?;
     let mut words = String::new(alloc);
     for from in 0..count {
-        push_release(alloc, &mut words, edges.as_slice(), sums.as_slice(), from)?;
+        push_release(alloc, &mut words, edges.as_slice(), count, from, target)?;
     }
     Ok(words)
 }

@@ -139,7 +139,8 @@ fn push_step(alloc: Global, lines: &mut String, from: u64, to: u64) -> Result<()
     lines.push_str(line.as_str())
 }
 
-fn stone_lines(alloc: Global) -> Result<String, AllocError> {
+/// The lines of 512 releases, each a stone, whose packages have 2^40 bytes.
+pub(crate) fn stone_lines(alloc: Global) -> Result<String, AllocError> {
     let mut lines = String::from_str(alloc, "add_app demo stable\n")?;
     for release in 1..513u64 {
         push_line(alloc, &mut lines, release)?;
