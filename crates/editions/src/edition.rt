@@ -1,6 +1,7 @@
 ghost use Rattle.std.specs.Prelude.{◌≡◌, ◌≤◌, [], ◌∷◌, ◌++◌, IfOk, length, map, option_map};
 ghost use Rattle.std.specs.Arc.{arc_value};
 ghost use Rattle.histories.specs.Histories.{LeadsTo};
+ghost use Rattle.par_tables.specs.Tables.{AreTables};
 ghost use Rattle.payload_graph.specs.Net.{net_among};
 ghost use Rattle.editions.specs.Editions.{content_of, most_batches, Continues, IsTrackKey};
 
@@ -84,6 +85,13 @@ impl Edition {
         ensures { LeadsTo self.now result.now }
     {
         &self.catalogue
+    }
+
+    /// Borrows the certified tables of all tracks with a target, in their order.
+    pub fn tables(&self) -> &[Certified]
+        ensures { AreTables (content_of self.now) result.now }
+    {
+        self.tables.as_slice()
     }
 
     // rule: Tables of an edition

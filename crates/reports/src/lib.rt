@@ -1,0 +1,21 @@
+//! What an operator is told of an edition.
+//!
+//! `summary` counts what it has, `certify` writes the certificate of a track that is chosen by names, and
+//! `verify` says whether a certificate is right. Read `specs/Summaries.antt` and `specs/Certificates.antt`.
+//!
+//! It reads no file and prints nothing.
+
+#![tactic(auto)]
+
+mod certifying;
+mod counting;
+mod fault;
+mod names;
+mod tables;
+mod verifying;
+
+pub use crate::certifying::certify;
+pub use crate::counting::summary;
+pub use crate::fault::CertificateError;
+pub use crate::names::TrackNames;
+pub use crate::verifying::verify;

@@ -1,0 +1,84 @@
+//! Whether a certificate is right.
+
+ghost use Rattle.std.specs.Prelude.{◌≡◌, ◌<◌, IfErr, IfOk, Ok, Err, length};
+ghost use Rattle.records.specs.Lookups.{releases_at};
+ghost use Rattle.payload_graph.specs.Net.{net_among};
+ghost use Rattle.price_texts.specs.Texts.{spelled_at};
+ghost use Rattle.editions.specs.Editions.{content_of};
+ghost use Rattle.reports.specs.Certificates.{IsJudged, Verifies};
+
+use crate::fault::CertificateError;
+use crate::tables::table_of;
+use catalogue::Catalogue;
+use editions::Edition;
+use payload_graph::Graph;
+use price_cert::check;
+use price_texts::{read_key, read_prices};
+use std::alloc::{AllocError, Global};
+use values::{ReadError, Text};
+
+// The version of a release, as it was added.
+fn spelled_at(
+    alloc: Global,
+    catalogue: &Catalogue,
+    app: usize,
+    row: usize,
+) -> Result<Text, AllocError>
+    requires { app < length catalogue.now }
+    ensures { IfOk result (λ text. text ≡ spelled_at (releases_at catalogue.now app) row) }
+{
+    match catalogue.releases(app).get(row) {
+        Some(release) => release.spelled.clone(),
+        None => Text::copy_of(alloc, ""),
+    }
+}
+
+// What a certificate is found to be, of the graph of its track.
+fn judge(
+    alloc: Global,
+    catalogue: &Catalogue,
+    graph: &Graph,
+    text: &[u8],
+) -> Result<(), CertificateError>
+    requires { net_among catalogue.now graph.now.key ≡ Some graph.now }
+    ensures ok { IfOk result (λ done. IsJudged catalogue.now graph.now text.now (Ok done)) }
+    ensures err { IfErr result (λ error. IsJudged catalogue.now graph.now text.now (Err error)) }
+{
+    let app = graph.key().app;
+    let prices = match read_prices(alloc, catalogue, graph, text) {
+        Ok(prices) => prices,
+        Err(ReadError::Memory) => return Err(CertificateError::Memory),
+        Err(ReadError::Fault(fault)) => return Err(CertificateError::Line(fault)),
+    };
+    match check(graph, prices) {
+        Ok(_) => Ok(()),
+        Err((wrong, _)) => {
+            let release = spelled_at(alloc, catalogue, app, wrong.row)?;
+            Err(CertificateError::Wrong(release, wrong.rule))
+        }
+    }
+}
+
+// rule: Right certificate
+/// Checks a certificate against the track that it names.
+///
+/// Fails, in this order, with the first wrong line among the first five; `NoTrack` if the edition has no
+/// table of that track; the first wrong line of the others; and the first wrong row from the highest
+/// version, with the first rule that it breaks.
+pub fn verify(alloc: Global, edition: &Edition, text: &[u8]) -> Result<(), CertificateError>
+    ensures ok { IfOk result (λ done. Verifies (content_of edition.now) text.now (Ok done)) }
+    ensures err { IfErr result (λ error. Verifies (content_of edition.now) text.now (Err error)) }
+{
+    let catalogue = edition.catalogue();
+    let key = match read_key(catalogue, text) {
+        Ok(key) => key,
+        Err(fault) => return Err(CertificateError::Line(fault)),
+    };
+    if table_of(edition, &key).is_none() {
+        return Err(CertificateError::NoTrack);
+    }
+    match Graph::of_track(alloc, catalogue, &key)? {
+        Some(graph) => judge(alloc, catalogue, &graph, text),
+        None => Err(CertificateError::NoTrack),
+    }
+}
