@@ -14,6 +14,8 @@ mod devices;
 #[cfg(test)]
 mod head_tests;
 #[cfg(test)]
+mod memory_tests;
+#[cfg(test)]
 mod package_tests;
 #[cfg(test)]
 mod reply_tests;

@@ -1,13 +1,16 @@
 -- What the arguments of the command line ask for, as `clap` reads them; this project's profile.
 use Rattle.std.specs.Prelude.{ℕ, ◌^◌, ◌==◌, ◌&&◌, Bool, true, List, [], ◌∷◌, codes, length, nat_lt, slice_index, if◌then◌else◌, Option, Some, None, unwrap_or}
 use Rattle.std.specs.Option.{option_map_or}
-use Rattle.std.specs.Str.{all_ascii_digits}
+use Rattle.std.specs.Str.{all_ascii_digits, bytes_eq}
 use Rattle.std.specs.Str.Parse.{digits_value}
 use Rattle.clap.specs.Kinds.{or_else}
 use Rattle.clap.specs.Simple.{on_top}
 use Rattle.clap.specs.Words.{App, Kinds, Row, Rule, Text, fault_of, first_of, new_app, new_rule, subcommand_of, with_rule, with_subcommand}
 use Rattle.clap.specs.declared.error.kind.ErrorKind.TheVariants.{ValueValidation}
-use Rattle.omaha_cli.specs.declared.command_line.Once.{Once}
+use Rattle.omaha_cli.specs.ReportArguments.{certify_app, check_app, explain_app, faults_of_report, report_in, verify_app}
+use Rattle.omaha_cli.specs.declared.command.Command.{Command}
+use Rattle.omaha_cli.specs.declared.command.Command.TheVariants as command
+use Rattle.omaha_cli.specs.declared.command.Once.{Once}
 
 -- an option `--name VALUE`
 abbrev pub option_named : List ℕ → Rule
@@ -19,12 +22,18 @@ once_app =
     with_rule (with_rule (new_app (codes "once")) (option_named (codes "profile")))
     (option_named (codes "moment"))
 
--- the program's commands; its arguments are those after its name
+-- the program without its commands; its arguments are those after its name
+abbrev pub plain_app : App
+plain_app = on_top (λ top. record top { no_binary_name = true; has_version = true }) (new_app (codes "omaha"))
+
+-- the program's commands
 abbrev pub omaha_app : App
 omaha_app =
     with_subcommand
-    (on_top (λ top. record top { no_binary_name = true; has_version = true }) (new_app (codes "omaha")))
-    once_app.top
+    (with_subcommand
+    (with_subcommand (with_subcommand (with_subcommand plain_app once_app.top) check_app.top) certify_app.top)
+    verify_app.top)
+    explain_app.top
 
 -- the string begins with a `+`
 abbrev pub has_plus : List ℕ → Bool
@@ -59,14 +68,28 @@ faults_of_once options = option_map_or (λ moment. []) (moment_in options) (Valu
 abbrev pub plain_once : Once
 plain_once = record { profile = None; moment = 0 }
 
+-- what the command of a name is asked to do
+abbrev pub command_in : List ℕ → List Row → Command
+command_in name options =
+    if bytes_eq name (codes "once") then command.Once (once_in options)
+    else (if bytes_eq name (codes "explain") then command.Explain (first_of (codes "CODE") options)
+    else command.Report (report_in name options))
+
+-- what is wrong with the options of the command of a name
+abbrev pub faults_in : List ℕ → List Row → Kinds
+faults_in name options =
+    if bytes_eq name (codes "once") then faults_of_once options
+    else (if bytes_eq name (codes "explain") then [] else faults_of_report name options)
+
 -- rule: Arguments of the command line
 -- what the arguments ask for
-abbrev pub once_of : List Text → Once
-once_of words = option_map_or (λ named. once_in named.1) (subcommand_of omaha_app words) plain_once
+abbrev pub command_of : List Text → Command
+command_of words =
+    option_map_or (λ named. command_in named.0 named.1) (subcommand_of omaha_app words) (command.Once plain_once)
 
 -- what is wrong with the arguments, or the help or version that they ask for: what `clap` finds, else
 -- what is wrong with the options
 abbrev pub faults_of : List Text → Kinds
 faults_of words =
     or_else (fault_of omaha_app words)
-    (option_map_or (λ named. faults_of_once named.1) (subcommand_of omaha_app words) [])
+    (option_map_or (λ named. faults_in named.0 named.1) (subcommand_of omaha_app words) [])

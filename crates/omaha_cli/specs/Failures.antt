@@ -3,6 +3,7 @@ use Rattle.std.specs.Prelude.{ℕ, List, ◌++◌, codes}
 use Rattle.catalogue.specs.FaultTexts.{refused_text}
 use Rattle.omaha_json.specs.Faults.{fault_text}
 use Rattle.profile_toml.specs.FaultTexts.{fault_text as profile_fault_text}
+use Rattle.reports.specs.FaultTexts.{error_text}
 use Rattle.omaha_cli.specs.Paths.{shown_path}
 use Rattle.omaha_cli.specs.declared.failure.Failure.{Failure}
 use Rattle.omaha_cli.specs.declared.failure.Failure.TheVariants as failure
@@ -16,5 +17,7 @@ failure_text (failure.Edit refused) = refused_text refused
 failure_text failure.Read = codes "read"
 failure_text failure.TooLong = codes "read"
 failure_text (failure.Request fault) = fault_text fault
+failure_text (failure.Certificate error) = error_text error
+failure_text (failure.Code code) = codes "no code " ++ shown_path code
 failure_text failure.Memory = codes "memory"
 failure_text failure.Write = codes "write"

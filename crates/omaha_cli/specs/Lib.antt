@@ -1,7 +1,10 @@
 pub mod Commands
+pub mod Doing
 pub mod Failures
 pub mod Once
 pub mod Paths
 pub mod Refusals
+pub mod ReportArguments
+pub mod Reports
 pub mod Running
 pub mod Streams

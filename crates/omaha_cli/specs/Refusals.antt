@@ -2,6 +2,8 @@
 use Rattle.omaha_json.specs.declared.fault.RequestFault.{RequestFault}
 use Rattle.omaha_service.specs.declared.fault.ServiceFault.{ServiceFault}
 use Rattle.omaha_service.specs.declared.fault.ServiceFault.TheVariants as service
+use Rattle.reports.specs.declared.fault.CertificateError.{CertificateError}
+use Rattle.reports.specs.declared.fault.CertificateError.TheVariants as certificate
 use Rattle.streams.specs.declared.reading.ReadFailure.{ReadFailure}
 use Rattle.streams.specs.declared.reading.ReadFailure.TheVariants as input
 use Rattle.values.specs.declared.read_error.ReadError.{ReadError}
@@ -22,3 +24,7 @@ failure_of_service (errors.Fault (service.Edit refused)) = failure.Edit refused
 abbrev pub failure_of_request : ReadError RequestFault → Failure
 failure_of_request errors.Memory = failure.Memory
 failure_of_request (errors.Fault fault) = failure.Request fault
+
+abbrev pub failure_of_certificate : CertificateError → Failure
+failure_of_certificate certificate.Memory = failure.Memory
+failure_of_certificate error = failure.Certificate error

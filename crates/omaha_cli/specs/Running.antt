@@ -6,9 +6,10 @@ use Rattle.clap.specs.declared.error.kind.ErrorKind.{ErrorKind}
 use Rattle.clap.specs.declared.error.kind.ErrorKind.TheVariants as kind
 use Rattle.streams.specs.Streams.{Known}
 use Rattle.streams.specs.Writing.{Breaks, IsWritten}
-use Rattle.omaha_cli.specs.Commands.{faults_of, once_of}
+use Rattle.omaha_cli.specs.Commands.{command_of, faults_of}
+use Rattle.omaha_cli.specs.Doing.{Does}
 use Rattle.omaha_cli.specs.Failures.{failure_text}
-use Rattle.omaha_cli.specs.Once.{Files, Responds}
+use Rattle.omaha_cli.specs.Once.{Files}
 use Rattle.omaha_cli.specs.Streams.{Streams}
 use Rattle.omaha_cli.specs.declared.failure.Failure.{Failure}
 use Rattle.omaha_cli.specs.declared.failure.Failure.TheVariants as failure
@@ -62,14 +63,14 @@ Misreads told before after ended =
 -- How a run ends, by its arguments. A command does what its own relation says.
 abbrev pub Ends : Files → List Text → Streams → Streams → Ending → Type 0
 Ends files words old new ending.Replied =
-    (faults_of words ≡ []) × Responds files (once_of words) old new (Ok tt)
+    (faults_of words ≡ []) × Does files (command_of words) old new (Ok tt)
 Ends files words old new ending.Shown =
     AsksToShow (faults_of words)
     × ((text : List ℕ) × Appends old.output.bytes new.output.bytes text)
     × (new.input ≡ old.input)
 Ends files words old new (ending.Mistaken text) = HasMistake (faults_of words) × (new ≡ old)
 Ends files words old new (ending.Failed refusal) =
-    ((faults_of words ≡ []) × Responds files (once_of words) old new (Err refusal))
+    ((faults_of words ≡ []) × Does files (command_of words) old new (Err refusal))
     ⊎ (AsksToShow (faults_of words) × (refusal ≡ failure.Write)
     × ((text : List ℕ) × Breaks old.output new.output text)
     × (new.input ≡ old.input))

@@ -1,11 +1,15 @@
 // The command line, as `clap` reads it.
 
-ghost use Rattle.std.specs.Prelude.{◌≡◌, codes, IfOk, map, string_bytes};
-ghost use Rattle.clap.specs.Words.{FailsBy, app_of, first_of, found_of, kind_of, rows_of};
-ghost use Rattle.omaha_cli.specs.Commands.{faults_of, faults_of_once, has_plus, moment_in, moment_of, omaha_app, once_app, once_in, once_of};
+ghost use Rattle.std.specs.Prelude.{◌≡◌, codes, true, IfOk, map, string_bytes};
+ghost use Rattle.clap.specs.Words.{FailsBy, app_of, first_of, found_of, kind_of, rows_of, with_subcommand};
+ghost use Rattle.omaha_cli.specs.Commands.{command_in, command_of, faults_in, faults_of, faults_of_once, has_plus, moment_in, moment_of, omaha_app, once_app, once_in, plain_app};
 
+use crate::command::{Command, Once};
+use crate::report_arguments::{
+    certify_command, check_command, explain_command, read_code, read_report, verify_command,
+};
 use clap::error::ErrorKind;
-use clap::{Arg, ArgMatches, Command, Error};
+use clap::{Arg, ArgMatches, Error};
 use std::alloc::{AllocError, Global};
 use values::Text;
 
@@ -48,16 +52,7 @@ Example: a client without an installed version asks for the built-in app `mini`.
   echo '{\"request\":{\"app\":[{\"appid\":\"mini\",\"updatecheck\":{}}],\"protocol\":\"3.1\"}}' |
     omaha once --moment 1767229261";
 
-/// What the command `once` is asked to do.
-#[derive(Drop)]
-pub struct Once {
-    /// The path of the profile, or `None` for the built-in catalogue.
-    pub profile: Option<Text>,
-    /// The time of the reply, in seconds since 1 January 1970 UTC.
-    pub moment: u64,
-}
-
-fn once_command<'a>(alloc: Global) -> Result<Command<'a>, AllocError>
+fn once_command<'a>(alloc: Global) -> Result<clap::Command<'a>, AllocError>
     ensures { IfOk result (λ command. app_of command ≡ once_app) }
 {
     let profile = Arg::new(alloc, "profile")
@@ -68,24 +63,48 @@ fn once_command<'a>(alloc: Global) -> Result<Command<'a>, AllocError>
         .long("moment")
         .value_name("N")
         .help(MOMENT);
-    let command = Command::new(alloc, "once")
+    let command = clap::Command::new(alloc, "once")
         .about(ONCE)
         .after_help(AFTER_ONCE);
     let command = command.arg(profile)?.arg(moment)?;
     Ok(command)
 }
 
-fn omaha_command<'a>(alloc: Global) -> Result<Command<'a>, AllocError>
-    ensures { IfOk result (λ command. app_of command ≡ omaha_app) }
+// The program without its commands.
+fn plain_command<'a>(alloc: Global) -> Result<clap::Command<'a>, AllocError>
+    ensures { IfOk result (λ command. app_of command ≡ plain_app) }
 {
-    let once = once_command(alloc)?;
-    let command = Command::new(alloc, "omaha")
+    let command = clap::Command::new(alloc, "omaha")
         .no_binary_name(true)
         .version(VERSION)
         .about(OMAHA)
         .after_help(AFTER_OMAHA);
-    let command = command.bin_name("omaha")?.subcommand(once)?;
+    let command = command.bin_name("omaha")?;
     Ok(command)
+}
+
+// The program with one more command.
+fn with_command<'a>(
+    program: clap::Command<'a>,
+    command: clap::Command<'a>,
+) -> Result<clap::Command<'a>, AllocError>
+    requires { (app_of command).top.is_plain ≡ true }
+    ensures { IfOk result (λ more. app_of more ≡ with_subcommand (app_of program.entry) (app_of command.entry).top) }
+{
+    let more = program.subcommand(command)?;
+    Ok(more)
+}
+
+fn omaha_command<'a>(alloc: Global) -> Result<clap::Command<'a>, AllocError>
+    ensures { IfOk result (λ command. app_of command ≡ omaha_app) }
+{
+    let program = plain_command(alloc)?;
+    let program = with_command(program, once_command(alloc)?)?;
+    let program = with_command(program, check_command(alloc)?)?;
+    let program = with_command(program, certify_command(alloc)?)?;
+    let program = with_command(program, verify_command(alloc)?)?;
+    let program = with_command(program, explain_command(alloc)?)?;
+    Ok(program)
 }
 
 // Whether a string begins with a `+`.
@@ -147,22 +166,36 @@ fn read_once(alloc: Global, matches: &ArgMatches<'_>) -> Result<Once, Error>
     Ok(Once { profile, moment })
 }
 
+// Reads the arguments of a command.
+fn read_command(alloc: Global, name: &str, matches: &ArgMatches<'_>) -> Result<Command, Error>
+    ensures faults { FailsBy (faults_in name.now (rows_of (found_of matches.now))) result }
+    ensures command { IfOk result (λ command. command ≡ command_in name.now (rows_of (found_of matches.now))) }
+{
+    if name == "once" {
+        return Ok(Command::Once(read_once(alloc, matches)?));
+    }
+    if name == "explain" {
+        return Ok(Command::Explain(read_code(alloc, matches)?));
+    }
+    Ok(Command::Report(read_report(alloc, name, matches)?))
+}
+
 // rule: Arguments of the command line
 /// Reads the arguments after the program's name.
 ///
 /// Fails with the error of `clap` if it does not accept them, or if they ask for the help or the
 /// version; else with `ValueValidation` if `--moment` is no decimal number below 2^64; and with
 /// `OutOfMemory` if an allocation fails.
-pub(crate) fn read_arguments(alloc: Global, arguments: &[String]) -> Result<Once, Error>
+pub(crate) fn read_arguments(alloc: Global, arguments: &[String]) -> Result<Command, Error>
     ensures faults { FailsBy (faults_of (map string_bytes arguments.now)) result }
-    ensures once { IfOk result (λ once. once ≡ once_of (map string_bytes arguments.now)) }
+    ensures command { IfOk result (λ command. command ≡ command_of (map string_bytes arguments.now)) }
 {
     let matches = omaha_command(alloc)?.try_get_matches_from(arguments)?;
     match matches.subcommand() {
-        None => Ok(Once {
+        None => Ok(Command::Once(Once {
             profile: None,
             moment: 0,
-        }),
-        Some((_, once)) => read_once(alloc, once),
+        })),
+        Some((name, options)) => read_command(alloc, name, options),
     }
 }

@@ -6,13 +6,14 @@ use catalogue::Refused;
 use omaha_json::RequestFault;
 use omaha_service::ServiceFault;
 use profile_toml::ProfileFault;
+use reports::CertificateError;
 use std::alloc::AllocError;
 use std::error::Error;
 use std::fmt;
 use streams::ReadFailure;
 use values::{ReadError, Text};
 
-/// Why the program writes no reply; it prints as the rest of the line that begins `omaha: `.
+/// Why a command fails; it prints as the rest of the line that begins `omaha: `.
 ///
 /// Those of the profile come before those of the request.
 #[derive(Debug, Drop)]
@@ -30,6 +31,10 @@ pub enum Failure {
     TooLong,
     /// The request is invalid.
     Request(RequestFault),
+    /// There is no such certificate, or it is not right.
+    Certificate(CertificateError),
+    /// The program prints no such code. The code prints without control characters.
+    Code(Text),
     /// Memory ran out.
     Memory,
     /// The reply could not be written.
@@ -53,6 +58,13 @@ impl fmt::Display for Failure {
             Failure::Read => write!(f, "read"),
             Failure::TooLong => write!(f, "read"),
             Failure::Request(fault) => write!(f, "{fault}"),
+            Failure::Certificate(error) => write!(f, "{error}"),
+            Failure::Code(code) => {
+                let code = ShownPath {
+                    path: code.as_str(),
+                };
+                write!(f, "no code {code}")
+            }
             Failure::Memory => write!(f, "memory"),
             Failure::Write => write!(f, "write"),
         }
@@ -112,6 +124,20 @@ impl From<ReadError<RequestFault>> for Failure {
         match error {
             ReadError::Fault(fault) => Failure::Request(fault),
             ReadError::Memory => Failure::Memory,
+        }
+    }
+}
+
+impl From<CertificateError> for Failure {
+    ghost use Rattle.std.specs.Prelude.{◌≡◌};
+    ghost use Rattle.omaha_cli.specs.Refusals.{failure_of_certificate};
+
+    ghost from_gives = { λ error failure. failure ≡ failure_of_certificate error };
+
+    fn from(error: CertificateError) -> Failure {
+        match error {
+            CertificateError::Memory => Failure::Memory,
+            error => Failure::Certificate(error),
         }
     }
 }

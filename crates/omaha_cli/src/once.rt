@@ -1,32 +1,41 @@
 // The command `once`: a reply to the one request that a reader holds.
 
+ghost use Rattle.std.specs.Prelude.{Some};
 ghost use Rattle.omaha_cli.specs.Once.{IsServed, Replies, Responds};
 ghost use Rattle.omaha_cli.specs.Streams.{Streams};
 
-use crate::command_line::Once;
+use crate::command::Once;
 use crate::failure::Failure;
 use omaha_service::{Service, answer, builtin_service, read_service};
 use std::alloc::Global;
 use streams::{Disk, ReadFailure, ReadWhole, WriteWhole};
+use values::Text;
 
 /// How many bytes a request may have.
 const MAX_INPUT: u32 = 262144;
 
 /// How many bytes a profile may have.
-const MAX_PROFILE: u32 = 67108864;
+pub(crate) const MAX_PROFILE: u32 = 67108864;
 
 // rule: Maximum of a profile
-// Reads the profile's file, if one is named, and makes what requests are replied to from.
-fn open_service<R: Disk + AllocGlobal>(rt: &R, once: &Once) -> Result<Service, Failure>
-    ensures { IsServed (R.file_at rt.now) once.now.profile result }
+/// Reads a profile's file, and makes what requests are replied to from.
+pub(crate) fn open_profile<R: Disk + AllocGlobal>(rt: &R, path: &Text) -> Result<Service, Failure>
+    ensures { IsServed (R.file_at rt.now) (Some path.now) result }
 {
-    let Some(path) = &once.profile else {
-        return Ok(builtin_service(rt.alloc())?);
-    };
     match rt.read_file(rt.alloc(), path.as_str(), MAX_PROFILE) {
         Ok(bytes) => Ok(read_service(rt.alloc(), bytes.as_slice())?),
         Err(ReadFailure::Memory) => Err(Failure::Memory),
         Err(_) => Err(Failure::File(path.clone()?)),
+    }
+}
+
+// What requests are replied to from: the profile's file, if one is named.
+fn open_service<R: Disk + AllocGlobal>(rt: &R, once: &Once) -> Result<Service, Failure>
+    ensures { IsServed (R.file_at rt.now) once.now.profile result }
+{
+    match &once.profile {
+        Some(path) => open_profile(rt, path),
+        None => Ok(builtin_service(rt.alloc())?),
     }
 }
 

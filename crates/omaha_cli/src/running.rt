@@ -2,11 +2,15 @@
 
 ghost use Rattle.std.specs.Prelude.{◌≡◌, map, string_bytes};
 ghost use Rattle.clap.specs.Words.{kind_of};
+ghost use Rattle.omaha_cli.specs.Doing.{Does};
 ghost use Rattle.omaha_cli.specs.Running.{Ends, IsMistaken, IsReported, IsTold, Misreads, Runs, Shows, code_of, status_of};
 
+use crate::command::Command;
 use crate::command_line::read_arguments;
+use crate::explaining::explain_code;
 use crate::failure::Failure;
 use crate::once::respond;
+use crate::reporting::report_on;
 use clap::Error;
 use clap::error::ErrorKind;
 use std::alloc::Global;
@@ -16,7 +20,7 @@ use values::Text;
 /// How a run ends.
 #[derive(Drop)]
 pub enum Ending {
-    /// The command did what it does: the reply was written.
+    /// The command did what it does: the reply or the report was written.
     Replied,
     /// The help or the version was printed.
     Shown,
@@ -92,6 +96,24 @@ fn end_misread<W: WriteWhole>(alloc: Global, error: &Error, writer: &mut W) -> E
     }
 }
 
+// Does what a command asks for.
+fn obey<R: Disk + AllocGlobal, I: ReadWhole, W: WriteWhole>(
+    rt: &R,
+    command: &Command,
+    reader: &mut I,
+    writer: &mut W,
+) -> Result<(), Failure>
+    ensures { Does (R.file_at rt.now) command.now
+        (record { input = I.input reader.old; output = W.output writer.old })
+        (record { input = I.input reader.new; output = W.output writer.new }) result }
+{
+    match command {
+        Command::Once(once) => respond(rt, once, reader, writer),
+        Command::Report(asked) => report_on(rt, asked, writer),
+        Command::Explain(code) => explain_code(rt.alloc(), code, writer),
+    }
+}
+
 // Carries out what the arguments ask for.
 fn carry_out<R: Disk + AllocGlobal, I: ReadWhole, W: WriteWhole>(
     rt: &R,
@@ -105,7 +127,7 @@ fn carry_out<R: Disk + AllocGlobal, I: ReadWhole, W: WriteWhole>(
     ensures untouched { IsMistaken result → (reader.new ≡ reader.old) × (writer.new ≡ writer.old) }
 {
     match read_arguments(rt.alloc(), arguments) {
-        Ok(once) => match respond(rt, &once, reader, writer) {
+        Ok(command) => match obey(rt, &command, reader, writer) {
             Ok(()) => Ending::Replied,
             Err(failure) => Ending::Failed(failure),
         },
@@ -138,9 +160,10 @@ fn report<F: WriteWhole>(alloc: Global, ending: &Ending, errors: &mut F)
 // rule: Status of the program
 /// Runs the program with the arguments after its name, and returns its exit status.
 ///
-/// Without arguments, or with `once` and its options, it does what `respond` does. It returns 0 if
-/// the reply was written, or the help or the version printed; 1 if the command failed, after one line
-/// on `errors`; and 2 if the arguments are invalid, after `clap`'s message on `errors`.
+/// Without arguments, or with `once` and its options, it does what `respond` does; with `check`, `certify` or
+/// `verify` what `report_on` does. It returns 0 if the reply or the report was written, or the help or the
+/// version printed; 1 if the command failed, after one line on `errors`; and 2 if the arguments are invalid,
+/// after `clap`'s message on `errors`.
 pub fn run<R: Disk + AllocGlobal, I: ReadWhole, W: WriteWhole, F: WriteWhole>(
     rt: &R,
     arguments: &[String],

@@ -5,15 +5,21 @@
 #![tactic(auto)]
 
 #[cfg(test)]
+mod chained;
+#[cfg(test)]
 mod command_tests;
 #[cfg(test)]
 mod devices;
 #[cfg(test)]
 mod ending;
 #[cfg(test)]
+mod explain_tests;
+#[cfg(test)]
 mod failing_tests;
 #[cfg(test)]
 mod offers;
+#[cfg(test)]
+mod report_tests;
 #[cfg(test)]
 mod runs;
 #[cfg(test)]

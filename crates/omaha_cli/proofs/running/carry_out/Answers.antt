@@ -2,8 +2,8 @@ use Rattle.std.proofs.Common.{map, rules, string_bytes}
 use Rattle.omaha_cli.proofs.EndingLemmas.{Ends-misread}
 use Rattle.omaha_cli.proofs.running.carry_out.Goals as goal
 
-pub returns-in-Ok-respond-clause-ends : goal.returns-in-Ok-respond-clause-ends
-returns-in-Ok-respond-clause-ends g c = search rules
+pub returns-in-Ok-obey-clause-ends : goal.returns-in-Ok-obey-clause-ends
+returns-in-Ok-obey-clause-ends g c = search rules
 
 pub returns-clause-ends : goal.returns-clause-ends
 returns-clause-ends g c =

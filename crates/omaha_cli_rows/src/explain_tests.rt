@@ -1,0 +1,104 @@
+// The command `explain`: every code that the program prints has its explanation.
+
+use crate::ending::{ends, refused, replied};
+use crate::report_tests::shelf;
+use catalogue::Fault;
+use explanations::{explain, list};
+use omaha_cli::Failure;
+use omaha_json::RequestFault;
+use profile_toml::ProfileFault;
+use reports::CertificateError;
+use std::alloc::Global;
+use std::process::Abort;
+use std::test::Fail;
+use values::Text;
+
+// The first line of the explanation of a line's first word, without what follows the fault's name.
+fn head_of(alloc: Global, line: &str) -> Result<String, Fail> {
+    let word = line.split(' ').next().unwrap_or("");
+    let Some(text) = explain(alloc, word)? else {
+        return Err("no explanation".into());
+    };
+    Ok(String::from_str(alloc, text.as_str().lines().next().unwrap_or(""))?)
+}
+
+const EDITS: [Fault; 17] = [
+    Fault::UnknownApp,
+    Fault::AppExists,
+    Fault::BadAppId,
+    Fault::BadVersion,
+    Fault::ReleaseExists,
+    Fault::HashTaken,
+    Fault::BadHash,
+    Fault::BadSize,
+    Fault::BadName,
+    Fault::NameTaken,
+    Fault::UnknownRelease,
+    Fault::DiffExists,
+    Fault::DiffBackward,
+    Fault::UnknownCohort,
+    Fault::CohortExists,
+    Fault::BadShare,
+    Fault::Limit,
+];
+
+#[test]
+fn explains_each_fault_of_an_edit(rt: HostRuntime) -> Result<(), Fail> {
+    let alloc = rt.alloc();
+    for fault in EDITS {
+        let line = format!(in alloc; "{fault}")?;
+        let head = head_of(alloc, line.as_str())?;
+        assert_eq!(rt; head.as_str(), line.as_str());
+    }
+    Ok(())
+}
+
+fn failures(alloc: Global) -> Result<Vec<Failure>, Fail> {
+    let mut failures = Vec::new(alloc);
+    failures.push(Failure::File(Text::copy_of(alloc, "F")?))?;
+    failures.push(Failure::Profile(ProfileFault::NotToml))?;
+    failures.push(Failure::Profile(ProfileFault::BadSchema))?;
+    failures.push(Failure::Profile(ProfileFault::BadEntry(Text::copy_of(
+        alloc, "app",
+    )?)))?;
+    failures.push(Failure::Profile(ProfileFault::BadMirror(0)))?;
+    failures.push(Failure::Profile(ProfileFault::TooManyEdits))?;
+    failures.push(Failure::Read)?;
+    failures.push(Failure::TooLong)?;
+    failures.push(Failure::Request(RequestFault::NotJson))?;
+    failures.push(Failure::Request(RequestFault::NoRequest))?;
+    failures.push(Failure::Request(RequestFault::BadProtocol))?;
+    failures.push(Failure::Request(RequestFault::BadApp { index: 0 }))?;
+    failures.push(Failure::Request(RequestFault::TooManyApps))?;
+    failures.push(Failure::Certificate(CertificateError::NoTrack))?;
+    failures.push(Failure::Memory)?;
+    failures.push(Failure::Write)?;
+    Ok(failures)
+}
+
+#[test]
+fn explains_each_failure(rt: HostRuntime) -> Result<(), Fail> {
+    let alloc = rt.alloc();
+    for failure in failures(alloc)?.as_slice() {
+        let line = format!(in alloc; "{failure}")?;
+        let head = head_of(alloc, line.as_str())?;
+        let same = line.as_str().starts_with(head.as_str());
+        assert!(rt; same, "{line}");
+    }
+    Ok(())
+}
+
+#[test]
+fn explains_and_lists(rt: HostRuntime) -> Result<(), Fail> {
+    let shelf = shelf(rt.alloc());
+    let wanted = "P1 BadLine
+That line of the certificate, from 1, is not well formed, is missing or is too many.
+Usual cause: A leading zero, a space at the end, CR LF, or a file that was cut.
+Remedy: Write the certificate anew by `omaha certify`.
+";
+    ends(&rt, &shelf, &["explain", "P1"], "{", replied(wanted))?;
+    let all = list(rt.alloc())?;
+    ends(&rt, &shelf, &["explain"], "{", replied(all.as_str()))?;
+    let unknown = refused("omaha: no code C18\n");
+    ends(&rt, &shelf, &["explain", "C18"], "{", unknown)
+}

@@ -1,0 +1,86 @@
+// The commands `check`, `certify` and `verify`.
+
+use crate::chained::{
+    BETA, CHAINED, ELSEWHERE, HELD_BETA, OF_NONE, STABLE, TOO_LOW, UNKNOWN, UNPRICED, ZERO_FIRST,
+};
+use crate::ending::{ends, replied};
+use crate::runs::first_wrong;
+use crate::shelf::Shelf;
+use std::alloc::Global;
+use std::test::Fail;
+
+const FILES: [(&str, &str); 10] = [
+    ("chained.toml", CHAINED),
+    ("unknown.toml", UNKNOWN),
+    ("stable.prices", STABLE),
+    ("too-low.prices", TOO_LOW),
+    ("unpriced.prices", UNPRICED),
+    ("zero-first.prices", ZERO_FIRST),
+    ("elsewhere.prices", ELSEWHERE),
+    ("of-none.prices", OF_NONE),
+    ("beta.prices", BETA),
+    ("held-beta.prices", HELD_BETA),
+];
+
+pub(crate) fn shelf(alloc: Global) -> Shelf<'static> {
+    Shelf {
+        alloc,
+        files: FILES.as_slice(),
+        broken: "broken",
+        large: "large.toml",
+    }
+}
+
+#[test]
+fn reports_on_a_profile(rt: HostRuntime) -> Result<(), Fail> {
+    let shelf = shelf(rt.alloc());
+    let rows: [(&[&str], &str); 5] = [
+        (
+            &["check", "chained.toml"],
+            "edition 1: 1 apps, 4 releases, 5 differentials, 2 cohorts, 4 tables\n",
+        ),
+        (
+            &["certify", "chained.toml", "DEMO", "stable", "target", "no"],
+            STABLE,
+        ),
+        (
+            &["certify", "chained.toml", "demo", "beta", "target", "yes"],
+            BETA,
+        ),
+        (&["verify", "chained.toml", "stable.prices"], "certified\n"),
+        (&["verify", "chained.toml", "beta.prices"], "certified\n"),
+    ];
+    for (words, wanted) in rows {
+        ends(&rt, &shelf, words, "{", replied(wanted))?;
+    }
+    Ok(())
+}
+
+// Reports that fail: nothing is read or written.
+const FAILURES: &str = "1_omaha:_file_nowhere.toml~ | check nowhere.toml
+1_omaha:_edit_12:_C11_UnknownRelease~ | check unknown.toml
+1_omaha:_memory~ | certify large.toml demo stable target no
+1_omaha:_no_track~ | certify chained.toml other stable target no
+1_omaha:_no_track~ | certify chained.toml demo Stable target no
+1_omaha:_no_track~ | certify chained.toml demo stable target yes
+1_omaha:_no_track~ | certify chained.toml demo beta held yes
+1_omaha:_file_nowhere.prices~ | verify chained.toml nowhere.prices
+1_omaha:_edit_12:_C11_UnknownRelease~ | verify unknown.toml nowhere.prices
+1_omaha:_wrong_2.0_C3~ | verify chained.toml too-low.prices
+1_omaha:_wrong_2.0_C2~ | verify chained.toml unpriced.prices
+1_omaha:_P1_BadLine_9~ | verify chained.toml zero-first.prices
+1_omaha:_P2_NotOfThisGraph_9~ | verify chained.toml elsewhere.prices
+1_omaha:_P2_NotOfThisGraph_3~ | verify chained.toml of-none.prices
+1_omaha:_no_track~ | verify chained.toml held-beta.prices
+1_omaha:_P1_BadLine_1~ | verify chained.toml chained.toml
+2_error:_LANE_is | certify chained.toml demo stable targets no
+2_error:_LANE_is | certify chained.toml demo stable target nay
+2_error:_the_following_required_arguments_were_not_provided: | check
+2_error:_the_following_required_arguments_were_not_provided: | verify chained.toml";
+
+#[test]
+fn reports_why_there_is_no_report(rt: HostRuntime) -> Result<(), Fail> {
+    let wrong = first_wrong(&shelf(rt.alloc()), FAILURES)?;
+    assert!(rt; wrong.is_empty(), "{wrong}");
+    Ok(())
+}

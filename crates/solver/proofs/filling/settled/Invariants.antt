@@ -1,7 +1,0 @@
-use Rattle.std.proofs.Common.{◌++◌, take}
-use Rattle.payload_graph.specs.Net.{fulls, window}
-use Rattle.solver.specs.Best.{IsBest}
-use Rattle.solver.proofs.filling.settled.Given as goal
-
-abbrev pub invariant-loop-edge : goal.invariant-loop-edge
-invariant-loop-edge l = IsBest l.rows (fulls l.from (window l.graph l.from) ++ take l.edge-index l.differs) l.row
