@@ -2,7 +2,7 @@
 //!
 //! `explain` says of one what it means, its usual cause and the remedy; `list` names them all.
 //!
-//! It holds texts alone: when a code is printed is said where the fault is found.
+//! It holds strings alone: when a code is printed is said where the fault is found.
 
 #![tactic(auto)]
 

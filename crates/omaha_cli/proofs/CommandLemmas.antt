@@ -71,7 +71,7 @@ fails_by_options app words name options result found is none names named fails =
     let met = sym entered ∙ named in
     subst (λ (kinds : Kinds). FailsBy kinds result) (sym (ap₂ or_else nothing (options_of name options (subcommand_of omaha_app words) met))) fails
 
--- a command's name and its options, as they are told apart, are those that it was found with
+-- a command's name and its options, as they are kept apart, are those that it was found with
 pub named_as : (name : Text) (options : List Row) (found : Option (Text × List Row)) → Some name ≡ option_map (λ named. named.0) found → Some options ≡ option_map (λ named. named.1) found → found ≡ Some (name, options)
 named_as name options None same_name same_options = cc
 named_as name options (Some found) same_name same_options =

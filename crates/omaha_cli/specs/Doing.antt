@@ -7,7 +7,7 @@ use Rattle.omaha_cli.specs.declared.command.Command.{Command}
 use Rattle.omaha_cli.specs.declared.command.Command.TheVariants as command
 use Rattle.omaha_cli.specs.declared.failure.Failure.{Failure}
 
--- some text is printed and nothing else, or there is none
+-- some string is printed and nothing else, or there is none
 abbrev pub PrintsSome : Streams → Streams → Result (Unit {0}) Failure → Type 0
 PrintsSome old new result = (found : Result (List ℕ) Failure) × Prints found old new result
 

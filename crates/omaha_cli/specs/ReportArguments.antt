@@ -73,7 +73,7 @@ question_in name options =
 abbrev pub report_in : List ℕ → List Row → Report
 report_in name options = record { profile = text_in (codes "F") options; question = question_in name options }
 
--- the lane and the answer are such words
+-- LANE and ROLLBACK are such words
 abbrev pub faults_of_certify : List Row → Kinds
 faults_of_certify options =
     if is_some (lane_of (text_in (codes "LANE") options)) && is_some (answer_of (text_in (codes "ROLLBACK") options))

@@ -18,7 +18,7 @@ use Rattle.omaha_cli.specs.declared.command.Report.{Report}
 use Rattle.omaha_cli.specs.declared.failure.Failure.{Failure}
 use Rattle.omaha_cli.specs.declared.failure.Failure.TheVariants as failure
 
--- what is printed of a right certificate
+-- what is printed of a valid certificate
 abbrev pub certified_line : List ℕ
 certified_line = codes "certified\n"
 
@@ -26,14 +26,14 @@ certified_line = codes "certified\n"
 abbrev pub FailsAs : (CertificateError → Type 0) → Failure → Type 0
 FailsAs holds refusal = (error : CertificateError) × (refusal ≡ failure_of_certificate error) × holds error
 
--- the file is read, and its bytes are found right or wrong
+-- the file is read, and its bytes are found valid or not
 abbrev pub IsVerified : Files → List App → List ℕ → Result (Unit {0}) CertificateError → Type 0
 IsVerified files apps path found =
     (bytes : List ℕ) × IsWhole (files path) max_profile bytes × Verifies apps bytes found
 
 -- rule: Report on a profile
--- what a service's edition answers to a question: its summary; the certificate of the named track; or that
--- the certificate in the file is right. Or why there is no such answer.
+-- what is found for a question about a service's edition: its summary; the certificate of the named track; or
+-- that the certificate in the file is valid. Or why that is not found.
 abbrev pub Finds : Files → Service → Question → Result (List ℕ) Failure → Type 0
 Finds files service Check (Ok text) = text ≡ summary_of (length service.edition) (content_of service.edition)
 Finds files service Check (Err refusal) = refusal ≡ failure.Memory
@@ -47,7 +47,7 @@ Finds files service (Verify path) (Err refusal) =
     ⊎ (refusal ≡ failure.Memory)
     ⊎ FailsAs (λ error. IsVerified files (content_of service.edition) path (Err error)) refusal
 
--- what follows from what was made of the profile: an answer, or the same failure
+-- what follows from what was made of the profile: what is found, or the same failure
 abbrev pub IsFoundBy : Files → Question → Result Service Failure → Result (List ℕ) Failure → Type 0
 IsFoundBy files question (Ok service) found = Finds files service question found
 IsFoundBy files question (Err refusal) found = found ≡ Err refusal

@@ -39,6 +39,6 @@ pub enum Question {
     Check,
     /// The certificate of a track.
     Certify(TrackNames),
-    /// Whether a certificate is right, by the path of its file.
+    /// Whether a certificate is valid, by the path of its file.
     Verify(Text),
 }

@@ -7,7 +7,7 @@ ghost use Rattle.streams.specs.Streams.{Known};
 use crate::failure::Failure;
 use streams::WriteWhole;
 
-/// Prints a text. If the writer fails, a first part of it is printed, and not all of it.
+/// Prints a string. If the writer fails, a first part of it is printed, and not all of it.
 pub(crate) fn print<W: WriteWhole>(text: &[u8], writer: &mut W) -> Result<(), Failure>
     ensures { (input : Known) → Prints (Ok text.now)
         (record { input = input; output = W.output writer.old })

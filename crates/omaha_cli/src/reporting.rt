@@ -14,7 +14,7 @@ use reports::{certify, summary, verify};
 use streams::{Disk, ReadFailure, WriteWhole};
 use values::Text;
 
-// That the certificate in a file is right.
+// That the certificate in a file is valid.
 fn verify_file<R: Disk + AllocGlobal>(
     rt: &R,
     service: &Service,
@@ -32,7 +32,7 @@ fn verify_file<R: Disk + AllocGlobal>(
     Ok(Vec::from_slice(rt.alloc(), b"certified\n")?)
 }
 
-// What a service's edition answers to a question.
+// What is found for a question about a service's edition.
 fn find<R: Disk + AllocGlobal>(
     rt: &R,
     service: &Service,

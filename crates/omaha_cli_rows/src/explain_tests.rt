@@ -58,9 +58,7 @@ fn failures(alloc: Global) -> Result<Vec<Failure>, Fail> {
     failures.push(Failure::File(Text::copy_of(alloc, "F")?))?;
     failures.push(Failure::Profile(ProfileFault::NotToml))?;
     failures.push(Failure::Profile(ProfileFault::BadSchema))?;
-    failures.push(Failure::Profile(ProfileFault::BadEntry(Text::copy_of(
-        alloc, "app",
-    )?)))?;
+    failures.push(Failure::Profile(ProfileFault::BadEntry(Text::copy_of(alloc, "app")?)))?;
     failures.push(Failure::Profile(ProfileFault::BadMirror(0)))?;
     failures.push(Failure::Profile(ProfileFault::TooManyEdits))?;
     failures.push(Failure::Read)?;

@@ -107,12 +107,7 @@ fn offers_the_first_payload_of_a_least_chain(rt: HostRuntime) -> Result<(), Fail
 fn stone_offer(alloc: Global, place: &str) -> Result<String, Fail> {
     let lines = stone_lines(alloc)?;
     let catalogue = catalogue_of(alloc, lines.as_str(), "")?;
-    Ok(quoted(
-        alloc,
-        &catalogue,
-        &key_of("stable target no"),
-        place,
-    )?)
+    Ok(quoted(alloc, &catalogue, &key_of("stable target no"), place)?)
 }
 
 // 512 releases, each a stone, and each package of 2^40 bytes: the full package of the lowest, and 511

@@ -1,4 +1,4 @@
--- The certificate of a track that an operator names, and whether a certificate is right; this project's
+-- The certificate of a track that an operator names, and whether a certificate is valid; this project's
 -- profile.
 use Rattle.std.specs.Prelude.{◌≡◌, ⊤, ◌⊎◌, ℕ, Bool, false, not, ◌&&◌, if◌then◌else◌, List, Option, None, Some, option_and_then, option_map, position, slice_get, Result, Ok, Err}
 use Rattle.std.specs.Option.{option_map_or}
@@ -79,7 +79,7 @@ abbrev pub IsFoundOf : List App → List ℕ → Option Net → Result (Unit {0}
 IsFoundOf apps text None found = (found ≡ Err error.NoTrack) ⊎ (found ≡ Err error.Memory)
 IsFoundOf apps text (Some net) found = IsJudged apps net text found
 
--- rule: Right certificate
+-- rule: Valid certificate
 -- what is found of a certificate: its first wrong line among those of its key; else that there is no table of
 -- its track; else what is found against the graph of that
 abbrev pub VerifiesBy : List App → List ℕ → Result TrackKey Fault → Result (Unit {0}) CertificateError → Type 0

@@ -1,4 +1,4 @@
--- What an operator is told of an edition; this project's profile.
+-- What is reported of an edition; this project's profile.
 use Rattle.std.specs.Prelude.{ℕ, List, ◌++◌, codes, decimal, length, sum_by}
 use Rattle.records.specs.declared.content.App.{App}
 use Rattle.par_tables.specs.Tables.{nets_of}

@@ -75,7 +75,7 @@ impl fmt::Display for Totals {
 // rule: Summary of an edition
 /// Makes the line that counts what an edition has.
 ///
-/// It tells the edition's number, and how many apps, releases, differentials, cohorts and tables it has; it ends
+/// It says the edition's number, and how many apps, releases, differentials, cohorts and tables it has; it ends
 /// with a line feed. Out of memory is the only error.
 pub fn summary(alloc: Global, edition: &Edition) -> Result<String, AllocError>
     ensures { IfOk result (λ line. string_bytes line ≡ summary_of (length edition.now) (content_of edition.now)) }

@@ -1,4 +1,4 @@
-//! Why there is no certificate, or why one is not right.
+//! Why there is no certificate, or why one is not valid.
 
 ghost use Rattle.std.specs.Prelude.{◌≡◌, Some};
 ghost use Rattle.reports.specs.FaultTexts.{error_text, rule_text};
@@ -10,7 +10,7 @@ use std::error::Error;
 use std::fmt;
 use values::Text;
 
-/// Why there is no certificate, or why one is not right.
+/// Why there is no certificate, or why one is not valid.
 #[derive(Debug, Drop)]
 pub enum CertificateError {
     /// There is no table of the track: no app or cohort of the name, no target, or the clients allow a

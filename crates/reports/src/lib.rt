@@ -1,7 +1,7 @@
-//! What an operator is told of an edition.
+//! What is reported of an edition.
 //!
 //! `summary` counts what it has, `certify` writes the certificate of a track that is chosen by names, and
-//! `verify` says whether a certificate is right. Read `specs/Summaries.antt` and `specs/Certificates.antt`.
+//! `verify` says whether a certificate is valid. Read `specs/Summaries.antt` and `specs/Certificates.antt`.
 //!
 //! It reads no file and prints nothing.
 

@@ -1,4 +1,4 @@
-//! Whether a certificate is right.
+//! Whether a certificate is valid.
 
 ghost use Rattle.std.specs.Prelude.{◌≡◌, ◌<◌, IfErr, IfOk, Ok, Err, length};
 ghost use Rattle.records.specs.Lookups.{releases_at};
@@ -59,7 +59,7 @@ fn judge(
     }
 }
 
-// rule: Right certificate
+// rule: Valid certificate
 /// Checks a certificate against the track that it names.
 ///
 /// Fails, in this order, with the first wrong line among the first five; `NoTrack` if the edition has no

@@ -1,0 +1,83 @@
+// A connection, packages and a clock in memory.
+
+ghost use Rattle.std.specs.Prelude.{None};
+
+use http_desks::Clock;
+use http_packages::Packages;
+use http_wire::{Failed, Sink, Source};
+
+/// Gives what the peer sent.
+#[derive(Drop)]
+pub(crate) struct Sent<'a> {
+    pub(crate) left: &'a [u8],
+}
+
+impl Source for Sent<'_> {
+    ghost remaining = { λ _. None };
+
+    ghost failures = { λ _. 0 };
+
+    fn read(&mut self, into: &mut [u8]) -> Result<usize, Failed> {
+        let count = self.left.len().min(into.len());
+        into[..count].copy_from_slice(&self.left[..count]);
+        self.left = &self.left[count..];
+        Ok(count)
+    }
+}
+
+/// Keeps what the peer gets, at most `piece` bytes a call.
+#[derive(Drop)]
+pub(crate) struct Received {
+    pub(crate) bytes: Vec<u8>,
+    pub(crate) piece: usize,
+}
+
+impl Sink for Received {
+    ghost contents = { λ _. None };
+
+    ghost failures = { λ _. 0 };
+
+    fn write(&mut self, bytes: &[u8]) -> Result<usize, Failed> {
+        let count = bytes.len().min(self.piece.max(1));
+        let _ = self.bytes.extend_from_slice(&bytes[..count]);
+        Ok(count)
+    }
+}
+
+/// Three files of letters `a`.
+#[derive(Drop)]
+pub(crate) struct Letters;
+
+impl Packages for Letters {
+    ghost reads = { λ _ _ _ _ _. Unit {0} };
+
+    ghost sizes = { λ _ _ _. Unit {0} };
+
+    fn size(&self, name: &[u8]) -> Option<u64> {
+        match name {
+            b"mebibyte.bin" => Some(1048576),
+            b"block.bin" => Some(65536),
+            b"letters.bin" => Some(131072),
+            _ => None,
+        }
+    }
+
+    fn read_at(&self, _name: &[u8], _at: u64, into: &mut [u8]) -> Result<(), Failed> {
+        for byte in into.iter_mut() {
+            *byte = b'a';
+        }
+        Ok(())
+    }
+}
+
+/// One second after 01:01 on 1 January 2026.
+#[derive(Drop)]
+pub(crate) struct Stopped;
+
+impl Clock for Stopped {
+    ghost tells = { λ _ _. Unit {0} };
+
+    fn now(&self) -> u64 {
+        1767229261
+    }
+}
