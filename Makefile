@@ -2,6 +2,8 @@
 #                    program built without a proof
 # make test          the gate: the rules' marks, the words to avoid, every proof from nothing, must-fail
 #                    edits, tests and the program
+# make commands      runs the commands on the profiles of examples/, and verifies each track's
+#                    certificate; the program is built without a proof
 # make install       proves, builds and installs the program below PREFIX
 # make allocations   runs the program, after make install, with each of its allocations failing in
 #                    turn; it needs a C compiler
@@ -11,7 +13,7 @@
 
 PREFIX ?= /usr/local
 
-.PHONY: demo test install allocations bench instructions
+.PHONY: demo test commands install allocations bench instructions
 
 demo:
 	@examples/demo.py
@@ -20,6 +22,9 @@ test:
 	tests/rules.py
 	tests/words.py
 	rt ci
+
+commands:
+	tests/commands.py
 
 install:
 	cd crates/omaha && rt run < stdin
