@@ -1,0 +1,33 @@
+ghost use Rattle.std.specs.Prelude.{◌≡◌, ◌<◌};
+ghost use Rattle.http_connections.specs.Connections.{IsSession};
+
+use http_desks::{Clock, Desk};
+use http_devices::{Reading, Writing};
+use http_packages::Packages;
+use http_sessions::{Fault, Served, serve};
+use std::net::TcpStream;
+use std::sync::ledger::{Blank, Ledger};
+
+/// Serves one connection until its session ends.
+pub(crate) fn visit<A: Ledger, B: Ledger, R: AllocGlobal, D: Desk<R>, P: Packages, C: Clock>(
+    rt: &R,
+    stream: &TcpStream,
+    reads: Blank,
+    writes: Blank,
+    desk: &mut D,
+    packages: &P,
+    clock: &C,
+) -> Result<Served, Fault>
+    requires read_name { reads.name ≡ A.name }
+    requires read_parts { reads.parts ≡ A.parts }
+    requires some_reads { 0 < reads.parts }
+    requires write_name { writes.name ≡ B.name }
+    requires write_parts { writes.parts ≡ B.parts }
+    requires some_writes { 0 < writes.parts }
+    ensures { IsSession D.path D.content_type D.steps (C.tells clock.now) (P.sizes packages.now) (P.reads packages.now)
+        desk.old result desk.new }
+{
+    let mut source = Reading::<&TcpStream, A>::new(stream, reads);
+    let mut sink = Writing::<&TcpStream, B>::new(stream, writes);
+    serve(rt, &mut source, &mut sink, desk, packages, clock)
+}
