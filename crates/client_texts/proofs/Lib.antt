@@ -1,0 +1,5 @@
+mod PlainReplies
+mod ReadBack
+mod ReplyLemmas
+mod RequestLemmas
+mod Returns

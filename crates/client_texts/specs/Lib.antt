@@ -1,0 +1,4 @@
+pub mod Faults
+pub mod ReplyReading
+pub mod RequestWriting
+pub mod Soundness

@@ -1,0 +1,155 @@
+-- One more step of a walk, and how it ends.
+use Rattle.std.proofs.Common.{◌≡◌, ℕ, ◌+◌, ◌<◌, List, [], ◌∷◌, ◌++◌, length, map, true, false, Option, Some, None, Result, Ok, Err, refl, sym, subst, ap, ◌∙◌, arith, append_assoc, append-nil, length-append, eq-eqb}
+use Rattle.std.specs.Str.{bytes_eq}
+use Rattle.values.specs.declared.read_error.ReadError.{ReadError}
+use Rattle.update_client.specs.declared.client.Client.{Client}
+use Rattle.update_client.specs.declared.fault.Fault.{Fault}
+use Rattle.update_client.specs.declared.hearing.Accepted.{Accepted}
+use Rattle.update_client.specs.declared.walking.Walk.{Walk}
+use Rattle.update_client.specs.Clients.{heard, part_of, client_after}
+use Rattle.update_client.specs.Walks.{Post, Commit, Turn, post_of, IsTurn, Follows, posts_of, commit_of, bytes_of, Stops, Takes, Turned, Walks}
+
+-- an offer that was installed is a step
+pub turned_step : (client after : Client) (steps : ℕ) (old between new : List Post)
+    (before commits : List Commit) (received : List ℕ) (ended : Type 0)
+    (reply : List ℕ) (news : Option Accepted) (accepted : Accepted) (bytes : ℕ)
+    → between ≡ old ++ post_of client reply ∷ []
+    → heard client.app reply ≡ Ok news → news ≡ Some accepted
+    → (accepted.offer.fp ≡ client.fp → ⊥) → steps < 1024
+    → Takes client after accepted before commits received ended (Ok bytes)
+    → new ≡ between
+    → Turned client after steps old new before commits received ended (Ok (Some bytes))
+turned_step client after steps old between new before commits received ended reply news accepted bytes posted said is other few (file, whole, next, kept, size) same = (
+  record { reply = reply; accepted = accepted; bytes = file },
+  ((said ∙ ap Ok is, other), whole),
+  few,
+  next,
+  same ∙ posted,
+  kept,
+  size,
+)
+
+pub Follows-more : (client : Client) (turns : List Turn) (mid : Client) (turn : Turn) (after : Client)
+    → Follows client turns mid → IsTurn mid turn → after ≡ client_after mid turn.accepted
+    → Follows client (turns ++ turn ∷ []) after
+Follows-more client [] mid turn after led is next =
+    let P : Client → Type 0 = λ m. IsTurn m turn in
+    (subst P led is, next ∙ ap (λ m. client_after m turn.accepted) led)
+Follows-more client (first ∷ turns) mid turn after led is next =
+    (led.0, Follows-more (client_after client first.accepted) turns mid turn after led.1 is next)
+
+posts-more : (client : Client) (turns : List Turn) (mid : Client) (turn : Turn)
+    → Follows client turns mid
+    → posts_of client (turns ++ turn ∷ []) ≡ posts_of client turns ++ post_of mid turn.reply ∷ []
+posts-more client [] mid turn led = ap (λ m. post_of m turn.reply ∷ []) (sym led)
+posts-more client (first ∷ turns) mid turn led =
+    ap (λ posts. post_of client first.reply ∷ posts)
+    (posts-more (client_after client first.accepted) turns mid turn led.1)
+
+commits-more : (turns : List Turn) (turn : Turn)
+    → map commit_of (turns ++ turn ∷ []) ≡ map commit_of turns ++ commit_of turn ∷ []
+commits-more [] turn = refl
+commits-more (first ∷ turns) turn =
+    ap (λ commits. commit_of first ∷ commits) (commits-more turns turn)
+
+bytes-more : (turns : List Turn) (turn : Turn)
+    → bytes_of (turns ++ turn ∷ []) ≡ bytes_of turns + (part_of turn.accepted.offer).size
+bytes-more [] turn = omega arith
+bytes-more (first ∷ turns) turn = omega (arith, bytes-more turns turn)
+
+-- the steps so far
+pub record SoFar (client now : Client) (old posts : List Post) (before commits : List Commit)
+    (steps bytes : ℕ) : Type 0 where
+  pub turns : List Turn
+  pub follows : Follows client turns now
+  pub posted : posts ≡ old ++ posts_of client turns
+  pub committed : commits ≡ before ++ map commit_of turns
+  pub count : steps ≡ length turns
+  pub sum : bytes ≡ bytes_of turns
+
+-- no step was made
+pub so_far-none : (client : Client) (old : List Post) (before : List Commit)
+    → SoFar client client old old before before 0 0
+so_far-none client old before = record {
+  turns = [];
+  follows = refl;
+  posted = sym (append-nil old);
+  committed = sym (append-nil before);
+  count = refl;
+  sum = refl;
+}
+
+-- one more step was made
+pub so_far-more : (client mid after : Client) (old between new : List Post)
+    (before middle commits : List Commit) (steps bytes size : ℕ) (received : List ℕ) (ended : Type 0)
+    → SoFar client mid old between before middle steps bytes
+    → Turned mid after steps between new middle commits received ended (Ok (Some size))
+    → SoFar client after old new before commits (steps + 1) (bytes + size)
+so_far-more client mid after old between new before middle commits steps bytes size received ended so_far (turn, is, few, next, posted, kept, sized) =
+    record {
+      turns = so_far.turns ++ turn ∷ [];
+      follows = Follows-more client so_far.turns mid turn after so_far.follows is next;
+      posted = posted ∙ ap (λ posts. posts ++ post_of mid turn.reply ∷ []) so_far.posted
+          ∙ append_assoc old (posts_of client so_far.turns) (post_of mid turn.reply ∷ [])
+          ∙ ap (λ posts. old ++ posts) (sym (posts-more client so_far.turns mid turn so_far.follows));
+      committed = kept ∙ ap (λ made. made ++ commit_of turn ∷ []) so_far.committed
+          ∙ append_assoc before (map commit_of so_far.turns) (commit_of turn ∷ [])
+          ∙ ap (λ made. before ++ made) (sym (commits-more so_far.turns turn));
+      count = omega (arith, so_far.count, length-append so_far.turns (turn ∷ []));
+      sum = omega (arith, so_far.sum, sized, bytes-more so_far.turns turn);
+    }
+
+-- there was no update after those steps
+pub walk_ends : (client mid after : Client) (old between new : List Post)
+    (before middle commits : List Commit) (steps bytes : ℕ) (received : List ℕ) (ended : Type 0)
+    → SoFar client mid old between before middle steps bytes
+    → Turned mid after steps between new middle commits received ended (Ok None)
+    → Walks client after old new before commits received ended
+    (Ok (record { steps = steps; bytes = bytes }))
+walk_ends client mid after old between new before middle commits steps bytes received ended so_far (reply, said, same, posted, kept) =
+    let result : Result Walk (ReadError Fault) = Ok (record { steps = steps; bytes = bytes }) in
+    let P : Client → Type 0 = λ m. Walks client m old new before commits received ended result in
+    subst P (sym same) (record {
+      turns = so_far.turns;
+      follows = so_far.follows;
+      committed = kept ∙ so_far.committed;
+      ends = (reply, said, posted ∙ ap (λ posts. posts ++ post_of mid reply ∷ []) so_far.posted, so_far.count, so_far.sum);
+    })
+
+-- there was an error after those steps
+pub walk_stops : (client mid after : Client) (old between new : List Post)
+    (before middle commits : List Commit) (steps bytes : ℕ) (received : List ℕ) (ended : Type 0)
+    (error : ReadError Fault)
+    → SoFar client mid old between before middle steps bytes
+    → Turned mid after steps between new middle commits received ended (Err error)
+    → Walks client after old new before commits received ended (Err error)
+walk_stops client mid after old between new before middle commits steps bytes received ended error so_far (same, kept, why) =
+    let result : Result Walk (ReadError Fault) = Err error in
+    let P : Client → Type 0 = λ m. Walks client m old new before commits received ended result in
+    let Q : ℕ → Type 0 = λ n. Stops mid n between new received ended error in
+    let R : List Post → Type 0 = λ posts. Stops mid (length so_far.turns) posts new received ended error in
+    subst P (sym same) (record {
+      turns = so_far.turns;
+      follows = so_far.follows;
+      committed = kept ∙ so_far.committed;
+      ends = subst R so_far.posted (subst Q so_far.count why);
+    })
+
+-- a step leaves the identifier
+pub app_after : (client after : Client) (steps : ℕ) (old new : List Post) (before commits : List Commit)
+    (received : List ℕ) (ended : Type 0) (size : ℕ)
+    → Turned client after steps old new before commits received ended (Ok (Some size))
+    → after.app ≡ client.app
+app_after client after steps old new before commits received ended size (turn, is, few, next, posted, kept, sized) =
+    ap (λ (c : Client). c.app) next
+
+same_bytes : (text : List ℕ) → bytes_eq text text ≡ true
+same_bytes [] = refl
+same_bytes (byte ∷ text) = rw (eq-eqb byte byte refl) (same_bytes text)
+
+-- bytes that a test finds different are not the same
+pub apart : (x y : List ℕ) → bytes_eq x y ≡ false → x ≡ y → ⊥
+apart x y differs same =
+    let P : List ℕ → Type 0 = λ z. bytes_eq x z ≡ false in
+    let false_is_true : false ≡ true = sym (subst P (sym same) differs) ∙ same_bytes x in
+    cc

@@ -1,0 +1,4 @@
+pub mod Clients
+pub mod Faults
+pub mod Installing
+pub mod Walks

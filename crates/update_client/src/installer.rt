@@ -1,0 +1,52 @@
+ghost use Rattle.std.specs.Prelude.{◌≡◌, ◌+◌, ◌++◌, [], OnOk, is_ok, if◌then◌else◌};
+ghost use Rattle.update_client.specs.Installing.{committed};
+
+use crate::link::Failed;
+use values::Text;
+
+/// One accepted offer.
+#[derive(Clone, Debug, Drop)]
+pub struct Step {
+    /// Whether the file is a differential.
+    pub diff: bool,
+    /// The offered version.
+    pub version: Text,
+    /// The fingerprint of the offered version.
+    pub fp: Text,
+    /// The length of the file in bytes.
+    pub bytes: u64,
+}
+
+/// Keeps the bytes of a download, and installs them.
+pub trait Installer {
+    ghost use Rattle.std.specs.Prelude.{ℕ, List};
+    ghost use Rattle.update_client.specs.declared.installer.Step.{Step};
+
+    // the bytes that are staged
+    ghost staged: { Self → List ℕ };
+
+    // what was committed, each step with its bytes
+    ghost commits: { Self → List (Step × List ℕ) };
+
+    // how many calls failed
+    ghost failures: { Self → ℕ };
+
+    /// Stages more bytes after those that are staged.
+    fn put(&mut self, bytes: &[u8]) -> Result<(), Failed>
+        ensures staged { OnOk result (staged self.new ≡ staged self.old ++ bytes.now) }
+        ensures commits { commits self.new ≡ commits self.old }
+        ensures failed { failures self.new ≡ failures self.old + (if is_ok result then 0 else 1) };
+
+    /// Installs the staged bytes; afterwards none is staged.
+    fn commit(&mut self, step: &Step) -> Result<(), Failed>
+        ensures staged { OnOk result (staged self.new ≡ []) }
+        ensures commits { commits self.new
+            ≡ commits self.old ++ committed result step.now (staged self.old) }
+        ensures failed { failures self.new ≡ failures self.old + (if is_ok result then 0 else 1) };
+
+    /// Drops the staged bytes.
+    fn discard(&mut self)
+        ensures staged { staged self.new ≡ [] }
+        ensures commits { commits self.new ≡ commits self.old }
+        ensures failed { failures self.new ≡ failures self.old };
+}

@@ -1,0 +1,195 @@
+//! A client's walk: it asks, installs what is offered, and asks again.
+
+ghost use Rattle.std.specs.Prelude.{◌≡◌, ◌+◌, ◌<◌, ◌++◌, [], length, string_bytes, IfOk};
+ghost use Rattle.std.specs.Result.{result_map_both};
+ghost use Rattle.client_texts.specs.RequestWriting.{IsAppid};
+ghost use Rattle.update_client.specs.Clients.{part_of, step_of, client_after};
+ghost use Rattle.update_client.specs.Walks.{Posts, Takes, Turned, Walks, failed_links, failed_installers};
+
+use crate::client::{Client, make_request};
+use crate::fault::Fault;
+use crate::hearing::{Accepted, hear, offered_part};
+use crate::installer::{Installer, Step};
+use crate::installing::install;
+use crate::link::Link;
+use client_texts::write_request;
+use omaha_json::{Offer, Part};
+use std::alloc::{AllocError, Global};
+use values::{ReadError, Text};
+
+/// The most steps of one walk.
+pub const MAX_STEPS: u64 = 1024;
+
+/// How far a walk went.
+#[derive(Clone, Copy, Debug, Drop, PartialEq, Eq)]
+pub struct Walk {
+    /// How many offers were installed.
+    pub steps: u64,
+    /// How many bytes they had.
+    pub bytes: u128,
+}
+
+// Posts the request of a client.
+fn post_request<L: Link>(
+    alloc: Global,
+    link: &mut L,
+    client: &Client,
+) -> Result<Vec<u8>, ReadError<Fault>>
+    requires { IsAppid client.now.app }
+    ensures posts { Posts client.now (L.posts link.old) (L.posts link.new)
+        (result_map_both (λ reply. reply.items) (λ error. error) result) }
+    ensures failed { L.failures link.new ≡ L.failures link.old + failed_links result }
+{
+    let request = make_request(alloc, client)?;
+    let body = write_request(alloc, &request)?;
+    match link.post(alloc, &body) {
+        Ok(reply) => Ok(reply),
+        Err(_) => Err(ReadError::Fault(Fault::Link)),
+    }
+}
+
+// The address of a file: the codebase and the name.
+fn join_address(alloc: Global, part: &Part) -> Result<String, AllocError>
+    ensures { IfOk result (λ address. string_bytes address
+        ≡ part.now.codebase ++ part.now.name) }
+{
+    let mut address = String::from_str(alloc, part.codebase.as_str())?;
+    address.push_str(part.name.as_str())?;
+    Ok(address)
+}
+
+fn make_step(alloc: Global, offer: &Offer) -> Result<Step, AllocError>
+    ensures { IfOk result (λ step. step ≡ step_of offer.now) }
+{
+    Ok(Step {
+        diff: offer.diff.is_some(),
+        version: Text::copy_of(alloc, offer.version.as_str())?,
+        fp: Text::copy_of(alloc, offer.fp.as_str())?,
+        bytes: offered_part(offer).size,
+    })
+}
+
+// rule: Client after a step
+fn move_on(client: &mut Client, accepted: Accepted)
+    ensures { client.new ≡ client_after client.old accepted }
+{
+    let Accepted { cohort, offer } = accepted;
+    let Offer { version, fp, .. } = offer;
+    client.version = version;
+    client.fp = fp;
+    if !cohort.as_str().is_empty() {
+        client.cohort = cohort;
+    }
+}
+
+// Installs what was accepted, and moves the client on.
+fn take<L: Link, I: Installer>(
+    alloc: Global,
+    client: &mut Client,
+    link: &mut L,
+    installer: &mut I,
+    block: &mut [u8],
+    accepted: Accepted,
+) -> Result<u64, ReadError<Fault>>
+    requires room { 0 < length block.old }
+    requires empty { I.staged installer.old ≡ [] }
+    ensures takes { Takes client.old client.new accepted (I.commits installer.old)
+        (I.commits installer.new) (L.received link.new) (L.ended link.new) result }
+    ensures posts { L.posts link.new ≡ L.posts link.old }
+    ensures staged { I.staged installer.new ≡ [] }
+    ensures link_failed { L.failures link.new ≡ L.failures link.old + failed_links result }
+    ensures installer_failed { I.failures installer.new
+        ≡ I.failures installer.old + failed_installers result }
+{
+    let step = make_step(alloc, &accepted.offer)?;
+    let part = offered_part(&accepted.offer);
+    let address = join_address(alloc, part)?;
+    match link.open(address.as_str()) {
+        Ok(()) => {}
+        Err(_) => return Err(ReadError::Fault(Fault::Link)),
+    }
+    match install(link, installer, block, &step, &part.hash) {
+        Ok(()) => {}
+        Err(fault) => return Err(ReadError::Fault(fault)),
+    }
+    move_on(client, accepted);
+    Ok(step.bytes)
+}
+
+// rule: Steps of a walk
+// Asks once, and installs what is offered.
+fn turn<L: Link, I: Installer>(
+    alloc: Global,
+    client: &mut Client,
+    link: &mut L,
+    installer: &mut I,
+    block: &mut [u8],
+    steps: u64,
+) -> Result<Option<u64>, ReadError<Fault>>
+    requires named { IsAppid client.old.app }
+    requires room { 0 < length block.old }
+    requires empty { I.staged installer.old ≡ [] }
+    ensures turned { Turned client.old client.new steps (L.posts link.old) (L.posts link.new)
+        (I.commits installer.old) (I.commits installer.new) (L.received link.new)
+        (L.ended link.new) result }
+    ensures staged { I.staged installer.new ≡ [] }
+    ensures link_failed { L.failures link.new ≡ L.failures link.old + failed_links result }
+    ensures installer_failed { I.failures installer.new
+        ≡ I.failures installer.old + failed_installers result }
+{
+    let reply = post_request(alloc, link, client)?;
+    let news = hear(alloc, client.app.as_str(), &reply)?;
+    let Some(accepted) = news else {
+        return Ok(None);
+    };
+    if accepted.offer.fp.as_str() == client.fp.as_str() {
+        return Err(ReadError::Fault(Fault::NoProgress));
+    }
+    if steps >= MAX_STEPS {
+        return Err(ReadError::Fault(Fault::TooManySteps));
+    }
+    let bytes = take(alloc, client, link, installer, block, accepted)?;
+    Ok(Some(bytes))
+}
+
+impl Client {
+    // rule: Walk of a client
+    /// Asks, installs what is offered, and asks again until there is no update.
+    ///
+    /// The client has an identifier of 1 to 256 bytes, `block` is not empty and nothing is staged. Each step takes
+    /// the differential if one is offered. Errors, in the order in which they are looked for: `Link` if the post
+    /// failed; `Reply` if the reply is invalid or is not for this known app alone; `Busy`; `NoProgress` if the
+    /// offered fingerprint is the installed one; `TooManySteps` at an offer after 1024 steps; and those of
+    /// `install`. After an error the client is where its last commit led, and nothing is staged.
+    pub fn walk<L: Link, I: Installer>(
+        &mut self,
+        alloc: Global,
+        link: &mut L,
+        installer: &mut I,
+        block: &mut [u8],
+    ) -> Result<Walk, ReadError<Fault>>
+        requires named { IsAppid self.old.app }
+        requires room { 0 < length block.old }
+        requires empty { I.staged installer.old ≡ [] }
+        ensures walks { Walks self.old self.new (L.posts link.old) (L.posts link.new)
+            (I.commits installer.old) (I.commits installer.new) (L.received link.new)
+            (L.ended link.new) result }
+        ensures staged { I.staged installer.new ≡ [] }
+        ensures link_failed { L.failures link.new ≡ L.failures link.old + failed_links result }
+        ensures installer_failed { I.failures installer.new
+            ≡ I.failures installer.old + failed_installers result }
+    {
+        let mut steps: u64 = 0;
+        let mut bytes: u128 = 0;
+        'steps: loop {
+            match turn(alloc, self, link, installer, block, steps) {
+                Ok(Some(size)) => {
+                    steps += 1;
+                    bytes += u128::from(size);
+                }
+                Ok(None) => return Ok(Walk { steps, bytes }),
+                Err(error) => return Err(error),
+            }
+        }
+    }
+}
