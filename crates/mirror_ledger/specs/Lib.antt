@@ -1,3 +1,4 @@
 pub mod Asks
 pub mod Budgets
 pub mod Named
+pub mod Order

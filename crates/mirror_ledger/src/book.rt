@@ -85,7 +85,7 @@ impl<P: BudgetName> Book<P> {
     /// Grants bytes if they fit the budget; 0 bytes always do.
     ///
     /// The bytes are added to the total and to the share. Otherwise it returns `NoRoom` and changes
-    /// nothing. It takes no memory.
+    /// nothing. If the ledger has one part, the share is the whole total. It takes no memory.
     pub fn grant(&mut self, share: &mut Share<P>, bytes: u64) -> Result<(), NoRoom>
         ensures succeeds { IsOk result ↔ HasRoom self.old bytes }
         ensures granted { OnOk result (Grants self.old self.new bytes) }
@@ -93,7 +93,12 @@ impl<P: BudgetName> Book<P> {
 
         ensures left { IfErr result (λ refusal. refusal.left ≡ bytes_left self.old) }
         ensures err { OnErr result ((self.new ≡ self.old) × (share.new ≡ share.old)) }
+
+        ensures budget { self.old.budget ≡ P.budget }
+        ensures within { share.old ≤ self.old.total }
+        ensures whole { P.parts ≡ 1 → share.old ≡ self.old.total }
     {
+        self.counted.audit(&mut share.mark);
         let left = self.budget - self.total;
         if bytes > left {
             return Err(NoRoom { left });

@@ -1,7 +1,8 @@
 //! The books of all mirrors, and a worker's shares of them.
 
-ghost use Rattle.std.specs.Prelude.{◌≡◌, ◌+◌, ◌++◌, ◌∷◌, [], ◌<◌, if◌then◌else◌, length, IfSome, Some};
+ghost use Rattle.std.specs.Prelude.{◌≡◌, ◌↔◌, ◌+◌, ◌++◌, ◌∷◌, [], ◌<◌, true, if◌then◌else◌, length, IfSome, Some};
 ghost use Rattle.mirror_ledger.specs.Asks.{AreTallied, booked};
+ghost use Rattle.mirror_ledger.specs.Order.{HaveOnePart, HasRoomAt, IsFirstWithRoom};
 
 use crate::asks::AskList;
 use crate::book::{Book, BudgetName, Share};
@@ -76,6 +77,9 @@ impl<A: BudgetName, B: BudgetName, C: BudgetName, D: BudgetName> Shares<A, B, C,
         ensures third { self.new.third ≡ self.old.third + (if result then booked 2 bytes (Some index) else 0) }
         ensures fourth { self.new.fourth ≡ self.old.fourth + (if result then booked 3 bytes (Some index) else 0) }
         ensures asks { self.new.asks ≡ self.old.asks }
+        ensures alone { HaveOnePart A.parts B.parts C.parts D.parts
+            → AreTallied self.old.first self.old.second self.old.third self.old.fourth self.old.asks
+            → ((result ≡ true) ↔ HasRoomAt books.now self.old.asks bytes index) }
     {
         match index {
             0 => books.first.lock(rt).grant(&mut self.first, bytes).is_ok(),
@@ -97,6 +101,9 @@ impl<A: BudgetName, B: BudgetName, C: BudgetName, D: BudgetName> Shares<A, B, C,
         ensures third { self.new.third ≡ self.old.third + booked 2 bytes result }
         ensures fourth { self.new.fourth ≡ self.old.fourth + booked 3 bytes result }
         ensures asks { self.new.asks ≡ self.old.asks }
+        ensures alone { HaveOnePart A.parts B.parts C.parts D.parts
+            → AreTallied self.old.first self.old.second self.old.third self.old.fourth self.old.asks
+            → IsFirstWithRoom books.now self.old.asks bytes result }
     {
         for index in 0..books.given.len() {
             if self.ask_at(rt, books, index, bytes) {
@@ -108,11 +115,14 @@ impl<A: BudgetName, B: BudgetName, C: BudgetName, D: BudgetName> Shares<A, B, C,
 
     // rule: Ask of a worker
     // rule: Shares and asks
+    // rule: First mirror with room
     /// Grants bytes on the first mirror that has room for them, and returns its index.
     ///
-    /// The mirrors are asked in the order in which they were handed in; `None` if none has room. The
-    /// bytes are added to that mirror's total and to the share of it. Each ask joins the list of asks. It
-    /// takes no memory, and may wait for a lock.
+    /// The mirrors are asked in the order in which they were handed in; `None` if none has room. If the
+    /// ledgers have one part each, and so no other worker asks, a mirror has room exactly if the bytes,
+    /// with all that it granted to this worker, are within its budget. The bytes are added to that
+    /// mirror's total and to the share of it. Each ask joins the list of asks. It takes no memory, and may
+    /// wait for a lock.
     pub fn grant_first<R: Wait>(
         &mut self,
         rt: &R,
@@ -127,6 +137,9 @@ impl<A: BudgetName, B: BudgetName, C: BudgetName, D: BudgetName> Shares<A, B, C,
         ensures fourth { self.new.fourth ≡ self.old.fourth + booked 3 bytes result }
         ensures tally { AreTallied self.old.first self.old.second self.old.third self.old.fourth self.old.asks
             → AreTallied self.new.first self.new.second self.new.third self.new.fourth self.new.asks }
+        ensures alone { HaveOnePart A.parts B.parts C.parts D.parts
+            → AreTallied self.old.first self.old.second self.old.third self.old.fourth self.old.asks
+            → IsFirstWithRoom books.now self.old.asks bytes result }
     {
         let granted = self.first_with_room(rt, books, bytes);
         self.asks.push(bytes, granted);

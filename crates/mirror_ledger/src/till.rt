@@ -2,7 +2,8 @@
 
 ghost use Rattle.std.specs.Prelude.{◌≡◌, ℕ, ◌+◌, ◌++◌, ◌∷◌, [], ◌<◌, List, length, IfSome};
 ghost use Rattle.records.specs.declared.mirror.Mirror.{Mirror};
-ghost use Rattle.mirror_ledger.specs.Asks.{Ask, booked};
+ghost use Rattle.mirror_ledger.specs.Asks.{AreTallied, Ask, booked};
+ghost use Rattle.mirror_ledger.specs.Order.{HaveOnePart, IsFirstWithRoom};
 
 use crate::book::BudgetName;
 use crate::books::{Books, Shares};
@@ -17,17 +18,23 @@ pub trait Till {
     // What was asked so far: the bytes, and the index of the mirror that granted them.
     ghost asks: { Self → List Ask };
 
+    // That nothing else is granted on these mirrors: what they granted so far is what was asked here.
+    ghost alone: { Self → Type 0 };
+
     /// Borrows the mirrors.
     fn given(&self) -> &[Mirror]
         ensures { result.now ≡ mirrors self.now };
 
     /// Grants bytes on a mirror, and returns its index; `None` if no mirror has room.
     ///
-    /// The ask joins the list of asks. It takes no memory, and may wait for a lock.
+    /// The ask joins the list of asks. If nothing else is granted on these mirrors, the first one that has
+    /// room grants the bytes. It takes no memory, and may wait for a lock.
     fn grant_first<R: Wait>(&mut self, rt: &R, bytes: u64) -> Option<usize>
         ensures asks { asks self.new ≡ asks self.old ++ (bytes, result) ∷ [] }
         ensures mirrors { mirrors self.new ≡ mirrors self.old }
-        ensures range { IfSome result (λ index. index < length (mirrors self.old)) };
+        ensures range { IfSome result (λ index. index < length (mirrors self.old)) }
+        ensures first_with_room { alone self.old → IsFirstWithRoom (mirrors self.old) (asks self.old) bytes result }
+        ensures alone { alone self.old → alone self.new };
 }
 
 /// A till over borrowed books, with a worker's shares of them.
@@ -62,6 +69,10 @@ impl<'a, A: BudgetName, B: BudgetName, C: BudgetName, D: BudgetName> Till for Ha
 
     ghost asks = { λ hand. hand.shares.asks };
 
+    ghost alone = { λ hand.
+        HaveOnePart A.parts B.parts C.parts D.parts
+        × AreTallied hand.shares.first hand.shares.second hand.shares.third hand.shares.fourth hand.shares.asks };
+
     fn given(&self) -> &[Mirror] {
         self.books.given()
     }
@@ -74,6 +85,13 @@ impl<'a, A: BudgetName, B: BudgetName, C: BudgetName, D: BudgetName> Till for Ha
         ensures second { self.new.shares.second ≡ self.old.shares.second + booked 1 bytes result }
         ensures third { self.new.shares.third ≡ self.old.shares.third + booked 2 bytes result }
         ensures fourth { self.new.shares.fourth ≡ self.old.shares.fourth + booked 3 bytes result }
+        ensures first_with_room { HaveOnePart A.parts B.parts C.parts D.parts
+            × AreTallied self.old.shares.first self.old.shares.second self.old.shares.third self.old.shares.fourth self.old.shares.asks
+            → IsFirstWithRoom self.old.books.now self.old.shares.asks bytes result }
+        ensures alone { HaveOnePart A.parts B.parts C.parts D.parts
+            × AreTallied self.old.shares.first self.old.shares.second self.old.shares.third self.old.shares.fourth self.old.shares.asks
+            → HaveOnePart A.parts B.parts C.parts D.parts
+            × AreTallied self.new.shares.first self.new.shares.second self.new.shares.third self.new.shares.fourth self.new.shares.asks }
     {
         self.shares.grant_first(rt, self.books, bytes)
     }

@@ -1,3 +1,4 @@
 mod AnswerLemmas
 mod AskLemmas
+mod OrderLemmas
 mod PackageLemmas

@@ -1,8 +1,9 @@
 -- What mirrors are asked to grant for a plan; this project's profile.
-use Rattle.std.specs.Prelude.{◌≡◌, ℕ, List, [], ◌∷◌, ◌++◌, flat_map, Option, None, Some}
+use Rattle.std.specs.Prelude.{◌≡◌, ⊤, ℕ, List, [], ◌∷◌, ◌++◌, flat_map, Option, None, Some}
 use Rattle.std.specs.List.{zip}
 use Rattle.records.specs.declared.mirror.Mirror.{Mirror}
 use Rattle.mirror_ledger.specs.Asks.{Ask}
+use Rattle.mirror_ledger.specs.Order.{IsFirstWithRoom}
 use Rattle.replies.specs.Replies.{AreOutcomes}
 use Rattle.replies.specs.declared.choices.Choice.{Choice}
 
@@ -30,3 +31,14 @@ pub record AsksFirst (mirrors : List Mirror) (plan : List (Option Choice)) (befo
   pub outcomes : List (Option ℕ)
   pub parts : plan ≡ first ++ rest
   pub asked : AsksFor mirrors first outcomes before after
+
+-- each ask was granted by the first mirror with room, beside some asks before and those of the list
+-- before it
+abbrev pub AreGranted : List Mirror → List Ask → List Ask → Type 0
+AreGranted mirrors before [] = ⊤
+AreGranted mirrors before (ask ∷ asks) =
+    IsFirstWithRoom mirrors before ask.0 ask.1 × AreGranted mirrors (before ++ ask ∷ []) asks
+
+-- the asks that were added were granted so
+abbrev pub GrantsFirst : List Mirror → List Ask → List Ask → Type 0
+GrantsFirst mirrors before after = (asks : List Ask) × (after ≡ before ++ asks) × AreGranted mirrors before asks

@@ -3,6 +3,7 @@
 ghost use Rattle.std.specs.Prelude.{◌≡◌, IfOk, IfErr, OnErr, Ok, Err};
 ghost use Rattle.editions.specs.Editions.{content_of};
 ghost use Rattle.update_desk.specs.Answering.{Answers, HasBegun, IsReply};
+ghost use Rattle.update_desk.specs.Asking.{GrantsFirst};
 
 use crate::asking::ask_each;
 use editions::Edition;
@@ -29,6 +30,8 @@ fn reply_to<T: Till, R: Wait>(
         (HasBegun (record { content = content_of edition.now; mirrors = T.mirrors till.old }) request.now
         (T.asks till.old) (T.asks till.new)) }
     ensures mirrors { T.mirrors till.new ≡ T.mirrors till.old }
+    ensures alone { T.alone till.old
+        → T.alone till.new × GrantsFirst (T.mirrors till.old) (T.asks till.old) (T.asks till.new) }
 {
     let Ok(plan) = plan(alloc, edition, request) else {
         return Err(AllocError);
@@ -54,7 +57,8 @@ fn reply_to<T: Till, R: Wait>(
 /// Returns the reply to the request that the input is, and nothing else; or the input's first fault, as
 /// `omaha_json::read_request` does, and then asks for nothing. The till is asked for each payload that
 /// the reply offers, or would if a mirror had granted it, once and in the order of the apps. If memory
-/// runs out a first part of the asks may have been made.
+/// runs out a first part of the asks may have been made. If the till is alone, which is if nothing else is
+/// granted on its mirrors, each payload is offered from the first mirror with room.
 pub fn answer<T: Till, R: Wait>(
     rt: &R,
     alloc: Global,
@@ -70,6 +74,8 @@ pub fn answer<T: Till, R: Wait>(
         Answers (record { content = content_of edition.now; mirrors = T.mirrors till.old }) input.now moment
         (T.asks till.old) (T.asks till.new) (Err error)) }
     ensures mirrors { T.mirrors till.new ≡ T.mirrors till.old }
+    ensures alone { T.alone till.old
+        → T.alone till.new × GrantsFirst (T.mirrors till.old) (T.asks till.old) (T.asks till.new) }
 {
     match read_request(alloc, input) {
         Ok(request) => match reply_to(rt, alloc, edition, till, moment, &request) {

@@ -2,7 +2,7 @@
 
 ghost use Rattle.std.specs.Prelude.{◌≡◌, ◌++◌, IfOk, OnErr};
 ghost use Rattle.replies.specs.Replies.{IsOutcome};
-ghost use Rattle.update_desk.specs.Asking.{AsksFirst, AsksFor, asks_for};
+ghost use Rattle.update_desk.specs.Asking.{AsksFirst, AsksFor, GrantsFirst, asks_for};
 
 use mirror_ledger::Till;
 use replies::Choice;
@@ -14,6 +14,8 @@ fn ask_for<T: Till, R: Wait>(rt: &R, till: &mut T, choice: Option<Choice>) -> Op
     ensures asks { T.asks till.new ≡ T.asks till.old ++ asks_for choice result }
     ensures mirrors { T.mirrors till.new ≡ T.mirrors till.old }
     ensures outcome { IsOutcome (T.mirrors till.old) choice result }
+    ensures alone { T.alone till.old
+        → T.alone till.new × GrantsFirst (T.mirrors till.old) (T.asks till.old) (T.asks till.new) }
 {
     match choice {
         Some(choice) => till.grant_first(rt, choice.bytes),
@@ -24,7 +26,8 @@ fn ask_for<T: Till, R: Wait>(rt: &R, till: &mut T, choice: Option<Choice>) -> Op
 // rule: Asks of a plan
 /// Asks a till for each payload that was chosen, in order, and returns the outcomes.
 ///
-/// After an error a first part of the plan was asked for.
+/// After an error a first part of the plan was asked for. A till that is alone grants each ask on the
+/// first mirror with room.
 pub(crate) fn ask_each<T: Till, R: Wait>(
     rt: &R,
     alloc: Global,
@@ -35,6 +38,8 @@ pub(crate) fn ask_each<T: Till, R: Wait>(
         AsksFor (T.mirrors till.old) plan.now outcomes.items (T.asks till.old) (T.asks till.new)) }
     ensures err { OnErr result (AsksFirst (T.mirrors till.old) plan.now (T.asks till.old) (T.asks till.new)) }
     ensures mirrors { T.mirrors till.new ≡ T.mirrors till.old }
+    ensures alone { T.alone till.old
+        → T.alone till.new × GrantsFirst (T.mirrors till.old) (T.asks till.old) (T.asks till.new) }
 {
     let Ok(mut outcomes) = Vec::with_capacity(alloc, plan.len()) else {
         return Err(AllocError);

@@ -24,6 +24,7 @@ pub struct Single<T: Till> {
 impl<T: Till, R: Wait + AllocGlobal> Desk<R> for Single<T> {
     ghost use Rattle.std.specs.Prelude.{◌≡◌};
     ghost use Rattle.editions.specs.Editions.{content_of};
+    ghost use Rattle.update_desk.specs.Asking.{GrantsFirst};
     ghost use Rattle.update_desk.specs.Desks.{IsCall};
 
     ghost path = { λ _. codes "/service/update2/json" };
@@ -34,7 +35,9 @@ impl<T: Till, R: Wait + AllocGlobal> Desk<R> for Single<T> {
         (new.edition ≡ old.edition)
         × (T.mirrors new.till ≡ T.mirrors old.till)
         × IsCall (record { content = content_of old.edition; mirrors = T.mirrors old.till })
-        (T.asks old.till) call (T.asks new.till) };
+        (T.asks old.till) call (T.asks new.till)
+        × (T.alone old.till
+        → T.alone new.till × GrantsFirst (T.mirrors old.till) (T.asks old.till) (T.asks new.till)) };
 
     fn path(&self) -> &str {
         "/service/update2/json"
