@@ -1,1 +1,1 @@
-mod WalkLemmas
+pub mod WalkLemmas

@@ -2,43 +2,46 @@
 use Rattle.std.proofs.Common.{◌≡◌, ℕ, ◌+◌, ◌<◌, List, [], ◌∷◌, ◌++◌, length, map, true, false, Option, Some, None, Result, Ok, Err, refl, sym, subst, ap, ◌∙◌, arith, append_assoc, append-nil, length-append, eq-eqb}
 use Rattle.std.specs.Str.{bytes_eq}
 use Rattle.values.specs.declared.read_error.ReadError.{ReadError}
-use Rattle.update_client.specs.declared.client.Client.{Client}
+use Rattle.update_client.specs.Installed.{Installed}
 use Rattle.update_client.specs.declared.fault.Fault.{Fault}
 use Rattle.update_client.specs.declared.hearing.Accepted.{Accepted}
+use Rattle.update_client.specs.declared.installer.Step.{Step}
 use Rattle.update_client.specs.declared.walking.Walk.{Walk}
-use Rattle.update_client.specs.Clients.{heard, part_of, client_after}
-use Rattle.update_client.specs.Walks.{Post, Commit, Turn, post_of, IsTurn, Follows, posts_of, commit_of, bytes_of, Stops, Takes, Turned, Walks}
+use Rattle.update_client.specs.Clients.{heard, part_of, address_of, client_after}
+use Rattle.update_client.specs.Walks.{Post, Commit, Turn, post_of, IsReadBack, IsTurn, Follows, posts_of, addresses_of, commit_of, bytes_of, Stops, Takes, Turned, Walks}
 
 -- an offer that was installed is a step
-pub turned_step : (client after : Client) (steps : ℕ) (old between new : List Post)
-    (before commits : List Commit) (received : List ℕ) (ended : Type 0)
-    (reply : List ℕ) (news : Option Accepted) (accepted : Accepted) (bytes : ℕ)
+pub turned_step : (client after : Installed) (steps : ℕ) (old between new : List Post)
+    (asked opened : List (List ℕ)) (before commits : List Commit) (received : List ℕ) (ended : Type 0)
+    (reply : List ℕ) (news : Option Accepted) (accepted : Accepted) (step : Step)
     → between ≡ old ++ post_of client reply ∷ []
-    → heard client.app reply ≡ Ok news → news ≡ Some accepted
+    → IsReadBack client → heard client.app reply ≡ Ok news → news ≡ Some accepted
     → (accepted.offer.fp ≡ client.fp → ⊥) → steps < 1024
-    → Takes client after accepted before commits received ended (Ok bytes)
+    → Takes client after accepted before commits received ended (Ok step)
     → new ≡ between
-    → Turned client after steps old new before commits received ended (Ok (Some bytes))
-turned_step client after steps old between new before commits received ended reply news accepted bytes posted said is other few (file, whole, next, kept, size) same = (
+    → opened ≡ asked ++ address_of accepted.offer ∷ []
+    → Turned client after steps old new asked opened before commits received ended (Ok (Some step))
+turned_step client after steps old between new asked opened before commits received ended reply news accepted step posted read said is other few (file, whole, next, kept, size) same reached = (
   record { reply = reply; accepted = accepted; bytes = file },
-  ((said ∙ ap Ok is, other), whole),
+  (read, (said ∙ ap Ok is, other), whole),
   few,
   next,
   same ∙ posted,
+  reached,
   kept,
   size,
 )
 
-pub Follows-more : (client : Client) (turns : List Turn) (mid : Client) (turn : Turn) (after : Client)
+pub Follows-more : (client : Installed) (turns : List Turn) (mid : Installed) (turn : Turn) (after : Installed)
     → Follows client turns mid → IsTurn mid turn → after ≡ client_after mid turn.accepted
     → Follows client (turns ++ turn ∷ []) after
 Follows-more client [] mid turn after led is next =
-    let P : Client → Type 0 = λ m. IsTurn m turn in
+    let P : Installed → Type 0 = λ m. IsTurn m turn in
     (subst P led is, next ∙ ap (λ m. client_after m turn.accepted) led)
 Follows-more client (first ∷ turns) mid turn after led is next =
     (led.0, Follows-more (client_after client first.accepted) turns mid turn after led.1 is next)
 
-posts-more : (client : Client) (turns : List Turn) (mid : Client) (turn : Turn)
+pub posts-more : (client : Installed) (turns : List Turn) (mid : Installed) (turn : Turn)
     → Follows client turns mid
     → posts_of client (turns ++ turn ∷ []) ≡ posts_of client turns ++ post_of mid turn.reply ∷ []
 posts-more client [] mid turn led = ap (λ m. post_of m turn.reply ∷ []) (sym led)
@@ -46,102 +49,116 @@ posts-more client (first ∷ turns) mid turn led =
     ap (λ posts. post_of client first.reply ∷ posts)
     (posts-more (client_after client first.accepted) turns mid turn led.1)
 
+pub addresses-more : (turns : List Turn) (turn : Turn)
+    → addresses_of (turns ++ turn ∷ []) ≡ addresses_of turns ++ address_of turn.accepted.offer ∷ []
+addresses-more [] turn = refl
+addresses-more (first ∷ turns) turn =
+    ap (λ addresses. address_of first.accepted.offer ∷ addresses) (addresses-more turns turn)
+
 commits-more : (turns : List Turn) (turn : Turn)
     → map commit_of (turns ++ turn ∷ []) ≡ map commit_of turns ++ commit_of turn ∷ []
 commits-more [] turn = refl
 commits-more (first ∷ turns) turn =
     ap (λ commits. commit_of first ∷ commits) (commits-more turns turn)
 
-bytes-more : (turns : List Turn) (turn : Turn)
+pub bytes-more : (turns : List Turn) (turn : Turn)
     → bytes_of (turns ++ turn ∷ []) ≡ bytes_of turns + (part_of turn.accepted.offer).size
 bytes-more [] turn = omega arith
 bytes-more (first ∷ turns) turn = omega (arith, bytes-more turns turn)
 
 -- the steps so far
-pub record SoFar (client now : Client) (old posts : List Post) (before commits : List Commit)
+pub record SoFar (client now : Installed) (old posts : List Post) (asked opened : List (List ℕ)) (before commits : List Commit)
     (steps bytes : ℕ) : Type 0 where
   pub turns : List Turn
   pub follows : Follows client turns now
   pub posted : posts ≡ old ++ posts_of client turns
+  pub reached : opened ≡ asked ++ addresses_of turns
   pub committed : commits ≡ before ++ map commit_of turns
   pub count : steps ≡ length turns
   pub sum : bytes ≡ bytes_of turns
 
 -- no step was made
-pub so_far-none : (client : Client) (old : List Post) (before : List Commit)
-    → SoFar client client old old before before 0 0
-so_far-none client old before = record {
+pub so_far-none : (client : Installed) (old : List Post) (asked : List (List ℕ)) (before : List Commit)
+    → SoFar client client old old asked asked before before 0 0
+so_far-none client old asked before = record {
   turns = [];
   follows = refl;
   posted = sym (append-nil old);
+  reached = sym (append-nil asked);
   committed = sym (append-nil before);
   count = refl;
   sum = refl;
 }
 
 -- one more step was made
-pub so_far-more : (client mid after : Client) (old between new : List Post)
-    (before middle commits : List Commit) (steps bytes size : ℕ) (received : List ℕ) (ended : Type 0)
-    → SoFar client mid old between before middle steps bytes
-    → Turned mid after steps between new middle commits received ended (Ok (Some size))
-    → SoFar client after old new before commits (steps + 1) (bytes + size)
-so_far-more client mid after old between new before middle commits steps bytes size received ended so_far (turn, is, few, next, posted, kept, sized) =
+pub so_far-more : (client mid after : Installed) (old between new : List Post)
+    (asked opening opened : List (List ℕ)) (before middle commits : List Commit) (steps bytes : ℕ) (step : Step) (received : List ℕ) (ended : Type 0)
+    → SoFar client mid old between asked opening before middle steps bytes
+    → Turned mid after steps between new opening opened middle commits received ended (Ok (Some step))
+    → SoFar client after old new asked opened before commits (steps + 1) (bytes + step.bytes)
+so_far-more client mid after old between new asked opening opened before middle commits steps bytes step received ended so_far (turn, is, few, next, posted, reached, kept, sized) =
     record {
       turns = so_far.turns ++ turn ∷ [];
       follows = Follows-more client so_far.turns mid turn after so_far.follows is next;
       posted = posted ∙ ap (λ posts. posts ++ post_of mid turn.reply ∷ []) so_far.posted
           ∙ append_assoc old (posts_of client so_far.turns) (post_of mid turn.reply ∷ [])
           ∙ ap (λ posts. old ++ posts) (sym (posts-more client so_far.turns mid turn so_far.follows));
+      reached = reached
+          ∙ ap (λ addresses. addresses ++ address_of turn.accepted.offer ∷ []) so_far.reached
+          ∙ append_assoc asked (addresses_of so_far.turns) (address_of turn.accepted.offer ∷ [])
+          ∙ ap (λ addresses. asked ++ addresses) (sym (addresses-more so_far.turns turn));
       committed = kept ∙ ap (λ made. made ++ commit_of turn ∷ []) so_far.committed
           ∙ append_assoc before (map commit_of so_far.turns) (commit_of turn ∷ [])
           ∙ ap (λ made. before ++ made) (sym (commits-more so_far.turns turn));
       count = omega (arith, so_far.count, length-append so_far.turns (turn ∷ []));
-      sum = omega (arith, so_far.sum, sized, bytes-more so_far.turns turn);
+      sum = omega (arith, so_far.sum, ap (λ made. made.bytes) sized, bytes-more so_far.turns turn);
     }
 
 -- there was no update after those steps
-pub walk_ends : (client mid after : Client) (old between new : List Post)
-    (before middle commits : List Commit) (steps bytes : ℕ) (received : List ℕ) (ended : Type 0)
-    → SoFar client mid old between before middle steps bytes
-    → Turned mid after steps between new middle commits received ended (Ok None)
-    → Walks client after old new before commits received ended
+pub walk_ends : (client mid after : Installed) (old between new : List Post)
+    (asked opening opened : List (List ℕ)) (before middle commits : List Commit) (steps bytes : ℕ) (received : List ℕ) (ended : Type 0)
+    → SoFar client mid old between asked opening before middle steps bytes
+    → Turned mid after steps between new opening opened middle commits received ended (Ok None)
+    → Walks client after old new asked opened before commits received ended
     (Ok (record { steps = steps; bytes = bytes }))
-walk_ends client mid after old between new before middle commits steps bytes received ended so_far (reply, said, same, posted, kept) =
+walk_ends client mid after old between new asked opening opened before middle commits steps bytes received ended so_far (reply, read, said, same, posted, reached, kept) =
     let result : Result Walk (ReadError Fault) = Ok (record { steps = steps; bytes = bytes }) in
-    let P : Client → Type 0 = λ m. Walks client m old new before commits received ended result in
+    let P : Installed → Type 0 = λ m. Walks client m old new asked opened before commits received ended result in
     subst P (sym same) (record {
       turns = so_far.turns;
       follows = so_far.follows;
       committed = kept ∙ so_far.committed;
-      ends = (reply, said, posted ∙ ap (λ posts. posts ++ post_of mid reply ∷ []) so_far.posted, so_far.count, so_far.sum);
+      ends = (
+        reply,
+        read,
+        said,
+        posted ∙ ap (λ posts. posts ++ post_of mid reply ∷ []) so_far.posted,
+        reached ∙ so_far.reached,
+        so_far.count,
+        so_far.sum,
+      );
     })
 
 -- there was an error after those steps
-pub walk_stops : (client mid after : Client) (old between new : List Post)
-    (before middle commits : List Commit) (steps bytes : ℕ) (received : List ℕ) (ended : Type 0)
+pub walk_stops : (client mid after : Installed) (old between new : List Post)
+    (asked opening opened : List (List ℕ)) (before middle commits : List Commit) (steps bytes : ℕ) (received : List ℕ) (ended : Type 0)
     (error : ReadError Fault)
-    → SoFar client mid old between before middle steps bytes
-    → Turned mid after steps between new middle commits received ended (Err error)
-    → Walks client after old new before commits received ended (Err error)
-walk_stops client mid after old between new before middle commits steps bytes received ended error so_far (same, kept, why) =
+    → SoFar client mid old between asked opening before middle steps bytes
+    → Turned mid after steps between new opening opened middle commits received ended (Err error)
+    → Walks client after old new asked opened before commits received ended (Err error)
+walk_stops client mid after old between new asked opening opened before middle commits steps bytes received ended error so_far (same, kept, why) =
     let result : Result Walk (ReadError Fault) = Err error in
-    let P : Client → Type 0 = λ m. Walks client m old new before commits received ended result in
-    let Q : ℕ → Type 0 = λ n. Stops mid n between new received ended error in
-    let R : List Post → Type 0 = λ posts. Stops mid (length so_far.turns) posts new received ended error in
+    let P : Installed → Type 0 = λ m. Walks client m old new asked opened before commits received ended result in
+    let Q : ℕ → Type 0 = λ n. Stops mid n between new opening opened received ended error in
+    let R : List Post → Type 0 = λ posts. Stops mid (length so_far.turns) posts new opening opened received ended error in
+    let S : List (List ℕ) → Type 0 =
+    λ addresses. Stops mid (length so_far.turns) (old ++ posts_of client so_far.turns) new addresses opened received ended error in
     subst P (sym same) (record {
       turns = so_far.turns;
       follows = so_far.follows;
       committed = kept ∙ so_far.committed;
-      ends = subst R so_far.posted (subst Q so_far.count why);
+      ends = subst S so_far.reached (subst R so_far.posted (subst Q so_far.count why));
     })
-
--- a step leaves the identifier
-pub app_after : (client after : Client) (steps : ℕ) (old new : List Post) (before commits : List Commit)
-    (received : List ℕ) (ended : Type 0) (size : ℕ)
-    → Turned client after steps old new before commits received ended (Ok (Some size))
-    → after.app ≡ client.app
-app_after client after steps old new before commits received ended size (turn, is, few, next, posted, kept, sized) =
-    ap (λ (c : Client). c.app) next
 
 same_bytes : (text : List ℕ) → bytes_eq text text ≡ true
 same_bytes [] = refl

@@ -1,5 +1,5 @@
 -- What a client asks, and what it hears; this project's profile of the Omaha protocol 3.1.
-use Rattle.std.specs.Prelude.{ℕ, List, [], ◌∷◌, false, if◌then◌else◌, Option, Some, None, is_some, unwrap_or, Result, Ok, Err}
+use Rattle.std.specs.Prelude.{ℕ, List, [], ◌∷◌, ◌++◌, false, if◌then◌else◌, Option, Some, None, is_some, unwrap_or, Result, Ok, Err}
 use Rattle.std.specs.Str.{str_eq_ignore_ascii_case}
 use Rattle.omaha_json.specs.declared.request.Request.{Request}
 use Rattle.omaha_json.specs.declared.request.AppAsk.{AppAsk}
@@ -14,14 +14,14 @@ use Rattle.omaha_json.specs.declared.reply.Offer.{Offer}
 use Rattle.omaha_json.specs.declared.reply.Part.{Part}
 use Rattle.client_texts.specs.declared.fault.ReplyFault.{ReplyFault}
 use Rattle.client_texts.specs.ReplyReading.{reply_of_text}
-use Rattle.update_client.specs.declared.client.Client.{Client}
+use Rattle.update_client.specs.Installed.{Installed}
 use Rattle.update_client.specs.declared.fault.Fault.{Fault}
 use Rattle.update_client.specs.declared.fault.Fault.TheVariants as fault
 use Rattle.update_client.specs.declared.hearing.Accepted.{Accepted}
 use Rattle.update_client.specs.declared.installer.Step.{Step}
 
 -- what a client asks for its app
-abbrev pub ask_of : Client → AppAsk
+abbrev pub ask_of : Installed → AppAsk
 ask_of client = record {
   appid = client.app;
   version = client.version;
@@ -35,7 +35,7 @@ ask_of client = record {
 
 -- rule: Request of a client
 -- the request for that one app
-abbrev pub request_of : Client → Request
+abbrev pub request_of : Installed → Request
 request_of client = record { session = client.session; apps = ask_of client ∷ [] }
 
 -- the known app of a state
@@ -77,6 +77,11 @@ heard app bytes = news_from app (reply_of_text bytes)
 abbrev pub part_of : Offer → Part
 part_of offer = unwrap_or offer.diff offer.full
 
+-- rule: Address of a download
+-- the address of an offer's file: its codebase followed by its name
+abbrev pub address_of : Offer → List ℕ
+address_of offer = (part_of offer).codebase ++ (part_of offer).name
+
 -- the step of an offer
 abbrev pub step_of : Offer → Step
 step_of offer = record {
@@ -93,7 +98,7 @@ cohort_after old (byte ∷ rest) = byte ∷ rest
 
 -- rule: Client after a step
 -- the client that has installed what was offered
-abbrev pub client_after : Client → Accepted → Client
+abbrev pub client_after : Installed → Accepted → Installed
 client_after client accepted = record client {
   version = accepted.offer.version;
   fp = accepted.offer.fp;

@@ -1,4 +1,5 @@
 pub mod Clients
 pub mod Faults
+pub mod Installed
 pub mod Installing
 pub mod Walks

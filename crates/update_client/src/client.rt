@@ -1,32 +1,129 @@
-ghost use Rattle.std.specs.Prelude.{◌≡◌, IfOk};
-ghost use Rattle.update_client.specs.Clients.{ask_of, request_of};
+//! What a client is, and what it asks.
 
-use omaha_json::{AppAsk, Check, Request};
+ghost use Rattle.std.specs.Prelude.{◌≡◌, IfOk};
+ghost use Rattle.client_texts.specs.RequestWriting.{IsAppid};
+ghost use Rattle.update_client.specs.Clients.{ask_of, request_of, client_after};
+
+use crate::hearing::Accepted;
+use omaha_json::{AppAsk, Check, Offer, Request};
 use std::alloc::{AllocError, Global};
+use std::marker::Model;
 use values::{Items, Text};
 
 /// An installed app, and what its client says when it asks for an update.
-#[derive(Clone, Debug, Drop)]
+#[derive(Drop)]
 pub struct Client {
-    /// The app's identifier, 1 to 256 bytes.
-    pub app: Text,
-    /// The installed version, empty if nothing is installed.
-    pub version: Text,
-    /// The fingerprint of the installed version, empty if nothing is installed.
-    pub fp: Text,
-    /// The cohort text that the server sent last, or empty.
-    pub cohort: Text,
-    /// The cohort that the client asks for, or empty.
-    pub hint: Text,
-    /// Whether a lower version may be offered.
-    pub rollback: bool,
-    /// The session's identifier.
-    pub session: Text,
+    app: Text,
+    version: Text,
+    fp: Text,
+    cohort: Text,
+    hint: Text,
+    rollback: bool,
+    session: Text,
+}
+
+impl Model for Client {
+    ghost use Rattle.client_texts.specs.RequestWriting.{IsAppid};
+    ghost use Rattle.update_client.specs.Installed.{Installed};
+
+    ghost Value = { Installed };
+
+    ghost view = { λ client. record {
+      app = client.app;
+      version = client.version;
+      fp = client.fp;
+      cohort = client.cohort;
+      hint = client.hint;
+      rollback = client.rollback;
+      session = client.session;
+    } };
+
+    ghost invariant = { λ client. IsAppid client.app };
+}
+
+impl Client {
+    /// Makes the client of an app.
+    ///
+    /// `app` is the app's identifier, 1 to 256 bytes. `version` and `fp` are the version and the fingerprint that
+    /// are installed, both empty if nothing is. `cohort` is the cohort text that the server sent last, `hint` the
+    /// cohort that the client asks for; either may be empty. `rollback` allows a downgrade, and `session` is the
+    /// identifier that all requests of a walk have.
+    pub fn new(
+        app: Text,
+        version: Text,
+        fp: Text,
+        cohort: Text,
+        hint: Text,
+        rollback: bool,
+        session: Text,
+    ) -> Client
+        requires { IsAppid app }
+        ensures { result ≡ record {
+          app = app;
+          version = version;
+          fp = fp;
+          cohort = cohort;
+          hint = hint;
+          rollback = rollback;
+          session = session;
+        } }
+    {
+        Client {
+            app,
+            version,
+            fp,
+            cohort,
+            hint,
+            rollback,
+            session,
+        }
+    }
+
+    pub(crate) fn app(&self) -> &str
+        ensures { result.now ≡ self.now.app }
+    {
+        self.app.as_str()
+    }
+
+    /// Borrows the installed version, empty if nothing is installed.
+    pub fn version(&self) -> &str
+        ensures { result.now ≡ self.now.version }
+    {
+        self.version.as_str()
+    }
+
+    /// Borrows the fingerprint of the installed version, empty if nothing is installed.
+    pub fn fp(&self) -> &str
+        ensures { result.now ≡ self.now.fp }
+    {
+        self.fp.as_str()
+    }
+
+    /// Borrows the cohort text to send next, or the empty string.
+    pub fn cohort(&self) -> &str
+        ensures { result.now ≡ self.now.cohort }
+    {
+        self.cohort.as_str()
+    }
+
+    // rule: Client after a step
+    pub(crate) fn take_over(&mut self, accepted: Accepted)
+        ensures { self.new ≡ client_after self.old accepted }
+    {
+        let Accepted { cohort, offer } = accepted;
+        let Offer { version, fp, .. } = offer;
+        self.version = version;
+        self.fp = fp;
+        if !cohort.as_str().is_empty() {
+            self.cohort = cohort;
+        }
+    }
 }
 
 // What the client asks for its app.
 fn make_ask(alloc: Global, client: &Client) -> Result<AppAsk, AllocError>
-    ensures { IfOk result (λ ask. ask ≡ ask_of client.now) }
+    ensures ask { IfOk result (λ ask. ask ≡ ask_of client.now) }
+    ensures named { IsAppid client.now.app }
 {
     Ok(AppAsk {
         appid: Text::copy_of(alloc, client.app.as_str())?,
@@ -46,10 +143,13 @@ fn make_ask(alloc: Global, client: &Client) -> Result<AppAsk, AllocError>
 
 // rule: Request of a client
 pub(crate) fn make_request(alloc: Global, client: &Client) -> Result<Request, AllocError>
-    ensures { IfOk result (λ request. request ≡ request_of client.now) }
+    ensures request { IfOk result (λ request. request ≡ request_of client.now) }
+    ensures named { IsAppid client.now.app }
 {
     let ask = make_ask(alloc, client)?;
-    let session = Text::copy_of(alloc, client.session.as_str())?;
     let apps = Items::new(vec![in alloc; ask]?);
-    Ok(Request { session, apps })
+    Ok(Request {
+        session: Text::copy_of(alloc, client.session.as_str())?,
+        apps,
+    })
 }

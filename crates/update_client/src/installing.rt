@@ -26,6 +26,7 @@ fn read_some<L: Link>(link: &mut L, block: &mut [u8], left: u64) -> Result<usize
         ≡ L.received link.old ++ take count block.new) }
     ensures end { IfOk result (λ count. count ≡ 0 → L.ended link.new) }
     ensures posts { L.posts link.new ≡ L.posts link.old }
+    ensures opened { L.opened link.new ≡ L.opened link.old }
     ensures failed { L.failures link.new ≡ L.failures link.old + (if is_ok result then 0 else 1) }
 {
     if left < block.len() as u64 {
@@ -51,6 +52,7 @@ fn stage<L: Link, I: Installer>(
         (I.staged installer.new) result }
     ensures commits { I.commits installer.new ≡ I.commits installer.old }
     ensures posts { L.posts link.new ≡ L.posts link.old }
+    ensures opened { L.opened link.new ≡ L.opened link.old }
     ensures link_failed { L.failures link.new ≡ L.failures link.old + link_failures result }
     ensures installer_failed { I.failures installer.new
         ≡ I.failures installer.old + installer_failures result }
@@ -119,6 +121,7 @@ pub fn install<L: Link, I: Installer>(
         (I.commits installer.old) (I.commits installer.new) result }
     ensures staged { I.staged installer.new ≡ [] }
     ensures posts { L.posts link.new ≡ L.posts link.old }
+    ensures opened { L.opened link.new ≡ L.opened link.old }
     ensures link_failed { L.failures link.new ≡ L.failures link.old + link_failures result }
     ensures installer_failed { I.failures installer.new
         ≡ I.failures installer.old + installer_failures result }

@@ -2,9 +2,8 @@
 
 ghost use Rattle.std.specs.Prelude.{◌≡◌, ◌+◌, ◌<◌, ◌++◌, [], length, string_bytes, IfOk};
 ghost use Rattle.std.specs.Result.{result_map_both};
-ghost use Rattle.client_texts.specs.RequestWriting.{IsAppid};
-ghost use Rattle.update_client.specs.Clients.{part_of, step_of, client_after};
-ghost use Rattle.update_client.specs.Walks.{Posts, Takes, Turned, Walks, failed_links, failed_installers};
+ghost use Rattle.update_client.specs.Clients.{address_of, step_of};
+ghost use Rattle.update_client.specs.Walks.{OpensFile, Posts, Takes, Turned, Walks, failed_links, failed_installers};
 
 use crate::client::{Client, make_request};
 use crate::fault::Fault;
@@ -13,7 +12,7 @@ use crate::installer::{Installer, Step};
 use crate::installing::install;
 use crate::link::Link;
 use client_texts::write_request;
-use omaha_json::{Offer, Part};
+use omaha_json::Offer;
 use std::alloc::{AllocError, Global};
 use values::{ReadError, Text};
 
@@ -35,9 +34,9 @@ fn post_request<L: Link>(
     link: &mut L,
     client: &Client,
 ) -> Result<Vec<u8>, ReadError<Fault>>
-    requires { IsAppid client.now.app }
     ensures posts { Posts client.now (L.posts link.old) (L.posts link.new)
         (result_map_both (λ reply. reply.items) (λ error. error) result) }
+    ensures opened { L.opened link.new ≡ L.opened link.old }
     ensures failed { L.failures link.new ≡ L.failures link.old + failed_links result }
 {
     let request = make_request(alloc, client)?;
@@ -48,11 +47,12 @@ fn post_request<L: Link>(
     }
 }
 
-// The address of a file: the codebase and the name.
-fn join_address(alloc: Global, part: &Part) -> Result<String, AllocError>
-    ensures { IfOk result (λ address. string_bytes address
-        ≡ part.now.codebase ++ part.now.name) }
+// rule: Address of a download
+// The address of an offer's file: the codebase and the name.
+fn join_address(alloc: Global, offer: &Offer) -> Result<String, AllocError>
+    ensures { IfOk result (λ address. string_bytes address ≡ address_of offer.now) }
 {
+    let part = offered_part(offer);
     let mut address = String::from_str(alloc, part.codebase.as_str())?;
     address.push_str(part.name.as_str())?;
     Ok(address)
@@ -69,19 +69,6 @@ fn make_step(alloc: Global, offer: &Offer) -> Result<Step, AllocError>
     })
 }
 
-// rule: Client after a step
-fn move_on(client: &mut Client, accepted: Accepted)
-    ensures { client.new ≡ client_after client.old accepted }
-{
-    let Accepted { cohort, offer } = accepted;
-    let Offer { version, fp, .. } = offer;
-    client.version = version;
-    client.fp = fp;
-    if !cohort.as_str().is_empty() {
-        client.cohort = cohort;
-    }
-}
-
 // Installs what was accepted, and moves the client on.
 fn take<L: Link, I: Installer>(
     alloc: Global,
@@ -90,12 +77,13 @@ fn take<L: Link, I: Installer>(
     installer: &mut I,
     block: &mut [u8],
     accepted: Accepted,
-) -> Result<u64, ReadError<Fault>>
+) -> Result<Step, ReadError<Fault>>
     requires room { 0 < length block.old }
     requires empty { I.staged installer.old ≡ [] }
     ensures takes { Takes client.old client.new accepted (I.commits installer.old)
         (I.commits installer.new) (L.received link.new) (L.ended link.new) result }
     ensures posts { L.posts link.new ≡ L.posts link.old }
+    ensures opens { OpensFile accepted (L.opened link.old) (L.opened link.new) result }
     ensures staged { I.staged installer.new ≡ [] }
     ensures link_failed { L.failures link.new ≡ L.failures link.old + failed_links result }
     ensures installer_failed { I.failures installer.new
@@ -103,7 +91,7 @@ fn take<L: Link, I: Installer>(
 {
     let step = make_step(alloc, &accepted.offer)?;
     let part = offered_part(&accepted.offer);
-    let address = join_address(alloc, part)?;
+    let address = join_address(alloc, &accepted.offer)?;
     match link.open(address.as_str()) {
         Ok(()) => {}
         Err(_) => return Err(ReadError::Fault(Fault::Link)),
@@ -112,55 +100,57 @@ fn take<L: Link, I: Installer>(
         Ok(()) => {}
         Err(fault) => return Err(ReadError::Fault(fault)),
     }
-    move_on(client, accepted);
-    Ok(step.bytes)
-}
-
-// rule: Steps of a walk
-// Asks once, and installs what is offered.
-fn turn<L: Link, I: Installer>(
-    alloc: Global,
-    client: &mut Client,
-    link: &mut L,
-    installer: &mut I,
-    block: &mut [u8],
-    steps: u64,
-) -> Result<Option<u64>, ReadError<Fault>>
-    requires named { IsAppid client.old.app }
-    requires room { 0 < length block.old }
-    requires empty { I.staged installer.old ≡ [] }
-    ensures turned { Turned client.old client.new steps (L.posts link.old) (L.posts link.new)
-        (I.commits installer.old) (I.commits installer.new) (L.received link.new)
-        (L.ended link.new) result }
-    ensures staged { I.staged installer.new ≡ [] }
-    ensures link_failed { L.failures link.new ≡ L.failures link.old + failed_links result }
-    ensures installer_failed { I.failures installer.new
-        ≡ I.failures installer.old + failed_installers result }
-{
-    let reply = post_request(alloc, link, client)?;
-    let news = hear(alloc, client.app.as_str(), &reply)?;
-    let Some(accepted) = news else {
-        return Ok(None);
-    };
-    if accepted.offer.fp.as_str() == client.fp.as_str() {
-        return Err(ReadError::Fault(Fault::NoProgress));
-    }
-    if steps >= MAX_STEPS {
-        return Err(ReadError::Fault(Fault::TooManySteps));
-    }
-    let bytes = take(alloc, client, link, installer, block, accepted)?;
-    Ok(Some(bytes))
+    client.take_over(accepted);
+    Ok(step)
 }
 
 impl Client {
+    // rule: Steps of a walk
+    /// Asks once, and installs what is offered: one step of a walk, before which there were `steps`.
+    ///
+    /// Returns the step, or `None` if there is no update. `block` is not empty, and nothing is staged. Takes the
+    /// differential if one is offered. Errors, in the order in which they are looked for: `Link` if the post
+    /// failed; `Reply` if the reply is invalid or is not for this known app alone; `Busy`; `NoProgress` if the
+    /// offered fingerprint is the installed one; `TooManySteps` if there were 1024 steps before; and those of
+    /// `install`. After an error the client is unchanged, nothing was committed, and nothing is staged.
+    pub fn step<L: Link, I: Installer>(
+        &mut self,
+        alloc: Global,
+        link: &mut L,
+        installer: &mut I,
+        block: &mut [u8],
+        steps: u64,
+    ) -> Result<Option<Step>, ReadError<Fault>>
+        requires room { 0 < length block.old }
+        requires empty { I.staged installer.old ≡ [] }
+        ensures turned { Turned self.old self.new steps (L.posts link.old) (L.posts link.new)
+            (L.opened link.old) (L.opened link.new) (I.commits installer.old) (I.commits installer.new)
+            (L.received link.new) (L.ended link.new) result }
+        ensures staged { I.staged installer.new ≡ [] }
+        ensures link_failed { L.failures link.new ≡ L.failures link.old + failed_links result }
+        ensures installer_failed { I.failures installer.new
+            ≡ I.failures installer.old + failed_installers result }
+    {
+        let reply = post_request(alloc, link, self)?;
+        let news = hear(alloc, self.app(), &reply)?;
+        let Some(accepted) = news else {
+            return Ok(None);
+        };
+        if accepted.offer.fp.as_str() == self.fp() {
+            return Err(ReadError::Fault(Fault::NoProgress));
+        }
+        if steps >= MAX_STEPS {
+            return Err(ReadError::Fault(Fault::TooManySteps));
+        }
+        let step = take(alloc, self, link, installer, block, accepted)?;
+        Ok(Some(step))
+    }
+
     // rule: Walk of a client
     /// Asks, installs what is offered, and asks again until there is no update.
     ///
-    /// The client has an identifier of 1 to 256 bytes, `block` is not empty and nothing is staged. Each step takes
-    /// the differential if one is offered. Errors, in the order in which they are looked for: `Link` if the post
-    /// failed; `Reply` if the reply is invalid or is not for this known app alone; `Busy`; `NoProgress` if the
-    /// offered fingerprint is the installed one; `TooManySteps` at an offer after 1024 steps; and those of
-    /// `install`. After an error the client is where its last commit led, and nothing is staged.
+    /// `block` is not empty, and nothing is staged. Errors are those of `step`, `TooManySteps` at an offer after
+    /// 1024 steps. After an error the client is where its last commit led, and nothing is staged.
     pub fn walk<L: Link, I: Installer>(
         &mut self,
         alloc: Global,
@@ -168,12 +158,11 @@ impl Client {
         installer: &mut I,
         block: &mut [u8],
     ) -> Result<Walk, ReadError<Fault>>
-        requires named { IsAppid self.old.app }
         requires room { 0 < length block.old }
         requires empty { I.staged installer.old ≡ [] }
         ensures walks { Walks self.old self.new (L.posts link.old) (L.posts link.new)
-            (I.commits installer.old) (I.commits installer.new) (L.received link.new)
-            (L.ended link.new) result }
+            (L.opened link.old) (L.opened link.new) (I.commits installer.old)
+            (I.commits installer.new) (L.received link.new) (L.ended link.new) result }
         ensures staged { I.staged installer.new ≡ [] }
         ensures link_failed { L.failures link.new ≡ L.failures link.old + failed_links result }
         ensures installer_failed { I.failures installer.new
@@ -182,10 +171,10 @@ impl Client {
         let mut steps: u64 = 0;
         let mut bytes: u128 = 0;
         'steps: loop {
-            match turn(alloc, self, link, installer, block, steps) {
-                Ok(Some(size)) => {
+            match self.step(alloc, link, installer, block, steps) {
+                Ok(Some(step)) => {
                     steps += 1;
-                    bytes += u128::from(size);
+                    bytes += u128::from(step.bytes);
                 }
                 Ok(None) => return Ok(Walk { steps, bytes }),
                 Err(error) => return Err(error),

@@ -9,6 +9,7 @@ invariant-reads g l =
     × (g.I.Installer.staged l.installer ≡ g.L.Link.received l.link)
     × (g.I.Installer.commits l.installer ≡ g.I.Installer.commits l.fn.installer)
     × (g.L.Link.posts l.link ≡ g.L.Link.posts l.fn.link)
+    × (g.L.Link.opened l.link ≡ g.L.Link.opened l.fn.link)
     × (g.L.Link.failures l.link ≡ g.L.Link.failures l.fn.link)
     × (g.I.Installer.failures l.installer ≡ g.I.Installer.failures l.fn.installer)
 
