@@ -1,0 +1,13 @@
+use Rattle.client_laws.proofs.LawLemmas.{walks_are_least, walks_are_served}
+use Rattle.client_laws.proofs.laws.served_walks.Goals as goal
+
+pub returns-clause-served : goal.returns-clause-served
+returns-clause-served g c =
+    walks_are_served c.replies_are_read_back.ensures c.replies.ensures.each
+    (g.L.Link.received c.args.link.now) (g.L.Link.ended c.args.link.now)
+
+pub returns-clause-least : goal.returns-clause-least
+returns-clause-least g c =
+    walks_are_least c.replies_are_read_back.ensures c.replies.ensures.each
+    (g.L.Link.received c.args.link.now) (g.L.Link.ended c.args.link.now)
+    c.walk.ensures.short c.walk.ensures.least c.walk.ensures.nowhere
