@@ -1,0 +1,4 @@
+mod BrokenLemmas
+mod HandingLemmas
+mod KnownLemmas
+mod ReplyLemmas

@@ -1,0 +1,57 @@
+use http_replies::parse_address;
+use std::alloc::{AllocError, Global};
+use std::test::Fail;
+
+// A row is an address, and its authority, host, port and path.
+const ROWS: &str = "\
+http://example.com/ = example.com example.com 80 
+http://example.com/p/a.bin?x=1 = example.com example.com 80 p/a.bin?x=1
+http://example.com:8080/p = example.com:8080 example.com 8080 p
+http://a_b-c.example.com.:65535//p = a_b-c.example.com.:65535 a_b-c.example.com. 65535 /p
+http://127.0.0.1:0/p = 127.0.0.1:0 127.0.0.1 0 p
+http://[::1]/p = [::1] ::1 80 p
+http://[fe80::1.2.3.4]:81/p = [fe80::1.2.3.4]:81 fe80::1.2.3.4 81 p
+http://example.com = no
+https://example.com/ = no
+HTTP://example.com/ = no
+http:/example.com/ = no
+http:///p = no
+http://:80/p = no
+http://user@example.com/p = no
+http://example.com:/p = no
+http://example.com:65536/p = no
+http://example.com:+80/p = no
+http://example.com:80:80/p = no
+http://[::1/p = no
+http://[::1]80/p = no
+http://[::1]:/p = no
+http://a[::1]/p = no
+http://[::1%25eth0]/p = no
+http://exa mple.com/p = no
+http://example.com/a b = no
+http://example.com/p#part = no
+http://example.com?x=1 = no
+http://exämple.com/ = no
+http://example.com/ä = no
+ = no";
+
+fn shown(alloc: Global, text: &str) -> Result<String, AllocError> {
+    match parse_address(text) {
+        Some(address) => {
+            let (authority, host) = (address.authority, address.host);
+            let (port, path) = (address.port, address.path);
+            format!(in alloc; "{authority} {host} {port} {path}")
+        }
+        None => String::from_str(alloc, "no"),
+    }
+}
+
+#[test]
+fn reads_the_parts_of_addresses(rt: HostRuntime) -> Result<(), Fail> {
+    for row in ROWS.lines() {
+        let (text, wanted) = row.split_once(" = ").ok_or("no sign")?;
+        let line = shown(rt.alloc(), text)?;
+        assert_eq!(rt; line.as_str(), wanted, "{row}");
+    }
+    Ok(())
+}

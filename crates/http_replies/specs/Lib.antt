@@ -1,0 +1,4 @@
+pub mod Lengths
+pub mod Starts
+pub mod Addresses
+pub mod Requests
