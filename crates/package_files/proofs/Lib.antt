@@ -1,0 +1,3 @@
+mod DescriptionLemmas
+mod FindingLemmas
+mod HashLemmas

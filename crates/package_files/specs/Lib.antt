@@ -1,0 +1,4 @@
+pub mod Descriptions
+pub mod FindingTexts
+pub mod Findings
+pub mod Hashing

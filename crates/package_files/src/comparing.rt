@@ -1,0 +1,170 @@
+//! The declared packages, each compared with its file.
+
+ghost use Rattle.std.specs.Prelude.{◌≡◌, ◌∷◌, [], IfOk, OnOk, length, map};
+ghost use Rattle.records.specs.Lookups.{diff_package, full_package, packages_in, packages_of};
+ghost use Rattle.package_files.specs.Findings.{Adds, AreFindings, IsFound};
+
+use crate::finding::{Finding, Mismatch};
+use crate::hashing::hash_package;
+use http_packages::{BLOCK, Packages};
+use records::{App, Declared, Diff, Release};
+use std::alloc::{AllocError, Global};
+use values::{Items, Text};
+
+// rule: File of a package
+// How the file of a declared package differs, if it does.
+fn find_mismatch<P: Packages>(
+    packages: &P,
+    block: &mut [u8],
+    name: &[u8],
+    declared: Declared,
+) -> Option<Mismatch>
+    requires { length block.old ≡ 65536 }
+    ensures { IsFound (P.sizes packages.now name.now) (P.reads packages.now name.now) declared result }
+{
+    let Some(size) = packages.size(name) else {
+        return Some(Mismatch::Missing);
+    };
+    if size != declared.size {
+        return Some(Mismatch::Size {
+            size,
+            declared: declared.size,
+        });
+    }
+    match hash_package(packages, block, name, size) {
+        None => Some(Mismatch::Unreadable),
+        Some(hash) if hash == declared.hash => None,
+        Some(_) => Some(Mismatch::Hash),
+    }
+}
+
+// Adds the finding of a package, if there is one.
+fn compare_package<P: Packages>(
+    alloc: Global,
+    packages: &P,
+    block: &mut [u8],
+    name: &str,
+    declared: Declared,
+    findings: &mut Items<Finding>,
+) -> Result<(), AllocError>
+    requires { length block.old ≡ 65536 }
+    ensures { OnOk result (Adds (P.sizes packages.now) (P.reads packages.now)
+        ((name.now, declared) ∷ []) findings.old findings.new) }
+{
+    match find_mismatch(packages, block, name.as_bytes(), declared) {
+        None => Ok(()),
+        Some(mismatch) => {
+            let name = Text::copy_of(alloc, name)?;
+            findings.push(Finding { name, mismatch })
+        }
+    }
+}
+
+fn compare_releases<P: Packages>(
+    alloc: Global,
+    packages: &P,
+    block: &mut [u8],
+    releases: &[Release],
+    findings: &mut Items<Finding>,
+) -> Result<(), AllocError>
+    requires { length block.old ≡ 65536 }
+    ensures { OnOk result (Adds (P.sizes packages.now) (P.reads packages.now)
+        (map full_package releases.now) findings.old findings.new) }
+{
+    for release in releases {
+        let declared = Declared {
+            size: release.size,
+            hash: release.hash,
+        };
+        compare_package(
+            alloc,
+            packages,
+            block,
+            release.name.as_str(),
+            declared,
+            findings,
+        )?;
+    }
+    Ok(())
+}
+
+fn compare_diffs<P: Packages>(
+    alloc: Global,
+    packages: &P,
+    block: &mut [u8],
+    diffs: &[Diff],
+    findings: &mut Items<Finding>,
+) -> Result<(), AllocError>
+    requires { length block.old ≡ 65536 }
+    ensures { OnOk result (Adds (P.sizes packages.now) (P.reads packages.now)
+        (map diff_package diffs.now) findings.old findings.new) }
+{
+    for diff in diffs {
+        let declared = Declared {
+            size: diff.size,
+            hash: diff.hash,
+        };
+        compare_package(
+            alloc,
+            packages,
+            block,
+            diff.name.as_str(),
+            declared,
+            findings,
+        )?;
+    }
+    Ok(())
+}
+
+fn compare_app<P: Packages>(
+    alloc: Global,
+    packages: &P,
+    block: &mut [u8],
+    app: &App,
+    findings: &mut Items<Finding>,
+) -> Result<(), AllocError>
+    requires { length block.old ≡ 65536 }
+    ensures { OnOk result (Adds (P.sizes packages.now) (P.reads packages.now)
+        (packages_in app.now) findings.old findings.new) }
+{
+    compare_releases(alloc, packages, block, app.releases.as_slice(), findings)?;
+    compare_diffs(alloc, packages, block, app.diffs.as_slice(), findings)?;
+    Ok(())
+}
+
+fn compare_apps<P: Packages>(
+    alloc: Global,
+    packages: &P,
+    block: &mut [u8],
+    apps: &[App],
+    findings: &mut Items<Finding>,
+) -> Result<(), AllocError>
+    requires { length block.old ≡ 65536 }
+    ensures { OnOk result (Adds (P.sizes packages.now) (P.reads packages.now)
+        (packages_of apps.now) findings.old findings.new) }
+{
+    for app in apps {
+        compare_app(alloc, packages, block, app, findings)?;
+    }
+    Ok(())
+}
+
+// rule: Findings of a catalogue
+/// Compares the file of each declared package with its size and its SHA-256.
+///
+/// Returns a finding for each file that differs, in the order of the apps; in an app the full packages come
+/// before the differentials. No finding means that all files agree. At most 65536 bytes of a package are
+/// held. Out of memory is the only error.
+pub fn compare<P: Packages>(
+    alloc: Global,
+    apps: &[App],
+    packages: &P,
+) -> Result<Items<Finding>, AllocError>
+    ensures { IfOk result (λ findings. AreFindings (P.sizes packages.now) (P.reads packages.now)
+        (packages_of apps.now) findings) }
+{
+    let mut block = vec![in alloc; 0; BLOCK as usize]?;
+    let mut findings = Items::empty(alloc);
+    compare_apps(alloc, packages, &mut block, apps, &mut findings)?;
+    Ok(findings)
+}

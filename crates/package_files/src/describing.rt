@@ -1,0 +1,119 @@
+//! What a profile says of a file.
+
+ghost use Rattle.std.specs.Prelude.{◌≡◌, Err, IfErr, IfOk, Ok, Some, string_bytes};
+ghost use Rattle.hex.specs.Hex.{encode_lower};
+ghost use Rattle.package_files.specs.Descriptions.{Describes, description_text};
+
+use crate::hashing::hash_package;
+use http_packages::{BLOCK, Packages};
+use records::form::is_package_name;
+use std::alloc::{AllocError, Global};
+use std::error::Error;
+use std::fmt;
+
+/// Why a file is not described.
+#[derive(Clone, Copy, Debug, Drop, PartialEq, Eq)]
+pub enum DescribeError {
+    /// The name is no package's name: no profile can have it.
+    Name,
+    /// There is no such file.
+    Missing,
+    /// The file couldn't be read to its end.
+    Unreadable,
+    /// Memory ran out.
+    Memory,
+}
+
+/// Writes why in a few words.
+impl fmt::Display for DescribeError {
+    ghost use Rattle.package_files.specs.Descriptions.{error_text};
+
+    ghost output = { λ error. Some (error_text error) };
+
+    fn fmt<W: fmt::Write>(&self, f: &mut fmt::Formatter<W>) -> fmt::Result {
+        match self {
+            DescribeError::Name => f.write_str("no package name"),
+            DescribeError::Missing => f.write_str("missing"),
+            DescribeError::Unreadable => f.write_str("unreadable"),
+            DescribeError::Memory => f.write_str("memory"),
+        }
+    }
+}
+
+impl Error for DescribeError {}
+
+impl From<AllocError> for DescribeError {
+    ghost use Rattle.std.specs.Prelude.{◌≡◌};
+    ghost use Rattle.package_files.specs.declared.describing.DescribeError.TheVariants.{Memory};
+
+    ghost from_gives = { λ _ error. error ≡ Memory };
+
+    fn from(_refused: AllocError) -> DescribeError {
+        DescribeError::Memory
+    }
+}
+
+// The three lines of a file.
+#[derive(Clone, Copy)]
+struct Description<'a> {
+    name: &'a str,
+    size: u64,
+    digits: &'a str,
+}
+
+impl fmt::Display for Description<'_> {
+    ghost output = { λ file. Some (description_text file.name.now file.size file.digits.now) };
+
+    fn fmt<W: fmt::Write>(&self, f: &mut fmt::Formatter<W>) -> fmt::Result {
+        let name = self.name;
+        let size = self.size;
+        let digits = self.digits;
+        write!(
+            f,
+            "name = \"{name}\"\nsize = {size}\nsha256 = \"{digits}\"\n"
+        )
+    }
+}
+
+// Writes the three lines of a file.
+fn write_lines(alloc: Global, name: &str, size: u64, hash: [u8; 32]) -> Result<String, AllocError>
+    ensures { IfOk result (λ text. string_bytes text ≡ description_text name.now size (encode_lower hash)) }
+{
+    let digits = hex::encode(alloc, hash)?;
+    let description = Description {
+        name,
+        size,
+        digits: digits.as_str(),
+    };
+    format!(in alloc; "{description}")
+}
+
+// rule: Description of a file
+/// Writes the three lines that a profile has of a file: `name`, `size` and `sha256`.
+///
+/// Fails with `Name` if the name is no package's name, with `Missing` if there is no such file, with
+/// `Unreadable` if it couldn't be read to its end, and with `Memory` if an allocation fails. At most 65536
+/// bytes of the file are held.
+pub fn describe<P: Packages>(
+    alloc: Global,
+    packages: &P,
+    name: &str,
+) -> Result<String, DescribeError>
+    ensures ok { IfOk result (λ text. Describes (P.sizes packages.now name.now)
+        (P.reads packages.now name.now) name.now (Ok (string_bytes text))) }
+    ensures err { IfErr result (λ error. Describes (P.sizes packages.now name.now)
+        (P.reads packages.now name.now) name.now (Err error)) }
+{
+    if !is_package_name(name) {
+        return Err(DescribeError::Name);
+    }
+    let bytes = name.as_bytes();
+    let Some(size) = packages.size(bytes) else {
+        return Err(DescribeError::Missing);
+    };
+    let mut block = vec![in alloc; 0; BLOCK as usize]?;
+    let Some(hash) = hash_package(packages, &mut block, bytes, size) else {
+        return Err(DescribeError::Unreadable);
+    };
+    Ok(write_lines(alloc, name, size, hash)?)
+}

@@ -1,0 +1,54 @@
+// A catalogue of two apps, whose packages are repeated letters `a`.
+
+use catalogue::Catalogue;
+use http_packages::Packages;
+use package_files::compare;
+use profile_toml::read_profile;
+use std::alloc::{AllocError, Global};
+use std::test::Fail;
+
+const PROFILE: &str = r#"schema = 1
+mirror = [{ name = "m0", codebase = "http://m0.example/p/", budget = 1 }]
+
+[[app]]
+id = "first"
+default = "stable"
+release = [
+    { version = "2.0", name = "a-2.bin", size = 65536, sha256 = "bf718b6f653bebc184e1479f1935b8da974d701b893afcf49e701f3e2f9f9c5a" },
+    { version = "1.0", name = "a-1.bin", size = 10, sha256 = "bf2cb58a68f684d95a3b78ef8f661c9a4e5b09e82cc8f9cc88cce90528caeb27" },
+    { version = "3.0", name = "a-3.bin", size = 65537, sha256 = "008ffc88d3c96a9f307524eb361e47c5222a887fc45fa0c1fb8d429c5c23b430" },
+]
+diff = [
+    { from = "1.0", to = "2.0", name = "a-1-2.bin", size = 3, sha256 = "9834876dcfb05cb167a5c24953eba58c4ac89b1adf57f28f2f9d09af107ee8f0" },
+]
+
+[[app]]
+id = "second"
+default = "stable"
+release = [
+    { version = "1.0", name = "b-1.bin", size = 1, sha256 = "ca978112ca1bbdcafac231b39a23dc4da786eff8147c4e72b9807785afee48bb" },
+]
+"#;
+
+/// The catalogue of the profile.
+pub(crate) fn catalogue(alloc: Global) -> Result<Catalogue, Fail> {
+    let (edits, _mirrors) = read_profile(alloc, PROFILE.as_bytes())?;
+    let mut catalogue = Catalogue::empty(alloc);
+    catalogue.apply(&edits)?;
+    Ok(catalogue)
+}
+
+/// The findings of the catalogue's packages, a `;` after each.
+pub(crate) fn print_findings<P: Packages>(
+    alloc: Global,
+    catalogue: &Catalogue,
+    packages: &P,
+) -> Result<String, AllocError> {
+    let mut text = String::new(alloc);
+    let findings = compare(alloc, catalogue.apps(), packages)?;
+    for finding in findings.as_slice() {
+        let line = format!(in alloc; "{finding};")?;
+        text.push_str(line.as_str())?;
+    }
+    Ok(text)
+}
