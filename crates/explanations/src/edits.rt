@@ -1,125 +1,157 @@
-// Faults of edits.
+// What there is to say of the faults of edits.
 
-use crate::entry::Entry;
-
-pub(crate) const EDITS: [Entry; 17] = [
-    Entry {
-        code: "C1",
-        name: " UnknownApp",
-        meaning: "An edit names an app that isn't there when the edit's turn comes.",
-        cause: "A typing mistake in `app`, or an edit before the one that adds the app.",
-        remedy: "Correct the identifier (its case makes no difference), or move the edit behind `add_app`.",
-    },
-    Entry {
-        code: "C2",
-        name: " AppExists",
-        meaning: "An app of that identifier was added before.",
-        cause: "Two apps whose identifiers differ at most in case.",
-        remedy: "Join the two tables `[[app]]`, or give one of them another `id`.",
-    },
-    Entry {
-        code: "C3",
-        name: " BadAppId",
-        meaning: "An app's identifier is not 1 to 256 bytes from `!` to `~`.",
-        cause: "A space, a letter outside ASCII, or an empty `id`.",
-        remedy: "Choose an identifier of visible ASCII characters without spaces.",
-    },
-    Entry {
-        code: "C4",
-        name: " BadVersion",
-        meaning: "A version is not one to four decimal numbers with dots, each below 2^32.",
-        cause: "A leading zero (`1.02`), a suffix (`1.0-beta`), or a `v` in front.",
-        remedy: "Write the version as `1.2.3.4`, with at most four numbers and no leading zeros.",
-    },
-    Entry {
-        code: "C5",
-        name: " ReleaseExists",
-        meaning: "The app has a release of that version already.",
-        cause: "The same release twice, or `1.0` and `1.0.0`, which are one version.",
-        remedy: "Remove one of the two, or raise its version.",
-    },
-    Entry {
-        code: "C6",
-        name: " HashTaken",
-        meaning: "Another release of the app has a full package with that SHA-256.",
-        cause: "One package under two versions: a client's place is found by its hash, so it must be unique.",
-        remedy: "Build the package anew for the new version, or remove one of the releases.",
-    },
-    Entry {
-        code: "C7",
-        name: " BadHash",
-        meaning: "A `sha256` is not 64 lower-case hexadecimal digits.",
-        cause: "Upper-case digits, a digest of another kind, or text around it.",
-        remedy: "Use what `sha256sum FILE` prints before the name.",
-    },
-    Entry {
-        code: "C8",
-        name: " BadSize",
-        meaning: "A package's size is not 1 to 1099511627776 bytes.",
-        cause: "A size of 0, or one in another unit than bytes.",
-        remedy: "Use what `stat -c %s FILE` prints.",
-    },
-    Entry {
-        code: "C9",
-        name: " BadName",
-        meaning: "A package or cohort name has another form than it must.",
-        cause: "A slash or a space in a package's name, or a capital in a cohort's.",
-        remedy: "Packages: 1 to 128 of A-Z a-z 0-9 . _ - and no dot in front. Cohorts: 1 to 32 of a-z 0-9 -.",
-    },
-    Entry {
-        code: "C10",
-        name: " NameTaken",
-        meaning: "Another package of the catalogue has that name.",
-        cause: "One file name for two packages, perhaps of two apps.",
-        remedy: "Give each package a name of its own, for example with the app and the version in it.",
-    },
-    Entry {
-        code: "C11",
-        name: " UnknownRelease",
-        meaning: "An edit names a version that the app has no release of.",
-        cause: "A target, a held target or a differential of a release that was removed or not added yet.",
-        remedy: "Add the release, or name one that is there.",
-    },
-    Entry {
-        code: "C12",
-        name: " DiffExists",
-        meaning: "The app has a differential between those two releases already.",
-        cause: "The same pair twice.",
-        remedy: "Remove one of the two.",
-    },
-    Entry {
-        code: "C13",
-        name: " DiffBackward",
-        meaning: "A differential doesn't lead to a higher version.",
-        cause: "`from` and `to` are exchanged, or equal.",
-        remedy: "Exchange them. Clients are led down by full packages alone.",
-    },
-    Entry {
-        code: "C14",
-        name: " UnknownCohort",
-        meaning: "An edit names a cohort that the app doesn't have.",
-        cause: "A typing mistake in an `audience` or in `cohort`, or a cohort that is added later.",
-        remedy: "Correct the name, or add the cohort before the edit.",
-    },
-    Entry {
-        code: "C15",
-        name: " CohortExists",
-        meaning: "The app has a cohort of that name already.",
-        cause: "A cohort twice; the default cohort is added with its app.",
-        remedy: "Join the two tables.",
-    },
-    Entry {
-        code: "C16",
-        name: " BadShare",
-        meaning: "A share is above 1000.",
-        cause: "A share in another unit: it counts clients of 1000.",
-        remedy: "Write 1000 for all clients, 50 for five in a hundred.",
-    },
-    Entry {
-        code: "C17",
-        name: " Limit",
-        meaning: "A limit of the catalogue is reached.",
-        cause: "More than 64 apps, or in one app more than 512 releases, 16384 differentials or 32 cohorts.",
-        remedy: "Remove what no client needs any more; a stone lets older releases go.",
-    },
+pub(crate) const EDITS: [(&str, &str); 17] = [
+    (
+        "C1",
+        "C1 UnknownApp
+Found in: an edit of a profile.
+An edit names an app that isn't there when the edit's turn comes.
+Usual cause: A typing mistake in `app`, or an edit before the one that adds the app.
+Remedy: Correct the identifier (its case makes no difference), or move the edit behind `add_app`.
+",
+    ),
+    (
+        "C2",
+        "C2 AppExists
+Found in: an edit of a profile.
+An app of that identifier was added before.
+Usual cause: Two apps whose identifiers differ at most in case.
+Remedy: Join the two tables `[[app]]`, or give one of them another `id`.
+",
+    ),
+    (
+        "C3",
+        "C3 BadAppId
+Found in: an edit of a profile.
+An app's identifier is not 1 to 256 bytes from `!` to `~`.
+Usual cause: A space, a letter outside ASCII, or an empty `id`.
+Remedy: Choose an identifier of visible ASCII characters without spaces.
+",
+    ),
+    (
+        "C4",
+        "C4 BadVersion
+Found in: an edit of a profile.
+A version is not one to four decimal numbers with dots, each below 2^32.
+Usual cause: A leading zero (`1.02`), a suffix (`1.0-beta`), or a `v` in front.
+Remedy: Write the version as `1.2.3.4`, with at most four numbers and no leading zeros.
+",
+    ),
+    (
+        "C5",
+        "C5 ReleaseExists
+Found in: an edit of a profile.
+The app has a release of that version already.
+Usual cause: The same release twice, or `1.0` and `1.0.0`, which are one version.
+Remedy: Remove one of the two, or raise its version.
+",
+    ),
+    (
+        "C6",
+        "C6 HashTaken
+Found in: an edit of a profile.
+Another release of the app has a full package with that SHA-256.
+Usual cause: One package under two versions: a client's place is found by its hash, so it must be unique.
+Remedy: Build the package anew for the new version, or remove one of the releases.
+",
+    ),
+    (
+        "C7",
+        "C7 BadHash
+Found in: an edit of a profile.
+A `sha256` is not 64 lower-case hexadecimal digits.
+Usual cause: Upper-case digits, a digest of another kind, or text around it.
+Remedy: Use what `sha256sum FILE` prints before the name.
+",
+    ),
+    (
+        "C8",
+        "C8 BadSize
+Found in: an edit of a profile.
+A package's size is not 1 to 1099511627776 bytes.
+Usual cause: A size of 0, or one in another unit than bytes.
+Remedy: Use what `stat -c %s FILE` prints.
+",
+    ),
+    (
+        "C9",
+        "C9 BadName
+Found in: an edit of a profile.
+A package or cohort name has another form than it must.
+Usual cause: A slash or a space in a package's name, or a capital in a cohort's.
+Remedy: Packages: 1 to 128 of A-Z a-z 0-9 . _ - and no dot in front. Cohorts: 1 to 32 of a-z 0-9 -.
+",
+    ),
+    (
+        "C10",
+        "C10 NameTaken
+Found in: an edit of a profile.
+Another package of the catalogue has that name.
+Usual cause: One file name for two packages, perhaps of two apps.
+Remedy: Give each package a name of its own, for example with the app and the version in it.
+",
+    ),
+    (
+        "C11",
+        "C11 UnknownRelease
+Found in: an edit of a profile.
+An edit names a version that the app has no release of.
+Usual cause: A target, a held target or a differential of a release that was removed or not added yet.
+Remedy: Add the release, or name one that is there.
+",
+    ),
+    (
+        "C12",
+        "C12 DiffExists
+Found in: an edit of a profile.
+The app has a differential between those two releases already.
+Usual cause: The same pair twice.
+Remedy: Remove one of the two.
+",
+    ),
+    (
+        "C13",
+        "C13 DiffBackward
+Found in: an edit of a profile.
+A differential doesn't lead to a higher version.
+Usual cause: `from` and `to` are exchanged, or equal.
+Remedy: Exchange them. Clients are led down by full packages alone.
+",
+    ),
+    (
+        "C14",
+        "C14 UnknownCohort
+Found in: an edit of a profile.
+An edit names a cohort that the app doesn't have.
+Usual cause: A typing mistake in an `audience` or in `cohort`, or a cohort that is added later.
+Remedy: Correct the name, or add the cohort before the edit.
+",
+    ),
+    (
+        "C15",
+        "C15 CohortExists
+Found in: an edit of a profile.
+The app has a cohort of that name already.
+Usual cause: A cohort twice; the default cohort is added with its app.
+Remedy: Join the two tables.
+",
+    ),
+    (
+        "C16",
+        "C16 BadShare
+Found in: an edit of a profile.
+A share is above 1000.
+Usual cause: A share in another unit: it counts clients of 1000.
+Remedy: Write 1000 for all clients, 50 for five in a hundred.
+",
+    ),
+    (
+        "C17",
+        "C17 Limit
+Found in: an edit of a profile.
+A limit of the catalogue is reached.
+Usual cause: More than 64 apps, or in one app more than 512 releases, 16384 differentials or 32 cohorts.
+Remedy: Remove what no client needs any more; a stone lets older releases go.
+",
+    ),
 ];

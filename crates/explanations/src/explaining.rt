@@ -1,23 +1,35 @@
 //! The entry of a code, and the list of all.
 
+ghost use Rattle.std.specs.Prelude.{◌≡◌, option_map};
+ghost use Rattle.explanations.specs.Explaining.{entries_of, explanation_of, text_in};
+
 use crate::certificates::CERTIFICATES;
 use crate::edits::EDITS;
-use crate::entry::Entry;
 use crate::profiles::PROFILES;
 use crate::requests::REQUESTS;
 use crate::words::WORDS;
 use std::alloc::{AllocError, Global};
 
-fn find(entries: &[Entry], code: &str) -> Option<Entry> {
-    for entry in entries {
-        if entry.code == code {
-            return Some(*entry);
+// What a table says of a code.
+fn find(table: &[(&'static str, &'static str)], code: &str) -> Option<&'static str>
+    ensures { option_map (λ text. text.now) result ≡ text_in (entries_of table.now) code.now }
+{
+    for (name, text) in table {
+        if *name == code {
+            return Some(*text);
         }
     }
     None
 }
 
-fn entry_of(code: &str) -> Option<Entry> {
+// rule: Explanation of a code
+/// Explains a code, or the first word of a line, that the program prints after `omaha: `.
+///
+/// It has five lines: the code with its name, where it is found, the meaning, the usual cause and the remedy.
+/// It is `None` if the program prints no such code.
+pub fn explain(code: &str) -> Option<&'static str>
+    ensures { option_map (λ text. text.now) result ≡ explanation_of code.now }
+{
     find(&EDITS, code)
         .or(find(&PROFILES, code))
         .or(find(&REQUESTS, code))
@@ -25,33 +37,22 @@ fn entry_of(code: &str) -> Option<Entry> {
         .or(find(&WORDS, code))
 }
 
-/// Explains a code, or the first word of a line, that the program prints after `omaha: `.
-///
-/// It has four lines: the code with its name, the meaning, the usual cause and the remedy. It is `None` if the
-/// program prints no such code.
-pub fn explain(alloc: Global, code: &str) -> Result<Option<String>, AllocError> {
-    match entry_of(code) {
-        Some(entry) => Ok(Some(entry.explanation(alloc)?)),
-        None => Ok(None),
-    }
-}
-
-fn push_all(alloc: Global, lines: &mut String, entries: &[Entry]) -> Result<(), AllocError> {
-    for entry in entries {
-        let (code, name) = (entry.code, entry.name);
-        let line = format!(in alloc; "{code}{name}\n")?;
-        lines.push_str(line.as_str())?;
+// The first line of each entry.
+fn push_all(lines: &mut String, table: &[(&'static str, &'static str)]) -> Result<(), AllocError> {
+    for (_, text) in table {
+        lines.push_str(text.lines().next().unwrap_or(""))?;
+        lines.push('\n')?;
     }
     Ok(())
 }
 
-/// Lists the codes and words, a line each.
+/// Lists the codes and words with their names, a line each.
 pub fn list(alloc: Global) -> Result<String, AllocError> {
     let mut lines = String::new(alloc);
-    push_all(alloc, &mut lines, &EDITS)?;
-    push_all(alloc, &mut lines, &PROFILES)?;
-    push_all(alloc, &mut lines, &REQUESTS)?;
-    push_all(alloc, &mut lines, &CERTIFICATES)?;
-    push_all(alloc, &mut lines, &WORDS)?;
+    push_all(&mut lines, &EDITS)?;
+    push_all(&mut lines, &PROFILES)?;
+    push_all(&mut lines, &REQUESTS)?;
+    push_all(&mut lines, &CERTIFICATES)?;
+    push_all(&mut lines, &WORDS)?;
     Ok(lines)
 }

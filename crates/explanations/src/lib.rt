@@ -1,14 +1,14 @@
 //! What the codes and words mean that the program prints.
 //!
-//! `explain` says of one what it means, its usual cause and the remedy; `list` names them all.
+//! `explain` finds what there is to say of one: where it is found, what it means, its usual cause and the
+//! remedy; `list` names them all. Read `specs/Explaining.antt`.
 //!
-//! It holds strings alone: when a code is printed is said where the fault is found.
+//! It holds strings: when a code is printed is said where the fault is found.
 
 #![tactic(auto)]
 
 mod certificates;
 mod edits;
-mod entry;
 mod explaining;
 mod profiles;
 mod requests;

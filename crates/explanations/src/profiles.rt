@@ -1,41 +1,49 @@
-// Faults of profiles and scripts.
+// What there is to say of the faults of profiles and scripts.
 
-use crate::entry::Entry;
-
-pub(crate) const PROFILES: [Entry; 5] = [
-    Entry {
-        code: "F1",
-        name: " NotToml",
-        meaning: "The file is not TOML.",
-        cause: "A missing quote or bracket, a key twice, or another format.",
-        remedy: "Check the file with any TOML tool, which names the line.",
-    },
-    Entry {
-        code: "F2",
-        name: " BadSchema",
-        meaning: "The file doesn't say `schema = 1`.",
-        cause: "The key is missing, is in quotes, or the file is for another version of the program.",
-        remedy: "Begin the file with `schema = 1`.",
-    },
-    Entry {
-        code: "F3",
-        name: " BadEntry",
-        meaning: "The entry at that path is missing, unknown or of another type.",
-        cause: "A misspelled key, a number in quotes, or a key that the table must have.",
-        remedy: "Look at the path: `app[0].release[2].size` is the size of the third release of the first app.",
-    },
-    Entry {
-        code: "F4",
-        name: " BadMirror",
-        meaning: "The mirror of that index, from 0, is invalid, or there are none or more than four.",
-        cause: "A codebase that doesn't begin with `http://` or end with `/`, or a name used twice.",
-        remedy: "Correct the name, codebase or budget of that mirror.",
-    },
-    Entry {
-        code: "F5",
-        name: " TooManyEdits",
-        meaning: "A script has more than 4096 edits.",
-        cause: "A whole catalogue in one script.",
-        remedy: "Split the script and publish its parts one after the other.",
-    },
+pub(crate) const PROFILES: [(&str, &str); 5] = [
+    (
+        "F1",
+        "F1 NotToml
+Found in: a profile.
+The file is not TOML.
+Usual cause: A missing quote or bracket, a key twice, or another format.
+Remedy: Check the file with any TOML tool, which names the line.
+",
+    ),
+    (
+        "F2",
+        "F2 BadSchema
+Found in: a profile.
+The file doesn't say `schema = 1`.
+Usual cause: The key is missing, is in quotes, or the file is for another version of the program.
+Remedy: Begin the file with `schema = 1`.
+",
+    ),
+    (
+        "F3",
+        "F3 BadEntry
+Found in: a profile.
+The entry at that path is missing, unknown or of another type.
+Usual cause: A misspelled key, a number in quotes, or a key that the table must have.
+Remedy: Look at the path: `app[0].release[2].size` is the size of the third release of the first app.
+",
+    ),
+    (
+        "F4",
+        "F4 BadMirror
+Found in: a profile.
+The mirror of that index, from 0, is invalid, or there are none or more than four.
+Usual cause: A codebase that doesn't begin with `http://` or end with `/`, or a name used twice.
+Remedy: Correct the name, codebase or budget of that mirror.
+",
+    ),
+    (
+        "F5",
+        "F5 TooManyEdits
+Found in: a profile.
+A script has more than 4096 edits.
+Usual cause: A whole catalogue in one script.
+Remedy: Split the script and publish its parts one after the other.
+",
+    ),
 ];

@@ -1,41 +1,58 @@
-// Other words.
+// What there is to say of other words.
 
-use crate::entry::Entry;
-
-pub(crate) const WORDS: [Entry; 5] = [
-    Entry {
-        code: "edit",
-        name: " N: CODE",
-        meaning: "The edit of that index, from 0, is rejected with that code.",
-        cause: "See the code: `omaha explain CODE`.",
-        remedy: "`omaha once --help` says in which order the edits of a profile count.",
-    },
-    Entry {
-        code: "file",
-        name: " F",
-        meaning: "The file can't be read, or has more than 64 MiB.",
-        cause: "A misspelled path, missing permission, or a folder.",
-        remedy: "Try `head F`.",
-    },
-    Entry {
-        code: "read",
-        name: "",
-        meaning: "Standard input failed, or has more than 262144 bytes.",
-        cause: "A closed terminal, or a file that is no request.",
-        remedy: "Give the request by `< FILE` or a pipe.",
-    },
-    Entry {
-        code: "write",
-        name: "",
-        meaning: "Standard output failed.",
-        cause: "A full disk, or a pipe whose reader ended.",
-        remedy: "Make room, or read all of the output.",
-    },
-    Entry {
-        code: "memory",
-        name: "",
-        meaning: "The program found no more memory.",
-        cause: "A limit of the shell or the service, or a very large profile.",
-        remedy: "Raise the limit (`ulimit -v`, `MemoryMax=`).",
-    },
+pub(crate) const WORDS: [(&str, &str); 6] = [
+    (
+        "edit",
+        "edit N: CODE
+Found in: a profile.
+The edit of that index, from 0, is rejected with that code.
+Usual cause: See the code: `omaha explain CODE`.
+Remedy: `omaha once --help` says in which order the edits of a profile count.
+",
+    ),
+    (
+        "file",
+        "file F
+Found in: a path of the command line.
+The file can't be read, or has more than 64 MiB.
+Usual cause: A misspelled path, missing permission, or a folder.
+Remedy: Try `head F`.
+",
+    ),
+    (
+        "net",
+        "net ADDR
+Found in: an address of the command line.
+The server can't listen on the address.
+Usual cause: No address and port, a port in use, or one below 1024 without the right to it.
+Remedy: Try another port, or `ss -ltn` to see who has it.
+",
+    ),
+    (
+        "read",
+        "read
+Found in: standard input.
+Standard input failed, or has more than 262144 bytes.
+Usual cause: A closed terminal, or a file that is no request.
+Remedy: Give the request by `< FILE` or a pipe.
+",
+    ),
+    (
+        "write",
+        "write
+Found in: standard output.
+Standard output failed.
+Usual cause: A full disk, or a pipe whose reader ended.
+Remedy: Make room, or read all of the output.
+",
+    ),
+    (
+        "memory",
+        "memory
+Found in: any command.
+The program found no more memory.
+Usual cause: A limit of the shell or the service, or a very large profile.
+Remedy: Raise the limit (`ulimit -v`, `MemoryMax=`).
+",
+    ),
 ];

@@ -1,0 +1,29 @@
+-- What is said of the codes and words that the program prints; this project's profile.
+use Rattle.std.specs.Prelude.{ℕ, List, [], ◌∷◌, map, Option, Some, None, bytes_eq, if◌then◌else◌}
+use Rattle.std.specs.Borrow.{Bor}
+use Rattle.std.specs.Option.{option_or}
+use Rattle.explanations.specs.declared.certificates.TheConstants.{CERTIFICATES}
+use Rattle.explanations.specs.declared.edits.TheConstants.{EDITS}
+use Rattle.explanations.specs.declared.profiles.TheConstants.{PROFILES}
+use Rattle.explanations.specs.declared.requests.TheConstants.{REQUESTS}
+use Rattle.explanations.specs.declared.words.TheConstants.{WORDS}
+
+-- what the first entry of a code says
+abbrev pub text_in : List (List ℕ × List ℕ) → List ℕ → Option (List ℕ)
+text_in [] code = None
+text_in (entry ∷ entries) code = if bytes_eq entry.0 code then Some entry.1 else text_in entries code
+
+-- the entries of a table
+abbrev pub entries_of : List (Bor (List ℕ) × Bor (List ℕ)) → List (List ℕ × List ℕ)
+entries_of table = map (λ entry. (entry.0.now, entry.1.now)) table
+
+-- rule: Explanation of a code
+-- what the code's entry says, which is in one of the tables; none if no table has one
+abbrev pub explanation_of : List ℕ → Option (List ℕ)
+explanation_of code =
+    option_or (option_or (option_or (option_or
+    (text_in (map (λ entry. (entry.0.now, entry.1.now)) EDITS) code)
+    (text_in (map (λ entry. (entry.0.now, entry.1.now)) PROFILES) code))
+    (text_in (map (λ entry. (entry.0.now, entry.1.now)) REQUESTS) code))
+    (text_in (map (λ entry. (entry.0.now, entry.1.now)) CERTIFICATES) code))
+    (text_in (map (λ entry. (entry.0.now, entry.1.now)) WORDS) code)
