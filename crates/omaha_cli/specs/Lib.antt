@@ -1,10 +1,9 @@
-pub mod Commands
 pub mod Doing
+pub mod Explaining
 pub mod Failures
 pub mod Once
-pub mod Paths
 pub mod Refusals
-pub mod ReportArguments
 pub mod Reports
 pub mod Running
+pub mod Serving
 pub mod Streams

@@ -13,7 +13,7 @@ use Rattle.omaha_service.specs.declared.fault.ServiceFault.{ServiceFault}
 use Rattle.omaha_service.specs.declared.fault.ServiceFault.TheVariants as service
 use Rattle.omaha_service.specs.declared.service.Service.{Service}
 use Rattle.omaha_cli.specs.Streams.{Streams}
-use Rattle.omaha_cli.specs.declared.command.Once.{Once}
+use Rattle.omaha_arguments.specs.declared.command.Once.{Once}
 use Rattle.omaha_cli.specs.declared.failure.Failure.{Failure}
 use Rattle.omaha_cli.specs.declared.failure.Failure.TheVariants as failure
 
@@ -84,6 +84,7 @@ Replies service moment old new (Err (failure.Profile fault)) = ⊥
 Replies service moment old new (Err (failure.Edit refused)) = ⊥
 Replies service moment old new (Err (failure.Certificate error)) = ⊥
 Replies service moment old new (Err (failure.Code code)) = ⊥
+Replies service moment old new (Err (failure.Net address)) = ⊥
 
 -- what follows from what was made of the profile: the service replies; without one nothing is read
 -- or written

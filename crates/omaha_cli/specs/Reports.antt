@@ -12,9 +12,9 @@ use Rattle.reports.specs.declared.fault.CertificateError.{CertificateError}
 use Rattle.omaha_cli.specs.Once.{Files, IsServed, IsUnreadable, max_profile}
 use Rattle.omaha_cli.specs.Refusals.{failure_of_certificate}
 use Rattle.omaha_cli.specs.Streams.{Streams}
-use Rattle.omaha_cli.specs.declared.command.Question.{Question}
-use Rattle.omaha_cli.specs.declared.command.Question.TheVariants.{Check, Certify, Verify}
-use Rattle.omaha_cli.specs.declared.command.Report.{Report}
+use Rattle.omaha_arguments.specs.declared.command.Question.{Question}
+use Rattle.omaha_arguments.specs.declared.command.Question.TheVariants.{Check, Certify, Verify}
+use Rattle.omaha_arguments.specs.declared.command.Report.{Report}
 use Rattle.omaha_cli.specs.declared.failure.Failure.{Failure}
 use Rattle.omaha_cli.specs.declared.failure.Failure.TheVariants as failure
 

@@ -1,12 +1,12 @@
 -- How a run of the program ends, and what it prints and returns then; this project's profile.
-use Rattle.std.specs.Prelude.{◌≡◌, ◌≢◌, ◌⊎◌, ℕ, nat_eq, if◌then◌else◌, List, ◌∷◌, [], ◌++◌, codes, Ok, Err}
+use Rattle.std.specs.Prelude.{◌≡◌, ◌⊎◌, ℕ, nat_eq, if◌then◌else◌, List, ◌∷◌, [], ◌++◌, codes, Ok, Err}
 use Rattle.std.specs.Io.KnownBytes.{Appends}
-use Rattle.clap.specs.Words.{IsAmong, Kinds, Text}
-use Rattle.clap.specs.declared.error.kind.ErrorKind.{ErrorKind}
-use Rattle.clap.specs.declared.error.kind.ErrorKind.TheVariants as kind
 use Rattle.streams.specs.Streams.{Known}
 use Rattle.streams.specs.Writing.{Breaks, IsWritten}
-use Rattle.omaha_cli.specs.Commands.{command_of, faults_of}
+use Rattle.omaha_arguments.specs.Commands.{command_of, faults_of}
+use Rattle.omaha_arguments.specs.Errors.{AsksToShow, HasMistake}
+use Rattle.omaha_arguments.specs.declared.error.ArgumentError.{ArgumentError}
+use Rattle.omaha_arguments.specs.declared.error.ArgumentError.TheVariants as argument
 use Rattle.omaha_cli.specs.Doing.{Does}
 use Rattle.omaha_cli.specs.Failures.{failure_text}
 use Rattle.omaha_cli.specs.Once.{Files}
@@ -35,33 +35,20 @@ code_of status.Success = 0
 code_of status.Failure = 1
 code_of status.Usage = 2
 
--- the kinds of what `clap` prints on the standard output: the help and the version
-abbrev pub IsShown : ErrorKind → Type 0
-IsShown told = (told ≡ kind.DisplayHelp) ⊎ (told ≡ kind.DisplayVersion)
-
--- the arguments ask for the help or the version
-abbrev pub AsksToShow : Kinds → Type 0
-AsksToShow faults = (told : ErrorKind) × IsShown told × IsAmong told faults
-
--- the arguments are invalid
-abbrev pub HasMistake : Kinds → Type 0
-HasMistake faults = (told : ErrorKind) × (IsShown told → ⊥) × IsAmong told faults
-
 -- a message was asked for, and is printed; or the writer failed within it
 abbrev pub Shows : List ℕ → Known → Known → Ending → Type 0
 Shows text before after ending.Shown = Appends before.bytes after.bytes text
 Shows text before after (ending.Failed refusal) = (refusal ≡ failure.Write) × Breaks before after text
 Shows text before after other = ⊥
 
--- how a run ends for which `clap` has an error of that kind
-abbrev pub Misreads : ErrorKind → Known → Known → Ending → Type 0
-Misreads told before after ended =
-    (IsShown told × ((text : List ℕ) × Shows text before after ended))
-    ⊎ ((ended ≡ ending.Failed failure.Memory) × (after ≡ before))
-    ⊎ ((told ≢ kind.OutOfMemory) × (IsShown told → ⊥) × ((text : List ℕ) × (ended ≡ ending.Mistaken text)) × (after ≡ before))
+-- how a run ends whose arguments ask for no command
+abbrev pub EndsBy : ArgumentError → Known → Known → Ending → Type 0
+EndsBy (argument.Shown text) before after ended = Shows text before after ended
+EndsBy (argument.Invalid text) before after ended = (ended ≡ ending.Mistaken text) × (after ≡ before)
+EndsBy argument.Memory before after ended = (ended ≡ ending.Failed failure.Memory) × (after ≡ before)
 
 -- How a run ends, by its arguments. A command does what its own relation says.
-abbrev pub Ends : Files → List Text → Streams → Streams → Ending → Type 0
+abbrev pub Ends : Files → List (List ℕ) → Streams → Streams → Ending → Type 0
 Ends files words old new ending.Replied =
     (faults_of words ≡ []) × Does files (command_of words) old new (Ok tt)
 Ends files words old new ending.Shown =
@@ -94,7 +81,7 @@ IsReported (ending.Mistaken text) before after = IsWritten before after text
 
 -- rule: Status of the program
 -- a whole run: it ends in one of these ways, reports that, and returns its status
-pub record Runs (files : Files) (words : List Text) (old new : Streams) (before after : Known) (code : ℕ) : Type 0 where
+pub record Runs (files : Files) (words : List (List ℕ)) (old new : Streams) (before after : Known) (code : ℕ) : Type 0 where
   pub ended : Ending
   pub ends : Ends files words old new ended
   pub reported : IsReported ended before after

@@ -1,12 +1,12 @@
 ghost use Rattle.std.specs.Prelude.{Some};
 ghost use Rattle.omaha_cli.specs.Failures.{failure_text};
 
-use crate::path::ShownPath;
 use catalogue::Refused;
 use omaha_json::RequestFault;
 use omaha_service::ServiceFault;
 use profile_toml::ProfileFault;
 use reports::CertificateError;
+use shown_strings::Shown;
 use std::alloc::AllocError;
 use std::error::Error;
 use std::fmt;
@@ -31,10 +31,12 @@ pub enum Failure {
     TooLong,
     /// The request is invalid.
     Request(RequestFault),
-    /// There is no such certificate, or it is not right.
+    /// There is no such certificate, or it is not valid.
     Certificate(CertificateError),
     /// The program prints no such code. The code prints without control characters.
     Code(Text),
+    /// The address could not be bound. It prints without control characters.
+    Net(Text),
     /// Memory ran out.
     Memory,
     /// The reply could not be written.
@@ -48,8 +50,8 @@ impl fmt::Display for Failure {
     fn fmt<W: fmt::Write>(&self, f: &mut fmt::Formatter<W>) -> fmt::Result {
         match self {
             Failure::File(path) => {
-                let path = ShownPath {
-                    path: path.as_str(),
+                let path = Shown {
+                    string: path.as_str(),
                 };
                 write!(f, "file {path}")
             }
@@ -60,10 +62,16 @@ impl fmt::Display for Failure {
             Failure::Request(fault) => write!(f, "{fault}"),
             Failure::Certificate(error) => write!(f, "{error}"),
             Failure::Code(code) => {
-                let code = ShownPath {
-                    path: code.as_str(),
+                let code = Shown {
+                    string: code.as_str(),
                 };
                 write!(f, "no code {code}")
+            }
+            Failure::Net(address) => {
+                let address = Shown {
+                    string: address.as_str(),
+                };
+                write!(f, "net {address}")
             }
             Failure::Memory => write!(f, "memory"),
             Failure::Write => write!(f, "write"),

@@ -1,32 +1,30 @@
 //! The program `omaha`, but for its `main`: it replies to one request from a reader, or reports on a profile.
 //!
-//! `run` reads the arguments, as `specs/Commands.antt` says, carries out the command, reports how it
-//! ended and returns the exit status: read `specs/Running.antt`. The command `once` is `respond`,
-//! which reads a profile from its file and a request from a reader, and writes a reply: read
-//! `specs/Once.antt`. What it replies from and what it writes are made by `omaha_service`. The commands
-//! `check`, `certify` and `verify` are `report_on`: read `specs/Reports.antt`. What they print is made by
-//! `reports`. `explain` prints what `explanations` says of a code.
+//! `run` carries out the command that `omaha_arguments` reads, reports how it ended and returns the exit
+//! status: read `specs/Running.antt`. The command `once` is `respond`, which reads a profile from its file
+//! and a request from a reader, and writes a reply: read `specs/Once.antt`. What it replies from and what it
+//! writes are made by `omaha_service`. The commands `check`, `certify` and `verify` are `report_on`: read
+//! `specs/Reports.antt`. What they print is made by `reports`. `explain` prints what `explanations` says of
+//! a code.
 //!
-//! It does not listen on a socket.
+//! `serve` is served by `omaha_server`: read `specs/Serving.antt`.
 
 #![tactic(auto)]
 
-mod command;
-mod command_line;
 mod explaining;
 mod failure;
 mod once;
-mod path;
 mod printing;
-mod report_arguments;
 mod reporting;
 mod running;
+mod serving;
 mod unreadable;
 
-pub use crate::command::{Command, Once, Question, Report};
 pub use crate::failure::Failure;
 pub use crate::once::respond;
 pub use crate::reporting::report_on;
 pub use crate::running::{Ending, Status, run};
 pub use crate::unreadable::refuse;
+pub use omaha_arguments::{Command, Once, Question, Report, Serve};
+pub use omaha_server::{Host, Place, ServerError};
 pub use omaha_service::{Service, ServiceFault, answer, builtin_service, read_service};

@@ -4,10 +4,10 @@ ghost use Rattle.std.specs.Prelude.{Some};
 ghost use Rattle.omaha_cli.specs.Once.{IsServed, Replies, Responds};
 ghost use Rattle.omaha_cli.specs.Streams.{Streams};
 
-use crate::command::Once;
 use crate::failure::Failure;
+use omaha_arguments::Once;
 use omaha_service::{Service, answer, builtin_service, read_service};
-use std::alloc::Global;
+use std::sync::Wait;
 use streams::{Disk, ReadFailure, ReadWhole, WriteWhole};
 use values::Text;
 
@@ -41,19 +41,19 @@ fn open_service<R: Disk + AllocGlobal>(rt: &R, once: &Once) -> Result<Service, F
 
 // rule: Maximum of the input
 // Reads a request, and writes the reply to it.
-fn reply_from<I: ReadWhole, W: WriteWhole>(
-    alloc: Global,
-    service: &Service,
+fn reply_from<R: AllocGlobal + Wait, I: ReadWhole, W: WriteWhole>(
+    rt: &R,
+    service: Service,
     moment: u64,
     reader: &mut I,
     writer: &mut W,
 ) -> Result<(), Failure>
-    ensures { Replies service.now moment
+    ensures { Replies service moment
         (record { input = I.input reader.old; output = W.output writer.old })
         (record { input = I.input reader.new; output = W.output writer.new }) result }
 {
-    let input = reader.read_whole(alloc, MAX_INPUT)?;
-    let reply = answer(alloc, service, moment, input.as_slice())?;
+    let input = reader.read_whole(rt.alloc(), MAX_INPUT)?;
+    let reply = answer(rt, rt.alloc(), service, moment, input.as_slice())?;
     match writer.write_whole(reply.as_slice()) {
         Ok(()) => Ok(()),
         Err(_) => Err(Failure::Write),
@@ -67,8 +67,8 @@ fn reply_from<I: ReadWhole, W: WriteWhole>(
 /// the writer, byte for byte. The profile may have 64 MiB and the request 262144 bytes. Fails, in
 /// this order, with the file, the profile's fault, its first rejected edit, the reader, the
 /// request's fault; each time nothing is written. If the writer fails, a first part of the reply is
-/// written, and not all of it.
-pub fn respond<R: Disk + AllocGlobal, I: ReadWhole, W: WriteWhole>(
+/// written, and not all of it. The mirrors' budgets count for this one request, from nothing.
+pub fn respond<R: Disk + AllocGlobal + Wait, I: ReadWhole, W: WriteWhole>(
     rt: &R,
     once: &Once,
     reader: &mut I,
@@ -79,7 +79,7 @@ pub fn respond<R: Disk + AllocGlobal, I: ReadWhole, W: WriteWhole>(
         (record { input = I.input reader.new; output = W.output writer.new }) result }
 {
     match open_service(rt, once) {
-        Ok(service) => reply_from(rt.alloc(), &service, once.moment, reader, writer),
+        Ok(service) => reply_from(rt, service, once.moment, reader, writer),
         Err(failure) => Err(failure),
     }
 }

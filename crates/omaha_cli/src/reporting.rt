@@ -2,13 +2,13 @@
 
 ghost use Rattle.std.specs.Prelude.{IfErr, IfOk, Ok, Err};
 ghost use Rattle.omaha_cli.specs.Reports.{Finds, IsReported, Reports};
-ghost use Rattle.omaha_cli.specs.declared.command.Question.TheVariants.{Verify};
+ghost use Rattle.omaha_arguments.specs.declared.command.Question.TheVariants.{Verify};
 ghost use Rattle.streams.specs.Streams.{Known};
 
-use crate::command::{Question, Report};
 use crate::failure::Failure;
 use crate::once::{MAX_PROFILE, open_profile};
 use crate::printing::print;
+use omaha_arguments::{Question, Report};
 use omaha_service::Service;
 use reports::{certify, summary, verify};
 use streams::{Disk, ReadFailure, WriteWhole};

@@ -1,19 +1,18 @@
 // A run of the program, from its arguments to its exit status.
 
 ghost use Rattle.std.specs.Prelude.{◌≡◌, map, string_bytes};
-ghost use Rattle.clap.specs.Words.{kind_of};
 ghost use Rattle.omaha_cli.specs.Doing.{Does};
-ghost use Rattle.omaha_cli.specs.Running.{Ends, IsMistaken, IsReported, IsTold, Misreads, Runs, Shows, code_of, status_of};
+ghost use Rattle.omaha_cli.specs.Running.{Ends, EndsBy, IsMistaken, IsReported, IsTold, Runs, Shows, code_of, status_of};
 
-use crate::command::Command;
-use crate::command_line::read_arguments;
 use crate::explaining::explain_code;
 use crate::failure::Failure;
 use crate::once::respond;
 use crate::reporting::report_on;
-use clap::Error;
-use clap::error::ErrorKind;
+use crate::serving::serve_profile;
+use omaha_arguments::{ArgumentError, Command, read_arguments};
+use omaha_server::Host;
 use std::alloc::Global;
+use std::sync::Wait;
 use streams::{Disk, ReadWhole, WriteWhole, offer};
 use values::Text;
 
@@ -26,7 +25,7 @@ pub enum Ending {
     Shown,
     /// The command failed.
     Failed(Failure),
-    /// The arguments are invalid, for which `clap` has this message.
+    /// The arguments are invalid, as this message says.
     Mistaken(Text),
 }
 
@@ -78,26 +77,20 @@ fn show<W: WriteWhole>(text: &str, writer: &mut W) -> Ending
     }
 }
 
-// Ends a run whose arguments `clap` does not accept, or that asks for the help or the version.
-fn end_misread<W: WriteWhole>(alloc: Global, error: &Error, writer: &mut W) -> Ending
-    ensures ends { Misreads (kind_of error.now) (W.output writer.old) (W.output writer.new) result }
+// Ends a run whose arguments ask for no command.
+fn end_without_command<W: WriteWhole>(error: ArgumentError, writer: &mut W) -> Ending
+    ensures ends { EndsBy error (W.output writer.old) (W.output writer.new) result }
     ensures untouched { IsMistaken result → writer.new ≡ writer.old }
 {
-    if error.kind() == ErrorKind::OutOfMemory {
-        return Ending::Failed(Failure::Memory);
-    }
-    let Ok(text) = format!(in alloc; "{error}") else {
-        return Ending::Failed(Failure::Memory);
-    };
-    match error.kind() {
-        ErrorKind::DisplayHelp => show(text.as_str(), writer),
-        ErrorKind::DisplayVersion => show(text.as_str(), writer),
-        _ => Ending::Mistaken(Text::new(text)),
+    match error {
+        ArgumentError::Shown(text) => show(text.as_str(), writer),
+        ArgumentError::Invalid(text) => Ending::Mistaken(text),
+        ArgumentError::Memory => Ending::Failed(Failure::Memory),
     }
 }
 
 // Does what a command asks for.
-fn obey<R: Disk + AllocGlobal, I: ReadWhole, W: WriteWhole>(
+fn obey<R: Disk + Host + AllocGlobal + Wait, I: ReadWhole, W: WriteWhole>(
     rt: &R,
     command: &Command,
     reader: &mut I,
@@ -111,11 +104,12 @@ fn obey<R: Disk + AllocGlobal, I: ReadWhole, W: WriteWhole>(
         Command::Once(once) => respond(rt, once, reader, writer),
         Command::Report(asked) => report_on(rt, asked, writer),
         Command::Explain(code) => explain_code(rt.alloc(), code, writer),
+        Command::Serve(asked) => serve_profile(rt, asked, writer),
     }
 }
 
 // Carries out what the arguments ask for.
-fn carry_out<R: Disk + AllocGlobal, I: ReadWhole, W: WriteWhole>(
+fn carry_out<R: Disk + Host + AllocGlobal + Wait, I: ReadWhole, W: WriteWhole>(
     rt: &R,
     arguments: &[String],
     reader: &mut I,
@@ -131,7 +125,7 @@ fn carry_out<R: Disk + AllocGlobal, I: ReadWhole, W: WriteWhole>(
             Ok(()) => Ending::Replied,
             Err(failure) => Ending::Failed(failure),
         },
-        Err(error) => end_misread(rt.alloc(), &error, writer),
+        Err(error) => end_without_command(error, writer),
     }
 }
 
@@ -161,10 +155,10 @@ fn report<F: WriteWhole>(alloc: Global, ending: &Ending, errors: &mut F)
 /// Runs the program with the arguments after its name, and returns its exit status.
 ///
 /// Without arguments, or with `once` and its options, it does what `respond` does; with `check`, `certify` or
-/// `verify` what `report_on` does. It returns 0 if the reply or the report was written, or the help or the
+/// `verify` what `report_on` does; with `serve` it serves until its last session. It returns 0 if the reply or the report was written, or the help or the
 /// version printed; 1 if the command failed, after one line on `errors`; and 2 if the arguments are invalid,
 /// after `clap`'s message on `errors`.
-pub fn run<R: Disk + AllocGlobal, I: ReadWhole, W: WriteWhole, F: WriteWhole>(
+pub fn run<R: Disk + Host + AllocGlobal + Wait, I: ReadWhole, W: WriteWhole, F: WriteWhole>(
     rt: &R,
     arguments: &[String],
     reader: &mut I,

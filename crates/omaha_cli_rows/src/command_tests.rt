@@ -5,7 +5,6 @@ use crate::shelf::Shelf;
 use crate::staged::{
     BETA, DATED, HELD, HINTED, LAST_DATED, SHARED, STAGED, TARGET, UNRELEASED, WAITING,
 };
-use std::alloc::Global;
 use std::io::ErrorKind;
 use std::test::Fail;
 
@@ -22,9 +21,10 @@ const FILES: [(&str, &str); 7] = [
     ),
 ];
 
-fn shelf(alloc: Global) -> Shelf<'static> {
+fn shelf<R: AllocGlobal>(rt: R) -> Shelf<R> {
     Shelf {
-        alloc,
+        alloc: rt.alloc(),
+        rt,
         files: FILES.as_slice(),
         broken: "broken",
         large: "large.toml",
@@ -33,18 +33,18 @@ fn shelf(alloc: Global) -> Shelf<'static> {
 
 #[test]
 fn serves_each_stage(rt: HostRuntime) -> Result<(), Fail> {
-    let shelf = shelf(rt.alloc());
+    let shelf = shelf(rt);
     let words = ["once", "--profile", "staged.toml"];
     let rows = [(SHARED, TARGET), (HELD, WAITING), (HINTED, BETA)];
     for (request, reply) in rows {
-        ends(&rt, &shelf, &words, request, replied(reply))?;
+        ends(&shelf.rt, &shelf, &words, request, replied(reply))?;
     }
     Ok(())
 }
 
 #[test]
 fn replies_at_the_given_time(rt: HostRuntime) -> Result<(), Fail> {
-    let shelf = shelf(rt.alloc());
+    let shelf = shelf(rt);
     let rows = [
         ("1767229261", DATED),
         ("0001767229261", DATED),
@@ -55,7 +55,7 @@ fn replies_at_the_given_time(rt: HostRuntime) -> Result<(), Fail> {
     ];
     for (moment, reply) in rows {
         let words = ["once", "--moment", moment, "--profile=staged.toml"];
-        ends(&rt, &shelf, &words, SHARED, replied(reply))?;
+        ends(&shelf.rt, &shelf, &words, SHARED, replied(reply))?;
     }
     Ok(())
 }
@@ -75,11 +75,17 @@ const PROFILES: &str = "1_omaha:_file_nowhere.toml~ | once --profile nowhere.tom
 1_omaha:_file_a%7F~ | once --profile a\u{7f}
 1_omaha:_file_%C2%80%C2%9F~ | once --profile \u{80}\u{9f}
 1_omaha:_file_%E2%80%AA%E2%80%AE~ | once --profile \u{202a}\u{202e}
-1_omaha:_file_a%20\u{a0}\u{e9}.toml~ | once --profile a%20\u{a0}\u{e9}.toml";
+1_omaha:_file_a%20\u{a0}\u{e9}.toml~ | once --profile a%20\u{a0}\u{e9}.toml
+1_omaha:_file_nowhere.toml~ | serve --profile nowhere.toml --packages p --listen 127.0.0.1:0
+1_omaha:_F1_NotToml~ | serve --profile broken.toml --packages p --listen 127.0.0.1:0
+1_omaha:_net_127.0.0.1:0~ | serve --profile staged.toml --packages p --listen 127.0.0.1:0
+1_omaha:_net_no%0Aaddress~ | serve --profile staged.toml --packages p --listen no~address --sessions 1";
 
 #[test]
 fn reports_what_is_wrong_with_the_profile(rt: HostRuntime) -> Result<(), Fail> {
-    let wrong = first_wrong(&shelf(rt.alloc()), PROFILES)?;
+    let shelf = shelf(rt);
+    let wrong = first_wrong(&shelf, PROFILES)?;
+    let rt = &shelf.rt;
     assert!(rt; wrong.is_empty(), "{wrong}");
     Ok(())
 }
@@ -92,14 +98,21 @@ fn reads_the_profile_before_an_input_that_fails(rt: HostRuntime) -> Result<(), F
     };
     let words = ["once", "--profile", "broken.toml"];
     let wanted = refused("omaha: F1 NotToml\n");
-    ends_over(&rt, &shelf(rt.alloc()), &words, &mut reader, wanted)
+    let shelf = shelf(rt);
+    ends_over(&shelf.rt, &shelf, &words, &mut reader, wanted)
 }
 
 #[test]
 fn reports_the_request_after_a_valid_profile(rt: HostRuntime) -> Result<(), Fail> {
-    let shelf = shelf(rt.alloc());
+    let shelf = shelf(rt);
     let words = ["once", "--profile", "staged.toml"];
-    ends(&rt, &shelf, &words, "{", refused("omaha: J1 NotJson\n"))
+    ends(
+        &shelf.rt,
+        &shelf,
+        &words,
+        "{",
+        refused("omaha: J1 NotJson\n"),
+    )
 }
 
 // Invalid arguments, and the beginning of the message: nothing is read or written.
@@ -115,35 +128,66 @@ const MISTAKES: &str =
 2_error:_unexpected_argument_'-5'_found~ | once --moment -5
 2_error:_invalid_value_'0018446744073709551616'_for_'--moment_<N>' | once --moment 0018446744073709551616
 2_error:_unexpected_argument_'--version'_found~ | once --version
-2_error:_unrecognized_subcommand_'serve'~ | serve
+2_error:_unrecognized_subcommand_'publish'~ | publish
+2_error:_the_following_required_arguments_were_not_provided:~ | serve --profile staged.toml
+2_error:_K_is_a_decimal_number | serve --profile a --packages b --listen c --sessions +5
+2_error:_K_is_a_decimal_number | serve --profile a --packages b --listen c --timeout 0
+2_error:_K_is_a_decimal_number | serve --profile a --packages b --listen c --timeout 86401
 2_error:_unexpected_argument_'--profile'_found~ | --profile staged.toml
 2_error:_unexpected_argument_'staged.toml'_found~ | once staged.toml
 2_error:_a_value_is_required_for_'--profile_<F>' | once --profile";
 
 #[test]
 fn accepts_no_other_arguments(rt: HostRuntime) -> Result<(), Fail> {
-    let wrong = first_wrong(&shelf(rt.alloc()), MISTAKES)?;
+    let shelf = shelf(rt);
+    let wrong = first_wrong(&shelf, MISTAKES)?;
+    let rt = &shelf.rt;
     assert!(rt; wrong.is_empty(), "{wrong}");
     Ok(())
 }
 
 #[test]
 fn prints_help_and_version(rt: HostRuntime) -> Result<(), Fail> {
-    let shelf = shelf(rt.alloc());
-    shows(&rt, &shelf, &["--help"], "Usage: omaha [COMMAND]\n")?;
+    let shelf = shelf(rt);
+    shows(&shelf.rt, &shelf, &["--help"], "Usage: omaha [COMMAND]\n")?;
     shows(
-        &rt,
+        &shelf.rt,
         &shelf,
         &["help"],
         "\nExample: a client without an installed version ",
     )?;
     shows(
-        &rt,
+        &shelf.rt,
         &shelf,
         &["once", "--help"],
         "Usage: omaha once [OPTIONS]\n",
     )?;
-    shows(&rt, &shelf, &["help", "once"], "[default: 0]")?;
-    shows(&rt, &shelf, &["--version"], "omaha 0.2.0\n")?;
-    shows(&rt, &shelf, &["-V"], "omaha 0.2.0\n")
+    shows(&shelf.rt, &shelf, &["help", "once"], "[default: 0]")?;
+    shows(
+        &shelf.rt,
+        &shelf,
+        &["check", "--help"],
+        "Usage: omaha check <F>\n",
+    )?;
+    shows(
+        &shelf.rt,
+        &shelf,
+        &["certify", "--help"],
+        "demo stable target no",
+    )?;
+    shows(
+        &shelf.rt,
+        &shelf,
+        &["verify", "--help"],
+        "omaha: wrong 2.0 C3",
+    )?;
+    shows(&shelf.rt, &shelf, &["explain", "--help"], "[CODE]")?;
+    shows(
+        &shelf.rt,
+        &shelf,
+        &["serve", "--help"],
+        "--listen 127.0.0.1:8080\n",
+    )?;
+    shows(&shelf.rt, &shelf, &["--version"], "omaha 0.2.0\n")?;
+    shows(&shelf.rt, &shelf, &["-V"], "omaha 0.2.0\n")
 }

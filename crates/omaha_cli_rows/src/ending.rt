@@ -2,9 +2,12 @@
 
 use omaha_cli::run;
 use std::io::Read;
+use std::net::{Net, TcpListener, TcpStream};
 use std::process::Abort;
 use std::rt::Files;
+use std::sync::Wait;
 use std::test::Fail;
+use std::time::Clock;
 
 /// What a run writes, what it reports, and its status.
 #[derive(Clone, Copy, Drop)]
@@ -41,7 +44,10 @@ fn strings<R: AllocGlobal>(rt: &R, words: &[&str]) -> Result<Vec<String>, Fail> 
 }
 
 /// Tests how a run ends by its arguments and its reader.
-pub(crate) fn ends_over<R: Files + AllocGlobal, I: Read>(
+pub(crate) fn ends_over<
+    R: Net<Listener = TcpListener, Stream = TcpStream> + Clock + Files + Wait + AllocGlobal,
+    I: Read,
+>(
     rt: &impl Abort,
     files: &R,
     words: &[&str],
@@ -59,23 +65,16 @@ pub(crate) fn ends_over<R: Files + AllocGlobal, I: Read>(
 }
 
 /// Tests how a run ends by its arguments and its input.
-pub(crate) fn ends<R: Files + AllocGlobal>(
-    rt: &impl Abort,
-    files: &R,
-    words: &[&str],
-    input: &str,
-    wanted: Ending<'_>,
-) -> Result<(), Fail> {
+pub(crate) fn ends<
+    R: Net<Listener = TcpListener, Stream = TcpStream> + Clock + Files + Wait + AllocGlobal,
+>(rt: &impl Abort, files: &R, words: &[&str], input: &str, wanted: Ending<'_>) -> Result<(), Fail> {
     ends_over(rt, files, words, &mut input.as_bytes(), wanted)
 }
 
 /// Tests that arguments ask for help, which has the string in lines of at most 100 columns.
-pub(crate) fn shows<R: Files + AllocGlobal>(
-    rt: &impl Abort,
-    files: &R,
-    words: &[&str],
-    text: &str,
-) -> Result<(), Fail> {
+pub(crate) fn shows<
+    R: Net<Listener = TcpListener, Stream = TcpStream> + Clock + Files + Wait + AllocGlobal,
+>(rt: &impl Abort, files: &R, words: &[&str], text: &str) -> Result<(), Fail> {
     let words = strings(files, words)?;
     let mut reader = b"{".as_slice();
     let mut written = Vec::new(files.alloc());

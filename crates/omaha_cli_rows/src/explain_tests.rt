@@ -16,10 +16,10 @@ use values::Text;
 // The first line of the explanation of a line's first word, without what follows the fault's name.
 fn head_of(alloc: Global, line: &str) -> Result<String, Fail> {
     let word = line.split(' ').next().unwrap_or("");
-    let Some(text) = explain(alloc, word)? else {
+    let Some(text) = explain(word) else {
         return Err("no explanation".into());
     };
-    Ok(String::from_str(alloc, text.as_str().lines().next().unwrap_or(""))?)
+    Ok(String::from_str(alloc, text.lines().next().unwrap_or(""))?)
 }
 
 const EDITS: [Fault; 17] = [
@@ -69,6 +69,7 @@ fn failures(alloc: Global) -> Result<Vec<Failure>, Fail> {
     failures.push(Failure::Request(RequestFault::BadApp { index: 0 }))?;
     failures.push(Failure::Request(RequestFault::TooManyApps))?;
     failures.push(Failure::Certificate(CertificateError::NoTrack))?;
+    failures.push(Failure::Net(Text::copy_of(alloc, "ADDR")?))?;
     failures.push(Failure::Memory)?;
     failures.push(Failure::Write)?;
     Ok(failures)
@@ -88,15 +89,16 @@ fn explains_each_failure(rt: HostRuntime) -> Result<(), Fail> {
 
 #[test]
 fn explains_and_lists(rt: HostRuntime) -> Result<(), Fail> {
-    let shelf = shelf(rt.alloc());
+    let shelf = shelf(rt);
     let wanted = "P1 BadLine
+Found in: a certificate.
 That line of the certificate, from 1, is not well formed, is missing or is too many.
 Usual cause: A leading zero, a space at the end, CR LF, or a file that was cut.
 Remedy: Write the certificate anew by `omaha certify`.
 ";
-    ends(&rt, &shelf, &["explain", "P1"], "{", replied(wanted))?;
-    let all = list(rt.alloc())?;
-    ends(&rt, &shelf, &["explain"], "{", replied(all.as_str()))?;
+    ends(&shelf.rt, &shelf, &["explain", "P1"], "{", replied(wanted))?;
+    let all = list(shelf.rt.alloc())?;
+    ends(&shelf.rt, &shelf, &["explain"], "{", replied(all.as_str()))?;
     let unknown = refused("omaha: no code C18\n");
-    ends(&rt, &shelf, &["explain", "C18"], "{", unknown)
+    ends(&shelf.rt, &shelf, &["explain", "C18"], "{", unknown)
 }

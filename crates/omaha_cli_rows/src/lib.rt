@@ -5,6 +5,8 @@
 #![tactic(auto)]
 
 #[cfg(test)]
+mod budget_tests;
+#[cfg(test)]
 mod chained;
 #[cfg(test)]
 mod command_tests;

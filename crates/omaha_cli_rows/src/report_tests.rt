@@ -6,7 +6,6 @@ use crate::chained::{
 use crate::ending::{ends, replied};
 use crate::runs::first_wrong;
 use crate::shelf::Shelf;
-use std::alloc::Global;
 use std::test::Fail;
 
 const FILES: [(&str, &str); 10] = [
@@ -22,9 +21,10 @@ const FILES: [(&str, &str); 10] = [
     ("held-beta.prices", HELD_BETA),
 ];
 
-pub(crate) fn shelf(alloc: Global) -> Shelf<'static> {
+pub(crate) fn shelf<R: AllocGlobal>(rt: R) -> Shelf<R> {
     Shelf {
-        alloc,
+        alloc: rt.alloc(),
+        rt,
         files: FILES.as_slice(),
         broken: "broken",
         large: "large.toml",
@@ -33,7 +33,7 @@ pub(crate) fn shelf(alloc: Global) -> Shelf<'static> {
 
 #[test]
 fn reports_on_a_profile(rt: HostRuntime) -> Result<(), Fail> {
-    let shelf = shelf(rt.alloc());
+    let shelf = shelf(rt);
     let rows: [(&[&str], &str); 5] = [
         (
             &["check", "chained.toml"],
@@ -51,7 +51,7 @@ fn reports_on_a_profile(rt: HostRuntime) -> Result<(), Fail> {
         (&["verify", "chained.toml", "beta.prices"], "certified\n"),
     ];
     for (words, wanted) in rows {
-        ends(&rt, &shelf, words, "{", replied(wanted))?;
+        ends(&shelf.rt, &shelf, words, "{", replied(wanted))?;
     }
     Ok(())
 }
@@ -80,7 +80,9 @@ const FAILURES: &str = "1_omaha:_file_nowhere.toml~ | check nowhere.toml
 
 #[test]
 fn reports_why_there_is_no_report(rt: HostRuntime) -> Result<(), Fail> {
-    let wrong = first_wrong(&shelf(rt.alloc()), FAILURES)?;
+    let shelf = shelf(rt);
+    let wrong = first_wrong(&shelf, FAILURES)?;
+    let rt = &shelf.rt;
     assert!(rt; wrong.is_empty(), "{wrong}");
     Ok(())
 }

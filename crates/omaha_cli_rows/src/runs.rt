@@ -2,7 +2,10 @@
 
 use omaha_cli::run;
 use std::alloc::{AllocError, Global};
+use std::net::{Net, TcpListener, TcpStream};
 use std::rt::Files;
+use std::sync::Wait;
+use std::time::Clock;
 
 // A string of a row: `_` is a space, `~` a line feed, and `^` is left out, so that `^` alone is empty.
 fn unescaped(alloc: Global, text: &str) -> Result<String, AllocError> {
@@ -32,7 +35,10 @@ fn shown(alloc: Global, bytes: Vec<u8>) -> String {
 
 // How a run over the input `{` ends: its status, what it prints on standard error, and how many bytes
 // it wrote and left, if that is not none and the one.
-fn ending<R: Files + AllocGlobal>(files: &R, words: &str) -> Result<String, AllocError> {
+fn ending<R: Net<Listener = TcpListener, Stream = TcpStream> + Clock + Files + Wait + AllocGlobal>(
+    files: &R,
+    words: &str,
+) -> Result<String, AllocError> {
     let alloc = files.alloc();
     let words = arguments(alloc, words)?;
     let mut reader = b"{".as_slice();
@@ -48,7 +54,9 @@ fn ending<R: Files + AllocGlobal>(files: &R, words: &str) -> Result<String, Allo
 }
 
 // What is wrong of a row, of which the run prints the wanted line, and after it nothing or the usage.
-fn wrong_row<R: Files + AllocGlobal>(files: &R, row: &str) -> Result<String, AllocError> {
+fn wrong_row<
+    R: Net<Listener = TcpListener, Stream = TcpStream> + Clock + Files + Wait + AllocGlobal,
+>(files: &R, row: &str) -> Result<String, AllocError> {
     let alloc = files.alloc();
     let Some((want, words)) = row.split_once(" | ") else {
         return format!(in alloc; "no row: {row}");
@@ -68,10 +76,9 @@ fn wrong_row<R: Files + AllocGlobal>(files: &R, row: &str) -> Result<String, All
 }
 
 /// The first row that ends otherwise, and how it ends.
-pub(crate) fn first_wrong<R: Files + AllocGlobal>(
-    files: &R,
-    rows: &str,
-) -> Result<String, AllocError> {
+pub(crate) fn first_wrong<
+    R: Net<Listener = TcpListener, Stream = TcpStream> + Clock + Files + Wait + AllocGlobal,
+>(files: &R, rows: &str) -> Result<String, AllocError> {
     for row in rows.lines() {
         let wrong = wrong_row(files, row)?;
         if !wrong.is_empty() {

@@ -9,7 +9,7 @@ use values::ReadError;
 fn answers_from_a_profile(rt: HostRuntime) -> Result<(), Fail> {
     let alloc = rt.alloc();
     let service = read_service(alloc, STAGED.as_bytes())?;
-    let reply = answer(alloc, &service, 0, SHARED.as_bytes())?;
+    let reply = answer(&rt, alloc, service, 0, SHARED.as_bytes())?;
     assert_eq!(rt; reply.as_slice(), TARGET.as_bytes());
     Ok(())
 }
@@ -18,7 +18,7 @@ fn answers_from_a_profile(rt: HostRuntime) -> Result<(), Fail> {
 fn answers_from_the_builtin_catalogue(rt: HostRuntime) -> Result<(), Fail> {
     let alloc = rt.alloc();
     let service = builtin_service(alloc)?;
-    let reply = answer(alloc, &service, 0, OLD.as_bytes())?;
+    let reply = answer(&rt, alloc, service, 0, OLD.as_bytes())?;
     assert_eq!(rt; reply.as_slice(), OFFER.as_bytes());
     Ok(())
 }

@@ -4,14 +4,19 @@ use std::alloc::{Allocator, Global};
 use std::fs::{FileTimes, Metadata, OpenFile, OpenOptions, Permissions};
 use std::io;
 use std::io::{ErrorKind, Read, Seek, SeekFrom, Write};
+use std::net::{Net, SocketAddr, TcpListener, TcpStream};
 use std::rt::Files;
+use std::sync::Wait;
+use std::time::{Clock, Duration};
 
 /// The files that a run finds, each a path and what it holds; the path of one that can be opened,
-/// but not read; and that of one that is too large for memory. `/dev/zero` has no end.
+/// but not read; and that of one that is too large for memory. `/dev/zero` has no end. Locks are waited for
+/// as `rt` does. There is no network and no clock.
 #[derive(Drop)]
-pub(crate) struct Shelf<'a> {
+pub(crate) struct Shelf<R> {
+    pub(crate) rt: R,
     pub(crate) alloc: Global,
-    pub(crate) files: &'a [(&'static str, &'static str)],
+    pub(crate) files: &'static [(&'static str, &'static str)],
     pub(crate) broken: &'static str,
     pub(crate) large: &'static str,
 }
@@ -24,7 +29,33 @@ pub(crate) struct Page {
     is_endless: bool,
 }
 
-impl Alloc for Shelf<'_> {
+impl<R: Wait> Wait for Shelf<R> {}
+
+impl<R> Net for Shelf<R> {
+    type Stream = TcpStream;
+
+    type Listener = TcpListener;
+
+    fn bind(&self, _addr: SocketAddr) -> io::Result<TcpListener> {
+        unsupported()
+    }
+
+    fn connect(&self, _addr: SocketAddr) -> io::Result<TcpStream> {
+        unsupported()
+    }
+}
+
+impl<R> Clock for Shelf<R> {
+    fn monotonic(&self) -> io::Result<Duration> {
+        unsupported()
+    }
+
+    fn since_1970(&self) -> io::Result<Duration> {
+        unsupported()
+    }
+}
+
+impl<R> Alloc for Shelf<R> {
     type A = Global;
 
     fn alloc(&self) -> Global {
@@ -36,7 +67,7 @@ fn unsupported<T>() -> io::Result<T> {
     Err(io::Error::from(ErrorKind::Unsupported))
 }
 
-impl Files for Shelf<'_> {
+impl<R> Files for Shelf<R> {
     type File = Page;
 
     type Dir = Page;

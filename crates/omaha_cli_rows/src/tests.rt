@@ -1,15 +1,16 @@
 use crate::ending::{Ending, ends, refused, replied};
 use crate::offers::{ACKNOWLEDGED, LATEST, NONE, OFFER, OLD, PINGS};
+use std::net::{Net, TcpListener, TcpStream};
 use std::process::Abort;
 use std::rt::Files;
+use std::sync::Wait;
 use std::test::Fail;
+use std::time::Clock;
 
 // Tests a run over the built-in catalogue, without arguments and with `once`.
-fn answers<R: Abort + Files + AllocGlobal>(
-    rt: &R,
-    input: &str,
-    wanted: Ending<'_>,
-) -> Result<(), Fail> {
+fn answers<
+    R: Abort + Net<Listener = TcpListener, Stream = TcpStream> + Clock + Files + Wait + AllocGlobal,
+>(rt: &R, input: &str, wanted: Ending<'_>) -> Result<(), Fail> {
     ends(rt, rt, &[], input, wanted)?;
     ends(rt, rt, &["once"], input, wanted)
 }

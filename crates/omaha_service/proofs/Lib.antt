@@ -1,2 +1,2 @@
-mod AnswerLemmas
+pub mod AnswerLemmas
 mod BuiltinLemmas

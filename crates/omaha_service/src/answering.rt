@@ -1,49 +1,64 @@
-ghost use Rattle.std.specs.Prelude.{◌≡◌, IfOk, IfErr, Ok, Err, nat_lt, length, if◌then◌else◌, Some, None};
-ghost use Rattle.omaha_service.specs.Answering.{Answers, first_mirror, granted};
+// The reply to one input, over books that are opened for it.
+
+ghost use Rattle.std.specs.Prelude.{IfOk, IfErr, Ok, Err};
+ghost use Rattle.mirror_ledger.specs.Named.{IsNamed};
+ghost use Rattle.omaha_service.specs.Answering.{Answers};
 
 use crate::service::Service;
-use catalogue::Mirror;
-use omaha_json::{RequestFault, read_request};
-use replies::{Plan, plan, render};
-use std::alloc::{AllocError, Global};
+use mirror_ledger::{Blanks, BudgetName, Hand, open_books};
+use omaha_json::RequestFault;
+use std::alloc::Global;
+use std::marker::Brand;
+use std::sync::Wait;
 use values::ReadError;
 
-fn first_mirror(mirrors: &[Mirror]) -> Option<usize>
-    ensures { result ≡ first_mirror mirrors.now }
-{
-    if mirrors.is_empty() { None } else { Some(0) }
-}
-
-// Every update is granted by the first mirror.
-fn granted(alloc: Global, mirrors: &[Mirror], plan: &Plan) -> Result<Vec<Option<usize>>, AllocError>
-    ensures { IfOk result (λ outcomes. outcomes.items ≡ granted mirrors.now plan.now) }
-{
-    let first = first_mirror(mirrors);
-    plan.choices()
-        .iter()
-        .map(|choice| choice.and_then(|_| first))
-        .collect(alloc)
-}
-
-// rule: Reply of the program
-/// Replies to an input from a catalogue, at a time in seconds since 1 January 1970 UTC.
-///
-/// Returns the reply to the request that the input is, and nothing else; or the input's first fault,
-/// as `omaha_json::read_request` does.
-pub fn answer(
+// Replies over books whose ledgers have these names, for one worker.
+fn answer_over<A: BudgetName, B: BudgetName, C: BudgetName, D: BudgetName, R: Wait>(
+    rt: &R,
     alloc: Global,
-    service: &Service,
+    blanks: Blanks,
+    service: Service,
     moment: u64,
     input: &[u8],
 ) -> Result<Vec<u8>, ReadError<RequestFault>>
-    ensures ok { IfOk result (λ reply. Answers service.now moment input.now (Ok reply.items)) }
-    ensures refused { IfErr result (λ error. Answers service.now moment input.now (Err error)) }
+    requires first { IsNamed blanks.first A.name A.parts A.budget 1 service.mirrors 0 }
+    requires second { IsNamed blanks.second B.name B.parts B.budget 1 service.mirrors 1 }
+    requires third { IsNamed blanks.third C.name C.parts C.budget 1 service.mirrors 2 }
+    requires fourth { IsNamed blanks.fourth D.name D.parts D.budget 1 service.mirrors 3 }
+    ensures ok { IfOk result (λ reply. Answers service moment input.now (Ok reply.items)) }
+    ensures refused { IfErr result (λ error. Answers service moment input.now (Err error)) }
 {
-    let request = read_request(alloc, input)?;
-    let edition = &service.edition;
-    let mirrors = service.mirrors.as_slice();
-    let plan = plan(alloc, edition, &request)?;
-    let outcomes = granted(alloc, mirrors, &plan)?;
-    let reply = render(alloc, edition, &request, &plan, &outcomes, mirrors, moment)?;
-    Ok(reply)
+    let Service { edition, mirrors } = service;
+    let mirrors = mirrors.into_vec();
+    let Ok((books, shares)) = open_books::<A, B, C, D, R>(rt, alloc, blanks, mirrors, 1) else {
+        return Err(ReadError::Memory);
+    };
+    let mut shares = shares;
+    let Some(share) = shares.pop() else {
+        unreachable!()
+    };
+    let mut till = Hand::new(&books, share);
+    update_desk::answer(rt, alloc, &edition, &mut till, moment, input)
+}
+
+// rule: Reply of the program
+/// Replies to an input from a service, at a time in seconds since 1 January 1970 UTC.
+///
+/// Opens books of the mirrors' budgets for this one input, with nothing granted yet. Returns the reply to
+/// the request that the input is, and nothing else; or the input's first fault, as
+/// `omaha_json::read_request` does. A payload is offered from the first mirror whose budget has room for
+/// it beside the payloads of the apps before it, and is `error-internal` if none has. It takes the
+/// service, since what its mirrors granted isn't kept. It may wait for a lock, though nothing else has it.
+pub fn answer<R: Wait>(
+    rt: &R,
+    alloc: Global,
+    service: Service,
+    moment: u64,
+    input: &[u8],
+) -> Result<Vec<u8>, ReadError<RequestFault>>
+    ensures ok { IfOk result (λ reply. Answers service moment input.now (Ok reply.items)) }
+    ensures refused { IfErr result (λ error. Answers service moment input.now (Err error)) }
+{
+    let blanks = Blanks::new(1);
+    answer_over::<Brand, Brand, Brand, Brand, R>(rt, alloc, blanks, service, moment, input)
 }

@@ -1,0 +1,3 @@
+mod CommandLemmas
+mod ErrorLemmas
+mod OptionLemmas

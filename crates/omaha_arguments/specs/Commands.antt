@@ -1,0 +1,83 @@
+-- What the arguments of the command line ask for, as `clap` reads them; this project's profile.
+use Rattle.std.specs.Prelude.{ℕ, true, List, [], ◌∷◌, codes, if◌then◌else◌, Option, None, unwrap_or}
+use Rattle.std.specs.Option.{option_map_or}
+use Rattle.std.specs.Str.{bytes_eq}
+use Rattle.clap.specs.Kinds.{or_else}
+use Rattle.clap.specs.Simple.{on_top}
+use Rattle.clap.specs.Words.{App, Kinds, Row, Text, fault_of, first_of, new_app, subcommand_of, with_rule, with_subcommand}
+use Rattle.clap.specs.declared.error.kind.ErrorKind.TheVariants.{ValueValidation}
+use Rattle.omaha_arguments.specs.Options.{number_in, option_named}
+use Rattle.omaha_arguments.specs.ReportArguments.{certify_app, check_app, explain_app, faults_of_report, report_in, verify_app}
+use Rattle.omaha_arguments.specs.ServeArguments.{faults_of_serve, serve_app, serve_in}
+use Rattle.omaha_arguments.specs.declared.command.Command.{Command}
+use Rattle.omaha_arguments.specs.declared.command.Command.TheVariants as command
+use Rattle.omaha_arguments.specs.declared.command.Once.{Once}
+
+-- the command `once`, with its two options
+abbrev pub once_app : App
+once_app =
+    with_rule (with_rule (new_app (codes "once")) (option_named (codes "profile")))
+    (option_named (codes "moment"))
+
+-- the program without its commands; its arguments are those after its name
+abbrev pub plain_app : App
+plain_app = on_top (λ top. record top { no_binary_name = true; has_version = true }) (new_app (codes "omaha"))
+
+-- the program's commands
+abbrev pub omaha_app : App
+omaha_app =
+    with_subcommand
+    (with_subcommand
+    (with_subcommand
+    (with_subcommand (with_subcommand (with_subcommand plain_app once_app.top) check_app.top) certify_app.top)
+    verify_app.top)
+    explain_app.top)
+    serve_app.top
+
+-- the number of `--moment`, or 0 without the option; none if it is no number
+abbrev pub moment_in : List Row → Option ℕ
+moment_in options = number_in (codes "moment") 0 options
+
+-- what the options of `once` ask for
+abbrev pub once_in : List Row → Once
+once_in options =
+    record {
+      profile = first_of (codes "profile") options;
+      moment = unwrap_or (moment_in options) 0;
+    }
+
+-- what is wrong with the options of `once`
+abbrev pub faults_of_once : List Row → Kinds
+faults_of_once options = option_map_or (λ moment. []) (moment_in options) (ValueValidation ∷ [])
+
+-- without a command: the built-in catalogue, at the time 0
+abbrev pub plain_once : Once
+plain_once = record { profile = None; moment = 0 }
+
+-- what the command of a name is asked to do
+abbrev pub command_in : List ℕ → List Row → Command
+command_in name options =
+    if bytes_eq name (codes "once") then command.Once (once_in options)
+    else (if bytes_eq name (codes "serve") then command.Serve (serve_in options)
+    else (if bytes_eq name (codes "explain") then command.Explain (first_of (codes "CODE") options)
+    else command.Report (report_in name options)))
+
+-- what is wrong with the options of the command of a name
+abbrev pub faults_in : List ℕ → List Row → Kinds
+faults_in name options =
+    if bytes_eq name (codes "once") then faults_of_once options
+    else (if bytes_eq name (codes "serve") then faults_of_serve options
+    else (if bytes_eq name (codes "explain") then [] else faults_of_report name options))
+
+-- rule: Arguments of the command line
+-- what the arguments ask for
+abbrev pub command_of : List Text → Command
+command_of words =
+    option_map_or (λ named. command_in named.0 named.1) (subcommand_of omaha_app words) (command.Once plain_once)
+
+-- what is wrong with the arguments, or the help or version that they ask for: what `clap` finds, else
+-- what is wrong with the options
+abbrev pub faults_of : List Text → Kinds
+faults_of words =
+    or_else (fault_of omaha_app words)
+    (option_map_or (λ named. faults_in named.0 named.1) (subcommand_of omaha_app words) [])

@@ -1,0 +1,5 @@
+pub mod Commands
+pub mod Errors
+pub mod Options
+pub mod ReportArguments
+pub mod ServeArguments

@@ -1,0 +1,39 @@
+-- The options and arguments of a command, and what their values say; this project's profile.
+use Rattle.std.specs.Prelude.{ℕ, ◌^◌, ◌==◌, ◌&&◌, Bool, true, List, [], length, nat_lt, slice_index, if◌then◌else◌, Option, Some, None, unwrap_or}
+use Rattle.std.specs.Option.{option_map_or}
+use Rattle.std.specs.Str.{all_ascii_digits}
+use Rattle.std.specs.Str.Parse.{digits_value}
+use Rattle.clap.specs.Words.{Row, Rule, first_of, new_rule}
+
+-- an option `--name VALUE`
+abbrev pub option_named : List ℕ → Rule
+option_named name = record (new_rule name) { long = Some name; value_names = 1 }
+
+-- an option that has to be given
+abbrev pub wanted_option : List ℕ → Rule
+wanted_option name = record (new_rule name) { long = Some name; value_names = 1; required = true }
+
+-- an argument that has to be given
+abbrev pub wanted : List ℕ → Rule
+wanted name = record (new_rule name) { required = true }
+
+-- the value of an argument, or nothing
+abbrev pub text_in : List ℕ → List Row → List ℕ
+text_in name options = unwrap_or (first_of name options) []
+
+-- the string begins with a `+`
+abbrev pub has_plus : List ℕ → Bool
+has_plus text = slice_index text 0 == 43
+
+-- the string is decimal digits, at least one, of a number below 2^64
+abbrev pub is_number : List ℕ → Bool
+is_number text =
+    nat_lt 0 (length text) && all_ascii_digits text && nat_lt (digits_value 10 text) (2 ^ 64)
+
+-- the number in a string
+abbrev pub number_of : List ℕ → Option ℕ
+number_of text = if is_number text then Some (digits_value 10 text) else None
+
+-- the number of an option, or a default without the option; none if it is no number
+abbrev pub number_in : List ℕ → ℕ → List Row → Option ℕ
+number_in name default options = option_map_or number_of (first_of name options) (Some default)

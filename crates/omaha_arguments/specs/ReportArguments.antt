@@ -1,0 +1,78 @@
+-- The arguments of the commands that report on a profile; this project's profile.
+use Rattle.std.specs.Prelude.{ℕ, ◌&&◌, Bool, true, false, if◌then◌else◌, List, [], ◌∷◌, codes, is_some, Option, None, Some, unwrap_or}
+use Rattle.std.specs.Str.{bytes_eq}
+use Rattle.clap.specs.Words.{App, Kinds, Row, new_app, new_rule, with_rule}
+use Rattle.clap.specs.declared.error.kind.ErrorKind.TheVariants.{ValueValidation}
+use Rattle.cohorts.specs.declared.track.Lane.{Lane}
+use Rattle.cohorts.specs.declared.track.Lane.TheVariants.{Target, Held}
+use Rattle.reports.specs.declared.names.TrackNames.{TrackNames}
+use Rattle.omaha_arguments.specs.Options.{text_in, wanted}
+use Rattle.omaha_arguments.specs.declared.command.Question.{Question}
+use Rattle.omaha_arguments.specs.declared.command.Question.TheVariants.{Check, Certify, Verify}
+use Rattle.omaha_arguments.specs.declared.command.Report.{Report}
+
+-- the commands `check F`, `certify F APP COHORT LANE ROLLBACK` and `verify F CERT`
+abbrev pub check_app : App
+check_app = with_rule (new_app (codes "check")) (wanted (codes "F"))
+
+abbrev pub certify_app : App
+certify_app =
+    with_rule
+    (with_rule
+    (with_rule
+    (with_rule (with_rule (new_app (codes "certify")) (wanted (codes "F"))) (wanted (codes "APP")))
+    (wanted (codes "COHORT")))
+    (wanted (codes "LANE")))
+    (wanted (codes "ROLLBACK"))
+
+abbrev pub verify_app : App
+verify_app = with_rule (with_rule (new_app (codes "verify")) (wanted (codes "F"))) (wanted (codes "CERT"))
+
+-- the command `explain [CODE]`
+abbrev pub explain_app : App
+explain_app = with_rule (new_app (codes "explain")) (new_rule (codes "CODE"))
+
+-- the lane of a word, if it is one
+abbrev pub lane_of : List ℕ → Option Lane
+lane_of word =
+    if bytes_eq word (codes "target") then Some Target
+    else (if bytes_eq word (codes "held") then Some Held else None)
+
+-- what `yes` or `no` says
+abbrev pub answer_of : List ℕ → Option Bool
+answer_of word =
+    if bytes_eq word (codes "yes") then Some true
+    else (if bytes_eq word (codes "no") then Some false else None)
+
+-- the names of a track
+abbrev pub names_in : List Row → TrackNames
+names_in options =
+    record {
+      app = text_in (codes "APP") options;
+      cohort = text_in (codes "COHORT") options;
+      lane = unwrap_or (lane_of (text_in (codes "LANE") options)) Target;
+      rollback = unwrap_or (answer_of (text_in (codes "ROLLBACK") options)) false;
+    }
+
+-- the question of the command of a name
+abbrev pub question_in : List ℕ → List Row → Question
+question_in name options =
+    if bytes_eq name (codes "check") then Check
+    else (if bytes_eq name (codes "certify") then Certify (names_in options)
+    else Verify (text_in (codes "CERT") options))
+
+-- rule: Arguments of a report
+-- what the command of a name asks about a profile
+abbrev pub report_in : List ℕ → List Row → Report
+report_in name options = record { profile = text_in (codes "F") options; question = question_in name options }
+
+-- LANE and ROLLBACK are such words
+abbrev pub faults_of_certify : List Row → Kinds
+faults_of_certify options =
+    if is_some (lane_of (text_in (codes "LANE") options)) && is_some (answer_of (text_in (codes "ROLLBACK") options))
+    then [] else ValueValidation ∷ []
+
+-- what is wrong with the arguments of the command of a name
+abbrev pub faults_of_report : List ℕ → List Row → Kinds
+faults_of_report name options =
+    if bytes_eq name (codes "certify") then faults_of_certify options else []

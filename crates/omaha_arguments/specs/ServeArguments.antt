@@ -1,0 +1,55 @@
+-- The options of the command `serve`; this project's profile.
+use Rattle.std.specs.Prelude.{ℕ, ◌&&◌, Bool, if◌then◌else◌, List, [], ◌∷◌, codes, is_some, nat_lt, Option, None, Some, unwrap_or}
+use Rattle.std.specs.Option.{option_map, option_map_or}
+use Rattle.clap.specs.Words.{App, Kinds, Row, first_of, new_app, with_rule}
+use Rattle.clap.specs.declared.error.kind.ErrorKind.TheVariants.{ValueValidation}
+use Rattle.omaha_arguments.specs.Options.{number_in, number_of, option_named, text_in, wanted_option}
+use Rattle.omaha_arguments.specs.declared.command.Serve.{Serve}
+
+-- the command `serve`, with its five options
+abbrev pub serve_app : App
+serve_app =
+    with_rule
+    (with_rule
+    (with_rule
+    (with_rule (with_rule (new_app (codes "serve")) (wanted_option (codes "profile"))) (wanted_option (codes "packages")))
+    (wanted_option (codes "listen")))
+    (option_named (codes "sessions")))
+    (option_named (codes "timeout"))
+
+-- the number of sessions that a string says, if it is a number
+abbrev pub limit_of : List ℕ → Option (Option ℕ)
+limit_of text = option_map Some (number_of text)
+
+-- how many sessions are served; none without the option: there is no end
+abbrev pub sessions_in : List Row → Option (Option ℕ)
+sessions_in options = option_map_or limit_of (first_of (codes "sessions") options) (Some None)
+
+-- a time limit has 1 to 86400 seconds
+abbrev pub is_timeout : ℕ → Bool
+is_timeout seconds = nat_lt 0 seconds && nat_lt seconds 86401
+
+-- the number, if it is a time limit
+abbrev pub timeout_of : ℕ → Option ℕ
+timeout_of seconds = if is_timeout seconds then Some seconds else None
+
+-- the seconds of `--timeout`, 30 without the option
+abbrev pub timeout_in : List Row → Option ℕ
+timeout_in options = option_map_or timeout_of (number_in (codes "timeout") 30 options) None
+
+-- rule: Options of the server
+-- what the options of `serve` ask for
+abbrev pub serve_in : List Row → Serve
+serve_in options =
+    record {
+      profile = text_in (codes "profile") options;
+      packages = text_in (codes "packages") options;
+      listen = text_in (codes "listen") options;
+      sessions = unwrap_or (sessions_in options) None;
+      timeout = unwrap_or (timeout_in options) 0;
+    }
+
+-- what is wrong with the options of `serve`
+abbrev pub faults_of_serve : List Row → Kinds
+faults_of_serve options =
+    if is_some (sessions_in options) && is_some (timeout_in options) then [] else ValueValidation ∷ []

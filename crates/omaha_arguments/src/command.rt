@@ -1,0 +1,61 @@
+//! What a run of the program is asked to do.
+
+use reports::TrackNames;
+use values::Text;
+
+/// What a run of the program is asked to do.
+#[derive(Drop)]
+pub enum Command {
+    /// To reply to a request.
+    Once(Once),
+    /// To report on a profile.
+    Report(Report),
+    /// To explain a code that the program prints, or to list them all.
+    Explain(Option<Text>),
+    /// To serve a profile and its packages.
+    Serve(Serve),
+}
+
+/// What the command `once` is asked to do.
+#[derive(Drop)]
+pub struct Once {
+    /// The path of the profile, or `None` for the built-in catalogue.
+    pub profile: Option<Text>,
+    /// The time of the reply, in seconds since 1 January 1970 UTC.
+    pub moment: u64,
+}
+
+/// What the command `serve` is asked to do.
+#[derive(Drop)]
+pub struct Serve {
+    /// The path of the profile.
+    pub profile: Text,
+    /// The path of the folder of packages.
+    pub packages: Text,
+    /// The address to listen on.
+    pub listen: Text,
+    /// After how many sessions it ends, or `None` for no end.
+    pub sessions: Option<u64>,
+    /// How many seconds a silent client is waited for: 1 to 86400.
+    pub timeout: u64,
+}
+
+/// What is asked about a profile.
+#[derive(Drop)]
+pub struct Report {
+    /// The path of the profile.
+    pub profile: Text,
+    /// The question.
+    pub question: Question,
+}
+
+/// A question about a profile.
+#[derive(Drop)]
+pub enum Question {
+    /// What it has.
+    Check,
+    /// The certificate of a track.
+    Certify(TrackNames),
+    /// Whether a certificate is valid, by the path of its file.
+    Verify(Text),
+}

@@ -1,0 +1,115 @@
+// The command line, as `clap` reads it.
+
+ghost use Rattle.std.specs.Prelude.{◌≡◌, [], true, IfErr, IfOk, map, string_bytes};
+ghost use Rattle.clap.specs.Words.{FailsBy, app_of, found_of, rows_of, with_subcommand};
+ghost use Rattle.omaha_arguments.specs.Commands.{command_in, command_of, faults_in, faults_of, omaha_app, plain_app};
+ghost use Rattle.omaha_arguments.specs.Errors.{IsWhy};
+
+use crate::command::{Command, Once};
+use crate::error::{ArgumentError, argument_error};
+use crate::once_arguments::{once_command, read_once};
+use crate::options::optional_text;
+use crate::report_arguments::{
+    certify_command, check_command, explain_command, read_report, verify_command,
+};
+use crate::serve_arguments::{read_serve, serve_command};
+use clap::{ArgMatches, Error};
+use std::alloc::{AllocError, Global};
+
+const VERSION: &str = "0.2.0";
+
+const OMAHA: &str = "Replies to Omaha 3.1 update checks from a catalogue of releases.";
+
+const AFTER_OMAHA: &str = "Without a command, omaha does what `omaha once` does without options.
+
+Example: a client without an installed version asks for the built-in app `mini`.
+  echo '{\"request\":{\"app\":[{\"appid\":\"mini\",\"updatecheck\":{}}],\"protocol\":\"3.1\"}}' | omaha";
+
+// The program without its commands.
+fn plain_command<'a>(alloc: Global) -> Result<clap::Command<'a>, AllocError>
+    ensures { IfOk result (λ command. app_of command ≡ plain_app) }
+{
+    let command = clap::Command::new(alloc, "omaha")
+        .no_binary_name(true)
+        .version(VERSION)
+        .about(OMAHA)
+        .after_help(AFTER_OMAHA);
+    let command = command.bin_name("omaha")?;
+    Ok(command)
+}
+
+// The program with one more command.
+fn with_command<'a>(
+    program: clap::Command<'a>,
+    command: clap::Command<'a>,
+) -> Result<clap::Command<'a>, AllocError>
+    requires { (app_of command).top.is_plain ≡ true }
+    ensures { IfOk result (λ more. app_of more ≡ with_subcommand (app_of program.entry) (app_of command.entry).top) }
+{
+    let more = program.subcommand(command)?;
+    Ok(more)
+}
+
+fn omaha_command<'a>(alloc: Global) -> Result<clap::Command<'a>, AllocError>
+    ensures { IfOk result (λ command. app_of command ≡ omaha_app) }
+{
+    let program = plain_command(alloc)?;
+    let program = with_command(program, once_command(alloc)?)?;
+    let program = with_command(program, check_command(alloc)?)?;
+    let program = with_command(program, certify_command(alloc)?)?;
+    let program = with_command(program, verify_command(alloc)?)?;
+    let program = with_command(program, explain_command(alloc)?)?;
+    let program = with_command(program, serve_command(alloc)?)?;
+    Ok(program)
+}
+
+// Reads the arguments of a command.
+fn read_command(alloc: Global, name: &str, matches: &ArgMatches<'_>) -> Result<Command, Error>
+    ensures faults { FailsBy (faults_in name.now (rows_of (found_of matches.now))) result }
+    ensures command { IfOk result (λ command. command ≡ command_in name.now (rows_of (found_of matches.now))) }
+{
+    if name == "once" {
+        return Ok(Command::Once(read_once(alloc, matches)?));
+    }
+    if name == "serve" {
+        return Ok(Command::Serve(read_serve(alloc, matches)?));
+    }
+    if name == "explain" {
+        return Ok(Command::Explain(optional_text(alloc, matches, "CODE")?));
+    }
+    Ok(Command::Report(read_report(alloc, name, matches)?))
+}
+
+// Reads the arguments after the program's name, or has `clap`'s error.
+fn parse(alloc: Global, arguments: &[String]) -> Result<Command, Error>
+    ensures faults { FailsBy (faults_of (map string_bytes arguments.now)) result }
+    ensures command { IfOk result (λ command. command ≡ command_of (map string_bytes arguments.now)) }
+{
+    let matches = omaha_command(alloc)?.try_get_matches_from(arguments)?;
+    match matches.subcommand() {
+        None => Ok(Command::Once(Once {
+            profile: None,
+            moment: 0,
+        })),
+        Some((name, options)) => read_command(alloc, name, options),
+    }
+}
+
+// rule: Arguments of the command line
+// rule: Rejected arguments
+/// Reads the arguments after the program's name.
+///
+/// Without arguments that is the command `once` without options. Fails with `Shown` if they ask for the help
+/// or the version; with `Invalid` if `clap` rejects them, if `--moment` is no decimal number below 2^64, if
+/// LANE is neither `target` nor `held`, or if ROLLBACK is neither `yes` nor `no`; and with `Memory` if an
+/// allocation fails.
+pub fn read_arguments(alloc: Global, arguments: &[String]) -> Result<Command, ArgumentError>
+    ensures command { IfOk result (λ command.
+        (faults_of (map string_bytes arguments.now) ≡ []) × (command ≡ command_of (map string_bytes arguments.now))) }
+    ensures error { IfErr result (λ error. IsWhy (faults_of (map string_bytes arguments.now)) error) }
+{
+    match parse(alloc, arguments) {
+        Ok(command) => Ok(command),
+        Err(error) => Err(argument_error(alloc, &error)),
+    }
+}

@@ -1,0 +1,22 @@
+//! The arguments of the program `omaha`: what they ask it to do.
+//!
+//! `read_arguments` reads them with `clap` and gives a `Command`, or why there is none: the help or the
+//! version was asked for, or they are invalid. What they mean is said by `specs/Commands.antt` and, for the
+//! commands that report on a profile, `specs/ReportArguments.antt`, for `serve` `specs/ServeArguments.antt`;
+//! how they are rejected by `specs/Errors.antt`.
+//!
+//! It opens no file and carries nothing out.
+
+#![tactic(auto)]
+
+mod command;
+mod command_line;
+mod error;
+mod once_arguments;
+mod options;
+mod report_arguments;
+mod serve_arguments;
+
+pub use crate::command::{Command, Once, Question, Report, Serve};
+pub use crate::command_line::read_arguments;
+pub use crate::error::ArgumentError;

@@ -1,0 +1,81 @@
+// The options of the command `once`.
+
+ghost use Rattle.std.specs.Prelude.{◌≡◌, codes, IfOk};
+ghost use Rattle.clap.specs.Words.{FailsBy, app_of, found_of, kind_of, rows_of};
+ghost use Rattle.omaha_arguments.specs.Commands.{faults_of_once, moment_in, once_app, once_in};
+
+use crate::command::Once;
+use crate::options::{number_in, optional_text, titled, with_option};
+use clap::error::ErrorKind;
+use clap::{ArgMatches, Error};
+use std::alloc::{AllocError, Global};
+
+const ONCE: &str =
+    "Reads one request from standard input, and writes the reply to standard output.";
+
+const PROFILE: &str = "The catalogue: a TOML file of at most 64 MiB [default: a built-in one]";
+
+const MOMENT: &str = "The time of the reply, in seconds since 1970 UTC [default: 0]";
+
+const AFTER_ONCE: &str =
+    "N is a decimal number from 0 to 18446744073709551615. The built-in catalogue has one app, `mini`.
+
+If the command fails, it prints one line on standard error. Unless that is `omaha: write`, it has
+written nothing to standard output.
+  omaha: file F                        F can't be read, or has more than 64 MiB
+  omaha: F3 BadEntry app[0].id         the profile is invalid, with the location
+  omaha: edit 12: C11 UnknownRelease   an edit of the profile is rejected
+  omaha: J1 NotJson                    the request is invalid
+  omaha: read                          standard input failed, or has more than 262144 bytes
+  omaha: write                         standard output failed
+  omaha: memory                        out of memory
+Control characters in F are printed as `%` and two hexadecimal digits.
+
+Edits count from 0, for each app of the profile in order: the app; each cohort but the default one;
+each release; then each cohort's target and held target, its share and its open flag, if given.
+
+Exit status: 0 if the reply was written, 1 if the command failed, 2 if the arguments are invalid.
+
+Example: a client without an installed version asks for the built-in app `mini`.
+  echo '{\"request\":{\"app\":[{\"appid\":\"mini\",\"updatecheck\":{}}],\"protocol\":\"3.1\"}}' |
+    omaha once --moment 1767229261";
+
+pub(crate) fn once_command<'a>(alloc: Global) -> Result<clap::Command<'a>, AllocError>
+    ensures { IfOk result (λ command. app_of command ≡ once_app) }
+{
+    let command = titled(alloc, "once", ONCE, AFTER_ONCE);
+    let command = with_option(alloc, command, "profile", "F", PROFILE)?;
+    let command = with_option(alloc, command, "moment", "N", MOMENT)?;
+    Ok(command)
+}
+
+// The error for a `--moment` that is no such number, built like the errors of `clap`.
+fn invalid_moment(alloc: Global, text: &str) -> Result<Error, AllocError>
+    ensures { IfOk result (λ error. kind_of error ≡ ErrorKind.ValueValidation) }
+{
+    let message = format!(in alloc;
+        "invalid value '{text}' for '--moment <N>': no decimal number below 2^64"
+    )?;
+    let mut command = once_command(alloc)?.bin_name("omaha once")?;
+    command.error(ErrorKind::ValueValidation, message.as_str())
+}
+
+// The number of `--moment`.
+fn moment_in(matches: &ArgMatches<'_>) -> Option<u64>
+    ensures { result ≡ moment_in (rows_of (found_of matches.now)) }
+{
+    number_in(matches, "moment", 0)
+}
+
+/// Reads the options of `once`.
+pub(crate) fn read_once(alloc: Global, matches: &ArgMatches<'_>) -> Result<Once, Error>
+    ensures faults { FailsBy (faults_of_once (rows_of (found_of matches.now))) result }
+    ensures once { IfOk result (λ once. once ≡ once_in (rows_of (found_of matches.now))) }
+{
+    let Some(moment) = moment_in(matches) else {
+        let text = matches.get_str("moment").unwrap_or("");
+        return Err(invalid_moment(alloc, text)?);
+    };
+    let profile = optional_text(alloc, matches, "profile")?;
+    Ok(Once { profile, moment })
+}

@@ -1,0 +1,125 @@
+// The options and arguments of a command, as `clap` reads them.
+
+ghost use Rattle.std.specs.Prelude.{◌≡◌, IfOk};
+ghost use Rattle.clap.specs.Words.{app_of, first_of, found_of, new_app, rows_of, with_rule};
+ghost use Rattle.omaha_arguments.specs.Options.{has_plus, number_in, number_of, option_named, text_in, wanted, wanted_option};
+
+use clap::{Arg, ArgMatches};
+use std::alloc::{AllocError, Global};
+use values::Text;
+
+/// A command with a name and its help.
+pub(crate) fn titled<'a>(
+    alloc: Global,
+    name: &'a str,
+    about: &'a str,
+    after_help: &'a str,
+) -> clap::Command<'a>
+    ensures { app_of result ≡ new_app name.entry.now }
+{
+    clap::Command::new(alloc, name)
+        .about(about)
+        .after_help(after_help)
+}
+
+/// The command with one more argument, which has to be given.
+pub(crate) fn with_wanted<'a>(
+    alloc: Global,
+    command: clap::Command<'a>,
+    name: &'a str,
+    help: &'a str,
+) -> Result<clap::Command<'a>, AllocError>
+    ensures { IfOk result (λ more. app_of more ≡ with_rule (app_of command.entry) (wanted name.entry.now)) }
+{
+    let argument = Arg::new(alloc, name).required(true).help(help);
+    let more = command.arg(argument)?;
+    Ok(more)
+}
+
+/// The command with one more option, which has a value and has to be given.
+pub(crate) fn with_wanted_option<'a>(
+    alloc: Global,
+    command: clap::Command<'a>,
+    name: &'a str,
+    value: &'a str,
+    help: &'a str,
+) -> Result<clap::Command<'a>, AllocError>
+    ensures { IfOk result (λ more. app_of more ≡ with_rule (app_of command.entry) (wanted_option name.entry.now)) }
+{
+    let option = Arg::new(alloc, name)
+        .long(name)
+        .value_name(value)
+        .required(true)
+        .help(help);
+    let more = command.arg(option)?;
+    Ok(more)
+}
+
+/// The command with one more option, which has a value.
+pub(crate) fn with_option<'a>(
+    alloc: Global,
+    command: clap::Command<'a>,
+    name: &'a str,
+    value: &'a str,
+    help: &'a str,
+) -> Result<clap::Command<'a>, AllocError>
+    ensures { IfOk result (λ more. app_of more ≡ with_rule (app_of command.entry) (option_named name.entry.now)) }
+{
+    let option = Arg::new(alloc, name)
+        .long(name)
+        .value_name(value)
+        .help(help);
+    let more = command.arg(option)?;
+    Ok(more)
+}
+
+// Whether a string begins with a `+`.
+fn has_plus(text: &str) -> bool
+    ensures { result ≡ has_plus text.now }
+{
+    !text.is_empty() && text.as_bytes()[0] == b'+'
+}
+
+/// The number that a string has in decimal digits; std's `parse` alone would accept a `+`.
+pub(crate) fn number_of(text: &str) -> Option<u64>
+    ensures { result ≡ number_of text.now }
+{
+    if has_plus(text) {
+        return None;
+    }
+    text.parse::<u64>().ok()
+}
+
+/// The number of an option, or a default without the option.
+pub(crate) fn number_in(matches: &ArgMatches<'_>, id: &str, default: u64) -> Option<u64>
+    ensures { result ≡ number_in id.now default (rows_of (found_of matches.now)) }
+{
+    match matches.get_str(id) {
+        None => Some(default),
+        Some(text) => number_of(text),
+    }
+}
+
+/// The value of an argument, or nothing.
+pub(crate) fn text_in<'a>(matches: &ArgMatches<'a>, id: &str) -> &'a str
+    ensures { result.now ≡ text_in id.now (rows_of (found_of matches.now)) }
+{
+    match matches.get_str(id) {
+        Some(text) => text,
+        None => "",
+    }
+}
+
+/// The value of an option or an argument, if it is given.
+pub(crate) fn optional_text(
+    alloc: Global,
+    matches: &ArgMatches<'_>,
+    id: &str,
+) -> Result<Option<Text>, AllocError>
+    ensures { IfOk result (λ text. text ≡ first_of id.now (rows_of (found_of matches.now))) }
+{
+    match matches.get_str(id) {
+        None => Ok(None),
+        Some(text) => Ok(Some(Text::copy_of(alloc, text)?)),
+    }
+}

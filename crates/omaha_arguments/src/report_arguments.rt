@@ -1,0 +1,189 @@
+// The arguments of the commands that report on a profile, as `clap` reads them.
+
+ghost use Rattle.std.specs.Prelude.{◌≡◌, codes, IfOk};
+ghost use Rattle.clap.specs.Words.{FailsBy, app_of, found_of, kind_of, rows_of};
+ghost use Rattle.omaha_arguments.specs.ReportArguments.{answer_of, certify_app, check_app, explain_app, faults_of_certify, faults_of_report, lane_of, names_in, question_in, report_in, verify_app};
+
+use crate::command::{Question, Report};
+use crate::options::{text_in, titled, with_wanted};
+use clap::error::ErrorKind;
+use clap::{Arg, ArgMatches, Error};
+use cohorts::Lane;
+use reports::TrackNames;
+use std::alloc::{AllocError, Global};
+use values::Text;
+
+const CHECK: &str = "Checks a profile, and prints what its catalogue has.";
+
+const AFTER_CHECK: &str =
+    "Prints one line: the edition's number, and how many apps, releases, differentials, cohorts and
+tables of prices it has. If the profile is invalid, prints the first fault on standard error.
+
+Exit status: 0 if the profile is valid, 1 if the command failed, 2 if the arguments are invalid.
+
+Example:
+  omaha check profile.toml";
+
+const CERTIFY: &str = "Prints the certificate of a track: its least sums of bytes.";
+
+const AFTER_CERTIFY: &str =
+    "The certificate says for each release of APP the least sum of bytes of packages that lead to the
+target, and the first of them. LANE is `target` for the clients that the cohort's target is rolled
+out to, and `held` for the others. ROLLBACK is `yes` for clients that allow a downgrade; then the
+cohort must allow one, too.
+
+If there is no such app or cohort, or the cohort has no such target, prints `omaha: no track`.
+
+Exit status: 0 if the certificate was written, 1 if the command failed, 2 if the arguments are
+invalid.
+
+Example:
+  omaha certify profile.toml demo stable target no > stable.prices";
+
+const VERIFY: &str = "Checks a certificate against a profile.";
+
+const AFTER_VERIFY: &str =
+    "Prints `certified` if each price is the least sum of bytes of its release. Otherwise prints one
+line on standard error:
+  omaha: P1 BadLine 8         line 8 of CERT is not well formed
+  omaha: P2 NotOfThisGraph 8  line 8 doesn't fit the profile
+  omaha: no track             the profile has no such track
+  omaha: wrong 2.0 C3         the row of 2.0 breaks a rule
+
+Exit status: 0 if the certificate is valid, 1 if not or if the command failed, 2 if the arguments
+are invalid.
+
+Example:
+  omaha verify profile.toml stable.prices";
+
+const EXPLAIN: &str = "Explains a code that omaha prints, or lists them all.";
+
+const AFTER_EXPLAIN: &str = "Prints what the code means, its usual cause and the remedy.
+
+Exit status: 0 if the explanation was written, 1 if the command failed, 2 if the arguments are
+invalid.
+
+Example:
+  omaha explain C11";
+
+pub(crate) fn check_command<'a>(alloc: Global) -> Result<clap::Command<'a>, AllocError>
+    ensures { IfOk result (λ command. app_of command ≡ check_app) }
+{
+    let command = titled(alloc, "check", CHECK, AFTER_CHECK);
+    let command = with_wanted(alloc, command, "F", "The profile")?;
+    Ok(command)
+}
+
+pub(crate) fn certify_command<'a>(alloc: Global) -> Result<clap::Command<'a>, AllocError>
+    ensures { IfOk result (λ command. app_of command ≡ certify_app) }
+{
+    let command = titled(alloc, "certify", CERTIFY, AFTER_CERTIFY);
+    let command = with_wanted(alloc, command, "F", "The profile")?;
+    let command = with_wanted(alloc, command, "APP", "The app's identifier")?;
+    let command = with_wanted(alloc, command, "COHORT", "The cohort's name")?;
+    let command = with_wanted(alloc, command, "LANE", "`target` or `held`")?;
+    let command = with_wanted(alloc, command, "ROLLBACK", "`yes` or `no`")?;
+    Ok(command)
+}
+
+pub(crate) fn verify_command<'a>(alloc: Global) -> Result<clap::Command<'a>, AllocError>
+    ensures { IfOk result (λ command. app_of command ≡ verify_app) }
+{
+    let command = titled(alloc, "verify", VERIFY, AFTER_VERIFY);
+    let command = with_wanted(alloc, command, "F", "The profile")?;
+    let command = with_wanted(alloc, command, "CERT", "The certificate")?;
+    Ok(command)
+}
+
+pub(crate) fn explain_command<'a>(alloc: Global) -> Result<clap::Command<'a>, AllocError>
+    ensures { IfOk result (λ command. app_of command ≡ explain_app) }
+{
+    let command = titled(alloc, "explain", EXPLAIN, AFTER_EXPLAIN);
+    let code = Arg::new(alloc, "CODE").help("The code, or the first word of the line");
+    let command = command.arg(code)?;
+    Ok(command)
+}
+
+// The lane of a word, if it is one.
+fn lane_of(word: &str) -> Option<Lane>
+    ensures { result ≡ lane_of word.now }
+{
+    if word == "target" {
+        Some(Lane::Target)
+    } else if word == "held" {
+        Some(Lane::Held)
+    } else {
+        None
+    }
+}
+
+// What `yes` or `no` says.
+fn answer_of(word: &str) -> Option<bool>
+    ensures { result ≡ answer_of word.now }
+{
+    if word == "yes" {
+        Some(true)
+    } else if word == "no" {
+        Some(false)
+    } else {
+        None
+    }
+}
+
+// The error for a LANE or a ROLLBACK of another word, built like the errors of `clap`.
+fn invalid_words(alloc: Global) -> Result<Error, AllocError>
+    ensures { IfOk result (λ error. kind_of error ≡ ErrorKind.ValueValidation) }
+{
+    let mut command = certify_command(alloc)?.bin_name("omaha certify")?;
+    command.error(
+        ErrorKind::ValueValidation,
+        "LANE is `target` or `held`, and ROLLBACK is `yes` or `no`",
+    )
+}
+
+// Reads the names of a track.
+fn read_names(alloc: Global, matches: &ArgMatches<'_>) -> Result<TrackNames, Error>
+    ensures faults { FailsBy (faults_of_certify (rows_of (found_of matches.now))) result }
+    ensures names { IfOk result (λ names. names ≡ names_in (rows_of (found_of matches.now))) }
+{
+    let lane = lane_of(text_in(matches, "LANE"));
+    let rollback = answer_of(text_in(matches, "ROLLBACK"));
+    let (Some(lane), Some(rollback)) = (lane, rollback) else {
+        return Err(invalid_words(alloc)?);
+    };
+    Ok(TrackNames {
+        app: Text::copy_of(alloc, text_in(matches, "APP"))?,
+        cohort: Text::copy_of(alloc, text_in(matches, "COHORT"))?,
+        lane,
+        rollback,
+    })
+}
+
+// Reads the question of a command.
+fn read_question(alloc: Global, name: &str, matches: &ArgMatches<'_>) -> Result<Question, Error>
+    ensures faults { FailsBy (faults_of_report name.now (rows_of (found_of matches.now))) result }
+    ensures question { IfOk result (λ question. question ≡ question_in name.now (rows_of (found_of matches.now))) }
+{
+    if name == "check" {
+        return Ok(Question::Check);
+    }
+    if name == "certify" {
+        return Ok(Question::Certify(read_names(alloc, matches)?));
+    }
+    Ok(Question::Verify(Text::copy_of(alloc, text_in(matches, "CERT"))?))
+}
+
+// rule: Arguments of a report
+/// Reads the arguments of the command of a name.
+pub(crate) fn read_report(
+    alloc: Global,
+    name: &str,
+    matches: &ArgMatches<'_>,
+) -> Result<Report, Error>
+    ensures faults { FailsBy (faults_of_report name.now (rows_of (found_of matches.now))) result }
+    ensures report { IfOk result (λ report. report ≡ report_in name.now (rows_of (found_of matches.now))) }
+{
+    let question = read_question(alloc, name, matches)?;
+    let profile = Text::copy_of(alloc, text_in(matches, "F"))?;
+    Ok(Report { profile, question })
+}

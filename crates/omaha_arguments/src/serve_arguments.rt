@@ -1,0 +1,123 @@
+// The options of the command `serve`.
+
+ghost use Rattle.std.specs.Prelude.{◌≡◌, codes, IfOk};
+ghost use Rattle.clap.specs.Words.{FailsBy, app_of, found_of, kind_of, rows_of};
+ghost use Rattle.omaha_arguments.specs.ServeArguments.{faults_of_serve, limit_of, serve_app, serve_in, sessions_in, timeout_in, timeout_of};
+
+use crate::command::Serve;
+use crate::options::{number_in, number_of, text_in, titled, with_option, with_wanted_option};
+use clap::error::ErrorKind;
+use clap::{ArgMatches, Error};
+use std::alloc::{AllocError, Global};
+use values::Text;
+
+const SERVE: &str = "Serves a profile's catalogue and its packages over HTTP.";
+
+const PROFILE: &str = "The catalogue and its mirrors: a TOML file of at most 64 MiB";
+
+const PACKAGES: &str = "The folder of the packages, each under its name in the catalogue";
+
+const LISTEN: &str = "The address and port to listen on, such as 127.0.0.1:8080";
+
+const SESSIONS: &str = "How many sessions to serve before it ends [default: no end]";
+
+const TIMEOUT: &str = "How long to wait for a silent client, 1 to 86400 [default: 30]";
+
+const AFTER_SERVE: &str =
+    "Prints `ready` when it listens. It replies to `POST /service/update2/json` and sends the packages
+under `/p/`, one connection after the other. After the last session it prints one line for each
+mirror: its name, and how many bytes it was granted.
+
+If the command fails, it prints one line on standard error.
+  omaha: file F                F can't be read, or has more than 64 MiB
+  omaha: F3 BadEntry app[0].id the profile is invalid, with the location
+  omaha: net ADDR              ADDR is no address, is in use, or may not be listened on
+  omaha: write                 standard output failed
+  omaha: memory                out of memory
+
+Exit status: 0 after the last session, 1 if the command failed, 2 if the arguments are invalid.
+
+Example:
+  omaha serve --profile profile.toml --packages packages --listen 127.0.0.1:8080";
+
+pub(crate) fn serve_command<'a>(alloc: Global) -> Result<clap::Command<'a>, AllocError>
+    ensures { IfOk result (λ command. app_of command ≡ serve_app) }
+{
+    let command = titled(alloc, "serve", SERVE, AFTER_SERVE);
+    let command = with_wanted_option(alloc, command, "profile", "F", PROFILE)?;
+    let command = with_wanted_option(alloc, command, "packages", "DIR", PACKAGES)?;
+    let command = with_wanted_option(alloc, command, "listen", "ADDR", LISTEN)?;
+    let command = with_option(alloc, command, "sessions", "K", SESSIONS)?;
+    let command = with_option(alloc, command, "timeout", "SECONDS", TIMEOUT)?;
+    Ok(command)
+}
+
+// The error for a number that is none, built like the errors of `clap`.
+fn invalid_number(alloc: Global) -> Result<Error, AllocError>
+    ensures { IfOk result (λ error. kind_of error ≡ ErrorKind.ValueValidation) }
+{
+    let mut command = serve_command(alloc)?.bin_name("omaha serve")?;
+    command.error(
+        ErrorKind::ValueValidation,
+        "K is a decimal number below 2^64, and SECONDS one from 1 to 86400",
+    )
+}
+
+// The number of sessions that a string says.
+fn limit_of(text: &str) -> Option<Option<u64>>
+    ensures { result ≡ limit_of text.now }
+{
+    match number_of(text) {
+        None => None,
+        Some(sessions) => Some(Some(sessions)),
+    }
+}
+
+// How many sessions are served.
+fn sessions_in(matches: &ArgMatches<'_>) -> Option<Option<u64>>
+    ensures { result ≡ sessions_in (rows_of (found_of matches.now)) }
+{
+    match matches.get_str("sessions") {
+        None => Some(None),
+        Some(text) => limit_of(text),
+    }
+}
+
+// A number, if it is a time limit.
+fn timeout_of(seconds: u64) -> Option<u64>
+    ensures { result ≡ timeout_of seconds }
+{
+    if 0 < seconds && seconds < 86401 {
+        Some(seconds)
+    } else {
+        None
+    }
+}
+
+// The time limit in seconds.
+fn timeout_in(matches: &ArgMatches<'_>) -> Option<u64>
+    ensures { result ≡ timeout_in (rows_of (found_of matches.now)) }
+{
+    match number_in(matches, "timeout", 30) {
+        None => None,
+        Some(seconds) => timeout_of(seconds),
+    }
+}
+
+// rule: Options of the server
+/// Reads the options of `serve`.
+pub(crate) fn read_serve(alloc: Global, matches: &ArgMatches<'_>) -> Result<Serve, Error>
+    ensures faults { FailsBy (faults_of_serve (rows_of (found_of matches.now))) result }
+    ensures serve { IfOk result (λ serve. serve ≡ serve_in (rows_of (found_of matches.now))) }
+{
+    let (Some(sessions), Some(timeout)) = (sessions_in(matches), timeout_in(matches)) else {
+        return Err(invalid_number(alloc)?);
+    };
+    Ok(Serve {
+        profile: Text::copy_of(alloc, text_in(matches, "profile"))?,
+        packages: Text::copy_of(alloc, text_in(matches, "packages"))?,
+        listen: Text::copy_of(alloc, text_in(matches, "listen"))?,
+        sessions,
+        timeout,
+    })
+}

@@ -1,0 +1,40 @@
+-- What the command `serve` does; this project's profile.
+use Rattle.std.specs.Prelude.{◌≡◌, ◌⊎◌, ℕ, List, Some, Result, Ok, Err}
+use Rattle.streams.specs.Streams.{Known}
+use Rattle.omaha_arguments.specs.declared.command.Serve.{Serve}
+use Rattle.omaha_server.specs.Serving.{Serves}
+use Rattle.omaha_server.specs.declared.error.ServerError.{ServerError}
+use Rattle.omaha_server.specs.declared.error.ServerError.TheVariants as server
+use Rattle.omaha_service.specs.Answering.{stock_of}
+use Rattle.omaha_service.specs.declared.service.Service.{Service}
+use Rattle.update_desk.specs.Answering.{Stock}
+use Rattle.omaha_cli.specs.Once.{Files, IsServed}
+use Rattle.omaha_cli.specs.Streams.{Streams}
+use Rattle.omaha_cli.specs.declared.failure.Failure.{Failure}
+use Rattle.omaha_cli.specs.declared.failure.Failure.TheVariants as failure
+
+-- how the command ends by the end of its server; naming the address takes memory
+abbrev pub EndsAs : Result (Unit {0}) ServerError → List ℕ → Result (Unit {0}) Failure → Type 0
+EndsAs (Ok done) address result = result ≡ Ok tt
+EndsAs (Err server.Net) address result = (result ≡ Err (failure.Net address)) ⊎ (result ≡ Err failure.Memory)
+EndsAs (Err server.Write) address result = result ≡ Err failure.Write
+EndsAs (Err server.Memory) address result = result ≡ Err failure.Memory
+
+-- a service was served to its end, or to an error; or memory ran out before
+abbrev pub IsHosted : Stock → Serve → Known → Known → Result (Unit {0}) Failure → Type 0
+IsHosted stock serve old new result =
+    ((ended : Result (Unit {0}) ServerError) × Serves stock serve.sessions old new ended × EndsAs ended serve.listen result)
+    ⊎ ((result ≡ Err failure.Memory) × (new ≡ old))
+
+-- what follows from what was made of the profile
+abbrev pub IsServedBy : Result Service Failure → Serve → Streams → Streams → Result (Unit {0}) Failure → Type 0
+IsServedBy (Ok service) serve old new result =
+    IsHosted (stock_of service) serve old.output new.output result × (new.input ≡ old.input)
+IsServedBy (Err refusal) serve old new result = (result ≡ Err refusal) × (new ≡ old)
+
+-- rule: Service over HTTP
+-- the profile is read first, and its service is served
+pub record ServesOn (files : Files) (serve : Serve) (old new : Streams) (result : Result (Unit {0}) Failure) : Type 0 where
+  pub made : Result Service Failure
+  pub served : IsServed files (Some serve.profile) made
+  pub follows : IsServedBy made serve old new result

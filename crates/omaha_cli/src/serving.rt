@@ -1,0 +1,75 @@
+// The command `serve`.
+
+ghost use Rattle.std.specs.Prelude.{◌≡◌, IfOk};
+ghost use Rattle.omaha_cli.specs.Serving.{EndsAs, IsHosted, ServesOn};
+ghost use Rattle.omaha_service.specs.Answering.{stock_of};
+ghost use Rattle.streams.specs.Streams.{Known};
+
+use crate::failure::Failure;
+use crate::once::open_profile;
+use omaha_arguments::Serve;
+use omaha_server::{Host, Place, ServerError};
+use omaha_service::Service;
+use std::alloc::AllocError;
+use streams::{Disk, WriteWhole};
+use values::Text;
+
+// The end of the command by the end of its server.
+fn end_of(ended: Result<(), ServerError>, address: &Text) -> Result<(), Failure>
+    ensures { EndsAs ended address.now result }
+{
+    match ended {
+        Ok(()) => Ok(()),
+        Err(ServerError::Net) => Err(Failure::Net(address.clone()?)),
+        Err(ServerError::Write) => Err(Failure::Write),
+        Err(ServerError::Memory) => Err(Failure::Memory),
+    }
+}
+
+// Where and for how long to serve.
+fn place_of(asked: &Serve) -> Result<Place, AllocError>
+    ensures { IfOk result (λ place. place.sessions ≡ asked.now.sessions) }
+{
+    Ok(Place {
+        address: asked.listen.clone()?,
+        packages: asked.packages.clone()?,
+        sessions: asked.sessions,
+        seconds: asked.timeout.max(1),
+    })
+}
+
+// Serves a service.
+fn serve_made<R: Host, W: WriteWhole>(
+    rt: &R,
+    service: Service,
+    asked: &Serve,
+    writer: &mut W,
+) -> Result<(), Failure>
+    ensures { IsHosted (stock_of service) asked.now (W.output writer.old) (W.output writer.new) result }
+{
+    let Ok(place) = place_of(asked) else {
+        return Err(Failure::Memory);
+    };
+    let ended = rt.serve_service(service, &place, writer);
+    end_of(ended, &asked.listen)
+}
+
+// rule: Service over HTTP
+/// Serves a profile and its packages, and prints the mirrors' totals at the end.
+///
+/// Fails, in this order, with the profile's file, its first fault, its first rejected edit, the address, and
+/// the writer; the writer may also fail after the last session.
+pub(crate) fn serve_profile<R: Disk + Host + AllocGlobal, W: WriteWhole>(
+    rt: &R,
+    asked: &Serve,
+    writer: &mut W,
+) -> Result<(), Failure>
+    ensures { (input : Known) → ServesOn (R.file_at rt.now) asked.now
+        (record { input = input; output = W.output writer.old })
+        (record { input = input; output = W.output writer.new }) result }
+{
+    match open_profile(rt, &asked.profile) {
+        Ok(service) => serve_made(rt, service, asked, writer),
+        Err(failure) => Err(failure),
+    }
+}

@@ -1,0 +1,2 @@
+mod AlongLemmas
+mod TotalLemmas
