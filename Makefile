@@ -1,19 +1,21 @@
-# make demo          prints two requests of examples/ and their replies from a staged profile, by the
-#                    program built without a proof
+# make demo          prints requests of examples/ and their replies, by the program built without a
+#                    proof; after make install it also starts the server
 # make test          the gate: the rules' marks, the words to avoid, every proof from nothing, must-fail
 #                    edits, tests and the program
 # make commands      runs the commands on the profiles of examples/, and verifies each track's
 #                    certificate; the program is built without a proof
+# make serving       tests the server, after make install, over the loopback
 # make install       proves, builds and installs the program below PREFIX
 # make allocations   runs the program, after make install, with each of its allocations failing in
 #                    turn; it needs a C compiler
 # make bench         times the program, after make install, on large profiles beside the tomllib of
 #                    Python, 3.11 or newer
+# make load          measures the server, after make install, beside nginx; it needs wrk
 # make instructions  counts the instructions of a reply, after make install; it needs valgrind
 
 PREFIX ?= /usr/local
 
-.PHONY: demo test commands install allocations bench instructions
+.PHONY: demo test commands serving install allocations bench load instructions
 
 demo:
 	@examples/demo.py
@@ -26,6 +28,9 @@ test:
 commands:
 	tests/commands.py
 
+serving:
+	tests/serve.py
+
 install:
 	cd crates/omaha && rt run < stdin
 	install -d $(DESTDIR)$(PREFIX)/bin
@@ -36,6 +41,9 @@ allocations:
 
 bench:
 	bench/profiles.py
+
+load:
+	bench/http.py
 
 instructions:
 	bench/once.py

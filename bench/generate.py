@@ -1,10 +1,11 @@
 #!/usr/bin/env python3
 """Writes a large profile to standard output.
 
-    bench/generate.py [--apps N] [--releases N] [--cohorts N]
+    bench/generate.py [--apps N] [--releases N] [--cohorts N] [--diffs N] [--no-targets]
 
 Each app has its cohorts, the first of which is the default one, and its releases in ascending
-order; each cohort has a target, a held target and a share.
+order; each cohort has a target, a held target and a share. The differentials of an app lead from each of its
+last releases to the next one. Without targets there is no table of prices to make.
 """
 
 import argparse
@@ -30,7 +31,21 @@ def release(app, number):
     )
 
 
-def write_profile(out, apps, releases, cohorts):
+def differential(app, number, start, end):
+    """The table of the differential between two versions."""
+    name = f"app-{app}-{number}.diff"
+    digest = hashlib.sha256(name.encode()).hexdigest()
+    return (
+        "[[app.diff]]\n"
+        f'from = "{start}"\n'
+        f'to = "{end}"\n'
+        f'name = "{name}"\n'
+        f"size = {1000 + number}\n"
+        f'sha256 = "{digest}"\n\n'
+    )
+
+
+def write_profile(out, apps, releases, cohorts, diffs=0, has_targets=True):
     out.write("schema = 1\n\n")
     out.write('[[mirror]]\nname = "m0"\ncodebase = "http://m0.example/p/"\nbudget = 1000000000\n\n')
     for app in range(apps):
@@ -38,16 +53,18 @@ def write_profile(out, apps, releases, cohorts):
         out.write(f'[[app]]\nid = "org.example.app-{app}"\ndefault = "cohort-0"\n\n')
         for cohort in range(cohorts):
             target, held = rows[-1 - cohort][0], rows[-1 - cohort - cohorts][0]
+            targets = f'target = "{target}"\nheld = "{held}"\n' if has_targets else ""
             out.write(
                 "[[app.cohort]]\n"
                 f'name = "cohort-{cohort}"\n'
-                f'target = "{target}"\n'
-                f'held = "{held}"\n'
+                f"{targets}"
                 f"share = {100 + cohort}\n"
                 f"open = {'true' if cohort % 2 else 'false'}\n\n"
             )
         for _, text in rows:
             out.write(text)
+        for number in range(releases - diffs, releases):
+            out.write(differential(app, number, rows[number - 1][0], rows[number][0]))
 
 
 def main():
@@ -55,8 +72,10 @@ def main():
     options.add_argument("--apps", type=int, default=64, help="apps, 1 to 64 [default: 64]")
     options.add_argument("--releases", type=int, default=512, help="releases of an app, 8 to 512 [default: 512]")
     options.add_argument("--cohorts", type=int, default=4, help="cohorts of an app, 1 to 4 [default: 4]")
+    options.add_argument("--diffs", type=int, default=0, help="differentials of an app, below its releases [default: 0]")
+    options.add_argument("--no-targets", action="store_true", help="cohorts without targets")
     asked = options.parse_args()
-    write_profile(sys.stdout, asked.apps, asked.releases, asked.cohorts)
+    write_profile(sys.stdout, asked.apps, asked.releases, asked.cohorts, asked.diffs, not asked.no_targets)
 
 
 if __name__ == "__main__":

@@ -30,6 +30,7 @@ NO_EDIT = {
     "Tables of a script": "its parts are rules of their own",
     "TOML of a profile": "the reading is that of the crate toml",
     "Walk": "a client's, and no code of this repository",
+    "Walk over one catalogue": "a law, and no code of this repository",
 }
 
 MARK = re.compile(r"^\s*(?:--|//|#) rule: (.+?)\s*$")

@@ -51,7 +51,7 @@ COMMENTS = {
     ".toml": re.compile(r"(?:^|\s)# ?(.*)"),
     "Makefile": re.compile(r"^# ?(.*)"),
 }
-HELP = re.compile(r"crates/omaha_cli/src/command_line\.rt$")
+HELP = re.compile(r"crates/omaha_arguments/src/\w+\.rt$")
 STRING = re.compile(r'^const \w+: &str =\s*"((?:[^"\\]|\\.)*)"', re.DOTALL | re.MULTILINE)
 
 

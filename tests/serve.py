@@ -1,0 +1,369 @@
+#!/usr/bin/env python3
+"""Tests `omaha serve` over the loopback, with connections as clients and strangers make them.
+
+    tests/serve.py [PROGRAM]
+
+`make serving` runs it, after `make install`. PROGRAM is the built program, else that of the last build. Each test
+prints its name and, if it fails, what was expected and what was found; then the exit status is 1.
+"""
+
+import contextlib
+import hashlib
+import json
+import os
+import pathlib
+import shutil
+import socket
+import struct
+import subprocess
+import sys
+import tempfile
+import time
+import urllib.error
+import urllib.request
+
+TOP = pathlib.Path(__file__).resolve().parent.parent
+EXAMPLES = TOP / "examples"
+PROFILE = (EXAMPLES / "mini.toml").read_text()
+PATH = "/service/update2/json"
+ASK = json.dumps({"request": {"protocol": "3.1", "app": [{"appid": "mini", "updatecheck": {}}]}}).encode()
+TIMEOUT = 2
+failures = []
+
+
+def free_port():
+    """A port of the loopback that nobody listens on."""
+    with socket.socket() as found:
+        found.bind(("127.0.0.1", 0))
+        return found.getsockname()[1]
+
+
+class Server:
+    """A running server over a copy of the example's packages."""
+
+    def __init__(self, program, folder, sessions=None, profile=PROFILE):
+        self.folder = pathlib.Path(folder)
+        self.packages = self.folder / "packages"
+        if not self.packages.exists():
+            shutil.copytree(EXAMPLES / "packages", self.packages)
+        self.port = free_port()
+        (self.folder / "profile.toml").write_text(profile)
+        words = ["--profile", "profile.toml", "--packages", "packages", "--listen", f"127.0.0.1:{self.port}"]
+        words += ["--timeout", str(TIMEOUT)]
+        if sessions is not None:
+            words += ["--sessions", str(sessions)]
+        self.process = subprocess.Popen(
+            [program, "serve", *words], cwd=self.folder, stdout=subprocess.PIPE, stderr=subprocess.PIPE
+        )
+        self.ready = self.process.stdout.readline()
+
+    def connect(self):
+        made = socket.create_connection(("127.0.0.1", self.port), timeout=20)
+        made.setsockopt(socket.IPPROTO_TCP, socket.TCP_NODELAY, 1)
+        return made
+
+    def end(self):
+        """Ends the server if it hasn't ended: what it printed, and its exit status."""
+        with contextlib.suppress(subprocess.TimeoutExpired):
+            self.process.wait(5)
+        if self.process.poll() is None:
+            self.process.kill()
+        rest, errors = self.process.communicate()
+        return self.ready + rest, errors, self.process.returncode
+
+
+def post(body, extra=b"", path=PATH):
+    head = f"POST {path} HTTP/1.1\r\nHost: x\r\nContent-Length: {len(body)}\r\n".encode()
+    return head + extra + b"\r\n" + body
+
+
+def get(name):
+    return f"GET /p/{name} HTTP/1.1\r\nHost: x\r\n\r\n".encode()
+
+
+def read_reply(connection, kept=b""):
+    """One reply of a connection, by its length: the status, the body, and what came after it."""
+    while b"\r\n\r\n" not in kept:
+        more = connection.recv(65536)
+        if not more:
+            return None, kept, b""
+        kept += more
+    head, _, rest = kept.partition(b"\r\n\r\n")
+    fields = dict(line.lower().split(b": ", 1) for line in head.split(b"\r\n")[1:])
+    length = int(fields.get(b"content-length", b"0"))
+    while len(rest) < length:
+        more = connection.recv(65536)
+        if not more:
+            break
+        rest += more
+    return int(head.split(b" ")[1]), rest[:length], rest[length:]
+
+
+def read_all(connection):
+    found = b""
+    with contextlib.suppress(ConnectionResetError):
+        while more := connection.recv(65536):
+            found += more
+    return found
+
+
+def expect(what, found, wanted):
+    if found != wanted:
+        failures.append(what)
+        print(f"  {what}\n    expected: {wanted!r:.300}\n    found:    {found!r:.300}")
+
+
+def is_offer(body, version):
+    return body.startswith(b")]}'\n") and json.loads(body[5:])["response"]["app"][0]["updatecheck"]["manifest"]["version"] == version
+
+
+def keeps_a_connection(server):
+    with server.connect() as connection:
+        kept = b""
+        for index in range(200):
+            connection.sendall(post(ASK))
+            status, body, kept = read_reply(connection, kept)
+            if status != 200 or not is_offer(body, "1.0"):
+                expect(f"reply {index}", (status, body), (200, "an offer of 1.0"))
+                return
+
+
+def replies_to_pipelined_requests(server):
+    with server.connect() as connection:
+        connection.sendall(post(ASK) + get("mini-1.0.bin") + post(b"{") + get("nothing") + post(ASK))
+        kept, statuses = b"", []
+        for _ in range(5):
+            status, _body, kept = read_reply(connection, kept)
+            statuses.append(status)
+        expect("statuses", statuses, [200, 200, 400, 404, 200])
+
+
+def reads_byte_by_byte(server):
+    with server.connect() as connection:
+        for byte in post(ASK):
+            connection.sendall(bytes([byte]))
+        status, body, _ = read_reply(connection)
+        expect("status", status, 200)
+        expect("an offer of 1.0", is_offer(body, "1.0"), True)
+
+
+def replies_to_a_half_closed_connection(server):
+    with server.connect() as connection:
+        connection.sendall(post(ASK))
+        connection.shutdown(socket.SHUT_WR)
+        found = read_all(connection)
+        expect("status", found[:15], b"HTTP/1.1 200 OK")
+
+
+def survives_a_reset(server):
+    connection = server.connect()
+    connection.sendall(post(ASK)[:60])
+    connection.setsockopt(socket.SOL_SOCKET, socket.SO_LINGER, struct.pack("ii", 1, 0))
+    connection.close()
+    keeps_a_connection(server)
+
+
+def takes_a_thousand_connections(server):
+    for index in range(1000):
+        with server.connect() as connection:
+            connection.sendall(post(ASK, b"Connection: close\r\n"))
+            if not read_all(connection).startswith(b"HTTP/1.1 200"):
+                expect(f"connection {index}", "no reply", "200")
+                return
+
+
+def shows_a_413(server):
+    with server.connect() as connection:
+        body = b"x" * 300000
+        with contextlib.suppress(BrokenPipeError, ConnectionResetError):
+            connection.sendall(post(body))
+        found = read_all(connection)
+        expect("status", found[:12], b"HTTP/1.1 413")
+
+
+def shows_a_400_of_a_bad_head(server):
+    with server.connect() as connection:
+        connection.sendall(b"BAD\x00HEAD / HTTP/1.1\r\n\r\n" + b"y" * 20000)
+        expect("status", read_all(connection)[:12], b"HTTP/1.1 400")
+
+
+def cuts_a_silent_client(server):
+    with server.connect() as connection:
+        begun = time.monotonic()
+        connection.sendall(post(ASK)[:30])
+        found = read_all(connection)
+        took = time.monotonic() - begun
+        expect("bytes", found, b"")
+        expect(f"within {TIMEOUT} to {TIMEOUT + 3} s", TIMEOUT - 0.5 < took < TIMEOUT + 3, True)
+    keeps_a_connection(server)
+
+
+def sends_packages(server):
+    for package in sorted((EXAMPLES / "packages").iterdir()):
+        with server.connect() as connection:
+            connection.sendall(get(package.name))
+            status, body, _ = read_reply(connection)
+            expect(package.name, (status, body), (200, package.read_bytes()))
+
+
+def cuts_a_replaced_package(server):
+    path = server.packages / "mini-1.0.bin"
+    kept = path.read_bytes()
+    path.write_bytes(b"X" + kept[1:])
+    with server.connect() as connection:
+        connection.sendall(get("mini-1.0.bin"))
+        status, body, _ = read_reply(connection)
+        expect("status", status, 200)
+        expect("a body that is cut", len(body) < len(kept), True)
+    path.write_bytes(kept[:-1])
+    with server.connect() as connection:
+        connection.sendall(get("mini-1.0.bin"))
+        expect("no body of another size", read_reply(connection)[1], b"")
+    path.write_bytes(kept)
+    sends_packages(server)
+
+
+def cuts_a_missing_package(server):
+    path = server.packages / "mini-1.0.bin"
+    kept = path.read_bytes()
+    path.unlink()
+    with server.connect() as connection:
+        connection.sendall(get("mini-1.0.bin"))
+        expect("no body", read_reply(connection)[1], b"")
+    path.symlink_to("/etc/hostname")
+    with server.connect() as connection:
+        connection.sendall(get("mini-1.0.bin"))
+        expect("no body by a link", read_reply(connection)[1], b"")
+    path.unlink()
+    path.write_bytes(kept)
+
+
+def rejects_other_paths_and_methods(server):
+    wanted = [
+        (b"GET /service/update2/json HTTP/1.1\r\n\r\n", b"405"),
+        (b"GET /p/../profile.toml HTTP/1.1\r\n\r\n", b"404"),
+        (b"GET /p/mini-9.bin HTTP/1.1\r\n\r\n", b"404"),
+        (b"GET / HTTP/1.1\r\n\r\n", b"404"),
+        (b"POST /service/update2/json HTTP/1.1\r\n\r\n", b"411"),
+        (b"POST /service/update2/json HTTP/1.1\r\nTransfer-Encoding: chunked\r\n\r\n", b"501"),
+        (post(ASK, b"Content-Length: 5\r\n"), b"400"),
+    ]
+    for request, status in wanted:
+        with server.connect() as connection:
+            connection.sendall(request)
+            connection.shutdown(socket.SHUT_WR)
+            expect(request.split(b"\r")[0].decode(), read_all(connection)[9:12], status)
+
+
+def speaks_to_urllib(server):
+    with urllib.request.urlopen(f"http://127.0.0.1:{server.port}{PATH}", ASK, timeout=10) as reply:
+        expect("status", reply.status, 200)
+    with urllib.request.urlopen(f"http://127.0.0.1:{server.port}/p/mini-3.0.bin", timeout=10) as reply:
+        wanted = (EXAMPLES / "packages" / "mini-3.0.bin").read_bytes()
+        expect("hash", hashlib.sha256(reply.read()).hexdigest(), hashlib.sha256(wanted).hexdigest())
+
+
+ON_ONE_SERVER = [
+    keeps_a_connection,
+    replies_to_pipelined_requests,
+    reads_byte_by_byte,
+    replies_to_a_half_closed_connection,
+    survives_a_reset,
+    takes_a_thousand_connections,
+    shows_a_413,
+    shows_a_400_of_a_bad_head,
+    cuts_a_silent_client,
+    sends_packages,
+    cuts_a_replaced_package,
+    cuts_a_missing_package,
+    rejects_other_paths_and_methods,
+    speaks_to_urllib,
+]
+
+
+def ends_after_its_sessions(program):
+    """Two offers, of 1960 and 188 bytes: the totals are printed after the last session."""
+    at_one = {"appid": "mini", "version": "1.0", "updatecheck": {}}
+    at_one["packages"] = {"package": [{"fp": "1." + hashlib.sha256((EXAMPLES / "packages" / "mini-1.0.bin").read_bytes()).hexdigest()}]}
+    asks = [ASK, json.dumps({"request": {"protocol": "3.1", "app": [at_one]}}).encode()]
+    with tempfile.TemporaryDirectory() as folder:
+        server = Server(program, folder, sessions=2)
+        for ask in asks:
+            with server.connect() as connection:
+                connection.sendall(post(ask, b"Connection: close\r\n"))
+                expect("status", read_all(connection)[9:12], b"200")
+        expect("output and status", server.end(), (b"ready\nm0 2148\n", b"", 0))
+
+
+def offers_no_more_than_the_budget(program):
+    with tempfile.TemporaryDirectory() as folder:
+        server = Server(program, folder, sessions=1, profile=PROFILE.replace("1000000000000", "5000"))
+        with server.connect() as connection:
+            kept, states = b"", []
+            for _ in range(3):
+                connection.sendall(post(ASK))
+                _, body, kept = read_reply(connection, kept)
+                states.append(json.loads(body[5:])["response"]["app"][0]["updatecheck"]["status"])
+        expect("statuses", states, ["ok", "ok", "error-internal"])
+        expect("output and status", server.end(), (b"ready\nm0 3920\n", b"", 0))
+
+
+def reports_an_address_in_use(program):
+    with tempfile.TemporaryDirectory() as folder, socket.socket() as taken:
+        taken.bind(("127.0.0.1", 0))
+        taken.listen()
+        address = f"127.0.0.1:{taken.getsockname()[1]}"
+        (pathlib.Path(folder) / "profile.toml").write_text(PROFILE)
+        ran = subprocess.run(
+            [program, "serve", "--profile", "profile.toml", "--packages", folder, "--listen", address],
+            cwd=folder,
+            capture_output=True,
+            timeout=20,
+        )
+        expect("status", ran.returncode, 1)
+        expect("output", (ran.stdout, ran.stderr), (b"", f"omaha: net {address}\n".encode()))
+
+
+def is_unharmed_by_an_unreadable_folder(program):
+    with tempfile.TemporaryDirectory() as folder:
+        server = Server(program, folder, sessions=2)
+        shutil.rmtree(server.packages)
+        for request, wanted in [(get("mini-1.0.bin"), b""), (post(ASK, b"Connection: close\r\n"), None)]:
+            with server.connect() as connection:
+                connection.sendall(request)
+                status, body, _ = read_reply(connection)
+                expect("status", status, 200)
+                if wanted is not None:
+                    expect("body", body, wanted)
+        expect("exit status", server.end()[2], 0)
+
+
+ALONE = [
+    ends_after_its_sessions,
+    offers_no_more_than_the_budget,
+    reports_an_address_in_use,
+    is_unharmed_by_an_unreadable_folder,
+]
+
+
+def main():
+    program = os.path.abspath(sys.argv[1] if len(sys.argv) > 1 else TOP / "crates" / "omaha" / "out" / "omaha")
+    with tempfile.TemporaryDirectory() as folder:
+        server = Server(program, folder)
+        expect("first line", server.ready, b"ready\n")
+        for test in ON_ONE_SERVER:
+            print(test.__name__, flush=True)
+            test(server)
+            if server.process.poll() is not None:
+                sys.exit(f"serve: the server ended: {server.end()}")
+        server.process.kill()
+        expect("nothing on standard error", server.end()[1], b"")
+    for test in ALONE:
+        print(test.__name__, flush=True)
+        test(program)
+    if failures:
+        sys.exit(f"serve: {len(failures)} differ")
+
+
+if __name__ == "__main__":
+    main()
