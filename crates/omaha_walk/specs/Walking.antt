@@ -67,6 +67,17 @@ pub record IsWalk (client after : Installed) (old new : List Post) (asked opened
   pub ends : Ends after turns (old ++ posts_of client turns) new (asked ++ addresses_of turns) opened
       received ended before out result
 
+-- rule: Walk over connections
+-- such a walk, over a link of which nothing else is known; it has some bytes left of the download that was opened last
+pub record IsWalkOver (client after : Installed) (before out : Known) (result : Result (Unit {0}) WalkError) : Type 0 where
+  pub old : List Post
+  pub new : List Post
+  pub asked : List (List ℕ)
+  pub opened : List (List ℕ)
+  pub received : List ℕ
+  pub left : ℕ
+  pub walk : IsWalk client after old new asked opened received (left ≡ 0) before out result
+
 -- the line of a step is printed, or broke, or there was no memory for it
 abbrev pub IsTold : ℕ → Step → Known → Known → Result (Unit {0}) WalkError → Type 0
 IsTold number step before out (Ok done) = Appends before.bytes out.bytes (step_line number step)
