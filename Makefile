@@ -4,7 +4,7 @@
 #                    edits, tests and the program
 # make commands      runs the commands on the profiles of examples/, and verifies each track's
 #                    certificate; the program is built without a proof
-# make serving       tests the server, after make install, over the loopback
+# make serving       tests the server and the walk, after make install, over the loopback
 # make install       proves, builds and installs the program below PREFIX
 # make allocations   runs the program, after make install, with each of its allocations failing in
 #                    turn; it needs a C compiler
@@ -30,6 +30,7 @@ commands:
 
 serving:
 	tests/serve.py
+	tests/walk.py
 
 install:
 	cd crates/omaha && rt run < stdin

@@ -47,7 +47,7 @@ class Server:
         if not self.packages.exists():
             shutil.copytree(EXAMPLES / "packages", self.packages)
         self.port = free_port()
-        (self.folder / "profile.toml").write_text(profile)
+        (self.folder / "profile.toml").write_text(profile.replace("127.0.0.1:8080", f"127.0.0.1:{self.port}"))
         words = ["--profile", "profile.toml", "--packages", "packages", "--listen", f"127.0.0.1:{self.port}"]
         words += ["--timeout", str(TIMEOUT)]
         if sessions is not None:

@@ -10,6 +10,8 @@ use Rattle.client_texts.specs.Soundness.{IsSound}
 use Rattle.payload_rules.specs.Chains.{IsAtTarget}
 use Rattle.quotes.specs.Sums.{IsLeast}
 use Rattle.editions.specs.Editions.{content_of}
+use Rattle.histories.specs.Histories.{HistoriesAreValid}
+use Rattle.walks.proofs.HistoryLemmas.{IsValid-content}
 use Rattle.replies.specs.Clients.{key_of}
 use Rattle.walks.specs.Asks.{IsAskOf, place_at}
 use Rattle.walks.specs.Laws as law
@@ -23,12 +25,12 @@ use Rattle.client_laws.proofs.ServedLemmas.{served_walk}
 module _ (read_back : (reply : Reply) → IsSound reply → reply_of_text (reply_text reply) ≡ Ok reply)
     (each : law.AsksGetReplies) (received : List ℕ) (ended : Type 0) where
   pub walks_are_served : ServedWalksAreWalks received ended
-  walks_are_served apps mirrors client after old posts asked opened before commits walk walked all =
+  walks_are_served apps mirrors client after old posts asked opened before commits walk valid formed named walked all =
       let (bytes, read_as, said, posted, reached, steps, sum) = walked.ends in
       let made : List Post = posts_of client walked.turns ++ post_of after bytes ∷ [] in
       let same : posts ≡ made =
       append_cancel_left old posts made (posted ∙ append_assoc old (posts_of client walked.turns) (post_of after bytes ∷ [])) in
-      let so = served_walk read_back each apps mirrors client walked.turns after bytes walked.follows read_as said
+      let so = served_walk read_back each apps mirrors valid formed client walked.turns after bytes named walked.follows read_as said
       (subst (λ (some : List Post). All (IsServedPost apps mirrors) some) same all) in
       record {
         replies = so.replies;
@@ -38,10 +40,11 @@ module _ (read_back : (reply : Reply) → IsSound reply → reply_of_text (reply
         bytes = sum ∙ sym so.sum;
       }
 
-  module _ (are_short : law.WalksAreShort) (are_least : law.WalksAreLeast) (need_chains : law.WalksNeedChains) where
+  module _ (are_valid : HistoriesAreValid) (are_short : law.WalksAreShort) (are_least : law.WalksAreLeast) (need_chains : law.WalksNeedChains) where
     pub walks_are_least : ServedWalksAreLeast received ended
-    walks_are_least history mirrors asking client after old posts asked opened before commits walk walked all known =
-        let so = walks_are_served (content_of history) mirrors client after old posts asked opened before commits walk walked all in
+    walks_are_least history mirrors asking client after old posts asked opened before commits walk formed named walked all known =
+        let so = walks_are_served (content_of history) mirrors client after old posts asked opened before commits walk
+        (IsValid-content are_valid history) formed named walked all in
         let asks : IsAskOf (content_of history) client.session asking (ask_of client) = record { known = known; wants = refl } in
         let short = are_short history mirrors client.session asking (ask_of client) so.replies asks so.walks in
         record {

@@ -1,3 +1,5 @@
 mod HeardLemmas
 mod LawLemmas
 mod ServedLemmas
+mod SoundLemmas
+mod StringLemmas

@@ -1,10 +1,12 @@
 -- A client's walk over served posts is a walk of its replies.
 use Rattle.std.proofs.Common.{◌≡◌, ℕ, ◌+◌, List, [], ◌∷◌, ◌++◌, length, Option, None, Some, Ok, MatchOption, refl, sym, ◌∙◌, ap, subst, arith}
-use Rattle.std.specs.Prelude.{All}
-use Rattle.std.specs.List.{AllZip, cons_option}
+use Rattle.std.specs.Prelude.{All, IsUtf8, true}
+use Rattle.std.specs.List.{AllZip, cons_option, list_all}
 use Rattle.std.specs.Option.{option_map_or}
 use Rattle.std.proofs.lemmas.List.Elements.{All-head, All-tail}
 use Rattle.std.proofs.lemmas.List.Sums.{sum_by-cons}
+use Rattle.records.specs.Mirrors.{is_mirror}
+use Rattle.records.specs.Validity.{IsValid}
 use Rattle.records.specs.declared.content.App.{App}
 use Rattle.records.specs.declared.mirror.Mirror.{Mirror}
 use Rattle.omaha_json.specs.declared.reply.AppReply.{AppReply}
@@ -25,6 +27,7 @@ use Rattle.update_client.specs.Clients.{ask_of, client_after, cohort_after, hear
 use Rattle.update_client.specs.Installed.{Installed}
 use Rattle.update_client.specs.Walks.{Follows, IsReadBack, Post, Turn, bytes_of, post_of, posts_of}
 use Rattle.client_laws.specs.Served.{IsServedPost}
+use Rattle.client_laws.proofs.SoundLemmas.{IsSound-reply_of}
 use Rattle.client_laws.proofs.HeardLemmas.{cohort_after-known, known_from, next-no_update, next-offered, none_heard, offer_heard, offer_in-known, offered_bytes-size}
 
 alone : {A B : Type 0} (R : A → B → Type 0) (x : A) (ys : List B) → AllZip R (x ∷ []) ys
@@ -48,14 +51,18 @@ pub record Served (apps : List App) (mirrors : List Mirror) (client : Installed)
   pub sum : sum_of (offers_of replies) ≡ bytes_of turns
 
 module _ (read_back : (reply : Reply) → IsSound reply → reply_of_text (reply_text reply) ≡ Ok reply)
-    (each : AsksGetReplies) (apps : List App) (mirrors : List Mirror) where
-  heard_as : (client : Installed) (bytes : List ℕ) → IsReadBack client
+    (each : AsksGetReplies) (apps : List App) (mirrors : List Mirror) (valid : IsValid apps)
+    (formed : list_all is_mirror mirrors ≡ true) where
+  heard_as : (client : Installed) (bytes : List ℕ) → IsUtf8 client.app → IsReadBack client
       → IsServedPost apps mirrors (post_of client bytes)
       → IsHeardAs apps mirrors client bytes
-  heard_as client bytes read_as served =
+  heard_as client bytes named read_as served =
       let so = served (request_of client) read_as in
       let whole : Reply = reply_of apps (request_of client) (payloads_of so.plan) so.outcomes mirrors so.moment in
-      let read : reply_of_text bytes ≡ Ok whole = ap reply_of_text so.is ∙ read_back whole so.sound in
+      let sound : IsSound whole =
+      IsSound-reply_of apps valid.apps_valid mirrors formed (request_of client) (named, tt) (payloads_of so.plan) so.outcomes
+      so.moment so.dated in
+      let read : reply_of_text bytes ≡ Ok whole = ap reply_of_text so.is ∙ read_back whole sound in
       let all = each apps mirrors (request_of client) so.plan so.outcomes so.moment so.planned so.granted in
       let (reply, only, replied) =
       alone (IsReplyTo apps mirrors client.session) (ask_of client) whole.apps all in
@@ -66,10 +73,10 @@ module _ (read_back : (reply : Reply) → IsSound reply → reply_of_text (reply
       }
 
   -- no update ends the walk where the client is
-  ending : (client : Installed) (bytes : List ℕ) → IsReadBack client → heard client.app bytes ≡ Ok None
+  ending : (client : Installed) (bytes : List ℕ) → IsUtf8 client.app → IsReadBack client → heard client.app bytes ≡ Ok None
       → IsServedPost apps mirrors (post_of client bytes) → Served apps mirrors client [] client
-  ending client bytes read_as said served =
-      let so = heard_as client bytes read_as served in
+  ending client bytes named read_as said served =
+      let so = heard_as client bytes named read_as served in
       let is = known_from client.app so.reply None (sym so.heard_is ∙ said) in
       let status = none_heard is.known.cohort is.known.check is.heard in
       let none : next_ask (ask_of client) so.reply ≡ None = next-no_update (ask_of client) so.reply is.known is.is status in
@@ -87,13 +94,13 @@ module _ (read_back : (reply : Reply) → IsSound reply → reply_of_text (reply
 
   -- an offer that was installed goes before the rest of the walk
   stepping : (client : Installed) (turn : Turn) (turns : List Turn) (after : Installed)
-      → IsReadBack client
+      → IsUtf8 client.app → IsReadBack client
       → heard client.app turn.reply ≡ Ok (Some turn.accepted)
       → IsServedPost apps mirrors (post_of client turn.reply)
       → Served apps mirrors (client_after client turn.accepted) turns after
       → Served apps mirrors client (turn ∷ turns) after
-  stepping client turn turns after read_as said served rest =
-      let so = heard_as client turn.reply read_as served in
+  stepping client turn turns after named read_as said served rest =
+      let so = heard_as client turn.reply named read_as served in
       let is = known_from client.app so.reply (Some turn.accepted) (sym so.heard_is ∙ said) in
       let (made, named) = offer_heard is.known.cohort is.known.check turn.accepted is.heard in
       let offer : Offer = turn.accepted.offer in
@@ -128,15 +135,16 @@ module _ (read_back : (reply : Reply) → IsSound reply → reply_of_text (reply
 
   -- the posts of a walk lead from its first ask to its last
   pub served_walk : (client : Installed) (turns : List Turn) (after : Installed) (bytes : List ℕ)
-      → Follows client turns after → IsReadBack after → heard after.app bytes ≡ Ok None
+      → IsUtf8 client.app → Follows client turns after → IsReadBack after → heard after.app bytes ≡ Ok None
       → All (IsServedPost apps mirrors) (posts_of client turns ++ post_of after bytes ∷ [])
       → Served apps mirrors client turns after
-  served_walk client [] after bytes led read_as said all =
+  served_walk client [] after bytes named led read_as said all =
       let served = All-head (IsServedPost apps mirrors) (post_of after bytes) [] all in
-      subst (λ (c : Installed). Served apps mirrors c [] after) led (ending after bytes read_as said served)
-  served_walk client (turn ∷ turns) after bytes led read_as said all =
+      let still : IsUtf8 after.app = subst (λ (c : Installed). IsUtf8 c.app) (sym led) named in
+      subst (λ (c : Installed). Served apps mirrors c [] after) led (ending after bytes still read_as said served)
+  served_walk client (turn ∷ turns) after bytes named led read_as said all =
       let others : List Post = posts_of (client_after client turn.accepted) turns ++ post_of after bytes ∷ [] in
       let served = All-head (IsServedPost apps mirrors) (post_of client turn.reply) others all in
       let rest = All-tail (IsServedPost apps mirrors) (post_of client turn.reply) others all in
-      stepping client turn turns after led.0.0 led.0.1.0 served
-      (served_walk (client_after client turn.accepted) turns after bytes led.1 read_as said rest)
+      stepping client turn turns after named led.0.0 led.0.1.0 served
+      (served_walk (client_after client turn.accepted) turns after bytes named led.1 read_as said rest)

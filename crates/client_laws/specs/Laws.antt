@@ -1,5 +1,8 @@
 -- What holds of a client's walk that ended well, over a server whose catalogue stays as it is.
-use Rattle.std.specs.Prelude.{◌≡◌, ◌≤◌, ◌++◌, All, ℕ, List, length, Some, Ok}
+use Rattle.std.specs.Prelude.{◌≡◌, ◌≤◌, ◌++◌, All, ℕ, List, length, true, Some, Ok, IsUtf8}
+use Rattle.std.specs.List.{list_all}
+use Rattle.records.specs.Mirrors.{is_mirror}
+use Rattle.records.specs.Validity.{IsValid}
 use Rattle.records.specs.declared.content.App.{App}
 use Rattle.records.specs.declared.mirror.Mirror.{Mirror}
 use Rattle.histories.specs.Histories.{History}
@@ -27,11 +30,13 @@ pub record IsWalked (apps : List App) (mirrors : List Mirror) (client after : In
   pub bytes : walk.bytes ≡ sum_of (offers_of replies)
 
 -- rule: Walk over one catalogue
--- each walk that ended well and whose posts were so served is one
+-- in a valid content, with valid mirrors, each walk of an app's client that ended well and whose posts were so served
+-- is one
 abbrev pub ServedWalksAreWalks : List ℕ → Type 0 → Type 0
 ServedWalksAreWalks received ended =
     (apps : List App) (mirrors : List Mirror) (client after : Installed) (old posts : List Post)
     (asked opened : List (List ℕ)) (before commits : List Commit) (walk : Walk) →
+    IsValid apps → list_all is_mirror mirrors ≡ true → IsUtf8 client.app →
     Walks client after old (old ++ posts) asked opened before commits received ended (Ok walk) →
     All (IsServedPost apps mirrors) posts →
     IsWalked apps mirrors client after walk
@@ -53,6 +58,7 @@ abbrev pub ServedWalksAreLeast : List ℕ → Type 0 → Type 0
 ServedWalksAreLeast received ended =
     (history : History) (mirrors : List Mirror) (asking : Client) (client after : Installed) (old posts : List Post)
     (asked opened : List (List ℕ)) (before commits : List Commit) (walk : Walk) →
+    list_all is_mirror mirrors ≡ true → IsUtf8 client.app →
     Walks client after old (old ++ posts) asked opened before commits received ended (Ok walk) →
     All (IsServedPost (content_of history) mirrors) posts →
     client_of (content_of history) client.session (ask_of client) ≡ Some asking →

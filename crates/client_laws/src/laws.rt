@@ -21,4 +21,5 @@ pub fn served_walks<L: Link>(link: &L)
     client_texts::laws::replies_are_read_back();
     walks::laws::replies();
     walks::laws::walk();
+    histories::validity();
 }

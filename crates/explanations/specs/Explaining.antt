@@ -6,6 +6,7 @@ use Rattle.explanations.specs.declared.certificates.TheConstants.{CERTIFICATES}
 use Rattle.explanations.specs.declared.edits.TheConstants.{EDITS}
 use Rattle.explanations.specs.declared.profiles.TheConstants.{PROFILES}
 use Rattle.explanations.specs.declared.requests.TheConstants.{REQUESTS}
+use Rattle.explanations.specs.declared.walks.TheConstants.{WALKS}
 use Rattle.explanations.specs.declared.words.TheConstants.{WORDS}
 
 -- what the first entry of a code says
@@ -21,9 +22,10 @@ entries_of table = map (λ entry. (entry.0.now, entry.1.now)) table
 -- what the code's entry says, which is in one of the tables; none if no table has one
 abbrev pub explanation_of : List ℕ → Option (List ℕ)
 explanation_of code =
-    option_or (option_or (option_or (option_or
+    option_or (option_or (option_or (option_or (option_or
     (text_in (map (λ entry. (entry.0.now, entry.1.now)) EDITS) code)
     (text_in (map (λ entry. (entry.0.now, entry.1.now)) PROFILES) code))
     (text_in (map (λ entry. (entry.0.now, entry.1.now)) REQUESTS) code))
     (text_in (map (λ entry. (entry.0.now, entry.1.now)) CERTIFICATES) code))
+    (text_in (map (λ entry. (entry.0.now, entry.1.now)) WALKS) code))
     (text_in (map (λ entry. (entry.0.now, entry.1.now)) WORDS) code)

@@ -7,6 +7,7 @@ use crate::certificates::CERTIFICATES;
 use crate::edits::EDITS;
 use crate::profiles::PROFILES;
 use crate::requests::REQUESTS;
+use crate::walks::WALKS;
 use crate::words::WORDS;
 use std::alloc::{AllocError, Global};
 
@@ -34,6 +35,7 @@ pub fn explain(code: &str) -> Option<&'static str>
         .or(find(&PROFILES, code))
         .or(find(&REQUESTS, code))
         .or(find(&CERTIFICATES, code))
+        .or(find(&WALKS, code))
         .or(find(&WORDS, code))
 }
 
@@ -53,6 +55,7 @@ pub fn list(alloc: Global) -> Result<String, AllocError> {
     push_all(&mut lines, &PROFILES)?;
     push_all(&mut lines, &REQUESTS)?;
     push_all(&mut lines, &CERTIFICATES)?;
+    push_all(&mut lines, &WALKS)?;
     push_all(&mut lines, &WORDS)?;
     Ok(lines)
 }

@@ -12,6 +12,7 @@ mod edits;
 mod explaining;
 mod profiles;
 mod requests;
+mod walks;
 mod words;
 
 pub use crate::explaining::{explain, list};

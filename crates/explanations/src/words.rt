@@ -1,6 +1,6 @@
 // What there is to say of other words.
 
-pub(crate) const WORDS: [(&str, &str); 6] = [
+pub(crate) const WORDS: [(&str, &str); 7] = [
     (
         "edit",
         "edit N: CODE
@@ -14,7 +14,7 @@ Remedy: `omaha once --help` says in which order the edits of a profile count.
         "file",
         "file F
 Found in: a path of the command line.
-The file can't be read, or has more than 64 MiB.
+The file can't be read, or has more than 64 MiB; `omaha describe` says what is wrong with it.
 Usual cause: A misspelled path, missing permission, or a folder.
 Remedy: Try `head F`.
 ",
@@ -26,6 +26,15 @@ Found in: an address of the command line.
 The server can't listen on the address.
 Usual cause: No address and port, a port in use, or one below 1024 without the right to it.
 Remedy: Try another port, or `ss -ltn` to see who has it.
+",
+    ),
+    (
+        "packages",
+        "packages N
+Found in: a folder of packages.
+N declared packages differ from their files, or have none; a line of the output names each.
+Usual cause: A package that was not copied, was built anew, or has a wrong line in the profile.
+Remedy: Copy the package, or write into the profile what `omaha describe FILE` prints.
 ",
     ),
     (

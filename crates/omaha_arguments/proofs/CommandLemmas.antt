@@ -61,6 +61,20 @@ fails_by_options app words name options result found is none names named fails =
     let met = sym entered ∙ named in
     subst (λ (kinds : Kinds). FailsBy kinds result) (sym (ap₂ or_else nothing (options_of name options (subcommand_of omaha_app words) met))) fails
 
+no_command : (found : Option (Text × List Row)) → None ≡ option_map (λ named. named.0) found → found ≡ None
+no_command None same = refl
+no_command (Some found) same = cc
+
+-- if `clap` finds nothing wrong and there is no command, nothing is wrong with the arguments
+pub no_faults : (app : App) (words : List Text) (found : Option (Text × List Row)) → app ≡ omaha_app → (is_simple_and_free app ≡ true → fault_of app words ≡ []) → (is_simple app ≡ true → found ≡ subcommand_of app words) → None ≡ option_map (λ named. named.0) found → faults_of words ≡ []
+no_faults app words found is none names without =
+    let nothing : fault_of omaha_app words ≡ [] =
+    subst (λ (a : App). is_simple_and_free a ≡ true → fault_of a words ≡ []) is none omaha_app-is_simple_and_free in
+    let entered : found ≡ subcommand_of omaha_app words =
+    subst (λ (a : App). is_simple a ≡ true → found ≡ subcommand_of a words) is names omaha_app-is_simple in
+    let met : subcommand_of omaha_app words ≡ None = sym entered ∙ no_command found without in
+    ap₂ or_else nothing (ap (λ (o : Option (Text × List Row)). option_map_or (λ named. faults_in named.0 named.1) o []) met)
+
 -- if `clap` found a command, what the arguments ask for is what its options ask for
 pub command_by_options : (app : App) (words : List Text) (name : Text) (options : List Row) (result : Result Command Error) (found : Option (Text × List Row)) → app ≡ omaha_app → (is_simple app ≡ true → found ≡ subcommand_of app words) → found ≡ Some (name, options) → IfOk result (λ command. command ≡ command_in name options) → IfOk result (λ command. command ≡ command_of words)
 command_by_options app words name options result found is names named same =

@@ -6,9 +6,10 @@ use Rattle.clap.specs.Kinds.{or_else}
 use Rattle.clap.specs.Simple.{on_top}
 use Rattle.clap.specs.Words.{App, Kinds, Row, Text, fault_of, first_of, new_app, subcommand_of, with_rule, with_subcommand}
 use Rattle.clap.specs.declared.error.kind.ErrorKind.TheVariants.{ValueValidation}
-use Rattle.omaha_arguments.specs.Options.{number_in, option_named}
-use Rattle.omaha_arguments.specs.ReportArguments.{certify_app, check_app, explain_app, faults_of_report, report_in, verify_app}
+use Rattle.omaha_arguments.specs.Options.{number_in, option_named, texts_in}
+use Rattle.omaha_arguments.specs.ReportArguments.{certify_app, check_app, comparison_in, describe_app, explain_app, faults_of_report, report_in, verify_app}
 use Rattle.omaha_arguments.specs.ServeArguments.{faults_of_serve, serve_app, serve_in}
+use Rattle.omaha_arguments.specs.WalkArguments.{faults_of_walk, walk_app, walk_in}
 use Rattle.omaha_arguments.specs.declared.command.Command.{Command}
 use Rattle.omaha_arguments.specs.declared.command.Command.TheVariants as command
 use Rattle.omaha_arguments.specs.declared.command.Once.{Once}
@@ -29,10 +30,14 @@ omaha_app =
     with_subcommand
     (with_subcommand
     (with_subcommand
+    (with_subcommand
+    (with_subcommand
     (with_subcommand (with_subcommand (with_subcommand plain_app once_app.top) check_app.top) certify_app.top)
     verify_app.top)
     explain_app.top)
-    serve_app.top
+    serve_app.top)
+    describe_app.top)
+    walk_app.top
 
 -- the number of `--moment`, or 0 without the option; none if it is no number
 abbrev pub moment_in : List Row → Option ℕ
@@ -54,20 +59,32 @@ faults_of_once options = option_map_or (λ moment. []) (moment_in options) (Valu
 abbrev pub plain_once : Once
 plain_once = record { profile = None; moment = 0 }
 
+-- what `check` is asked to do: to compare with a folder, or to report on the profile alone
+abbrev pub check_in : List Row → Command
+check_in options =
+    option_map_or (λ comparison. command.Compare comparison) (comparison_in options)
+    (command.Report (report_in (codes "check") options))
+
 -- what the command of a name is asked to do
 abbrev pub command_in : List ℕ → List Row → Command
 command_in name options =
     if bytes_eq name (codes "once") then command.Once (once_in options)
     else (if bytes_eq name (codes "serve") then command.Serve (serve_in options)
     else (if bytes_eq name (codes "explain") then command.Explain (first_of (codes "CODE") options)
-    else command.Report (report_in name options)))
+    else (if bytes_eq name (codes "walk") then command.Walk (walk_in options)
+    else (if bytes_eq name (codes "describe") then command.Describe (texts_in (codes "FILE") options)
+    else (if bytes_eq name (codes "check") then check_in options
+    else command.Report (report_in name options))))))
 
 -- what is wrong with the options of the command of a name
 abbrev pub faults_in : List ℕ → List Row → Kinds
 faults_in name options =
     if bytes_eq name (codes "once") then faults_of_once options
     else (if bytes_eq name (codes "serve") then faults_of_serve options
-    else (if bytes_eq name (codes "explain") then [] else faults_of_report name options))
+    else (if bytes_eq name (codes "explain") then []
+    else (if bytes_eq name (codes "walk") then faults_of_walk options
+    else (if bytes_eq name (codes "describe") then []
+    else (if bytes_eq name (codes "check") then [] else faults_of_report name options)))))
 
 -- rule: Arguments of the command line
 -- what the arguments ask for

@@ -3,3 +3,4 @@ pub mod Errors
 pub mod Options
 pub mod ReportArguments
 pub mod ServeArguments
+pub mod WalkArguments

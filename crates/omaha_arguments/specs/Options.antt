@@ -3,7 +3,8 @@ use Rattle.std.specs.Prelude.{ℕ, ◌^◌, ◌==◌, ◌&&◌, Bool, true, List
 use Rattle.std.specs.Option.{option_map_or}
 use Rattle.std.specs.Str.{all_ascii_digits}
 use Rattle.std.specs.Str.Parse.{digits_value}
-use Rattle.clap.specs.Words.{Row, Rule, first_of, new_rule}
+use Rattle.clap.specs.Words.{Row, Rule, all_of, count_of, first_of, new_rule}
+use Rattle.clap.specs.declared.builder.action.ArgAction.TheVariants.{Append, Count}
 
 -- an option `--name VALUE`
 abbrev pub option_named : List ℕ → Rule
@@ -16,6 +17,22 @@ wanted_option name = record (new_rule name) { long = Some name; value_names = 1;
 -- an argument that has to be given
 abbrev pub wanted : List ℕ → Rule
 wanted name = record (new_rule name) { required = true }
+
+-- an option `--name` without a value
+abbrev pub flag_named : List ℕ → Rule
+flag_named name = record (new_rule name) { long = Some name; action = Some Count }
+
+-- an argument that has to be given, perhaps several times
+abbrev pub wanted_list : List ℕ → Rule
+wanted_list name = record (new_rule name) { required = true; action = Some Append }
+
+-- the flag is given
+abbrev pub flag_in : List ℕ → List Row → Bool
+flag_in name options = nat_lt 0 (count_of name options)
+
+-- the values of an argument, in their order
+abbrev pub texts_in : List ℕ → List Row → List (List ℕ)
+texts_in name options = unwrap_or (all_of name options) []
 
 -- the value of an argument, or nothing
 abbrev pub text_in : List ℕ → List Row → List ℕ

@@ -1,19 +1,21 @@
 -- The arguments of the commands that report on a profile; this project's profile.
 use Rattle.std.specs.Prelude.{ℕ, ◌&&◌, Bool, true, false, if◌then◌else◌, List, [], ◌∷◌, codes, is_some, Option, None, Some, unwrap_or}
+use Rattle.std.specs.Option.{option_map}
 use Rattle.std.specs.Str.{bytes_eq}
-use Rattle.clap.specs.Words.{App, Kinds, Row, new_app, new_rule, with_rule}
+use Rattle.clap.specs.Words.{App, Kinds, Row, first_of, new_app, new_rule, with_rule}
 use Rattle.clap.specs.declared.error.kind.ErrorKind.TheVariants.{ValueValidation}
 use Rattle.cohorts.specs.declared.track.Lane.{Lane}
 use Rattle.cohorts.specs.declared.track.Lane.TheVariants.{Target, Held}
 use Rattle.reports.specs.declared.names.TrackNames.{TrackNames}
-use Rattle.omaha_arguments.specs.Options.{text_in, wanted}
+use Rattle.omaha_arguments.specs.Options.{option_named, text_in, wanted, wanted_list}
+use Rattle.omaha_arguments.specs.declared.command.Comparison.{Comparison}
 use Rattle.omaha_arguments.specs.declared.command.Question.{Question}
 use Rattle.omaha_arguments.specs.declared.command.Question.TheVariants.{Check, Certify, Verify}
 use Rattle.omaha_arguments.specs.declared.command.Report.{Report}
 
--- the commands `check F`, `certify F APP COHORT LANE ROLLBACK` and `verify F CERT`
+-- the commands `check F`, with its option, `certify F APP COHORT LANE ROLLBACK` and `verify F CERT`
 abbrev pub check_app : App
-check_app = with_rule (new_app (codes "check")) (wanted (codes "F"))
+check_app = with_rule (with_rule (new_app (codes "check")) (wanted (codes "F"))) (option_named (codes "packages"))
 
 abbrev pub certify_app : App
 certify_app =
@@ -31,6 +33,10 @@ verify_app = with_rule (with_rule (new_app (codes "verify")) (wanted (codes "F")
 -- the command `explain [CODE]`
 abbrev pub explain_app : App
 explain_app = with_rule (new_app (codes "explain")) (new_rule (codes "CODE"))
+
+-- the command `describe FILE..`
+abbrev pub describe_app : App
+describe_app = with_rule (new_app (codes "describe")) (wanted_list (codes "FILE"))
 
 -- the lane of a word, if it is one
 abbrev pub lane_of : List ℕ → Option Lane
@@ -65,6 +71,13 @@ question_in name options =
 -- what the command of a name asks about a profile
 abbrev pub report_in : List ℕ → List Row → Report
 report_in name options = record { profile = text_in (codes "F") options; question = question_in name options }
+
+-- rule: Arguments of a comparison
+-- what `check` is asked to compare: the packages of the profile with the files of the folder, if one is given
+abbrev pub comparison_in : List Row → Option Comparison
+comparison_in options =
+    option_map (λ packages. record { profile = text_in (codes "F") options; packages = packages })
+    (first_of (codes "packages") options)
 
 -- LANE and ROLLBACK are such words
 abbrev pub faults_of_certify : List Row → Kinds

@@ -1,7 +1,7 @@
 //! What a run of the program is asked to do.
 
 use reports::TrackNames;
-use values::Text;
+use values::{Items, Text};
 
 /// What a run of the program is asked to do.
 #[derive(Drop)]
@@ -10,10 +10,16 @@ pub enum Command {
     Once(Once),
     /// To report on a profile.
     Report(Report),
+    /// To compare a profile's packages with their files.
+    Compare(Comparison),
+    /// To describe the files of these paths.
+    Describe(Items<Text>),
     /// To explain a code that the program prints, or to list them all.
     Explain(Option<Text>),
     /// To serve a profile and its packages.
     Serve(Serve),
+    /// To walk along the offers of a server.
+    Walk(Walk),
 }
 
 /// What the command `once` is asked to do.
@@ -38,6 +44,34 @@ pub struct Serve {
     pub sessions: Option<u64>,
     /// How many seconds a silent client is waited for: 1 to 86400.
     pub timeout: u64,
+}
+
+/// What the command `check` is asked to do with a folder of packages.
+#[derive(Drop)]
+pub struct Comparison {
+    /// The path of the profile.
+    pub profile: Text,
+    /// The path of the folder of packages.
+    pub packages: Text,
+}
+
+/// What the command `walk` is asked to do. What isn't given is empty.
+#[derive(Drop)]
+pub struct Walk {
+    /// The server, as `HOST:PORT`.
+    pub to: Text,
+    /// The app's identifier, 1 to 256 bytes.
+    pub app: Text,
+    /// The installed version.
+    pub version: Text,
+    /// The fingerprint of the installed version.
+    pub fp: Text,
+    /// The cohort text that the server sent last.
+    pub cohort: Text,
+    /// The session's identifier.
+    pub session: Text,
+    /// Whether a downgrade is allowed.
+    pub rollback: bool,
 }
 
 /// What is asked about a profile.

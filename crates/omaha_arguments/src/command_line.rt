@@ -2,17 +2,20 @@
 
 ghost use Rattle.std.specs.Prelude.{◌≡◌, [], true, IfErr, IfOk, map, string_bytes};
 ghost use Rattle.clap.specs.Words.{FailsBy, app_of, found_of, rows_of, with_subcommand};
-ghost use Rattle.omaha_arguments.specs.Commands.{command_in, command_of, faults_in, faults_of, omaha_app, plain_app};
+ghost use Rattle.omaha_arguments.specs.Commands.{check_in, command_in, command_of, faults_in, faults_of, omaha_app, plain_app};
 ghost use Rattle.omaha_arguments.specs.Errors.{IsWhy};
+ghost use Rattle.omaha_arguments.specs.WalkArguments.{IsAskable};
 
 use crate::command::{Command, Once};
 use crate::error::{ArgumentError, argument_error};
 use crate::once_arguments::{once_command, read_once};
-use crate::options::optional_text;
+use crate::options::{optional_text, texts_in};
 use crate::report_arguments::{
-    certify_command, check_command, explain_command, read_report, verify_command,
+    certify_command, check_command, describe_command, explain_command, read_comparison,
+    read_report, verify_command,
 };
 use crate::serve_arguments::{read_serve, serve_command};
+use crate::walk_arguments::{read_walk, walk_command};
 use clap::{ArgMatches, Error};
 use std::alloc::{AllocError, Global};
 
@@ -60,13 +63,28 @@ fn omaha_command<'a>(alloc: Global) -> Result<clap::Command<'a>, AllocError>
     let program = with_command(program, verify_command(alloc)?)?;
     let program = with_command(program, explain_command(alloc)?)?;
     let program = with_command(program, serve_command(alloc)?)?;
+    let program = with_command(program, describe_command(alloc)?)?;
+    let program = with_command(program, walk_command(alloc)?)?;
     Ok(program)
+}
+
+// Reads the arguments of `check`.
+fn read_check(alloc: Global, matches: &ArgMatches<'_>) -> Result<Command, Error>
+    ensures faults { FailsBy [] result }
+    ensures command { IfOk result (λ command. command ≡ check_in (rows_of (found_of matches.now))) }
+    ensures named { IfOk result IsAskable }
+{
+    match read_comparison(alloc, matches)? {
+        Some(comparison) => Ok(Command::Compare(comparison)),
+        None => Ok(Command::Report(read_report(alloc, "check", matches)?)),
+    }
 }
 
 // Reads the arguments of a command.
 fn read_command(alloc: Global, name: &str, matches: &ArgMatches<'_>) -> Result<Command, Error>
     ensures faults { FailsBy (faults_in name.now (rows_of (found_of matches.now))) result }
     ensures command { IfOk result (λ command. command ≡ command_in name.now (rows_of (found_of matches.now))) }
+    ensures named { IfOk result IsAskable }
 {
     if name == "once" {
         return Ok(Command::Once(read_once(alloc, matches)?));
@@ -77,6 +95,15 @@ fn read_command(alloc: Global, name: &str, matches: &ArgMatches<'_>) -> Result<C
     if name == "explain" {
         return Ok(Command::Explain(optional_text(alloc, matches, "CODE")?));
     }
+    if name == "walk" {
+        return Ok(Command::Walk(read_walk(alloc, matches)?));
+    }
+    if name == "describe" {
+        return Ok(Command::Describe(texts_in(alloc, matches, "FILE")?));
+    }
+    if name == "check" {
+        return read_check(alloc, matches);
+    }
     Ok(Command::Report(read_report(alloc, name, matches)?))
 }
 
@@ -84,6 +111,7 @@ fn read_command(alloc: Global, name: &str, matches: &ArgMatches<'_>) -> Result<C
 fn parse(alloc: Global, arguments: &[String]) -> Result<Command, Error>
     ensures faults { FailsBy (faults_of (map string_bytes arguments.now)) result }
     ensures command { IfOk result (λ command. command ≡ command_of (map string_bytes arguments.now)) }
+    ensures named { IfOk result IsAskable }
 {
     let matches = omaha_command(alloc)?.try_get_matches_from(arguments)?;
     match matches.subcommand() {
@@ -101,11 +129,12 @@ fn parse(alloc: Global, arguments: &[String]) -> Result<Command, Error>
 ///
 /// Without arguments that is the command `once` without options. Fails with `Shown` if they ask for the help
 /// or the version; with `Invalid` if `clap` rejects them, if `--moment` is no decimal number below 2^64, if
-/// LANE is neither `target` nor `held`, or if ROLLBACK is neither `yes` nor `no`; and with `Memory` if an
-/// allocation fails.
+/// LANE is neither `target` nor `held`, if ROLLBACK is neither `yes` nor `no`, or if the `--app` of `walk` has
+/// not 1 to 256 bytes; and with `Memory` if an allocation fails.
 pub fn read_arguments(alloc: Global, arguments: &[String]) -> Result<Command, ArgumentError>
     ensures command { IfOk result (λ command.
         (faults_of (map string_bytes arguments.now) ≡ []) × (command ≡ command_of (map string_bytes arguments.now))) }
+    ensures named { IfOk result IsAskable }
     ensures error { IfErr result (λ error. IsWhy (faults_of (map string_bytes arguments.now)) error) }
 {
     match parse(alloc, arguments) {

@@ -3,7 +3,7 @@
 //! `read_arguments` reads them with `clap` and gives a `Command`, or why there is none: the help or the
 //! version was asked for, or they are invalid. What they mean is said by `specs/Commands.antt` and, for the
 //! commands that report on a profile, `specs/ReportArguments.antt`, for `serve` `specs/ServeArguments.antt`;
-//! how they are rejected by `specs/Errors.antt`.
+//! `walk` `specs/WalkArguments.antt`; how they are rejected by `specs/Errors.antt`.
 //!
 //! It opens no file and carries nothing out.
 
@@ -16,7 +16,8 @@ mod once_arguments;
 mod options;
 mod report_arguments;
 mod serve_arguments;
+mod walk_arguments;
 
-pub use crate::command::{Command, Once, Question, Report, Serve};
+pub use crate::command::{Command, Comparison, Once, Question, Report, Serve, Walk};
 pub use crate::command_line::read_arguments;
 pub use crate::error::ArgumentError;

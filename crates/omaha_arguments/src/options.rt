@@ -1,12 +1,12 @@
 // The options and arguments of a command, as `clap` reads them.
 
-ghost use Rattle.std.specs.Prelude.{◌≡◌, IfOk};
+ghost use Rattle.std.specs.Prelude.{◌≡◌, IfOk, map};
 ghost use Rattle.clap.specs.Words.{app_of, first_of, found_of, new_app, rows_of, with_rule};
-ghost use Rattle.omaha_arguments.specs.Options.{has_plus, number_in, number_of, option_named, text_in, wanted, wanted_option};
+ghost use Rattle.omaha_arguments.specs.Options.{flag_in, flag_named, has_plus, number_in, number_of, option_named, text_in, texts_in, wanted, wanted_list, wanted_option};
 
-use clap::{Arg, ArgMatches};
+use clap::{Arg, ArgAction, ArgMatches};
 use std::alloc::{AllocError, Global};
-use values::Text;
+use values::{Items, Text};
 
 /// A command with a name and its help.
 pub(crate) fn titled<'a>(
@@ -121,5 +121,71 @@ pub(crate) fn optional_text(
     match matches.get_str(id) {
         None => Ok(None),
         Some(text) => Ok(Some(Text::copy_of(alloc, text)?)),
+    }
+}
+
+/// The command with one more flag, an option without a value.
+pub(crate) fn with_flag<'a>(
+    alloc: Global,
+    command: clap::Command<'a>,
+    name: &'a str,
+    help: &'a str,
+) -> Result<clap::Command<'a>, AllocError>
+    ensures { IfOk result (λ more. app_of more ≡ with_rule (app_of command.entry) (flag_named name.entry.now)) }
+{
+    let flag = Arg::new(alloc, name)
+        .long(name)
+        .action(ArgAction::Count)
+        .help(help);
+    let more = command.arg(flag)?;
+    Ok(more)
+}
+
+/// The command with one more argument, which has to be given and may be given several times.
+pub(crate) fn with_wanted_list<'a>(
+    alloc: Global,
+    command: clap::Command<'a>,
+    name: &'a str,
+    help: &'a str,
+) -> Result<clap::Command<'a>, AllocError>
+    ensures { IfOk result (λ more. app_of more ≡ with_rule (app_of command.entry) (wanted_list name.entry.now)) }
+{
+    let argument = Arg::new(alloc, name)
+        .required(true)
+        .action(ArgAction::Append)
+        .help(help);
+    let more = command.arg(argument)?;
+    Ok(more)
+}
+
+/// Whether a flag is given.
+pub(crate) fn flag_in(matches: &ArgMatches<'_>, id: &str) -> bool
+    ensures { result ≡ flag_in id.now (rows_of (found_of matches.now)) }
+{
+    0 < matches.get_count(id)
+}
+
+// Copies strings.
+fn copy_all(alloc: Global, texts: &[&str]) -> Result<Items<Text>, AllocError>
+    ensures { IfOk result (λ copies. copies ≡ map (λ text. text.now) texts.now) }
+{
+    let mut copies = Items::empty(alloc);
+    for text in texts {
+        copies.push(Text::copy_of(alloc, text)?)?;
+    }
+    Ok(copies)
+}
+
+/// The values of an argument that may be given several times.
+pub(crate) fn texts_in(
+    alloc: Global,
+    matches: &ArgMatches<'_>,
+    id: &str,
+) -> Result<Items<Text>, AllocError>
+    ensures { IfOk result (λ texts. texts ≡ texts_in id.now (rows_of (found_of matches.now))) }
+{
+    match matches.get_strs(id) {
+        None => Ok(Items::empty(alloc)),
+        Some(texts) => copy_all(alloc, texts),
     }
 }

@@ -2,10 +2,10 @@
 
 ghost use Rattle.std.specs.Prelude.{◌≡◌, codes, IfOk};
 ghost use Rattle.clap.specs.Words.{FailsBy, app_of, found_of, kind_of, rows_of};
-ghost use Rattle.omaha_arguments.specs.ReportArguments.{answer_of, certify_app, check_app, explain_app, faults_of_certify, faults_of_report, lane_of, names_in, question_in, report_in, verify_app};
+ghost use Rattle.omaha_arguments.specs.ReportArguments.{answer_of, certify_app, check_app, comparison_in, describe_app, explain_app, faults_of_certify, faults_of_report, lane_of, names_in, question_in, report_in, verify_app};
 
-use crate::command::{Question, Report};
-use crate::options::{text_in, titled, with_wanted};
+use crate::command::{Comparison, Question, Report};
+use crate::options::{optional_text, text_in, titled, with_option, with_wanted, with_wanted_list};
 use clap::error::ErrorKind;
 use clap::{Arg, ArgMatches, Error};
 use cohorts::Lane;
@@ -19,10 +19,19 @@ const AFTER_CHECK: &str =
     "Prints one line: the edition's number, and how many apps, releases, differentials, cohorts and
 tables of prices it has. If the profile is invalid, prints the first fault on standard error.
 
-Exit status: 0 if the profile is valid, 1 if the command failed, 2 if the arguments are invalid.
+With --packages it also compares each declared package with its file in DIR. If some differ, it
+prints a line for each in place of that line, and then `omaha: packages N` on standard error:
+  mini-1.0.bin: missing                     DIR has no such file
+  mini-2.0.bin: size 2599, declared 2600    it has another size
+  mini-3.0.bin: sha256 differs              it has the size, and another SHA-256
+  mini-3.0.bin: unreadable                  it couldn't be read to its end
 
-Example:
-  omaha check profile.toml";
+Exit status: 0 if the profile is valid and its packages agree, 1 if not or if the command failed, 2
+if the arguments are invalid.
+
+Examples:
+  omaha check profile.toml
+  omaha check profile.toml --packages packages";
 
 const CERTIFY: &str = "Prints the certificate of a track: its least sums of bytes.";
 
@@ -56,6 +65,24 @@ are invalid.
 Example:
   omaha verify profile.toml stable.prices";
 
+const DESCRIBE: &str = "Describes packages as a profile declares them.";
+
+const AFTER_DESCRIBE: &str =
+    "Prints three lines for each FILE, which a `[[app.release]]` or `[[app.diff]]` of a profile has:
+  name = \"mini-1.0.bin\"
+  size = 1960
+  sha256 = \"656f60d8a092c8c25e0164886090b4ce46ba022eb801bdd480912ba47d1ac9f4\"
+
+If a file can't be described, prints nothing but one line on standard error:
+  omaha: file F: missing           there is no such file; a link or a folder is none
+  omaha: file F: unreadable        it couldn't be read to its end
+  omaha: file F: no package name   no profile can have its name: 1 to 128 of A-Z a-z 0-9 . _ -
+
+Exit status: 0 if all files were described, 1 if the command failed, 2 if the arguments are invalid.
+
+Example:
+  omaha describe packages/mini-*.bin";
+
 const EXPLAIN: &str = "Explains a code that omaha prints, or lists them all.";
 
 const AFTER_EXPLAIN: &str = "Prints what the code means, its usual cause and the remedy.
@@ -71,6 +98,16 @@ pub(crate) fn check_command<'a>(alloc: Global) -> Result<clap::Command<'a>, Allo
 {
     let command = titled(alloc, "check", CHECK, AFTER_CHECK);
     let command = with_wanted(alloc, command, "F", "The profile")?;
+    let help = "The folder of the packages [default: they are not compared]";
+    let command = with_option(alloc, command, "packages", "DIR", help)?;
+    Ok(command)
+}
+
+pub(crate) fn describe_command<'a>(alloc: Global) -> Result<clap::Command<'a>, AllocError>
+    ensures { IfOk result (λ command. app_of command ≡ describe_app) }
+{
+    let command = titled(alloc, "describe", DESCRIBE, AFTER_DESCRIBE);
+    let command = with_wanted_list(alloc, command, "FILE", "A package")?;
     Ok(command)
 }
 
@@ -186,4 +223,21 @@ pub(crate) fn read_report(
     let question = read_question(alloc, name, matches)?;
     let profile = Text::copy_of(alloc, text_in(matches, "F"))?;
     Ok(Report { profile, question })
+}
+
+// rule: Arguments of a comparison
+/// Reads what to compare, if `check` is asked to.
+pub(crate) fn read_comparison(
+    alloc: Global,
+    matches: &ArgMatches<'_>,
+) -> Result<Option<Comparison>, AllocError>
+    ensures { IfOk result (λ comparison. comparison ≡ comparison_in (rows_of (found_of matches.now))) }
+{
+    match optional_text(alloc, matches, "packages")? {
+        None => Ok(None),
+        Some(packages) => Ok(Some(Comparison {
+            profile: Text::copy_of(alloc, text_in(matches, "F"))?,
+            packages,
+        })),
+    }
 }

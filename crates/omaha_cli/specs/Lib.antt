@@ -1,3 +1,5 @@
+pub mod Comparing
+pub mod Describing
 pub mod Doing
 pub mod Explaining
 pub mod Failures
@@ -7,3 +9,4 @@ pub mod Reports
 pub mod Running
 pub mod Serving
 pub mod Streams
+pub mod Walking

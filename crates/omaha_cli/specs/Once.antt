@@ -80,11 +80,14 @@ Replies service moment old new (Err (failure.Request fault)) =
     HasFault old.input fault × (new.output ≡ old.output)
 Replies service moment old new (Err failure.Memory) = new.output ≡ old.output
 Replies service moment old new (Err (failure.File path)) = ⊥
+Replies service moment old new (Err (failure.Undescribed path reason)) = ⊥
+Replies service moment old new (Err (failure.Packages count)) = ⊥
 Replies service moment old new (Err (failure.Profile fault)) = ⊥
 Replies service moment old new (Err (failure.Edit refused)) = ⊥
 Replies service moment old new (Err (failure.Certificate error)) = ⊥
 Replies service moment old new (Err (failure.Code code)) = ⊥
 Replies service moment old new (Err (failure.Net address)) = ⊥
+Replies service moment old new (Err (failure.Walk fault)) = ⊥
 
 -- what follows from what was made of the profile: the service replies; without one nothing is read
 -- or written

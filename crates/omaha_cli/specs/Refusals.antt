@@ -2,6 +2,10 @@
 use Rattle.omaha_json.specs.declared.fault.RequestFault.{RequestFault}
 use Rattle.omaha_service.specs.declared.fault.ServiceFault.{ServiceFault}
 use Rattle.omaha_service.specs.declared.fault.ServiceFault.TheVariants as service
+use Rattle.omaha_walk.specs.declared.error.WalkError.{WalkError}
+use Rattle.omaha_walk.specs.declared.error.WalkError.TheVariants as walk
+use Rattle.package_reports.specs.declared.paths.PathError.{PathError}
+use Rattle.package_reports.specs.declared.paths.PathError.TheVariants as paths
 use Rattle.reports.specs.declared.fault.CertificateError.{CertificateError}
 use Rattle.reports.specs.declared.fault.CertificateError.TheVariants as certificate
 use Rattle.streams.specs.declared.reading.ReadFailure.{ReadFailure}
@@ -28,3 +32,12 @@ failure_of_request (errors.Fault fault) = failure.Request fault
 abbrev pub failure_of_certificate : CertificateError → Failure
 failure_of_certificate certificate.Memory = failure.Memory
 failure_of_certificate error = failure.Certificate error
+
+abbrev pub failure_of_path : PathError → Failure
+failure_of_path (paths.File path reason) = failure.Undescribed path reason
+failure_of_path paths.Memory = failure.Memory
+
+abbrev pub failure_of_walk : WalkError → Failure
+failure_of_walk (walk.Fault found) = failure.Walk found
+failure_of_walk walk.Write = failure.Write
+failure_of_walk walk.Memory = failure.Memory

@@ -7,6 +7,7 @@ use Rattle.omaha_arguments.specs.Commands.{command_of, faults_of}
 use Rattle.omaha_arguments.specs.Errors.{AsksToShow, HasMistake}
 use Rattle.omaha_arguments.specs.declared.error.ArgumentError.{ArgumentError}
 use Rattle.omaha_arguments.specs.declared.error.ArgumentError.TheVariants as argument
+use Rattle.package_reports.specs.Storages.{Storage}
 use Rattle.omaha_cli.specs.Doing.{Does}
 use Rattle.omaha_cli.specs.Failures.{failure_text}
 use Rattle.omaha_cli.specs.Once.{Files}
@@ -48,16 +49,16 @@ EndsBy (argument.Invalid text) before after ended = (ended ≡ ending.Mistaken t
 EndsBy argument.Memory before after ended = (ended ≡ ending.Failed failure.Memory) × (after ≡ before)
 
 -- How a run ends, by its arguments. A command does what its own relation says.
-abbrev pub Ends : Files → List (List ℕ) → Streams → Streams → Ending → Type 0
-Ends files words old new ending.Replied =
-    (faults_of words ≡ []) × Does files (command_of words) old new (Ok tt)
-Ends files words old new ending.Shown =
+abbrev pub Ends : Files → Storage → List (List ℕ) → Streams → Streams → Ending → Type 0
+Ends files storage words old new ending.Replied =
+    (faults_of words ≡ []) × Does files storage (command_of words) old new (Ok tt)
+Ends files storage words old new ending.Shown =
     AsksToShow (faults_of words)
     × ((text : List ℕ) × Appends old.output.bytes new.output.bytes text)
     × (new.input ≡ old.input)
-Ends files words old new (ending.Mistaken text) = HasMistake (faults_of words) × (new ≡ old)
-Ends files words old new (ending.Failed refusal) =
-    ((faults_of words ≡ []) × Does files (command_of words) old new (Err refusal))
+Ends files storage words old new (ending.Mistaken text) = HasMistake (faults_of words) × (new ≡ old)
+Ends files storage words old new (ending.Failed refusal) =
+    ((faults_of words ≡ []) × Does files storage (command_of words) old new (Err refusal))
     ⊎ (AsksToShow (faults_of words) × (refusal ≡ failure.Write)
     × ((text : List ℕ) × Breaks old.output new.output text)
     × (new.input ≡ old.input))
@@ -81,9 +82,9 @@ IsReported (ending.Mistaken text) before after = IsWritten before after text
 
 -- rule: Status of the program
 -- a whole run: it ends in one of these ways, reports that, and returns its status
-pub record Runs (files : Files) (words : List (List ℕ)) (old new : Streams) (before after : Known) (code : ℕ) : Type 0 where
+pub record Runs (files : Files) (storage : Storage) (words : List (List ℕ)) (old new : Streams) (before after : Known) (code : ℕ) : Type 0 where
   pub ended : Ending
-  pub ends : Ends files words old new ended
+  pub ends : Ends files storage words old new ended
   pub reported : IsReported ended before after
   pub status : code ≡ code_of (status_of ended)
 

@@ -4,6 +4,8 @@ ghost use Rattle.omaha_cli.specs.Failures.{failure_text};
 use catalogue::Refused;
 use omaha_json::RequestFault;
 use omaha_service::ServiceFault;
+use omaha_walk::WalkError;
+use package_reports::{DescribeError, PathError};
 use profile_toml::ProfileFault;
 use reports::CertificateError;
 use shown_strings::Shown;
@@ -11,6 +13,7 @@ use std::alloc::AllocError;
 use std::error::Error;
 use std::fmt;
 use streams::ReadFailure;
+use update_client::Fault;
 use values::{ReadError, Text};
 
 /// Why a command fails; it prints as the rest of the line that begins `omaha: `.
@@ -21,6 +24,10 @@ pub enum Failure {
     /// The profile's file, of that path, could not be read, or has over 64 MiB. The path prints
     /// without control characters.
     File(Text),
+    /// The file at that path can't be described, for that reason. The path prints without control characters.
+    Undescribed(Text, DescribeError),
+    /// So many declared packages differ from their files.
+    Packages(u64),
     /// The profile is invalid.
     Profile(ProfileFault),
     /// An edit of the profile was rejected.
@@ -37,6 +44,8 @@ pub enum Failure {
     Code(Text),
     /// The address could not be bound. It prints without control characters.
     Net(Text),
+    /// A walk failed.
+    Walk(Fault),
     /// Memory ran out.
     Memory,
     /// The reply could not be written.
@@ -55,6 +64,13 @@ impl fmt::Display for Failure {
                 };
                 write!(f, "file {path}")
             }
+            Failure::Undescribed(path, reason) => {
+                let path = Shown {
+                    string: path.as_str(),
+                };
+                write!(f, "file {path}: {reason}")
+            }
+            Failure::Packages(count) => write!(f, "packages {count}"),
             Failure::Profile(fault) => write!(f, "{fault}"),
             Failure::Edit(refused) => write!(f, "{refused}"),
             Failure::Read => write!(f, "read"),
@@ -73,6 +89,7 @@ impl fmt::Display for Failure {
                 };
                 write!(f, "net {address}")
             }
+            Failure::Walk(fault) => write!(f, "{fault}"),
             Failure::Memory => write!(f, "memory"),
             Failure::Write => write!(f, "write"),
         }
@@ -146,6 +163,35 @@ impl From<CertificateError> for Failure {
         match error {
             CertificateError::Memory => Failure::Memory,
             error => Failure::Certificate(error),
+        }
+    }
+}
+
+impl From<PathError> for Failure {
+    ghost use Rattle.std.specs.Prelude.{◌≡◌};
+    ghost use Rattle.omaha_cli.specs.Refusals.{failure_of_path};
+
+    ghost from_gives = { λ error failure. failure ≡ failure_of_path error };
+
+    fn from(error: PathError) -> Failure {
+        match error {
+            PathError::File(path, reason) => Failure::Undescribed(path, reason),
+            PathError::Memory => Failure::Memory,
+        }
+    }
+}
+
+impl From<WalkError> for Failure {
+    ghost use Rattle.std.specs.Prelude.{◌≡◌};
+    ghost use Rattle.omaha_cli.specs.Refusals.{failure_of_walk};
+
+    ghost from_gives = { λ error failure. failure ≡ failure_of_walk error };
+
+    fn from(error: WalkError) -> Failure {
+        match error {
+            WalkError::Fault(fault) => Failure::Walk(fault),
+            WalkError::Write => Failure::Write,
+            WalkError::Memory => Failure::Memory,
         }
     }
 }

@@ -7,10 +7,14 @@
 //! `specs/Reports.antt`. What they print is made by `reports`. `explain` prints what `explanations` says of
 //! a code.
 //!
-//! `serve` is served by `omaha_server`: read `specs/Serving.antt`.
+//! `serve` is served by `omaha_server`: read `specs/Serving.antt`. `check` with a folder of packages and `describe`
+//! print what `package_reports` finds: read `specs/Comparing.antt` and `specs/Describing.antt`. `walk` is walked by
+//! `omaha_walk`: read `specs/Walking.antt`.
 
 #![tactic(auto)]
 
+mod comparing;
+mod describing;
 mod explaining;
 mod failure;
 mod once;
@@ -19,12 +23,15 @@ mod reporting;
 mod running;
 mod serving;
 mod unreadable;
+mod walking;
 
 pub use crate::failure::Failure;
 pub use crate::once::respond;
 pub use crate::reporting::report_on;
 pub use crate::running::{Ending, Status, run};
 pub use crate::unreadable::refuse;
-pub use omaha_arguments::{Command, Once, Question, Report, Serve};
+pub use omaha_arguments::{Command, Comparison, Once, Question, Report, Serve, Walk};
 pub use omaha_server::{Host, Place, ServerError};
 pub use omaha_service::{Service, ServiceFault, answer, builtin_service, read_service};
+pub use omaha_walk::Connector;
+pub use package_reports::Folders;

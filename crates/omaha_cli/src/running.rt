@@ -1,16 +1,22 @@
 // A run of the program, from its arguments to its exit status.
 
 ghost use Rattle.std.specs.Prelude.{◌≡◌, map, string_bytes};
+ghost use Rattle.omaha_arguments.specs.WalkArguments.{IsAskable};
 ghost use Rattle.omaha_cli.specs.Doing.{Does};
 ghost use Rattle.omaha_cli.specs.Running.{Ends, EndsBy, IsMistaken, IsReported, IsTold, Runs, Shows, code_of, status_of};
 
+use crate::comparing::compare_on;
+use crate::describing::describe_files;
 use crate::explaining::explain_code;
 use crate::failure::Failure;
 use crate::once::respond;
 use crate::reporting::report_on;
 use crate::serving::serve_profile;
+use crate::walking::walk_on;
 use omaha_arguments::{ArgumentError, Command, read_arguments};
 use omaha_server::Host;
+use omaha_walk::Connector;
+use package_reports::Folders;
 use std::alloc::Global;
 use std::sync::Wait;
 use streams::{Disk, ReadWhole, WriteWhole, offer};
@@ -90,32 +96,35 @@ fn end_without_command<W: WriteWhole>(error: ArgumentError, writer: &mut W) -> E
 }
 
 // Does what a command asks for.
-fn obey<R: Disk + Host + AllocGlobal + Wait, I: ReadWhole, W: WriteWhole>(
+fn obey<R: Disk + Folders + Host + Connector + AllocGlobal + Wait, I: ReadWhole, W: WriteWhole>(
     rt: &R,
     command: &Command,
     reader: &mut I,
     writer: &mut W,
 ) -> Result<(), Failure>
-    ensures { Does (R.file_at rt.now) command.now
+    requires { IsAskable command.now }
+    ensures { Does (R.file_at rt.now) (R.storage rt.now) command.now
         (record { input = I.input reader.old; output = W.output writer.old })
         (record { input = I.input reader.new; output = W.output writer.new }) result }
 {
     match command {
         Command::Once(once) => respond(rt, once, reader, writer),
         Command::Report(asked) => report_on(rt, asked, writer),
+        Command::Compare(asked) => compare_on(rt, asked, writer),
+        Command::Describe(paths) => describe_files(rt.alloc(), rt, paths.as_slice(), writer),
         Command::Explain(code) => explain_code(rt.alloc(), code, writer),
         Command::Serve(asked) => serve_profile(rt, asked, writer),
+        Command::Walk(asked) => walk_on(rt.alloc(), rt, asked, writer),
     }
 }
 
 // Carries out what the arguments ask for.
-fn carry_out<R: Disk + Host + AllocGlobal + Wait, I: ReadWhole, W: WriteWhole>(
-    rt: &R,
-    arguments: &[String],
-    reader: &mut I,
-    writer: &mut W,
-) -> Ending
-    ensures ends { Ends (R.file_at rt.now) (map string_bytes arguments.now)
+fn carry_out<
+    R: Disk + Folders + Host + Connector + AllocGlobal + Wait,
+    I: ReadWhole,
+    W: WriteWhole,
+>(rt: &R, arguments: &[String], reader: &mut I, writer: &mut W) -> Ending
+    ensures ends { Ends (R.file_at rt.now) (R.storage rt.now) (map string_bytes arguments.now)
         (record { input = I.input reader.old; output = W.output writer.old })
         (record { input = I.input reader.new; output = W.output writer.new }) result }
     ensures untouched { IsMistaken result → (reader.new ≡ reader.old) × (writer.new ≡ writer.old) }
@@ -155,17 +164,17 @@ fn report<F: WriteWhole>(alloc: Global, ending: &Ending, errors: &mut F)
 /// Runs the program with the arguments after its name, and returns its exit status.
 ///
 /// Without arguments, or with `once` and its options, it does what `respond` does; with `check`, `certify` or
-/// `verify` what `report_on` does; with `serve` it serves until its last session. It returns 0 if the reply or the report was written, or the help or the
-/// version printed; 1 if the command failed, after one line on `errors`; and 2 if the arguments are invalid,
-/// after `clap`'s message on `errors`.
-pub fn run<R: Disk + Host + AllocGlobal + Wait, I: ReadWhole, W: WriteWhole, F: WriteWhole>(
-    rt: &R,
-    arguments: &[String],
-    reader: &mut I,
-    writer: &mut W,
-    errors: &mut F,
-) -> u8
-    ensures run { Runs (R.file_at rt.now) (map string_bytes arguments.now)
+/// `verify` what `report_on` does; with `check F --packages DIR` it compares packages with files, with `describe`
+/// it describes files; with `serve` it serves until its last session; with `walk` it walks along a server's
+/// offers. It returns 0 if the command did that, or the help or the version was printed; 1 if the command failed,
+/// after one line on `errors`; and 2 if the arguments are invalid, after `clap`'s message on `errors`.
+pub fn run<
+    R: Disk + Folders + Host + Connector + AllocGlobal + Wait,
+    I: ReadWhole,
+    W: WriteWhole,
+    F: WriteWhole,
+>(rt: &R, arguments: &[String], reader: &mut I, writer: &mut W, errors: &mut F) -> u8
+    ensures run { Runs (R.file_at rt.now) (R.storage rt.now) (map string_bytes arguments.now)
         (record { input = I.input reader.old; output = W.output writer.old })
         (record { input = I.input reader.new; output = W.output writer.new })
         (F.output errors.old) (F.output errors.new) result }

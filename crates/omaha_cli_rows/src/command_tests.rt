@@ -79,7 +79,17 @@ const PROFILES: &str = "1_omaha:_file_nowhere.toml~ | once --profile nowhere.tom
 1_omaha:_file_nowhere.toml~ | serve --profile nowhere.toml --packages p --listen 127.0.0.1:0
 1_omaha:_F1_NotToml~ | serve --profile broken.toml --packages p --listen 127.0.0.1:0
 1_omaha:_net_127.0.0.1:0~ | serve --profile staged.toml --packages p --listen 127.0.0.1:0
-1_omaha:_net_no%0Aaddress~ | serve --profile staged.toml --packages p --listen no~address --sessions 1";
+1_omaha:_net_no%0Aaddress~ | serve --profile staged.toml --packages p --listen no~address --sessions 1
+1_omaha:_file_nowhere.toml~ | check nowhere.toml --packages p
+1_omaha:_F1_NotToml~ | check broken.toml --packages p
+1_omaha:_memory~ | check large.toml --packages p
+1_omaha:_file_a.bin:_missing~ | describe a.bin
+1_omaha:_file_a%0Ab/c.bin:_missing~ | describe a~b/c.bin
+1_omaha:_file_a/..:_no_package_name~ | describe a/..
+1_omaha:_file_/:_no_package_name~ | describe /
+1_omaha:_file_^:_no_package_name~ | describe ^
+1_omaha:_file_a/.b:_no_package_name~ | describe a/.b a.bin
+1_omaha:_U1_Link~ | walk --to 127.0.0.1:9 --app mini --version ^";
 
 #[test]
 fn reports_what_is_wrong_with_the_profile(rt: HostRuntime) -> Result<(), Fail> {
@@ -133,6 +143,10 @@ const MISTAKES: &str =
 2_error:_K_is_a_decimal_number | serve --profile a --packages b --listen c --sessions +5
 2_error:_K_is_a_decimal_number | serve --profile a --packages b --listen c --timeout 0
 2_error:_K_is_a_decimal_number | serve --profile a --packages b --listen c --timeout 86401
+2_error:_A_is_an_identifier | walk --to a --app ^ --version 1.0
+2_error:_the_following_required_arguments_were_not_provided:~ | walk --to a --app mini
+2_error:_the_following_required_arguments_were_not_provided:~ | describe
+2_error:_unexpected_value_'yes'_for_'--rollback...'_found | walk --to a --app mini --version 1 --rollback=yes
 2_error:_unexpected_argument_'--profile'_found~ | --profile staged.toml
 2_error:_unexpected_argument_'staged.toml'_found~ | once staged.toml
 2_error:_a_value_is_required_for_'--profile_<F>' | once --profile";
@@ -167,7 +181,7 @@ fn prints_help_and_version(rt: HostRuntime) -> Result<(), Fail> {
         &shelf.rt,
         &shelf,
         &["check", "--help"],
-        "Usage: omaha check <F>\n",
+        "Usage: omaha check [OPTIONS] <F>\n",
     )?;
     shows(
         &shelf.rt,
@@ -188,6 +202,8 @@ fn prints_help_and_version(rt: HostRuntime) -> Result<(), Fail> {
         &["serve", "--help"],
         "--listen 127.0.0.1:8080\n",
     )?;
+    shows(&shelf.rt, &shelf, &["describe", "--help"], "<FILE>")?;
+    shows(&shelf.rt, &shelf, &["walk", "--help"], "U8 Busy")?;
     shows(&shelf.rt, &shelf, &["--version"], "omaha 0.2.0\n")?;
     shows(&shelf.rt, &shelf, &["-V"], "omaha 0.2.0\n")
 }

@@ -6,11 +6,13 @@ use catalogue::Fault;
 use explanations::{explain, list};
 use omaha_cli::Failure;
 use omaha_json::RequestFault;
+use package_reports::DescribeError;
 use profile_toml::ProfileFault;
 use reports::CertificateError;
 use std::alloc::Global;
 use std::process::Abort;
 use std::test::Fail;
+use update_client::Fault as WalkFault;
 use values::Text;
 
 // The first line of the explanation of a line's first word, without what follows the fault's name.
@@ -70,9 +72,34 @@ fn failures(alloc: Global) -> Result<Vec<Failure>, Fail> {
     failures.push(Failure::Request(RequestFault::TooManyApps))?;
     failures.push(Failure::Certificate(CertificateError::NoTrack))?;
     failures.push(Failure::Net(Text::copy_of(alloc, "ADDR")?))?;
+    failures.push(Failure::Undescribed(Text::copy_of(alloc, "F")?, DescribeError::Missing))?;
+    failures.push(Failure::Packages(1))?;
     failures.push(Failure::Memory)?;
     failures.push(Failure::Write)?;
     Ok(failures)
+}
+
+const WALKS: [WalkFault; 8] = [
+    WalkFault::Link,
+    WalkFault::Reply,
+    WalkFault::BadLength,
+    WalkFault::BadHash,
+    WalkFault::Install,
+    WalkFault::NoProgress,
+    WalkFault::TooManySteps,
+    WalkFault::Busy,
+];
+
+#[test]
+fn explains_each_fault_of_a_walk(rt: HostRuntime) -> Result<(), Fail> {
+    let alloc = rt.alloc();
+    for fault in WALKS {
+        let failure = Failure::Walk(fault);
+        let line = format!(in alloc; "{failure}")?;
+        let head = head_of(alloc, line.as_str())?;
+        assert_eq!(rt; head.as_str(), line.as_str());
+    }
+    Ok(())
 }
 
 #[test]
@@ -81,8 +108,8 @@ fn explains_each_failure(rt: HostRuntime) -> Result<(), Fail> {
     for failure in failures(alloc)?.as_slice() {
         let line = format!(in alloc; "{failure}")?;
         let head = head_of(alloc, line.as_str())?;
-        let same = line.as_str().starts_with(head.as_str());
-        assert!(rt; same, "{line}");
+        let head = head.as_str().strip_suffix(" N").unwrap_or(head.as_str());
+        assert!(rt; line.as_str().starts_with(head), "{line}");
     }
     Ok(())
 }

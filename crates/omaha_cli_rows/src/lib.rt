@@ -21,6 +21,8 @@ mod failing_tests;
 #[cfg(test)]
 mod offers;
 #[cfg(test)]
+mod package_tests;
+#[cfg(test)]
 mod report_tests;
 #[cfg(test)]
 mod runs;

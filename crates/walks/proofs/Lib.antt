@@ -3,7 +3,7 @@ mod ChainLemmas
 mod ChoiceLemmas
 mod EndLemmas
 mod FollowLemmas
-mod HistoryLemmas
+pub mod HistoryLemmas
 mod ItemLemmas
 mod LawLemmas
 mod LeadsLemmas

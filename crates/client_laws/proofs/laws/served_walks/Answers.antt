@@ -10,4 +10,4 @@ pub returns-clause-least : goal.returns-clause-least
 returns-clause-least g c =
     walks_are_least c.replies_are_read_back.ensures c.replies.ensures.each
     (g.L.Link.received c.args.link.now) (g.L.Link.ended c.args.link.now)
-    c.walk.ensures.short c.walk.ensures.least c.walk.ensures.nowhere
+    c.validity.ensures c.walk.ensures.short c.walk.ensures.least c.walk.ensures.nowhere

@@ -1,0 +1,56 @@
+-- The options of the command `walk`; this project's profile.
+use Rattle.std.specs.Prelude.{ℕ, ⊤, ◌&&◌, Bool, if◌then◌else◌, List, [], ◌∷◌, codes, length, nat_lt}
+use Rattle.clap.specs.Words.{App, Kinds, Row, new_app, with_rule}
+use Rattle.clap.specs.declared.error.kind.ErrorKind.TheVariants.{ValueValidation}
+use Rattle.client_texts.specs.RequestWriting.{IsAppid}
+use Rattle.omaha_arguments.specs.Options.{flag_in, flag_named, option_named, text_in, wanted_option}
+use Rattle.omaha_arguments.specs.declared.command.Command.{Command}
+use Rattle.omaha_arguments.specs.declared.command.Command.TheVariants as command
+use Rattle.omaha_arguments.specs.declared.command.Walk.{Walk}
+
+-- the command `walk`, with its seven options
+abbrev pub walk_app : App
+walk_app =
+    with_rule
+    (with_rule
+    (with_rule
+    (with_rule
+    (with_rule
+    (with_rule (with_rule (new_app (codes "walk")) (wanted_option (codes "to"))) (wanted_option (codes "app")))
+    (wanted_option (codes "version")))
+    (option_named (codes "fp")))
+    (option_named (codes "cohort")))
+    (option_named (codes "session")))
+    (flag_named (codes "rollback"))
+
+-- rule: Options of a walk
+-- what the options of `walk` ask for
+abbrev pub walk_in : List Row → Walk
+walk_in options =
+    record {
+      to = text_in (codes "to") options;
+      app = text_in (codes "app") options;
+      version = text_in (codes "version") options;
+      fp = text_in (codes "fp") options;
+      cohort = text_in (codes "cohort") options;
+      session = text_in (codes "session") options;
+      rollback = flag_in (codes "rollback") options;
+    }
+
+-- an identifier has 1 to 256 bytes
+abbrev pub is_appid : List ℕ → Bool
+is_appid app = nat_lt 0 (length app) && nat_lt (length app) 257
+
+-- what is wrong with the options of `walk`
+abbrev pub faults_of_walk : List Row → Kinds
+faults_of_walk options = if is_appid (text_in (codes "app") options) then [] else ValueValidation ∷ []
+
+-- the app of a walk has an identifier that a client can ask with
+abbrev pub IsAskable : Command → Type 0
+IsAskable (command.Once once) = ⊤
+IsAskable (command.Report report) = ⊤
+IsAskable (command.Compare comparison) = ⊤
+IsAskable (command.Describe paths) = ⊤
+IsAskable (command.Explain code) = ⊤
+IsAskable (command.Serve serve) = ⊤
+IsAskable (command.Walk walk) = IsAppid walk.app

@@ -1,0 +1,111 @@
+// The options of the command `walk`.
+
+ghost use Rattle.std.specs.Prelude.{◌≡◌, codes, IfOk};
+ghost use Rattle.clap.specs.Words.{FailsBy, app_of, found_of, kind_of, rows_of};
+ghost use Rattle.client_texts.specs.RequestWriting.{IsAppid};
+ghost use Rattle.omaha_arguments.specs.WalkArguments.{faults_of_walk, is_appid, walk_app, walk_in};
+
+use crate::command::Walk;
+use crate::options::{flag_in, text_in, titled, with_flag, with_option, with_wanted_option};
+use clap::error::ErrorKind;
+use clap::{ArgMatches, Error};
+use std::alloc::{AllocError, Global};
+use values::Text;
+
+const WALK: &str = "Walks along a server's offers as a client does, and installs nothing.";
+
+const TO: &str = "The server: a host and a port, such as 127.0.0.1:8080";
+
+const APP: &str = "The app's identifier, 1 to 256 bytes";
+
+const INSTALLED: &str = "The installed version, or '' for none";
+
+const FP: &str = "The fingerprint of the installed version [default: none]";
+
+const COHORT: &str = "The cohort that the server sent last [default: none]";
+
+const SESSION: &str = "The session's identifier [default: none]";
+
+const ROLLBACK: &str = "Whether a downgrade is allowed";
+
+const AFTER_WALK: &str =
+    "Asks the server for an update, downloads what it offers, checks the length and the SHA-256, and
+asks again as the client that has installed it, until there is no update. Prints a line for each
+step and one at the end:
+  step 1 full 1.0 1960
+  step 2 diff 2.0 188
+  step 3 diff 3.0 235
+  done 3 steps 2383 bytes
+
+FP is `1.` and the SHA-256 of the installed version's full package. A client that doesn't say it
+isn't offered a differential at its first step.
+
+If the walk fails, it prints one line on standard error. The lines of the steps before stay.
+  omaha: U1 Link           the server can't be reached, or its reply isn't whole
+  omaha: U2 Reply          the reply is no reply for this app, or the server doesn't know the app
+  omaha: U3 BadLength      a download has another length than was offered
+  omaha: U4 BadHash        a download has another SHA-256 than was offered
+  omaha: U5 Install        the line of a step couldn't be printed
+  omaha: U6 NoProgress     the installed fingerprint was offered
+  omaha: U7 TooManySteps   there was an offer after 1024 steps
+  omaha: U8 Busy           the server had no mirror with room
+  omaha: write             standard output failed
+  omaha: memory            out of memory
+
+Exit status: 0 if there is no update any more, 1 if the walk failed, 2 if the arguments are invalid.
+
+Example, against `omaha serve --profile mini.toml --packages packages --listen 127.0.0.1:8080`:
+  omaha walk --to 127.0.0.1:8080 --app mini --version ''";
+
+pub(crate) fn walk_command<'a>(alloc: Global) -> Result<clap::Command<'a>, AllocError>
+    ensures { IfOk result (λ command. app_of command ≡ walk_app) }
+{
+    let command = titled(alloc, "walk", WALK, AFTER_WALK);
+    let command = with_wanted_option(alloc, command, "to", "ADDR", TO)?;
+    let command = with_wanted_option(alloc, command, "app", "A", APP)?;
+    let command = with_wanted_option(alloc, command, "version", "V", INSTALLED)?;
+    let command = with_option(alloc, command, "fp", "FP", FP)?;
+    let command = with_option(alloc, command, "cohort", "C", COHORT)?;
+    let command = with_option(alloc, command, "session", "S", SESSION)?;
+    let command = with_flag(alloc, command, "rollback", ROLLBACK)?;
+    Ok(command)
+}
+
+// The error for an identifier of another length, built like the errors of `clap`.
+fn invalid_app(alloc: Global) -> Result<Error, AllocError>
+    ensures { IfOk result (λ error. kind_of error ≡ ErrorKind.ValueValidation) }
+{
+    let mut command = walk_command(alloc)?.bin_name("omaha walk")?;
+    command.error(
+        ErrorKind::ValueValidation,
+        "A is an identifier of 1 to 256 bytes",
+    )
+}
+
+// Whether a string is an app's identifier.
+fn is_appid(app: &str) -> bool
+    ensures { result ≡ is_appid app.now }
+{
+    0 < app.len() && app.len() < 257
+}
+
+// rule: Options of a walk
+/// Reads the options of `walk`.
+pub(crate) fn read_walk(alloc: Global, matches: &ArgMatches<'_>) -> Result<Walk, Error>
+    ensures faults { FailsBy (faults_of_walk (rows_of (found_of matches.now))) result }
+    ensures walk { IfOk result (λ walk. walk ≡ walk_in (rows_of (found_of matches.now))) }
+    ensures named { IfOk result (λ walk. IsAppid walk.app) }
+{
+    if !is_appid(text_in(matches, "app")) {
+        return Err(invalid_app(alloc)?);
+    }
+    Ok(Walk {
+        to: Text::copy_of(alloc, text_in(matches, "to"))?,
+        app: Text::copy_of(alloc, text_in(matches, "app"))?,
+        version: Text::copy_of(alloc, text_in(matches, "version"))?,
+        fp: Text::copy_of(alloc, text_in(matches, "fp"))?,
+        cohort: Text::copy_of(alloc, text_in(matches, "cohort"))?,
+        session: Text::copy_of(alloc, text_in(matches, "session"))?,
+        rollback: flag_in(matches, "rollback"),
+    })
+}

@@ -1,0 +1,41 @@
+// The command `describe`.
+
+ghost use Rattle.std.specs.Prelude.{Err, IfErr, IfOk, Ok, string_bytes};
+ghost use Rattle.omaha_cli.specs.Describing.{IsFound, PrintsDescriptions};
+ghost use Rattle.streams.specs.Streams.{Known};
+
+use crate::failure::Failure;
+use crate::printing::print;
+use package_reports::{Folders, describe_paths};
+use std::alloc::Global;
+use streams::WriteWhole;
+use values::Text;
+
+// What is found of the files at paths.
+fn lines_of<R: Folders>(alloc: Global, rt: &R, paths: &[Text]) -> Result<String, Failure>
+    ensures ok { IfOk result (λ text. IsFound (R.storage rt.now) paths.now (Ok (string_bytes text))) }
+    ensures err { IfErr result (λ failure. IsFound (R.storage rt.now) paths.now (Err failure)) }
+{
+    Ok(describe_paths(alloc, rt, paths)?)
+}
+
+// rule: Printed descriptions
+/// Prints what a profile says of files, each named by its path.
+///
+/// Fails with the first file that can't be described, and prints nothing then. If the writer fails, a first part is
+/// printed, and not all of it.
+pub(crate) fn describe_files<R: Folders, W: WriteWhole>(
+    alloc: Global,
+    rt: &R,
+    paths: &[Text],
+    writer: &mut W,
+) -> Result<(), Failure>
+    ensures { (input : Known) → PrintsDescriptions (R.storage rt.now) paths.now
+        (record { input = input; output = W.output writer.old })
+        (record { input = input; output = W.output writer.new }) result }
+{
+    match lines_of(alloc, rt, paths) {
+        Ok(lines) => print(lines.as_str().as_bytes(), writer),
+        Err(failure) => Err(failure),
+    }
+}
