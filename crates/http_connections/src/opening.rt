@@ -6,6 +6,7 @@ use crate::door::Door;
 use crate::serving::serve_connections;
 use http_desks::{Clock, Desk};
 use http_packages::Packages;
+use http_watches::Watch;
 use std::marker::Brand;
 use std::net::{Net, TcpListener, TcpStream};
 use std::sync::ledger::{Blank, Ledger};
@@ -25,7 +26,14 @@ pub enum ServeError {
 }
 
 // Serves the connections of a listener.
-fn serve_listener<L: Ledger, R: time::Clock + AllocGlobal, D: Desk<R>, P: Packages, C: Clock>(
+fn serve_listener<
+    L: Ledger,
+    R: time::Clock + AllocGlobal,
+    D: Desk<R>,
+    P: Packages,
+    C: Clock,
+    V: Watch,
+>(
     rt: &R,
     listener: &TcpListener,
     blank: Blank,
@@ -34,6 +42,7 @@ fn serve_listener<L: Ledger, R: time::Clock + AllocGlobal, D: Desk<R>, P: Packag
     clock: &C,
     limit: Option<u64>,
     seconds: u64,
+    watch: &V,
 )
     requires name { blank.name ≡ L.name }
     requires parts { blank.parts ≡ L.parts }
@@ -44,13 +53,13 @@ fn serve_listener<L: Ledger, R: time::Clock + AllocGlobal, D: Desk<R>, P: Packag
         desk.old visits desk.new }
 {
     let mut door = Door::<L>::new(listener, seconds, blank);
-    serve_connections(rt, &mut door, desk, packages, clock, limit);
+    serve_connections(rt, &mut door, desk, packages, clock, limit, watch);
 }
 
 // rule: Start of a server
 /// Binds an address, prints `ready` and a line feed, and serves connections, one after the other, until there
 /// were `limit` of them; without a limit 2^64 - 1. Each read and each write of a connection has a time limit of
-/// so many seconds.
+/// so many seconds. The watch is shown each connection that was accepted.
 ///
 /// Errors, in this order: the address can't be bound, `ready` can't be written. No connection was served then.
 pub fn serve_clients<
@@ -59,6 +68,7 @@ pub fn serve_clients<
     P: Packages,
     C: Clock,
     W: WriteWhole,
+    V: Watch,
 >(
     rt: &R,
     address: &str,
@@ -68,6 +78,7 @@ pub fn serve_clients<
     clock: &C,
     limit: Option<u64>,
     seconds: u64,
+    watch: &V,
 ) -> Result<(), ServeError>
     requires limited { 0 < seconds }
     ensures serves { OnOk result ((visits : List Visit) × (length visits ≡ limit_of limit)
@@ -84,8 +95,8 @@ pub fn serve_clients<
         Err(_) => return Err(ServeError::Write),
     }
     let blank = Blank::new(1);
-    serve_listener::<Brand, R, D, P, C>(
-        rt, &listener, blank, desk, packages, clock, limit, seconds,
+    serve_listener::<Brand, R, D, P, C, V>(
+        rt, &listener, blank, desk, packages, clock, limit, seconds, watch,
     );
     Ok(())
 }

@@ -5,11 +5,20 @@ use http_desks::{Clock, Desk};
 use http_devices::{Reading, Writing};
 use http_packages::Packages;
 use http_sessions::{Fault, Served, serve};
+use http_watches::{Watch, WatchedSink, WatchedSource};
 use std::net::TcpStream;
 use std::sync::ledger::{Blank, Ledger};
 
-/// Serves one connection until its session ends.
-pub(crate) fn visit<A: Ledger, B: Ledger, R: AllocGlobal, D: Desk<R>, P: Packages, C: Clock>(
+/// Serves one connection until its session ends, and shows a watch what passes.
+pub(crate) fn visit<
+    A: Ledger,
+    B: Ledger,
+    R: AllocGlobal,
+    D: Desk<R>,
+    P: Packages,
+    C: Clock,
+    V: Watch,
+>(
     rt: &R,
     stream: &TcpStream,
     reads: Blank,
@@ -17,6 +26,7 @@ pub(crate) fn visit<A: Ledger, B: Ledger, R: AllocGlobal, D: Desk<R>, P: Package
     desk: &mut D,
     packages: &P,
     clock: &C,
+    watch: &V,
 ) -> Result<Served, Fault>
     requires read_name { reads.name ≡ A.name }
     requires read_parts { reads.parts ≡ A.parts }
@@ -27,7 +37,10 @@ pub(crate) fn visit<A: Ledger, B: Ledger, R: AllocGlobal, D: Desk<R>, P: Package
     ensures { IsSession D.path D.content_type D.steps (C.tells clock.now) (P.sizes packages.now) (P.reads packages.now)
         desk.old result desk.new }
 {
-    let mut source = Reading::<&TcpStream, A>::new(stream, reads);
-    let mut sink = Writing::<&TcpStream, B>::new(stream, writes);
-    serve(rt, &mut source, &mut sink, desk, packages, clock)
+    let mut source = WatchedSource::new(Reading::<&TcpStream, A>::new(stream, reads), watch);
+    let mut sink = WatchedSink::new(Writing::<&TcpStream, B>::new(stream, writes), watch);
+    watch.opens(stream);
+    let served = serve(rt, &mut source, &mut sink, desk, packages, clock, watch);
+    watch.ends();
+    served
 }

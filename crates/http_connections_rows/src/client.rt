@@ -4,6 +4,7 @@ ghost use Rattle.std.specs.Prelude.{◌≡◌, ◌<◌};
 
 use crate::counter::{Counter, Nothing, Stopped};
 use http_connections::{Door, serve_connections};
+use http_watches::Unwatched;
 use std::io;
 use std::io::{Read, Write};
 use std::marker::Brand;
@@ -59,7 +60,15 @@ fn serve_by<L: Ledger>(
 {
     let mut door = Door::<L>::new(listener, seconds, blank);
     let mut desk = Counter { asked: 0 };
-    serve_connections(rt, &mut door, &mut desk, &Nothing, &Stopped, Some(limit));
+    serve_connections(
+        rt,
+        &mut door,
+        &mut desk,
+        &Nothing,
+        &Stopped,
+        Some(limit),
+        &Unwatched,
+    );
     desk.asked
 }
 

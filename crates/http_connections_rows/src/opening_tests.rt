@@ -1,5 +1,6 @@
 use crate::counter::{Counter, Nothing, Stopped};
 use http_connections::serve_clients;
+use http_watches::Unwatched;
 use std::net::TcpListener;
 use std::str;
 use std::test::Fail;
@@ -17,6 +18,7 @@ fn open(rt: &HostRuntime, address: &str) -> Result<String, Fail> {
         &Stopped,
         Some(0),
         1,
+        &Unwatched,
     );
     let how = match opened {
         Ok(()) => "ok",

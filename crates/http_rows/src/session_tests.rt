@@ -1,6 +1,7 @@
 use crate::desks::{Echo, Files, Stopped};
 use crate::devices::{Kept, Pieces};
 use http_sessions::{End, Fault, Served, serve};
+use http_watches::Unwatched;
 use std::alloc::AllocError;
 use std::test::Fail;
 
@@ -102,7 +103,15 @@ fn serve_pieces<R: AllocGlobal>(
         good: usize::MAX,
         failed: false,
     };
-    end_of(serve(rt, &mut source, sink, &mut Echo, &Files, &Stopped))
+    end_of(serve(
+        rt,
+        &mut source,
+        sink,
+        &mut Echo,
+        &Files,
+        &Stopped,
+        &Unwatched,
+    ))
 }
 
 fn print_session<R: AllocGlobal>(rt: &R, text: &str, piece: usize) -> Result<String, AllocError> {
@@ -161,7 +170,15 @@ fn replies_to_whole_messages_before_a_read_that_fails(rt: HostRuntime) -> Result
             good,
             failed: false,
         };
-        let ended = end_of(serve(&rt, &mut source, &mut sink, &mut Echo, &Files, &Stopped));
+        let ended = end_of(serve(
+            &rt,
+            &mut source,
+            &mut sink,
+            &mut Echo,
+            &Files,
+            &Stopped,
+            &Unwatched,
+        ));
         let expected = if good < 37 {
             (0, "read failed")
         } else {

@@ -7,10 +7,11 @@ use crate::ends::{Fault, Served};
 use crate::session::{Session, Turn};
 use http_desks::{Clock, Desk};
 use http_packages::Packages;
+use http_watches::Watch;
 use http_wire::{Sink, Source};
 
 // Advances a session message by message until it ends.
-fn run<R, S: Source, W: Sink, D: Desk<R>, P: Packages, C: Clock>(
+fn run<R, S: Source, W: Sink, D: Desk<R>, P: Packages, C: Clock, V: Watch>(
     mut session: Session,
     rt: &R,
     buffers: &mut Buffers,
@@ -19,6 +20,7 @@ fn run<R, S: Source, W: Sink, D: Desk<R>, P: Packages, C: Clock>(
     desk: &mut D,
     packages: &P,
     clock: &C,
+    watch: &V,
 ) -> Result<Served, Fault>
     ensures serves { Serves (IsUse (D.path desk.old) (C.tells clock.now) (P.sizes packages.now) (P.reads packages.now))
         D.steps (D.content_type desk.old) (replies session)
@@ -29,6 +31,7 @@ fn run<R, S: Source, W: Sink, D: Desk<R>, P: Packages, C: Clock>(
     ensures memory { IsMemory result → ⊥ }
 {
     'turns: loop {
+        watch.begins(session.window.bytes());
         match session.turn(rt, buffers, source, sink, desk, packages, clock) {
             Ok(Turn::Open(next)) => session = next,
             Ok(Turn::Ended(served)) => return Ok(served),
@@ -40,16 +43,19 @@ fn run<R, S: Source, W: Sink, D: Desk<R>, P: Packages, C: Clock>(
 // rule: Session
 /// Serves one connection, message by message, until it ends.
 ///
+/// The watch is shown where each message may begin, with the bytes of it that were read with the one before.
+///
 /// Allocates at the start alone: with `Memory` nothing was read or written. `Read` and `Write` are
 /// returned only if the device failed in this call: after `Read` each whole message got its reply,
 /// after `Write` a first part of the replies was written.
-pub fn serve<R: AllocGlobal, S: Source, W: Sink, D: Desk<R>, P: Packages, C: Clock>(
+pub fn serve<R: AllocGlobal, S: Source, W: Sink, D: Desk<R>, P: Packages, C: Clock, V: Watch>(
     rt: &R,
     source: &mut S,
     sink: &mut W,
     desk: &mut D,
     packages: &P,
     clock: &C,
+    watch: &V,
 ) -> Result<Served, Fault>
     ensures serves { Serves (IsUse (D.path desk.old) (C.tells clock.now) (P.sizes packages.now) (P.reads packages.now))
         D.steps (D.content_type desk.old) 0
@@ -74,5 +80,6 @@ pub fn serve<R: AllocGlobal, S: Source, W: Sink, D: Desk<R>, P: Packages, C: Clo
         desk,
         packages,
         clock,
+        watch,
     )
 }

@@ -6,16 +6,18 @@ use Rattle.clap.specs.declared.error.kind.ErrorKind.TheVariants.{ValueValidation
 use Rattle.omaha_arguments.specs.Options.{number_in, number_of, option_named, text_in, wanted_option}
 use Rattle.omaha_arguments.specs.declared.command.Serve.{Serve}
 
--- the command `serve`, with its five options
+-- the command `serve`, with its six options
 abbrev pub serve_app : App
 serve_app =
     with_rule
     (with_rule
     (with_rule
+    (with_rule
     (with_rule (with_rule (new_app (codes "serve")) (wanted_option (codes "profile"))) (wanted_option (codes "packages")))
     (wanted_option (codes "listen")))
     (option_named (codes "sessions")))
-    (option_named (codes "timeout"))
+    (option_named (codes "timeout")))
+    (option_named (codes "log"))
 
 -- the number of sessions that a string says, if it is a number
 abbrev pub limit_of : List ℕ → Option (Option ℕ)
@@ -47,6 +49,7 @@ serve_in options =
       listen = text_in (codes "listen") options;
       sessions = unwrap_or (sessions_in options) None;
       timeout = unwrap_or (timeout_in options) 0;
+      log = first_of (codes "log") options;
     }
 
 -- what is wrong with the options of `serve`

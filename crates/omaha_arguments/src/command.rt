@@ -44,6 +44,8 @@ pub struct Serve {
     pub sessions: Option<u64>,
     /// How many seconds a silent client is waited for: 1 to 86400.
     pub timeout: u64,
+    /// The path of the log of replies, `-` for standard error, or `None` for no log.
+    pub log: Option<Text>,
 }
 
 /// What the command `check` is asked to do with a folder of packages.

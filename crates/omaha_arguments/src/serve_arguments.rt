@@ -5,7 +5,9 @@ ghost use Rattle.clap.specs.Words.{FailsBy, app_of, found_of, kind_of, rows_of};
 ghost use Rattle.omaha_arguments.specs.ServeArguments.{faults_of_serve, limit_of, serve_app, serve_in, sessions_in, timeout_in, timeout_of};
 
 use crate::command::Serve;
-use crate::options::{number_in, number_of, text_in, titled, with_option, with_wanted_option};
+use crate::options::{
+    number_in, number_of, optional_text, text_in, titled, with_option, with_wanted_option,
+};
 use clap::error::ErrorKind;
 use clap::{ArgMatches, Error};
 use std::alloc::{AllocError, Global};
@@ -23,13 +25,15 @@ const SESSIONS: &str = "How many sessions to serve before it ends [default: no e
 
 const TIMEOUT: &str = "How long to wait for a silent client, 1 to 86400 [default: 30]";
 
+const LOG: &str = "Where to log each reply: a file, or - for standard error [default: no log]";
+
 const AFTER_SERVE: &str =
     "Prints `ready` when it listens. It replies to `POST /service/update2/json` and sends the packages
 under `/p/`, one connection after the other. After the last session it prints one line for each
 mirror: its name, and how many bytes it was granted.
 
 If the command fails, it prints one line on standard error.
-  omaha: file F                F can't be read, or has more than 64 MiB
+  omaha: file F                F can't be read, has more than 64 MiB, or can't be opened for the log
   omaha: F3 BadEntry app[0].id the profile is invalid, with the location
   omaha: net ADDR              ADDR is no address, is in use, or may not be listened on
   omaha: write                 standard output failed
@@ -49,6 +53,7 @@ pub(crate) fn serve_command<'a>(alloc: Global) -> Result<clap::Command<'a>, Allo
     let command = with_wanted_option(alloc, command, "listen", "ADDR", LISTEN)?;
     let command = with_option(alloc, command, "sessions", "K", SESSIONS)?;
     let command = with_option(alloc, command, "timeout", "SECONDS", TIMEOUT)?;
+    let command = with_option(alloc, command, "log", "FILE", LOG)?;
     Ok(command)
 }
 
@@ -119,5 +124,6 @@ pub(crate) fn read_serve(alloc: Global, matches: &ArgMatches<'_>) -> Result<Serv
         listen: Text::copy_of(alloc, text_in(matches, "listen"))?,
         sessions,
         timeout,
+        log: optional_text(alloc, matches, "log")?,
     })
 }

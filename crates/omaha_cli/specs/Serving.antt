@@ -1,5 +1,5 @@
 -- What the command `serve` does; this project's profile.
-use Rattle.std.specs.Prelude.{◌≡◌, ◌⊎◌, ℕ, List, Some, Result, Ok, Err}
+use Rattle.std.specs.Prelude.{◌≡◌, ◌⊎◌, ℕ, List, Option, None, Some, Result, Ok, Err}
 use Rattle.streams.specs.Streams.{Known}
 use Rattle.omaha_arguments.specs.declared.command.Serve.{Serve}
 use Rattle.omaha_server.specs.Serving.{Serves}
@@ -13,17 +13,23 @@ use Rattle.omaha_cli.specs.Streams.{Streams}
 use Rattle.omaha_cli.specs.declared.failure.Failure.{Failure}
 use Rattle.omaha_cli.specs.declared.failure.Failure.TheVariants as failure
 
+-- the failure of a server whose log can't be opened; naming its file takes memory
+abbrev pub IsUnopened : Option (List ℕ) → Failure → Type 0
+IsUnopened (Some path) named = (named ≡ failure.File path) ⊎ (named ≡ failure.Memory)
+IsUnopened None named = named ≡ failure.Memory
+
 -- how the command ends by the end of its server; naming the address takes memory
-abbrev pub EndsAs : Result (Unit {0}) ServerError → List ℕ → Result (Unit {0}) Failure → Type 0
-EndsAs (Ok done) address result = result ≡ Ok tt
-EndsAs (Err server.Net) address result = (result ≡ Err (failure.Net address)) ⊎ (result ≡ Err failure.Memory)
-EndsAs (Err server.Write) address result = result ≡ Err failure.Write
-EndsAs (Err server.Memory) address result = result ≡ Err failure.Memory
+abbrev pub EndsAs : Result (Unit {0}) ServerError → Serve → Result (Unit {0}) Failure → Type 0
+EndsAs (Ok done) serve result = result ≡ Ok tt
+EndsAs (Err server.Net) serve result = (result ≡ Err (failure.Net serve.listen)) ⊎ (result ≡ Err failure.Memory)
+EndsAs (Err server.Log) serve result = (named : Failure) × IsUnopened serve.log named × (result ≡ Err named)
+EndsAs (Err server.Write) serve result = result ≡ Err failure.Write
+EndsAs (Err server.Memory) serve result = result ≡ Err failure.Memory
 
 -- a service was served to its end, or to an error; or memory ran out before
 abbrev pub IsHosted : Stock → Serve → Known → Known → Result (Unit {0}) Failure → Type 0
 IsHosted stock serve old new result =
-    ((ended : Result (Unit {0}) ServerError) × Serves stock serve.sessions old new ended × EndsAs ended serve.listen result)
+    ((ended : Result (Unit {0}) ServerError) × Serves stock serve.sessions old new ended × EndsAs ended serve result)
     ⊎ ((result ≡ Err failure.Memory) × (new ≡ old))
 
 -- what follows from what was made of the profile

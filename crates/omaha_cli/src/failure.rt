@@ -21,8 +21,8 @@ use values::{ReadError, Text};
 /// Those of the profile come before those of the request.
 #[derive(Debug, Drop)]
 pub enum Failure {
-    /// The profile's file, of that path, could not be read, or has over 64 MiB. The path prints
-    /// without control characters.
+    /// The profile's file, of that path, could not be read, or has over 64 MiB; or the log's, of that path, could
+    /// not be opened. The path prints without control characters.
     File(Text),
     /// The file at that path can't be described, for that reason. The path prints without control characters.
     Undescribed(Text, DescribeError),

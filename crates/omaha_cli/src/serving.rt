@@ -1,7 +1,7 @@
 // The command `serve`.
 
 ghost use Rattle.std.specs.Prelude.{◌≡◌, IfOk};
-ghost use Rattle.omaha_cli.specs.Serving.{EndsAs, IsHosted, ServesOn};
+ghost use Rattle.omaha_cli.specs.Serving.{EndsAs, IsHosted, IsUnopened, ServesOn};
 ghost use Rattle.omaha_service.specs.Answering.{stock_of};
 ghost use Rattle.streams.specs.Streams.{Known};
 
@@ -14,13 +14,27 @@ use std::alloc::AllocError;
 use streams::{Disk, WriteWhole};
 use values::Text;
 
+// The failure of a server whose log can't be opened.
+fn unopened(log: &Option<Text>) -> Failure
+    ensures { IsUnopened log.now result }
+{
+    let Some(path) = log else {
+        return Failure::Memory;
+    };
+    match path.clone() {
+        Ok(path) => Failure::File(path),
+        Err(_) => Failure::Memory,
+    }
+}
+
 // The end of the command by the end of its server.
-fn end_of(ended: Result<(), ServerError>, address: &Text) -> Result<(), Failure>
-    ensures { EndsAs ended address.now result }
+fn end_of(ended: Result<(), ServerError>, asked: &Serve) -> Result<(), Failure>
+    ensures { EndsAs ended asked.now result }
 {
     match ended {
         Ok(()) => Ok(()),
-        Err(ServerError::Net) => Err(Failure::Net(address.clone()?)),
+        Err(ServerError::Net) => Err(Failure::Net(asked.listen.clone()?)),
+        Err(ServerError::Log) => Err(unopened(&asked.log)),
         Err(ServerError::Write) => Err(Failure::Write),
         Err(ServerError::Memory) => Err(Failure::Memory),
     }
@@ -30,10 +44,15 @@ fn end_of(ended: Result<(), ServerError>, address: &Text) -> Result<(), Failure>
 fn place_of(asked: &Serve) -> Result<Place, AllocError>
     ensures { IfOk result (λ place. place.sessions ≡ asked.now.sessions) }
 {
+    let log = match &asked.log {
+        Some(path) => Some(path.clone()?),
+        None => None,
+    };
     Ok(Place {
         address: asked.listen.clone()?,
         packages: asked.packages.clone()?,
         sessions: asked.sessions,
+        log,
         seconds: asked.timeout.max(1),
     })
 }
@@ -51,14 +70,14 @@ fn serve_made<R: Host, W: WriteWhole>(
         return Err(Failure::Memory);
     };
     let ended = rt.serve_service(service, &place, writer);
-    end_of(ended, &asked.listen)
+    end_of(ended, asked)
 }
 
 // rule: Service over HTTP
 /// Serves a profile and its packages, and prints the mirrors' totals at the end.
 ///
-/// Fails, in this order, with the profile's file, its first fault, its first rejected edit, the address, and
-/// the writer; the writer may also fail after the last session.
+/// Fails, in this order, with the profile's file, its first fault, its first rejected edit, the log, the address,
+/// and the writer; the writer may also fail after the last session.
 pub(crate) fn serve_profile<R: Disk + Host + AllocGlobal, W: WriteWhole>(
     rt: &R,
     asked: &Serve,

@@ -142,3 +142,25 @@ pub(crate) fn serve<
     ];
     run_program(rt, &words)
 }
+
+/// The same with a log.
+pub(crate) fn serve_logged<
+    R: Net<Listener = TcpListener, Stream = TcpStream> + Clock + Files + Wait + AllocGlobal,
+>(rt: &R, site: &Site, sessions: &str, log: &str) -> Option<String> {
+    let words = [
+        "serve",
+        "--profile",
+        site.profile.as_str(),
+        "--packages",
+        site.folder.as_str(),
+        "--listen",
+        site.host.as_str(),
+        "--sessions",
+        sessions,
+        "--timeout",
+        "20",
+        "--log",
+        log,
+    ];
+    run_program(rt, &words)
+}

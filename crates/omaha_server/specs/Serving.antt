@@ -74,6 +74,7 @@ IsReady old new = Appends old.bytes new.bytes ready_line
 -- what was printed of a server that ended before its totals
 abbrev pub Stops : Known → Known → ServerError → Type 0
 Stops old new server.Net = new ≡ old
+Stops old new server.Log = new ≡ old
 Stops old new server.Write = Breaks old new ready_line
 Stops old new server.Memory = (new ≡ old) ⊎ IsReady old new
 

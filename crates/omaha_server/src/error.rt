@@ -10,6 +10,8 @@ use http_connections::ServeError;
 pub enum ServerError {
     /// The address could not be bound.
     Net,
+    /// The log could not be opened.
+    Log,
     /// The output could not be written.
     Write,
     /// Memory ran out.

@@ -9,10 +9,13 @@ ghost use Rattle.omaha_server.specs.Serving.{AreServed, AreTotals, AreWithin, Is
 ghost use Rattle.omaha_service.specs.Answering.{stock_of};
 
 use crate::error::{ServerError, error_of};
+use crate::logging::open_log;
 use crate::totals::{names_of, totals_text};
+use access_logs::AccessLog;
 use editions::Edition;
 use http_connections::{ServeError, serve_clients};
 use http_devices::{Folder, SystemClock};
+use http_watches::{Unwatched, Watch};
 use mirror_ledger::{Blanks, Books, BudgetName, Hand, Shares, close, open_books};
 use omaha_service::Service;
 use std::alloc::AllocError;
@@ -34,6 +37,8 @@ pub struct Place {
     pub packages: Text,
     /// After how many sessions the server ends, or `None` for no end.
     pub sessions: Option<u64>,
+    /// The path of the log of replies, or `None` for no log.
+    pub log: Option<Text>,
     /// How many seconds each read and each write of a connection may take, at least one.
     pub seconds: u64,
     ghost limited: { 0 < seconds },
@@ -48,11 +53,13 @@ fn serve_till<
     D: BudgetName,
     R: Net<Listener = TcpListener, Stream = TcpStream> + Clock + Files + Wait + AllocGlobal,
     W: WriteWhole,
+    V: Watch,
 >(
     rt: &R,
     desk: &mut Single<Hand<'_, A, B, C, D>>,
     place: &Place,
     out: &mut W,
+    watch: &V,
 ) -> Result<(), ServeError>
     requires alone { HaveOnePart A.parts B.parts C.parts D.parts }
     requires tallied { AreTallied desk.old.till.shares.first desk.old.till.shares.second desk.old.till.shares.third desk.old.till.shares.fourth desk.old.till.shares.asks }
@@ -75,6 +82,7 @@ fn serve_till<
         &clock,
         place.sessions,
         place.seconds,
+        watch,
     )
 }
 
@@ -86,6 +94,7 @@ fn serve_by<
     D: BudgetName,
     R: Net<Listener = TcpListener, Stream = TcpStream> + Clock + Files + Wait + AllocGlobal,
     W: WriteWhole,
+    V: Watch,
 >(
     rt: &R,
     books: &Books<A, B, C, D>,
@@ -93,6 +102,7 @@ fn serve_by<
     edition: Edition,
     place: &Place,
     out: &mut W,
+    watch: &V,
 ) -> Result<Shares<A, B, C, D>, ServeError>
     requires alone { HaveOnePart A.parts B.parts C.parts D.parts }
     requires tallied { AreTallied share.first share.second share.third share.fourth share.asks }
@@ -107,7 +117,7 @@ fn serve_by<
         edition,
         till: Hand::new(books, share),
     };
-    serve_till(rt, &mut desk, place, out)?;
+    serve_till(rt, &mut desk, place, out, watch)?;
     let Single { till, .. } = desk;
     Ok(till.end())
 }
@@ -138,12 +148,14 @@ fn serve_over<
     D: BudgetName,
     R: Net<Listener = TcpListener, Stream = TcpStream> + Clock + Files + Wait + AllocGlobal,
     W: WriteWhole,
+    V: Watch,
 >(
     rt: &R,
     blanks: Blanks,
     service: Service,
     place: &Place,
     out: &mut W,
+    watch: &V,
 ) -> Result<Vec<u64>, ServerError>
     requires first { IsNamed blanks.first A.name A.parts A.budget 1 service.mirrors 0 }
     requires second { IsNamed blanks.second B.name B.parts B.budget 1 service.mirrors 1 }
@@ -163,7 +175,7 @@ fn serve_over<
     let Some(share) = shares.pop() else {
         unreachable!()
     };
-    let share = match serve_by(rt, &books, share, edition, place, out) {
+    let share = match serve_by(rt, &books, share, edition, place, out, watch) {
         Ok(share) => share,
         Err(error) => return Err(error_of(error)),
     };
@@ -174,28 +186,63 @@ fn serve_over<
 }
 
 // rule: Run of a server
-/// Serves a service's update checks and its packages, and prints the mirrors' totals at the end.
-///
-/// Opens books of the mirrors' budgets, binds the address, prints `ready`, serves connections one after the
-/// other until there were so many, and then prints a line for each mirror: its name and how many bytes it was
-/// granted. Fails, in this order, with memory, the address, the output. If memory runs out after the last
-/// session, no total is printed.
-pub fn serve<
+// Serves a service, and shows a watch its connections.
+fn serve_watched<
     R: Net<Listener = TcpListener, Stream = TcpStream> + Clock + Files + Wait + AllocGlobal,
     W: WriteWhole,
->(rt: &R, service: Service, place: &Place, out: &mut W) -> Result<(), ServerError>
+    V: Watch,
+>(rt: &R, service: Service, place: &Place, out: &mut W, watch: &V) -> Result<(), ServerError>
     ensures { Serves (stock_of service) place.now.sessions (W.output out.old) (W.output out.new) result }
 {
     let Ok(names) = names_of(rt.alloc(), service.mirrors.as_slice()) else {
         return Err(ServerError::Memory);
     };
     let blanks = Blanks::new(1);
-    let totals = serve_over::<Brand, Brand, Brand, Brand, R, W>(rt, blanks, service, place, out)?;
+    let totals = serve_over::<Brand, Brand, Brand, Brand, R, W, V>(
+        rt, blanks, service, place, out, watch,
+    )?;
     let Ok(text) = totals_text(rt.alloc(), names.as_slice(), &totals) else {
         return Err(ServerError::Memory);
     };
     match out.write_whole(text.as_str().as_bytes()) {
         Ok(()) => Ok(()),
         Err(_) => Err(ServerError::Write),
+    }
+}
+
+// Serves a service, and logs its replies to the file at a path.
+fn serve_logged<
+    R: Net<Listener = TcpListener, Stream = TcpStream> + Clock + Files + Wait + AllocGlobal,
+    W: WriteWhole,
+>(rt: &R, service: Service, place: &Place, out: &mut W, path: &str) -> Result<(), ServerError>
+    ensures { Serves (stock_of service) place.now.sessions (W.output out.old) (W.output out.new) result }
+{
+    let Ok(file) = open_log(rt, path) else {
+        return Err(ServerError::Log);
+    };
+    let clock = SystemClock::new(rt);
+    let log = AccessLog::new(rt.alloc(), &clock, file);
+    serve_watched(rt, service, place, out, &log)
+}
+
+// rule: Run of a server
+/// Serves a service's update checks and its packages, and prints the mirrors' totals at the end.
+///
+/// Opens the log, if there is to be one, and books of the mirrors' budgets, binds the address, prints `ready`,
+/// serves connections one after the other until there were so many, and then prints a line for each mirror: its
+/// name and how many bytes it was granted. Fails, in this order, with the log, memory, the address, the output.
+/// If memory runs out after the last session, no total is printed.
+///
+/// The log gets a line for each reply, as `access_logs` has it. A line that can't be written is lost, and holds
+/// up no reply.
+pub fn serve<
+    R: Net<Listener = TcpListener, Stream = TcpStream> + Clock + Files + Wait + AllocGlobal,
+    W: WriteWhole,
+>(rt: &R, service: Service, place: &Place, out: &mut W) -> Result<(), ServerError>
+    ensures { Serves (stock_of service) place.now.sessions (W.output out.old) (W.output out.new) result }
+{
+    match &place.log {
+        None => serve_watched(rt, service, place, out, &Unwatched),
+        Some(path) => serve_logged(rt, service, place, out, path.as_str()),
     }
 }

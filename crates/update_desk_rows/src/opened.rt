@@ -7,6 +7,7 @@ use crate::connection::{Letters, Received, Sent, Stopped};
 use crate::demo::{edition_of_demo, mirrors_of};
 use editions::Edition;
 use http_sessions::{End, Fault, Served, serve};
+use http_watches::Unwatched;
 use mirror_ledger::{Blanks, Books, BudgetName, Hand, Shares, close, open_books};
 use records::Mirror;
 use std::alloc::{AllocError, Global};
@@ -49,7 +50,15 @@ fn serve_by<A: BudgetName, B: BudgetName, C: BudgetName, D: BudgetName, R: Wait 
         till: Hand::new(books, share),
     };
     let mut source = Sent { left: sent };
-    let served = serve(rt, &mut source, sink, &mut desk, &Letters, &Stopped);
+    let served = serve(
+        rt,
+        &mut source,
+        sink,
+        &mut desk,
+        &Letters,
+        &Stopped,
+        &Unwatched,
+    );
     let Single { till, .. } = desk;
     (till.end(), end_of(&served))
 }

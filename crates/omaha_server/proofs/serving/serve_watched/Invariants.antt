@@ -1,6 +1,6 @@
 -- The names of the four ledgers: those of the blanks, with the mirrors' budgets.
 use Rattle.mirror_ledger.specs.Named.{budget_at}
-use Rattle.omaha_server.proofs.serving.serve.Given as goal
+use Rattle.omaha_server.proofs.serving.serve_watched.Given as goal
 
 abbrev pub ghosts-serve_over-A-Ledger : goal.ghosts-serve_over-A-Ledger
 ghosts-serve_over-A-Ledger g a = record { name = a.blanks.first.name; parts = a.blanks.first.parts }

@@ -1,0 +1,17 @@
+//! The access log of a server: a line for each reply, in the combined form that web servers write.
+//!
+//! `AccessLog` is a `Watch` of a server's connections. Once a reply has been written, it writes a line: the
+//! address, the time, the first line of the message, the status, how many bytes the body of the reply had, the
+//! referrer and the program that asked. Every byte that is not printable ASCII, a quote and a backslash stand as
+//! `\x` and two digits.
+//!
+//! It holds up no reply and rejects none: a line that can't be written is lost, and so is one that memory is
+//! lacking for. Nothing is proved of what the lines say.
+
+#![tactic(auto)]
+
+mod entry;
+mod log;
+mod message;
+
+pub use crate::log::AccessLog;

@@ -1,0 +1,133 @@
+use crate::entry::Entry;
+use crate::message::{asker_of, first_line, replied_in};
+use http_desks::Clock;
+use http_watches::Watch;
+use std::alloc::{AllocError, Global};
+use std::cell::RefCell;
+use std::io::Write;
+use std::net::{IpAddr, TcpStream};
+
+// The most bytes of a message that are kept: those of the longest head.
+const MAX_MESSAGE: usize = 16384;
+
+// The most bytes of a reply that are kept: more than a head has.
+const MAX_REPLY: usize = 1024;
+
+/// A log of a server's replies, over a writer of its own.
+#[derive(Drop)]
+pub struct AccessLog<'a, C: Clock, W: Write + Drop> {
+    alloc: Global,
+    clock: &'a C,
+    state: RefCell<State<W>>,
+}
+
+// The writer, and what was seen of the reply that is under way.
+#[derive(Drop)]
+struct State<W: Write + Drop> {
+    out: W,
+    address: Option<IpAddr>,
+    message: Vec<u8>,
+    reply: Vec<u8>,
+    written: u64,
+}
+
+impl<'a, C: Clock, W: Write + Drop> AccessLog<'a, C, W> {
+    /// Makes a log that writes to a writer, with the times of a clock.
+    pub fn new(alloc: Global, clock: &'a C, out: W) -> AccessLog<'a, C, W> {
+        AccessLog {
+            alloc,
+            clock,
+            state: RefCell::new(State {
+                out,
+                address: None,
+                message: Vec::new(alloc),
+                reply: Vec::new(alloc),
+                written: 0,
+            }),
+        }
+    }
+
+    /// Returns the writer.
+    pub fn into_writer(self) -> W {
+        self.state.into_inner().out
+    }
+}
+
+// Appends the first of the bytes that there is room for.
+fn keep(kept: &mut Vec<u8>, bytes: &[u8], most: usize) {
+    let room = most.saturating_sub(kept.len());
+    let count = room.min(bytes.len());
+    let _ = kept.extend_from_slice(&bytes[..count]);
+}
+
+impl<W: Write + Drop> State<W> {
+    // Writes the line of the reply that was under way, if any, and forgets its message.
+    fn finish(&mut self, alloc: Global, seconds: u64) {
+        if self.written > 0 {
+            let _ = self.print(alloc, seconds);
+        }
+        self.message.clear();
+        self.reply.clear();
+        self.written = 0;
+    }
+
+    // Writes the line of the reply.
+    fn print(&mut self, alloc: Global, seconds: u64) -> Result<(), AllocError> {
+        let asker = asker_of(&self.message);
+        let replied = replied_in(&self.reply);
+        let entry = Entry {
+            address: self.address,
+            seconds,
+            line: first_line(&self.message),
+            status: replied.status,
+            size: self
+                .written
+                .saturating_sub(replied.head.unwrap_or(self.written)),
+            referrer: asker.referrer,
+            agent: asker.agent,
+        };
+        let line = format!(in alloc; "{entry}\n")?;
+        let _ = self.out.write_all(line.as_bytes());
+        Ok(())
+    }
+}
+
+impl<'a, C: Clock, W: Write + Drop> Watch for AccessLog<'a, C, W> {
+    fn opens(&self, stream: &TcpStream) {
+        if let Ok(mut state) = self.state.try_borrow_mut() {
+            state.address = match stream.peer_addr() {
+                Ok(peer) => Some(peer.ip()),
+                Err(_) => None,
+            };
+        }
+    }
+
+    fn begins(&self, waiting: &[u8]) {
+        let seconds = self.clock.now();
+        if let Ok(mut state) = self.state.try_borrow_mut() {
+            state.finish(self.alloc, seconds);
+            keep(&mut state.message, waiting, MAX_MESSAGE);
+        }
+    }
+
+    fn reads(&self, bytes: &[u8]) {
+        if let Ok(mut state) = self.state.try_borrow_mut() {
+            keep(&mut state.message, bytes, MAX_MESSAGE);
+        }
+    }
+
+    fn writes(&self, bytes: &[u8]) {
+        if let Ok(mut state) = self.state.try_borrow_mut() {
+            keep(&mut state.reply, bytes, MAX_REPLY);
+            state.written = state.written.saturating_add(bytes.len() as u64);
+        }
+    }
+
+    fn ends(&self) {
+        let seconds = self.clock.now();
+        if let Ok(mut state) = self.state.try_borrow_mut() {
+            state.finish(self.alloc, seconds);
+            state.address = None;
+        }
+    }
+}

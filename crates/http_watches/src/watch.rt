@@ -1,0 +1,38 @@
+use std::net::TcpStream;
+
+/// Is shown the connections of a server, one after the other.
+///
+/// It gets shared references alone, so what it does changes no byte of a connection.
+pub trait Watch {
+    /// A connection was accepted.
+    fn opens(&self, stream: &TcpStream);
+
+    /// A message may begin: whatever came before it on the connection has had its reply. The bytes that wait are
+    /// the message's first.
+    fn begins(&self, waiting: &[u8]);
+
+    /// These bytes were read.
+    fn reads(&self, bytes: &[u8]);
+
+    /// These bytes were written.
+    fn writes(&self, bytes: &[u8]);
+
+    /// The connection's session has ended.
+    fn ends(&self);
+}
+
+/// The watch that looks at nothing.
+#[derive(Clone, Copy, Debug, Drop)]
+pub struct Unwatched;
+
+impl Watch for Unwatched {
+    fn opens(&self, _stream: &TcpStream) {}
+
+    fn begins(&self, _waiting: &[u8]) {}
+
+    fn reads(&self, _bytes: &[u8]) {}
+
+    fn writes(&self, _bytes: &[u8]) {}
+
+    fn ends(&self) {}
+}
