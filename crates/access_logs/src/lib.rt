@@ -2,8 +2,8 @@
 //!
 //! `AccessLog` is a `Watch` of a server's connections. Once a reply has been written, it writes a line: the
 //! address, the time, the first line of the message, the status, how many bytes the body of the reply had, the
-//! referrer and the program that asked. Every byte that is not printable ASCII, a quote and a backslash stand as
-//! `\x` and two digits.
+//! referrer and the program that asked. Every byte that is not printable ASCII is printed as `\x` and two digits, and
+//! so are a quote and a backslash.
 //!
 //! It holds up no reply and rejects none: a line that can't be written is lost, and so is one that memory is
 //! lacking for. Nothing is proved of what the lines say.

@@ -1,4 +1,4 @@
-// A clock that stands still, and writers that a disk is full for.
+// A clock that has stopped, and a writer to a full disk.
 
 ghost use Rattle.std.specs.Prelude.{◌≡◌};
 
@@ -17,7 +17,7 @@ impl Clock for Stopped {
     }
 }
 
-/// A writer that a disk is full for.
+/// A writer to a full disk.
 #[derive(Drop)]
 pub(crate) struct Full;
 

@@ -14,9 +14,10 @@ Remedy: `omaha once --help` says in which order the edits of a profile count.
         "file",
         "file F
 Found in: a path of the command line.
-The file can't be read, or has more than 64 MiB; `omaha describe` says what is wrong with it.
+The file can't be read, or has more than 64 MiB; `omaha describe` says what is wrong with it. Of `--log F`: the file
+can't be opened for writing.
 Usual cause: A misspelled path, missing permission, or a folder.
-Remedy: Try `head F`.
+Remedy: Try `head F`; of a log, `touch F`.
 ",
     ),
     (

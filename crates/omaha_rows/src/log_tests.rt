@@ -21,7 +21,9 @@ fn ask_thrice<R: Net<Listener = TcpListener, Stream = TcpStream> + AllocGlobal>(
 fn without_time(rt: &HostRuntime, line: &str) -> Result<String, Fail> {
     let (before, rest) = line.split_once("[").ok_or("no time")?;
     let (time, after) = rest.split_once("]").ok_or("no end of the time")?;
-    assert!(rt; time.len() == 26 && time.ends_with(" +0000"), "{time}");
+    if time.len() != 26 || !time.ends_with(" +0000") {
+        return Err(Fail::from("another time"));
+    }
     Ok(format!(in rt.alloc(); "{before}[]{after}")?)
 }
 
@@ -44,7 +46,7 @@ fn each_reply_is_logged(rt: HostRuntime) -> Result<(), Fail> {
     assert_eq!(rt; lines.next(), Some("kept"));
     for wanted in [
         r#"127.0.0.1 - - [] "GET /p/mini-1.0.bin HTTP/1.1" 200 3 "-" "row/1""#,
-        r#"127.0.0.1 - - [] "HEAD /p/mini-2.0.bin HTTP/1.1" 200 0 "-" "-""#,
+        r#"127.0.0.1 - - [] "HEAD /p/mini-2.0.bin HTTP/1.1" 405 0 "-" "-""#,
         r#"127.0.0.1 - - [] "GET /none HTTP/1.1" 404 0 "-" "-""#,
     ] {
         let line = lines.next().ok_or("no line")?;

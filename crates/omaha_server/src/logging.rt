@@ -4,7 +4,7 @@ use std::fs::OpenOptions;
 use std::io;
 use std::rt::Files;
 
-// The path that stands for standard error, and the file that is standard error.
+// The path that means standard error, and the file that is standard error.
 const DASH: &str = "-";
 
 const STANDARD_ERROR: &str = "/dev/stderr";
