@@ -12,6 +12,7 @@ import hashlib
 import json
 import os
 import pathlib
+import re
 import shutil
 import socket
 import struct
@@ -41,7 +42,7 @@ def free_port():
 class Server:
     """A running server over a copy of the example's packages."""
 
-    def __init__(self, program, folder, sessions=None, profile=PROFILE):
+    def __init__(self, program, folder, sessions=None, profile=PROFILE, log=None):
         self.folder = pathlib.Path(folder)
         self.packages = self.folder / "packages"
         if not self.packages.exists():
@@ -52,6 +53,8 @@ class Server:
         words += ["--timeout", str(TIMEOUT)]
         if sessions is not None:
             words += ["--sessions", str(sessions)]
+        if log is not None:
+            words += ["--log", log]
         self.process = subprocess.Popen(
             [program, "serve", *words], cwd=self.folder, stdout=subprocess.PIPE, stderr=subprocess.PIPE
         )
@@ -338,7 +341,75 @@ def is_unharmed_by_an_unreadable_folder(program):
         expect("exit status", server.end()[2], 0)
 
 
+LINE = re.compile(r'127\.0\.0\.1 - - \[\d\d/[A-Z][a-z][a-z]/\d{4}:\d\d:\d\d:\d\d \+0000\] ("[^"]*") (\d+) (\d+) ("[^"]*" "[^"]*")')
+
+
+def logged(text):
+    """The parts of each line of a log, but for the address and the time; or the line, if it has another form."""
+    lines = text.decode().splitlines()
+    return [found.groups() if (found := LINE.fullmatch(line)) else line for line in lines]
+
+
+def ask_for_the_log(server):
+    """Replies of two connections, and no reply on a third."""
+    with server.connect() as connection:
+        connection.sendall(post(ASK, b"User-Agent: a\x1b/1\r\nReferer: b\r\n") + get("mini-1.0.bin") + b"GET /no HTTP/1.1\r\n\r\n")
+        kept, statuses, lengths = b"", [], []
+        for _ in range(3):
+            status, body, kept = read_reply(connection, kept)
+            statuses.append(status)
+            lengths.append(len(body))
+        expect("statuses", statuses, [200, 200, 404])
+    with server.connect() as connection:
+        connection.sendall(b"BAD\x00HEAD\r\n\r\n")
+        expect("status", read_all(connection)[9:12], b"400")
+    with server.connect() as connection:
+        connection.sendall(post(ASK)[:40])
+    return [
+        (f'"POST {PATH} HTTP/1.1"', "200", str(lengths[0]), '"b" "a\\x1B/1"'),
+        ('"GET /p/mini-1.0.bin HTTP/1.1"', "200", str(lengths[1]), '"-" "-"'),
+        ('"GET /no HTTP/1.1"', "404", "0", '"-" "-"'),
+        ('"BAD\\x00HEAD"', "400", "0", '"-" "-"'),
+    ]
+
+
+def logs_each_reply(program):
+    with tempfile.TemporaryDirectory() as folder:
+        path = pathlib.Path(folder, "access.log")
+        path.write_text("kept\n")
+        server = Server(program, folder, sessions=3, log="access.log")
+        wanted = ask_for_the_log(server)
+        expect("exit status", server.end()[1:], (b"", 0))
+        expect("the log", logged(path.read_bytes()), ["kept", *wanted])
+
+
+def logs_to_standard_error(program):
+    with tempfile.TemporaryDirectory() as folder:
+        server = Server(program, folder, sessions=3, log="-")
+        wanted = ask_for_the_log(server)
+        output, errors, status = server.end()
+        expect("output and status", (output, status), (b"ready\nm0 1960\n", 0))
+        expect("the log", logged(errors), wanted)
+
+
+def loses_lines_and_no_replies_on_a_full_disk(program):
+    with tempfile.TemporaryDirectory() as folder:
+        server = Server(program, folder, sessions=3, log="/dev/full")
+        ask_for_the_log(server)
+        expect("output and status", server.end(), (b"ready\nm0 1960\n", b"", 0))
+
+
+def reports_a_log_that_it_cannot_open(program):
+    with tempfile.TemporaryDirectory() as folder:
+        server = Server(program, folder, log="none/access.log")
+        expect("output and status", server.end(), (b"", b"omaha: file none/access.log\n", 1))
+
+
 ALONE = [
+    logs_each_reply,
+    logs_to_standard_error,
+    loses_lines_and_no_replies_on_a_full_disk,
+    reports_a_log_that_it_cannot_open,
     ends_after_its_sessions,
     offers_no_more_than_the_budget,
     reports_an_address_in_use,
