@@ -2,8 +2,8 @@
 """Counts retired words in documents and comments, and prints each place with a better word.
 
 It reads README, `docs/`, the documents of `examples/`, the comments of all code, specs, proofs and
-scripts, the docstrings, and the strings of `--help`. Code between backticks is exempt: names, options
-and printed codes are fixed. `tests/words.py` fails if it finds one; `tests/words.py PATH ..` reads only
+scripts, the docstrings, the strings of `--help`, and the names of the must-fail edits. Code between backticks
+is exempt: names, options and printed codes are fixed. `tests/words.py` fails if it finds one; `tests/words.py PATH ..` reads only
 the files whose path begins so.
 """
 
@@ -82,6 +82,8 @@ def help_of(text):
 def prose(path, text):
     """What a file says to its reader, line by line."""
     name, suffix = os.path.basename(path), os.path.splitext(path)[1]
+    if suffix == ".edit":
+        yield 1, name.removesuffix(".edit").replace("_", " ")
     if suffix == ".md":
         yield from enumerate(text.split("\n"), 1)
     elif suffix == ".py":
@@ -105,7 +107,7 @@ def main():
     for path in files():
         if path == "tests/words.py" or not path.startswith(asked):
             continue
-        if os.path.splitext(path)[1] not in (".md", ".py", ".rt", ".antt", ".toml") and path != "Makefile":
+        if os.path.splitext(path)[1] not in (".md", ".py", ".rt", ".antt", ".toml", ".edit") and path != "Makefile":
             continue
         with open(os.path.join(TOP, path), encoding="utf-8") as file:
             text = file.read()
