@@ -8,7 +8,7 @@ use std::alloc::{AllocError, Global};
 use std::test::Fail;
 
 #[test]
-fn tells_days_and_seconds(rt: HostRuntime) -> Result<(), Fail> {
+fn reports_days_and_seconds(rt: HostRuntime) -> Result<(), Fail> {
     let alloc = rt.alloc();
     let edition = Edition::empty(alloc);
     let asked = request(alloc, "", "abc")?;
@@ -53,7 +53,7 @@ const NO_UPDATE: &str =
 {"appid":"mini","cohort":"stable:0","cohortname":"stable","status":"ok","updatecheck":{"status":"noupdate"}} | {"appid":"mini","cohort":"stable:0","packages":{"package":[{"fp":"1.ba7816bf8f01cfea414140de5dae2223b00361a396177a9cb410ff61f20015ad"}]},"updatecheck":{"targetversionprefix":"2"},"version":"1.0"}"#;
 
 #[test]
-fn offers_nothing_where_nothing_leads_on(rt: HostRuntime) -> Result<(), Fail> {
+fn offers_nothing_without_a_chain(rt: HostRuntime) -> Result<(), Fail> {
     let alloc = rt.alloc();
     answers(&rt, alloc, &small(alloc)?, true, NO_UPDATE)
 }
@@ -62,7 +62,7 @@ const IN_ORDER: &str =
     r#"{"appid":"MINI","cohort":"stable:0","cohortname":"stable","ping":{"status":"ok"},"status":"ok"},{"appid":"nope","status":"error-unknownApplication"},{"appid":"Mini","cohort":"stable:0","cohortname":"stable","event":[{"status":"ok"},{"status":"ok"}],"status":"ok"} | {"appid":"MINI","cohort":"stable:0","ping":{},"version":"1.0"},{"appid":"nope"},{"appid":"Mini","cohort":"stable:0","event":[1,2]}"#;
 
 #[test]
-fn answers_apps_in_order_as_they_are_spelled(rt: HostRuntime) -> Result<(), Fail> {
+fn replies_to_apps_in_order_as_they_are_spelled(rt: HostRuntime) -> Result<(), Fail> {
     let alloc = rt.alloc();
     answers(&rt, alloc, &small(alloc)?, true, IN_ORDER)
 }
@@ -71,7 +71,7 @@ const NOT_GRANTED: &str =
     r#"{"appid":"mini","cohort":"stable:0","cohortname":"stable","status":"ok","updatecheck":{"status":"error-internal"}} | {"appid":"mini","cohort":"stable:0","packages":{"package":[{"fp":"1.ba7816bf8f01cfea414140de5dae2223b00361a396177a9cb410ff61f20015ad"}]},"updatecheck":{},"version":"1.0"}"#;
 
 #[test]
-fn tells_a_wish_without_a_mirror_as_internal(rt: HostRuntime) -> Result<(), Fail> {
+fn reports_an_update_without_a_mirror_as_internal(rt: HostRuntime) -> Result<(), Fail> {
     let alloc = rt.alloc();
     answers(&rt, alloc, &small(alloc)?, false, NOT_GRANTED)
 }
@@ -106,7 +106,7 @@ pub(crate) fn planned(alloc: Global, edition: &Edition, request: &Request) -> Re
 }
 
 #[test]
-fn plans_a_wish_for_each_app_that_wants_one(rt: HostRuntime) -> Result<(), Fail> {
+fn plans_a_payload_for_each_app_that_wants_one(rt: HostRuntime) -> Result<(), Fail> {
     let alloc = rt.alloc();
     let asked = request(
         alloc,

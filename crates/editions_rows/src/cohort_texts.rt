@@ -11,7 +11,7 @@ fn shown(alloc: Global, text: &str) -> Result<String, AllocError> {
 }
 
 #[test]
-fn reads_texts_of_the_form(rt: HostRuntime) -> Result<(), Fail> {
+fn reads_well_formed_cohort_texts(rt: HostRuntime) -> Result<(), Fail> {
     let alloc = rt.alloc();
     let rows = [
         ("stable:319", "stable 319"),

@@ -47,7 +47,7 @@ fn leaves_the_edition_before_as_it_was(rt: HostRuntime) -> Result<(), Fail> {
 }
 
 #[test]
-fn prints_refusals(rt: HostRuntime) -> Result<(), Fail> {
+fn prints_rejections(rt: HostRuntime) -> Result<(), Fail> {
     let alloc = rt.alloc();
     let bad = shown(alloc, small(alloc)?.next(set_target(alloc, "3.5")?))?;
     assert_eq!(rt; bad.as_str(), "edit 0: C11 UnknownRelease");

@@ -54,7 +54,7 @@ fn assigns(rt: &impl Abort, alloc: Global, edition: &Edition, rows: &str) -> Res
 }
 
 #[test]
-fn assigns_by_hint_text_and_session(rt: HostRuntime) -> Result<(), Fail> {
+fn assigns_by_hint_cohort_text_and_session(rt: HostRuntime) -> Result<(), Fail> {
     let alloc = rt.alloc();
     let rows = "stable:500 held 3.0 | stable:500,,abc
 stable:499 target 4.0 | stable:499,,abc
@@ -142,7 +142,7 @@ beta:7 held | beta:7,,abc";
 }
 
 #[test]
-fn takes_a_closed_cohort_from_the_text_alone(rt: HostRuntime) -> Result<(), Fail> {
+fn takes_a_closed_cohort_from_the_cohort_text_alone(rt: HostRuntime) -> Result<(), Fail> {
     let alloc = rt.alloc();
     let rows = "beta:7 target 3.0 | beta:7,,abc
 stable:7 target 4.0 | stable:7,beta,abc";

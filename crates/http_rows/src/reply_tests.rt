@@ -69,7 +69,7 @@ fn make_sink(alloc: Global, piece: usize, good: usize) -> Kept {
 }
 
 #[test]
-fn sends_replies_however_they_are_taken(rt: HostRuntime) -> Result<(), Fail> {
+fn sends_replies_however_they_are_cut(rt: HostRuntime) -> Result<(), Fail> {
     for piece in [1, 7, 1000] {
         let mut sink = make_sink(rt.alloc(), piece, usize::MAX);
         let mut block = [0; 200];

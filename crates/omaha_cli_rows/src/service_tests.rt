@@ -6,7 +6,7 @@ use std::test::Fail;
 use values::ReadError;
 
 #[test]
-fn answers_from_a_profile(rt: HostRuntime) -> Result<(), Fail> {
+fn replies_from_a_profile(rt: HostRuntime) -> Result<(), Fail> {
     let alloc = rt.alloc();
     let service = read_service(alloc, STAGED.as_bytes())?;
     let reply = answer(&rt, alloc, service, 0, SHARED.as_bytes())?;
@@ -15,7 +15,7 @@ fn answers_from_a_profile(rt: HostRuntime) -> Result<(), Fail> {
 }
 
 #[test]
-fn answers_from_the_builtin_catalogue(rt: HostRuntime) -> Result<(), Fail> {
+fn replies_from_the_builtin_catalogue(rt: HostRuntime) -> Result<(), Fail> {
     let alloc = rt.alloc();
     let service = builtin_service(alloc)?;
     let reply = answer(&rt, alloc, service, 0, OLD.as_bytes())?;

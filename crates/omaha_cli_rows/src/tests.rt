@@ -31,7 +31,7 @@ fn acknowledges_apps_in_order_as_they_are_spelled(rt: HostRuntime) -> Result<(),
 }
 
 #[test]
-fn refuses_with_one_line(rt: HostRuntime) -> Result<(), Fail> {
+fn fails_with_one_line(rt: HostRuntime) -> Result<(), Fail> {
     let rows = [
         ("", "omaha: J1 NotJson\n"),
         ("{", "omaha: J1 NotJson\n"),
@@ -52,7 +52,7 @@ fn refuses_with_one_line(rt: HostRuntime) -> Result<(), Fail> {
 }
 
 #[test]
-fn refuses_257_apps(rt: HostRuntime) -> Result<(), Fail> {
+fn rejects_257_apps(rt: HostRuntime) -> Result<(), Fail> {
     let alloc = rt.alloc();
     let mut input = String::from_str(alloc, r#"{"request":{"protocol":"3.1","app":["#)?;
     for _ in 0..256 {

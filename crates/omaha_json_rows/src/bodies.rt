@@ -57,7 +57,7 @@ const INTERNAL: &str = r#")]}'
 {"response":{"app":[{"appid":"a","cohort":"beta:7","cohortname":"beta","event":[{"status":"ok"}],"status":"ok","updatecheck":{"status":"error-internal"}}],"daystart":{"elapsed_days":6940,"elapsed_seconds":3661},"protocol":"3.1"}}"#;
 
 #[test]
-fn answers_without_an_offer(rt: HostRuntime) -> Result<(), Fail> {
+fn replies_without_an_offer(rt: HostRuntime) -> Result<(), Fail> {
     let alloc = rt.alloc();
     assert!(rt; is_written(alloc, "\"\\\n", AppState::Unknown, UNKNOWN)?);
     let plain = known(alloc, false, 0, None)?;

@@ -80,14 +80,14 @@ s | {"request":{"protocol":"3.1","app":[1],"app":[]}}
 J4 BadApp 0 | {"request":{"protocol":"3.1","app":[],"app":[1]}}"#;
 
 #[test]
-fn tells_the_first_fault_of_a_body(rt: HostRuntime) -> Result<(), Fail> {
+fn reports_the_first_fault_of_a_body(rt: HostRuntime) -> Result<(), Fail> {
     let wrong = first_wrong(rt.alloc(), FAULTS, "", "")?;
     assert!(rt; wrong.is_empty(), "{wrong}");
     Ok(())
 }
 
 #[test]
-fn refuses_bytes_that_are_no_text(rt: HostRuntime) -> Result<(), Fail> {
+fn rejects_bytes_that_are_no_utf_8(rt: HostRuntime) -> Result<(), Fail> {
     let empty = told(rt.alloc(), b"")?;
     assert!(rt; empty.as_str() == "J1 NotJson");
     let no_utf8 = told(

@@ -56,7 +56,7 @@ mod tests {
 
     // Strings that nobody may write: a client's count as `0`.
     #[test]
-    fn counts_other_texts_as_zero(rt: HostRuntime) -> Result<(), Fail> {
+    fn counts_other_strings_as_zero(rt: HostRuntime) -> Result<(), Fail> {
         let (zero, _) = Version::parse("0").ok_or("0")?;
         let texts = [
             "",
