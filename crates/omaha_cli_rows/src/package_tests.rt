@@ -126,24 +126,26 @@ fn finds_no_package_in_another_folder(rt: HostRuntime) -> Result<(), Fail> {
     Ok(())
 }
 
+// Tests how `describe` of two files ends.
+fn describes<
+    R: Net<Listener = TcpListener, Stream = TcpStream> + Clock + Files + Wait + AllocGlobal,
+>(rt: &impl Abort, files: &R, first: &str, second: &str, wanted: Ending<'_>) -> Result<(), Fail> {
+    let words = ["describe", first, second];
+    ends(rt, files, &words, "{", wanted)
+}
+
 #[test]
 fn describes_files(rt: HostRuntime) -> Result<(), Fail> {
     let folder = make_folder(&rt, "describe")?;
     let first = path_of(rt.alloc(), folder.as_str(), "mini-1.0.bin")?;
-    ends(
-        &rt,
-        &rt,
-        &["describe", first.as_str()],
-        "{",
-        replied(FIRST_LINES),
-    )?;
+    let words = ["describe", first.as_str()];
+    ends(&rt, &rt, &words, "{", replied(FIRST_LINES))?;
     let diff = path_of(rt.alloc(), folder.as_str(), "mini-1-2.bin")?;
-    let words = ["describe", first.as_str(), diff.as_str()];
-    ends(&rt, &rt, &words, "{", replied(BOTH_LINES))?;
+    describes(&rt, &rt, first.as_str(), diff.as_str(), replied(BOTH_LINES))?;
     let none = path_of(rt.alloc(), folder.as_str(), "none.bin")?;
-    let words = ["describe", first.as_str(), none.as_str(), diff.as_str()];
-    let line = format!(in rt.alloc(); "omaha: file {none}: missing\n")?;
-    ends(&rt, &rt, &words, "{", refused(line.as_str()))?;
+    let line = format!(in rt.alloc(); "omaha: file {}: missing\n", none.as_str())?;
+    let wanted = refused(line.as_str());
+    describes(&rt, &rt, first.as_str(), none.as_str(), wanted)?;
     fs::remove_dir_all(&rt, folder.as_str())?;
     Ok(())
 }

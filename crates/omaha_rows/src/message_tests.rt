@@ -40,7 +40,7 @@ fn ask_twice<R: Net<Listener = TcpListener, Stream = TcpStream> + AllocGlobal>(
     let message = ask(rt)?;
     let message = message.as_str();
     let whole = exchange(rt, site.host.as_str(), message)?;
-    let cut = exchange(rt, site.host.as_str(), &message[..message.len() - 1])?;
+    let cut = exchange(rt, site.host.as_str(), message.strip_suffix("}")?)?;
     Some((whole, cut))
 }
 
