@@ -353,7 +353,7 @@ def logged(text):
 def ask_for_the_log(server):
     """Replies of two connections, and no reply on a third."""
     with server.connect() as connection:
-        connection.sendall(post(ASK, b"User-Agent: a\x1b/1\r\nReferer: b\r\n") + get("mini-1.0.bin") + b"GET /no HTTP/1.1\r\n\r\n")
+        connection.sendall(post(ASK, b'User-Agent: a"\xc3\xa9\r\nReferer: b\r\n') + get("mini-1.0.bin") + b"GET /no HTTP/1.1\r\n\r\n")
         kept, statuses, lengths = b"", [], []
         for _ in range(3):
             status, body, kept = read_reply(connection, kept)
@@ -366,7 +366,7 @@ def ask_for_the_log(server):
     with server.connect() as connection:
         connection.sendall(post(ASK)[:40])
     return [
-        (f'"POST {PATH} HTTP/1.1"', "200", str(lengths[0]), '"b" "a\\x1B/1"'),
+        (f'"POST {PATH} HTTP/1.1"', "200", str(lengths[0]), '"b" "a\\x22\\xC3\\xA9"'),
         ('"GET /p/mini-1.0.bin HTTP/1.1"', "200", str(lengths[1]), '"-" "-"'),
         ('"GET /no HTTP/1.1"', "404", "0", '"-" "-"'),
         ('"BAD\\x00HEAD"', "400", "0", '"-" "-"'),
