@@ -25,7 +25,7 @@ const SESSIONS: &str = "How many sessions to serve before it ends [default: no e
 
 const TIMEOUT: &str = "How long to wait for a silent client, 1 to 86400 [default: 30]";
 
-const LOG: &str = "Where to log each reply: a file, or - for standard error [default: no log]";
+const LOG: &str = "Where to log each reply: a file, or - for standard error [default: none]";
 
 const AFTER_SERVE: &str =
     "Prints `ready` when it listens. It replies to `POST /service/update2/json` and sends the packages
