@@ -11,7 +11,9 @@
 #![tactic(auto)]
 
 mod entry;
+mod lines;
 mod log;
 mod message;
+mod times;
 
 pub use crate::log::AccessLog;

@@ -1,4 +1,5 @@
 use crate::entry::Entry;
+use crate::lines::line_of;
 use crate::message::{asker_of, first_line, replied_in};
 use http_desks::Clock;
 use http_watches::Watch;
@@ -86,8 +87,8 @@ impl<W: Write + Drop> State<W> {
             referrer: asker.referrer,
             agent: asker.agent,
         };
-        let line = format!(in alloc; "{entry}\n")?;
-        let _ = self.out.write_all(line.as_bytes());
+        let line = line_of(alloc, &entry)?;
+        let _ = self.out.write_all(&line);
         Ok(())
     }
 }
