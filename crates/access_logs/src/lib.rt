@@ -6,7 +6,8 @@
 //! so are a quote and a backslash.
 //!
 //! It holds up no reply and rejects none: a line that can't be written is lost, and so is one that memory is
-//! lacking for. Nothing is proved of what the lines say.
+//! lacking for. Read `specs/Lines.antt` for the bytes of a line. Which message it is of, and its time, are tested
+//! and not proved.
 
 #![tactic(auto)]
 
