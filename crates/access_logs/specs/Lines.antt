@@ -36,8 +36,8 @@ start_text (Some address) time = ip_text address ++ codes " - - [" ++ time ++ co
 start_text None time = codes "- - - [" ++ time ++ codes "] "
 
 -- rule: Line of the log
--- the address and the time, the first line of the message, the status, the size, the referrer and the agent; all that
--- comes from a client is escaped, so a line has one line feed, its last byte
+-- the address and a time, the first line of the message, the status, the size, the referrer and the agent; all that
+-- comes from a client is escaped, and the last byte is a line feed
 abbrev pub IsLine : Entry → List ℕ → Type 0
 IsLine entry line =
     (time : List ℕ)
