@@ -2,7 +2,7 @@
 """Counts what shows whether the code stays easy to read and to add to, and prints a line for each figure.
 
 `tests/figures.py` needs no toolchain and fails for nothing: the figures are for review. It counts
-- the files that name one edit, `SetOpen`, outside `docs/`: what the next edit of its kind must touch;
+- the files of crates that name an edit, for each kind of edit: what the next one of its kind must touch;
 - the functions whose clause says `result ≡ NAME ..` with their own name;
 - the source files of libraries with fewer than 60 lines;
 - the lemmas with a line of more than 200 columns;
@@ -16,6 +16,7 @@ TOP = os.path.dirname(os.path.dirname(os.path.abspath(__file__)))
 CRATES = os.path.join(TOP, "crates")
 FUNCTION = re.compile(r"(?:^|\n)\s*(?:pub(?:\([a-z]+\))? )?fn (\w+)(.*?)(?=\n\s*\{|\n\s*;)", re.DOTALL)
 DEFINITION = re.compile(r"(?m)^(?:abbrev pub|unfoldable pub|pub record|pub data) ([^\s:]+)")
+EDIT = re.compile(r"(?m)^    (\w+)\(\1\),$")
 LEMMA = re.compile(r"(?m)^ *(?:pub )?([^\s:(){}|]+) :(?=\s)")
 
 
@@ -36,7 +37,10 @@ def percent(part, whole):
 
 def main():
     every = [text for suffix in (".rt", ".antt", ".edit") for _, _, text in texts(("src", "specs", "proofs", "must-fail"), suffix)]
-    print("files that name SetOpen:", sum(1 for text in every if re.search(r"\bSetOpen\b", text)))
+    with open(os.path.join(CRATES, "catalogue", "src", "edit.rt"), encoding="utf-8") as file:
+        edits = EDIT.findall(file.read())
+    named = {edit: sum(1 for text in every if re.search(rf"\b{edit}\b", text)) for edit in edits}
+    print("files that name an edit:", ", ".join(f"{edit} {count}" for edit, count in named.items()))
 
     functions = [(name, rest) for _, _, text in texts(("src",), ".rt") for name, rest in FUNCTION.findall(text)]
     alike = sum(1 for name, rest in functions if re.search(rf"result(?:\.now)? ≡ {name}\b", rest))
