@@ -1,10 +1,11 @@
 #!/usr/bin/env python3
-"""Counts retired words in documents and comments, and prints each place with a better word.
+"""Counts retired words in documents, comments and names, and prints each place with a better word.
 
 It reads README, `docs/`, the documents of `examples/`, the comments of all code, specs, proofs and
-scripts, the docstrings, the strings of `--help`, and the names of the must-fail edits. Code between backticks
-is exempt: names, options and printed codes are fixed. `tests/words.py` fails if it finds one; `tests/words.py PATH ..` reads only
-the files whose path begins so.
+scripts, the docstrings, the strings of `--help`, and the names of the must-fail edits, of the functions, types, constants
+and modules of the code, and of the definitions in specs. Code between backticks is exempt, and so are the names of the
+public surface below, options and printed codes. `tests/words.py` fails if it finds one; `tests/words.py PATH ..` reads only the
+files whose path begins so.
 """
 
 import io
@@ -54,6 +55,20 @@ COMMENTS = {
 HELP = re.compile(r"crates/omaha_arguments/src/\w+\.rt$")
 STRING = re.compile(r'^const \w+: &str =\s*"((?:[^"\\]|\\.)*)"', re.DOTALL | re.MULTILINE)
 
+ITEM = re.compile(r"^\s*(?:pub(?:\(\w+\))? )?(?:const )?(?:fn|struct|enum|trait|const|static|type|mod) (\w+)", re.MULTILINE)
+DEFINITION = re.compile(r"^(?:abbrev pub|unfoldable pub|pub record|pub data|pub) (\w+)", re.MULTILINE)
+PART = re.compile(r"[A-Z]?[a-z]+|[A-Z]+(?![a-z])|\d+")
+
+# Names of the public surface: `Answer` and `Desk::answer`, `Text`, `CohortText`, `BadEntry`, `Refused`, and what is named after them.
+FIXED = re.compile(r"\banswer(s|ing)?\b|\bcohort texts?\b|^text$|\bbad entry\b|\brefused\b")
+
+
+def names(text, pattern):
+    """The names that a file gives: the number of each line, and the words of the name that are not fixed."""
+    for found in pattern.finditer(text):
+        words = " ".join(PART.findall(found.group(1))).lower()
+        yield text.count("\n", 0, found.start(1)) + 1, FIXED.sub("", words)
+
 
 def comments(text, pattern):
     """The comments of a file: the number of each line, and what is written there."""
@@ -90,6 +105,10 @@ def prose(path, text):
         yield from docstrings(text)
     elif suffix in COMMENTS or name in COMMENTS:
         yield from comments(text, COMMENTS.get(suffix) or COMMENTS[name])
+    if suffix == ".rt":
+        yield from names(text, ITEM)
+    if suffix == ".antt" and "/specs/" in path:
+        yield from names(text, DEFINITION)
     if HELP.search(path):
         yield from help_of(text)
 
@@ -117,7 +136,7 @@ def main():
                     found.append(f"{path}:{number}: {match.group(0)}: better: {better}")
     for line in found:
         print(line, file=sys.stderr)
-    print(f"{len(found)} retired words in documents and comments")
+    print(f"{len(found)} retired words in documents, comments and names")
     return 1 if found else 0
 
 

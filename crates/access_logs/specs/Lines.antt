@@ -26,22 +26,22 @@ quoted (Some bytes) = 34 ∷ escaped bytes ++ 34 ∷ []
 quoted None = 34 ∷ 45 ∷ 34 ∷ []
 
 -- the status of a reply, or a dash, and the size of its body
-abbrev pub outcome_text : Option ℕ → ℕ → List ℕ
-outcome_text (Some status) size = codes " " ++ decimal status ++ codes " " ++ decimal size ++ codes " "
-outcome_text None size = codes " - " ++ decimal size ++ codes " "
+abbrev pub outcome_string : Option ℕ → ℕ → List ℕ
+outcome_string (Some status) size = codes " " ++ decimal status ++ codes " " ++ decimal size ++ codes " "
+outcome_string None size = codes " - " ++ decimal size ++ codes " "
 
--- the address of a client, or a dash, and the time of its reply
-abbrev pub start_text : Option IpAddr → List ℕ → List ℕ
-start_text (Some address) time = ip_text address ++ codes " - - [" ++ time ++ codes "] "
-start_text None time = codes "- - - [" ++ time ++ codes "] "
+-- the address of a client, or a dash, up to the time of its reply
+abbrev pub start_string : Option IpAddr → List ℕ
+start_string (Some address) = ip_text address ++ codes " - - ["
+start_string None = codes "- - - ["
 
 -- rule: Line of the log
--- the address and a time, the first line of the message, the status, the size, the referrer and the agent; all that
--- comes from a client is escaped, and the last byte is a line feed
+-- the address and a time, the first line of the message, the status, the size, the referrer and the agent; the time and
+-- all that comes from a client are escaped, so the one line feed is the last byte
 abbrev pub IsLine : Entry → List ℕ → Type 0
 IsLine entry line =
     (time : List ℕ)
     × (line
-    ≡ start_text entry.address time ++ quoted (Some entry.line.now)
-    ++ outcome_text entry.status entry.size
+    ≡ start_string entry.address ++ escaped time ++ codes "] " ++ quoted (Some entry.line.now)
+    ++ outcome_string entry.status entry.size
     ++ quoted (option_map (λ b. b.now) entry.referrer) ++ 32 ∷ quoted (option_map (λ b. b.now) entry.agent) ++ 10 ∷ [])

@@ -2,7 +2,7 @@
 
 ghost use Rattle.std.specs.Prelude.{◌≡◌, ◌++◌, ◌<◌, IfOk, OnOk, Some, string_bytes};
 ghost use Rattle.std.specs.Option.{option_map};
-ghost use Rattle.access_logs.specs.Lines.{IsLine, digit_of, escaped, escaped_byte, is_plain, outcome_text, quoted, start_text};
+ghost use Rattle.access_logs.specs.Lines.{IsLine, digit_of, escaped, escaped_byte, is_plain, outcome_string, quoted, start_string};
 
 use crate::entry::Entry;
 use crate::times::Time;
@@ -63,28 +63,26 @@ fn push_quoted(line: &mut Vec<u8>, value: Option<&[u8]>) -> Result<(), AllocErro
 
 // How a line begins.
 #[derive(Clone, Copy)]
-struct Start<'a> {
+struct Start {
     address: Option<IpAddr>,
-    time: &'a str,
 }
 
-impl fmt::Display for Start<'_> {
-    ghost output = { λ start. Some (start_text start.address start.time.now) };
+impl fmt::Display for Start {
+    ghost output = { λ start. Some (start_string start.address) };
 
     fn fmt<W: fmt::Write>(&self, f: &mut fmt::Formatter<W>) -> fmt::Result {
-        let time = self.time;
         match &self.address {
-            Some(address) => write!(f, "{address} - - [{time}] "),
-            None => write!(f, "- - - [{time}] "),
+            Some(address) => write!(f, "{address} - - ["),
+            None => write!(f, "- - - ["),
         }
     }
 }
 
-// The address and the time as a string.
-fn start_of(alloc: Global, address: Option<IpAddr>, time: &str) -> Result<String, AllocError>
-    ensures { IfOk result (λ start. string_bytes start ≡ start_text address time.now) }
+// The address up to the time as a string.
+fn start_of(alloc: Global, address: Option<IpAddr>) -> Result<String, AllocError>
+    ensures { IfOk result (λ start. string_bytes start ≡ start_string address) }
 {
-    let start = Start { address, time };
+    let start = Start { address };
     format!(in alloc; "{start}")
 }
 
@@ -96,7 +94,7 @@ struct Outcome {
 }
 
 impl fmt::Display for Outcome {
-    ghost output = { λ outcome. Some (outcome_text outcome.status outcome.size) };
+    ghost output = { λ outcome. Some (outcome_string outcome.status outcome.size) };
 
     fn fmt<W: fmt::Write>(&self, f: &mut fmt::Formatter<W>) -> fmt::Result {
         let size = self.size;
@@ -109,7 +107,7 @@ impl fmt::Display for Outcome {
 
 // The outcome as a string.
 fn outcome_of(alloc: Global, status: Option<u16>, size: u64) -> Result<String, AllocError>
-    ensures { IfOk result (λ outcome. string_bytes outcome ≡ outcome_text status size) }
+    ensures { IfOk result (λ outcome. string_bytes outcome ≡ outcome_string status size) }
 {
     let outcome = Outcome { status, size };
     format!(in alloc; "{outcome}")
@@ -124,10 +122,12 @@ pub(crate) fn line_of(alloc: Global, entry: &Entry<'_>) -> Result<Vec<u8>, Alloc
         seconds: entry.seconds,
     };
     let time = format!(in alloc; "{time}")?;
-    let start = start_of(alloc, entry.address, time.as_str())?;
+    let start = start_of(alloc, entry.address)?;
     let outcome = outcome_of(alloc, entry.status, entry.size)?;
     let mut line = Vec::new(alloc);
     line.extend_from_slice(start.as_str().as_bytes())?;
+    push_escaped(&mut line, time.as_str().as_bytes())?;
+    line.extend_from_slice(b"] ")?;
     push_quoted(&mut line, Some(entry.line))?;
     line.extend_from_slice(outcome.as_str().as_bytes())?;
     push_quoted(&mut line, entry.referrer)?;

@@ -2,9 +2,9 @@ pub mod Accepted
 pub mod AcceptedLemmas
 pub mod AppLemmas
 pub mod FitLemmas
-pub mod GoodCohortLemmas
-pub mod GoodDiffLemmas
-pub mod GoodReleaseLemmas
+pub mod ValidCohortLemmas
+pub mod ValidDiffLemmas
+pub mod ValidReleaseLemmas
 pub mod IndexLemmas
 pub mod PackageLemmas
 pub mod ValidAppLemmas

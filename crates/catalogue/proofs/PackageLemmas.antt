@@ -3,7 +3,7 @@ use Rattle.std.proofs.Common.{◌≡◌, ℕ, cond, List, ◌++◌, map, Option,
 use Rattle.std.specs.Map.{lookup}
 use Rattle.std.specs.Str.{bytes_eq}
 use Rattle.values.proofs.ChangedLemmas.{map-change}
-use Rattle.catalogue.proofs.GoodReleaseLemmas.{full_package-with_release_setting}
+use Rattle.catalogue.proofs.ValidReleaseLemmas.{full_package-with_release_setting}
 use Rattle.values.proofs.InsertionLemmas.{Inserts, Inserts-append_after, Inserts-append_before, Inserts-flat_map_change, Inserts-insert, Inserts-map, flat_map-change, lookup-Inserts}
 use Rattle.catalogue.proofs.Accepted.Diffs.{TakesDiff-from_no_fault}
 use Rattle.catalogue.proofs.Accepted.Releases.{TakesRelease-from_no_fault}

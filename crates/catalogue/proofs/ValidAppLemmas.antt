@@ -12,8 +12,8 @@ use Rattle.catalogue.proofs.Accepted.Diffs.{TakesDiff}
 use Rattle.catalogue.proofs.Accepted.Releases.{TakesRelease}
 use Rattle.catalogue.proofs.AcceptedLemmas.{Some-from_not_none}
 use Rattle.values.proofs.ChangedLemmas.{ascend-change, count_by-change, count_by-cons, length-change, list_all-change, list_any-change}
-use Rattle.catalogue.proofs.GoodCohortLemmas.{GoodCohort-from_test, is_good_cohort-from_parts}
-use Rattle.catalogue.proofs.GoodDiffLemmas.{GoodDiff-from_test, is_good_diff-from_parts}
+use Rattle.catalogue.proofs.ValidCohortLemmas.{ValidCohort-from_test, is_valid_cohort-from_parts}
+use Rattle.catalogue.proofs.ValidDiffLemmas.{ValidDiff-from_test, is_valid_diff-from_parts}
 use Rattle.records.proofs.HashLemmas.{is_hash-hash_named}
 use Rattle.values.proofs.InsertedLemmas.{IsOnce-Inserts, count_by-none, length-Inserts, list_all-Inserts, list_all-weaker, list_any-kept}
 use Rattle.values.proofs.InsertionLemmas.{Inserts, Inserts-push}
@@ -23,7 +23,7 @@ use Rattle.catalogue.specs.Changes.{in_cohort, in_release, new_app, new_cohort, 
 use Rattle.values.specs.Lists.{change}
 use Rattle.records.specs.Forms.{is_cohort_name, is_hash, is_package_name, is_size}
 use Rattle.records.specs.Lookups.{has_cohort, has_hash, has_release, is_cohort, is_pair_below, is_release, pair_of, same_pair}
-use Rattle.records.specs.Validity.{IsValidApp, is_good_audience, is_good_cohort, is_good_diff, is_good_release, is_release_below, is_released, spells}
+use Rattle.records.specs.Validity.{IsValidApp, is_valid_audience, is_valid_cohort, is_valid_diff, is_valid_release, is_release_below, is_released, spells}
 use Rattle.records.specs.declared.content.App.{App}
 use Rattle.records.specs.declared.content.Cohort.{Cohort}
 use Rattle.records.specs.declared.content.Diff.{Diff}
@@ -44,21 +44,21 @@ module _ (old new : List Release) (kept : (version : List ℕ) → has_release o
   is_released-kept None there = refl
   is_released-kept (Some version) there = kept version there
 
-  is_good_cohort-kept :
-      (cohort : Cohort) → is_good_cohort old cohort ≡ true → is_good_cohort new cohort ≡ true
-  is_good_cohort-kept cohort good =
-      let before = GoodCohort-from_test old cohort good in
-      is_good_cohort-from_parts new cohort (record {
+  is_valid_cohort-kept :
+      (cohort : Cohort) → is_valid_cohort old cohort ≡ true → is_valid_cohort new cohort ≡ true
+  is_valid_cohort-kept cohort good =
+      let before = ValidCohort-from_test old cohort good in
+      is_valid_cohort-from_parts new cohort (record {
         named = before.named;
         shared = before.shared;
         target = is_released-kept cohort.target before.target;
         held = is_released-kept cohort.held before.held;
       })
 
-  is_good_diff-kept : (diff : Diff) → is_good_diff old diff ≡ true → is_good_diff new diff ≡ true
-  is_good_diff-kept diff good =
-      let before = GoodDiff-from_test old diff good in
-      is_good_diff-from_parts new diff (record {
+  is_valid_diff-kept : (diff : Diff) → is_valid_diff old diff ≡ true → is_valid_diff new diff ≡ true
+  is_valid_diff-kept diff good =
+      let before = ValidDiff-from_test old diff good in
+      is_valid_diff-from_parts new diff (record {
         upward = before.upward;
         starts = kept diff.from before.starts;
         ends = kept diff.to before.ends;
@@ -100,18 +100,18 @@ module _ (laws : VersionLaws) (agrees : LenientAgrees) where
         some_cohort = valid.some_cohort;
         few_cohorts = valid.few_cohorts;
         cohorts_once = valid.cohorts_once;
-        cohorts_good = list_all-weaker (is_good_cohort app.releases) (is_good_cohort (placed release app.releases))
-            (is_good_cohort-kept app.releases (placed release app.releases) (has_release-placed release app.releases)) app.cohorts valid.cohorts_good;
+        cohorts_valid = list_all-weaker (is_valid_cohort app.releases) (is_valid_cohort (placed release app.releases))
+            (is_valid_cohort-kept app.releases (placed release app.releases) (has_release-placed release app.releases)) app.cohorts valid.cohorts_valid;
         few_releases = omega (arith, takes.room, length-Inserts release app.releases (placed release app.releases) among);
         releases_ascend = ascend-put_in is_below bytes_eq (λ (r : Release). r.version) (IsOrder-versions laws) release app.releases valid.releases_ascend takes.new_version;
         hashes_once = IsOnce-Inserts has_hash release app.releases (placed release app.releases) among valid.hashes_once
             (λ hash same. ap (λ h. count_by (has_hash h) app.releases) ((bytes_eq-Decides hash release.hash).0 same) ∙ count_by-none (has_hash release.hash) app.releases takes.new_hash);
-        releases_good = list_all-Inserts (is_good_release app.cohorts) release app.releases (placed release app.releases) among valid.releases_good
+        releases_valid = list_all-Inserts (is_valid_release app.cohorts) release app.releases (placed release app.releases) among valid.releases_valid
             (and_from _ _ (and_from _ _ (and_from _ _ (and_from _ _ (spells-lenient agrees e.version takes.spelled) takes.named) takes.sized) (is_hash-hash_named e.sha256 takes.hashed)) refl);
         few_diffs = valid.few_diffs;
         diffs_ascend = valid.diffs_ascend;
-        diffs_good = list_all-weaker (is_good_diff app.releases) (is_good_diff (placed release app.releases))
-            (is_good_diff-kept app.releases (placed release app.releases) (has_release-placed release app.releases)) app.diffs valid.diffs_good;
+        diffs_valid = list_all-weaker (is_valid_diff app.releases) (is_valid_diff (placed release app.releases))
+            (is_valid_diff-kept app.releases (placed release app.releases) (has_release-placed release app.releases)) app.diffs valid.diffs_valid;
       }
 
   pub IsValidApp-with_diff :
@@ -126,15 +126,15 @@ module _ (laws : VersionLaws) (agrees : LenientAgrees) where
         some_cohort = valid.some_cohort;
         few_cohorts = valid.few_cohorts;
         cohorts_once = valid.cohorts_once;
-        cohorts_good = valid.cohorts_good;
+        cohorts_valid = valid.cohorts_valid;
         few_releases = valid.few_releases;
         releases_ascend = valid.releases_ascend;
         hashes_once = valid.hashes_once;
-        releases_good = valid.releases_good;
+        releases_valid = valid.releases_valid;
         few_diffs = omega (arith, takes.room, length-Inserts diff app.diffs (placed_diff diff app.diffs) among);
         diffs_ascend = ascend-put_in is_pair_below same_pair pair_of (IsOrder-pairs laws) diff app.diffs valid.diffs_ascend takes.new_pair;
-        diffs_good = list_all-Inserts (is_good_diff app.releases) diff app.diffs (placed_diff diff app.diffs) among valid.diffs_good
-            (is_good_diff-from_parts app.releases diff (record {
+        diffs_valid = list_all-Inserts (is_valid_diff app.releases) diff app.diffs (placed_diff diff app.diffs) among valid.diffs_valid
+            (is_valid_diff-from_parts app.releases diff (record {
               upward = takes.upward;
               starts = takes.starts;
               ends = takes.ends;
@@ -149,7 +149,7 @@ pub IsValidApp-in_release :
     (version : List ℕ) (f : Release → Release) (app : App) →
     ((release : Release) → (f release).version ≡ release.version) →
     ((release : Release) → (f release).hash ≡ release.hash) →
-    ((release : Release) → is_good_release app.cohorts release ≡ true → is_good_release app.cohorts (f release) ≡ true) →
+    ((release : Release) → is_valid_release app.cohorts release ≡ true → is_valid_release app.cohorts (f release) ≡ true) →
     IsValidApp app → IsValidApp (in_release version f app)
 IsValidApp-in_release version f app kept kept_hash keeps_good valid =
     let releases = change (is_release version) f app.releases in
@@ -161,45 +161,45 @@ IsValidApp-in_release version f app kept kept_hash keeps_good valid =
       some_cohort = valid.some_cohort;
       few_cohorts = valid.few_cohorts;
       cohorts_once = valid.cohorts_once;
-      cohorts_good = list_all-weaker (is_good_cohort app.releases) (is_good_cohort releases)
-          (is_good_cohort-kept app.releases releases released) app.cohorts valid.cohorts_good;
+      cohorts_valid = list_all-weaker (is_valid_cohort app.releases) (is_valid_cohort releases)
+          (is_valid_cohort-kept app.releases releases released) app.cohorts valid.cohorts_valid;
       few_releases = rw (length-change (is_release version) f app.releases) valid.few_releases;
       releases_ascend = ascend-change (is_release version) f is_release_below
           (λ x y. ap (λ (v : List ℕ). is_below v y.version) (kept x)) (λ x y. ap (is_below x.version) (kept y)) app.releases valid.releases_ascend;
       hashes_once = λ key. rw (count_by-change (is_release version) f (has_hash key) (λ r. ap (bytes_eq key) (kept_hash r)) app.releases) (valid.hashes_once key);
-      releases_good = list_all-change (is_release version) f (is_good_release app.cohorts) keeps_good app.releases valid.releases_good;
+      releases_valid = list_all-change (is_release version) f (is_valid_release app.cohorts) keeps_good app.releases valid.releases_valid;
       few_diffs = valid.few_diffs;
       diffs_ascend = valid.diffs_ascend;
-      diffs_good = list_all-weaker (is_good_diff app.releases) (is_good_diff releases)
-          (is_good_diff-kept app.releases releases released) app.diffs valid.diffs_good;
+      diffs_valid = list_all-weaker (is_valid_diff app.releases) (is_valid_diff releases)
+          (is_valid_diff-kept app.releases releases released) app.diffs valid.diffs_valid;
     }
 
 -- an audience stays valid if each cohort's name stays
-is_good_audience-kept :
+is_valid_audience-kept :
     (old new : List Cohort) →
     ((name : List ℕ) → has_cohort old name ≡ true → has_cohort new name ≡ true) →
     (audience : Option (List (List ℕ))) →
-    is_good_audience old audience ≡ true →
-    is_good_audience new audience ≡ true
-is_good_audience-kept old new kept None good = refl
-is_good_audience-kept old new kept (Some names) good = list_all-weaker (has_cohort old) (has_cohort new) kept names good
+    is_valid_audience old audience ≡ true →
+    is_valid_audience new audience ≡ true
+is_valid_audience-kept old new kept None good = refl
+is_valid_audience-kept old new kept (Some names) good = list_all-weaker (has_cohort old) (has_cohort new) kept names good
 
 -- and so does a release
-is_good_release-kept :
+is_valid_release-kept :
     (old new : List Cohort) →
     ((name : List ℕ) → has_cohort old name ≡ true → has_cohort new name ≡ true) →
     (release : Release) →
-    is_good_release old release ≡ true →
-    is_good_release new release ≡ true
-is_good_release-kept old new kept release good =
-    let before = and_parts (spells release.spelled release.version && is_package_name release.name && is_size release.size && is_hash release.hash) (is_good_audience old release.audience) good in
-    and_from _ _ before.0 (is_good_audience-kept old new kept release.audience before.1)
+    is_valid_release old release ≡ true →
+    is_valid_release new release ≡ true
+is_valid_release-kept old new kept release good =
+    let before = and_parts (spells release.spelled release.version && is_package_name release.name && is_size release.size && is_hash release.hash) (is_valid_audience old release.audience) good in
+    and_from _ _ before.0 (is_valid_audience-kept old new kept release.audience before.1)
 
 -- a change of a cohort that keeps its name and keeps it valid
 pub IsValidApp-in_cohort :
     (name : List ℕ) (f : Cohort → Cohort) (app : App) →
     ((cohort : Cohort) → (f cohort).name ≡ cohort.name) →
-    ((cohort : Cohort) → is_good_cohort app.releases cohort ≡ true → is_good_cohort app.releases (f cohort) ≡ true) →
+    ((cohort : Cohort) → is_valid_cohort app.releases cohort ≡ true → is_valid_cohort app.releases (f cohort) ≡ true) →
     IsValidApp app →
     IsValidApp (in_cohort name f app)
 IsValidApp-in_cohort name f app kept keeps_good valid =
@@ -209,25 +209,25 @@ IsValidApp-in_cohort name f app kept keeps_good valid =
       some_cohort = rw as_many valid.some_cohort;
       few_cohorts = rw as_many valid.few_cohorts;
       cohorts_once = λ key. rw (count_by-change (is_cohort name) f (is_cohort key) (λ cohort. ap (bytes_eq key) (kept cohort)) app.cohorts) (valid.cohorts_once key);
-      cohorts_good = list_all-change (is_cohort name) f (is_good_cohort app.releases) keeps_good app.cohorts valid.cohorts_good;
+      cohorts_valid = list_all-change (is_cohort name) f (is_valid_cohort app.releases) keeps_good app.cohorts valid.cohorts_valid;
       few_releases = valid.few_releases;
       releases_ascend = valid.releases_ascend;
       hashes_once = valid.hashes_once;
-      releases_good = list_all-weaker (is_good_release app.cohorts) (is_good_release (change (is_cohort name) f app.cohorts))
-          (is_good_release-kept app.cohorts (change (is_cohort name) f app.cohorts)
-          (λ key there. list_any-change (is_cohort name) f (is_cohort key) (λ cohort. ap (bytes_eq key) (kept cohort)) app.cohorts ∙ there)) app.releases valid.releases_good;
+      releases_valid = list_all-weaker (is_valid_release app.cohorts) (is_valid_release (change (is_cohort name) f app.cohorts))
+          (is_valid_release-kept app.cohorts (change (is_cohort name) f app.cohorts)
+          (λ key there. list_any-change (is_cohort name) f (is_cohort key) (λ cohort. ap (bytes_eq key) (kept cohort)) app.cohorts ∙ there)) app.releases valid.releases_valid;
       few_diffs = valid.few_diffs;
       diffs_ascend = valid.diffs_ascend;
-      diffs_good = valid.diffs_good;
+      diffs_valid = valid.diffs_valid;
     }
 
 -- a new cohort is valid
-is_good_cohort-new_cohort :
+is_valid_cohort-new_cohort :
     (releases : List Release) (name : List ℕ) →
     is_cohort_name name ≡ true →
-    is_good_cohort releases (new_cohort name) ≡ true
-is_good_cohort-new_cohort releases name named =
-    is_good_cohort-from_parts releases (new_cohort name) (record { named = named; shared = refl; target = refl; held = refl })
+    is_valid_cohort releases (new_cohort name) ≡ true
+is_valid_cohort-new_cohort releases name named =
+    is_valid_cohort-from_parts releases (new_cohort name) (record { named = named; shared = refl; target = refl; held = refl })
 
 pub IsValidApp-with_cohort :
     (apps : List App) (e : AddCohort) (takes : TakesCohort apps e) →
@@ -244,15 +244,15 @@ IsValidApp-with_cohort apps e takes valid =
       few_cohorts = omega (arith, takes.room, length-Inserts cohort app.cohorts cohorts among);
       cohorts_once = IsOnce-Inserts is_cohort cohort app.cohorts cohorts among valid.cohorts_once
           (λ name same. ap (λ n. count_by (is_cohort n) app.cohorts) ((bytes_eq-Decides name e.cohort).0 same) ∙ count_by-none (is_cohort e.cohort) app.cohorts takes.new_name);
-      cohorts_good = list_all-Inserts (is_good_cohort app.releases) cohort app.cohorts cohorts among valid.cohorts_good (is_good_cohort-new_cohort app.releases e.cohort takes.named);
+      cohorts_valid = list_all-Inserts (is_valid_cohort app.releases) cohort app.cohorts cohorts among valid.cohorts_valid (is_valid_cohort-new_cohort app.releases e.cohort takes.named);
       few_releases = valid.few_releases;
       releases_ascend = valid.releases_ascend;
       hashes_once = valid.hashes_once;
-      releases_good = list_all-weaker (is_good_release app.cohorts) (is_good_release cohorts)
-          (is_good_release-kept app.cohorts cohorts (λ name there. list_any-kept (is_cohort name) cohort app.cohorts cohorts among there)) app.releases valid.releases_good;
+      releases_valid = list_all-weaker (is_valid_release app.cohorts) (is_valid_release cohorts)
+          (is_valid_release-kept app.cohorts cohorts (λ name there. list_any-kept (is_cohort name) cohort app.cohorts cohorts among there)) app.releases valid.releases_valid;
       few_diffs = valid.few_diffs;
       diffs_ascend = valid.diffs_ascend;
-      diffs_good = valid.diffs_good;
+      diffs_valid = valid.diffs_valid;
     }
 
 cond-le_one : (b : Bool) → cond b 1 0 ≤ 1
@@ -265,12 +265,12 @@ IsValidApp-new_app apps e takes = record {
   some_cohort = omega arith;
   few_cohorts = omega arith;
   cohorts_once = λ name. let counted = count_by-cons (is_cohort name) (new_cohort e.default) [] in let one = cond-le_one (is_cohort name (new_cohort e.default)) in omega arith;
-  cohorts_good = and_from _ _ (is_good_cohort-new_cohort [] e.default takes.named) refl;
+  cohorts_valid = and_from _ _ (is_valid_cohort-new_cohort [] e.default takes.named) refl;
   few_releases = omega arith;
   releases_ascend = refl;
   hashes_once = λ hash. omega arith;
-  releases_good = refl;
+  releases_valid = refl;
   few_diffs = omega arith;
   diffs_ascend = refl;
-  diffs_good = refl;
+  diffs_valid = refl;
 }

@@ -11,8 +11,8 @@ use Rattle.catalogue.proofs.Accepted.Diffs.{TakesDiff}
 use Rattle.catalogue.proofs.Accepted.Releases.{TakesRelease}
 use Rattle.values.proofs.ChangedLemmas.{AllByRecursion-change, AllByRecursion-push, count_by-change, length-change}
 use Rattle.catalogue.proofs.FitLemmas.{Fits, Fits-accepted}
-use Rattle.catalogue.proofs.GoodCohortLemmas.{name-with_setting}
-use Rattle.catalogue.proofs.GoodReleaseLemmas.{hash-with_release_setting, version-with_release_setting}
+use Rattle.catalogue.proofs.ValidCohortLemmas.{name-with_setting}
+use Rattle.catalogue.proofs.ValidReleaseLemmas.{hash-with_release_setting, version-with_release_setting}
 use Rattle.values.proofs.InsertedLemmas.{IsOnce-Inserts, count_by-none, length-Inserts, list_any-find, list_any-lookup}
 use Rattle.values.proofs.InsertionLemmas.{Inserts-push, flat_map-change}
 use Rattle.records.proofs.KeyLemmas.{VersionLaws}

@@ -3,6 +3,6 @@ pub mod Changes
 pub mod Draft
 pub mod Edits
 pub mod Faults
-pub mod FaultTexts
+pub mod FaultStrings
 pub mod PackageIndex
 pub mod Soundness

@@ -1,5 +1,5 @@
 ghost use Rattle.std.specs.Prelude.{Some};
-ghost use Rattle.catalogue.specs.FaultTexts.{fault_text, refused_text, error_text};
+ghost use Rattle.catalogue.specs.FaultStrings.{fault_string, refused_string, error_string};
 
 use std::alloc::AllocError;
 use std::error::Error;
@@ -64,7 +64,7 @@ pub enum ApplyError {
 
 // rule: Printed fault of an edit
 impl fmt::Display for Fault {
-    ghost output = { λ f. Some (fault_text f) };
+    ghost output = { λ f. Some (fault_string f) };
 
     fn fmt<W: fmt::Write>(&self, f: &mut fmt::Formatter<W>) -> fmt::Result {
         f.write_str(match self {
@@ -90,7 +90,7 @@ impl fmt::Display for Fault {
 }
 
 impl fmt::Display for Refused {
-    ghost output = { λ r. Some (refused_text r) };
+    ghost output = { λ r. Some (refused_string r) };
 
     fn fmt<W: fmt::Write>(&self, f: &mut fmt::Formatter<W>) -> fmt::Result {
         let index = self.index;
@@ -100,7 +100,7 @@ impl fmt::Display for Refused {
 }
 
 impl fmt::Display for ApplyError {
-    ghost output = { λ e. Some (error_text e) };
+    ghost output = { λ e. Some (error_string e) };
 
     fn fmt<W: fmt::Write>(&self, f: &mut fmt::Formatter<W>) -> fmt::Result {
         match self {

@@ -16,6 +16,6 @@ mod lines;
 #[cfg(test)]
 mod mirrors;
 #[cfg(test)]
-mod refusals;
+mod rejections;
 #[cfg(test)]
 mod shown;

@@ -4,8 +4,8 @@ use Rattle.std.specs.Prelude.{All}
 use Rattle.std.proofs.lemmas.List.{append_cancel_left}
 use Rattle.omaha_json.specs.declared.reply.Reply.{Reply}
 use Rattle.omaha_json.specs.declared.reply.Offer.{Offer}
-use Rattle.omaha_json.specs.ReplyWriting.{reply_text}
-use Rattle.client_texts.specs.ReplyReading.{reply_of_text}
+use Rattle.omaha_json.specs.ReplyWriting.{reply_bytes}
+use Rattle.client_texts.specs.ReplyReading.{reply_of_bytes}
 use Rattle.client_texts.specs.Soundness.{IsSound}
 use Rattle.payload_rules.specs.Chains.{IsAtTarget}
 use Rattle.quotes.specs.Sums.{IsLeast}
@@ -22,7 +22,7 @@ use Rattle.client_laws.specs.Laws.{ServedWalksAreLeast, ServedWalksAreWalks}
 use Rattle.client_laws.specs.Served.{IsServedPost}
 use Rattle.client_laws.proofs.ServedLemmas.{served_walk}
 
-module _ (read_back : (reply : Reply) → IsSound reply → reply_of_text (reply_text reply) ≡ Ok reply)
+module _ (read_back : (reply : Reply) → IsSound reply → reply_of_bytes (reply_bytes reply) ≡ Ok reply)
     (each : law.AsksGetReplies) (received : List ℕ) (ended : Type 0) where
   pub walks_are_served : ServedWalksAreWalks received ended
   walks_are_served apps mirrors client after old posts asked opened before commits walk valid formed named walked all =

@@ -14,8 +14,8 @@ use Rattle.omaha_json.specs.declared.reply.CheckReply.TheVariants as check
 use Rattle.omaha_json.specs.declared.reply.Offer.{Offer}
 use Rattle.omaha_json.specs.declared.reply.Reply.{Reply}
 use Rattle.omaha_json.specs.declared.request.AppAsk.{AppAsk}
-use Rattle.omaha_json.specs.ReplyWriting.{reply_text}
-use Rattle.client_texts.specs.ReplyReading.{reply_of_text}
+use Rattle.omaha_json.specs.ReplyWriting.{reply_bytes}
+use Rattle.client_texts.specs.ReplyReading.{reply_of_bytes}
 use Rattle.client_texts.specs.Soundness.{IsSound}
 use Rattle.replies.specs.Plans.{payload_in, payloads_of}
 use Rattle.replies.specs.Clients.{client_of}
@@ -50,7 +50,7 @@ pub record Served (apps : List App) (mirrors : List Mirror) (client : Installed)
   pub count : length (offers_of replies) ≡ length turns
   pub sum : sum_of (offers_of replies) ≡ bytes_of turns
 
-module _ (read_back : (reply : Reply) → IsSound reply → reply_of_text (reply_text reply) ≡ Ok reply)
+module _ (read_back : (reply : Reply) → IsSound reply → reply_of_bytes (reply_bytes reply) ≡ Ok reply)
     (each : AsksGetReplies) (apps : List App) (mirrors : List Mirror) (valid : IsValid apps)
     (formed : list_all is_mirror mirrors ≡ true) where
   heard_as : (client : Installed) (bytes : List ℕ) → IsUtf8 client.app → IsReadBack client
@@ -62,7 +62,7 @@ module _ (read_back : (reply : Reply) → IsSound reply → reply_of_text (reply
       let sound : IsSound whole =
       IsSound-reply_of apps valid.apps_valid mirrors formed (request_of client) (named, tt) (payloads_of so.plan) so.outcomes
       so.moment so.dated in
-      let read : reply_of_text bytes ≡ Ok whole = ap reply_of_text so.is ∙ read_back whole sound in
+      let read : reply_of_bytes bytes ≡ Ok whole = ap reply_of_bytes so.is ∙ read_back whole sound in
       let all = each apps mirrors (request_of client) so.plan so.outcomes so.moment so.planned so.granted in
       let (reply, only, replied) =
       alone (IsReplyTo apps mirrors client.session) (ask_of client) whole.apps all in

@@ -12,15 +12,15 @@ use Rattle.hex.specs.Hex.{IsBytes}
 use Rattle.records.specs.Forms.{is_cohort_name, is_hash, is_size}
 use Rattle.records.specs.Lookups.{is_app}
 use Rattle.records.specs.Mirrors.{is_codebase, is_mirror, most_budget}
-use Rattle.records.specs.Validity.{IsValidApp, is_good_cohort, is_good_diff, is_good_release}
+use Rattle.records.specs.Validity.{IsValidApp, is_valid_cohort, is_valid_diff, is_valid_release}
 use Rattle.records.specs.declared.content.App.{App}
 use Rattle.records.specs.declared.content.Cohort.{Cohort}
 use Rattle.records.specs.declared.content.Diff.{Diff}
 use Rattle.records.specs.declared.content.Release.{Release}
 use Rattle.records.specs.declared.mirror.Mirror.{Mirror}
-use Rattle.catalogue.proofs.GoodCohortLemmas.{GoodCohort-from_test}
-use Rattle.catalogue.proofs.GoodDiffLemmas.{GoodDiff-from_test}
-use Rattle.catalogue.proofs.GoodReleaseLemmas.{GoodRelease-from_test}
+use Rattle.catalogue.proofs.ValidCohortLemmas.{ValidCohort-from_test}
+use Rattle.catalogue.proofs.ValidDiffLemmas.{ValidDiff-from_test}
+use Rattle.catalogue.proofs.ValidReleaseLemmas.{ValidRelease-from_test}
 use Rattle.cohorts.proofs.BucketLemmas.{session_bucket-small}
 use Rattle.cohorts.proofs.CohortTextLemmas.{printed-parsed}
 use Rattle.cohorts.specs.CohortTexts.{parsed}
@@ -82,24 +82,24 @@ IsSize-from_test size is =
 
 -- the package of a release, and its offer
 module _ (codebase : List ℕ) (at : IsUtf8 codebase) where
-  IsPart-full : (cohorts : List Cohort) (release : Release) → is_good_release cohorts release ≡ true → IsPart (full_part codebase release)
+  IsPart-full : (cohorts : List Cohort) (release : Release) → is_valid_release cohorts release ≡ true → IsPart (full_part codebase release)
   IsPart-full cohorts release is =
-      let good = GoodRelease-from_test cohorts release is in
+      let good = ValidRelease-from_test cohorts release is in
       (at, IsUtf8-package_name release.name good.named, IsSize-from_test release.size good.sized, IsHash-from_test release.hash good.hashed)
 
-  IsPart-diff : (releases : List Release) (diff : Diff) → is_good_diff releases diff ≡ true → IsPart (diff_part codebase diff)
+  IsPart-diff : (releases : List Release) (diff : Diff) → is_valid_diff releases diff ≡ true → IsPart (diff_part codebase diff)
   IsPart-diff releases diff is =
-      let good = GoodDiff-from_test releases diff is in
+      let good = ValidDiff-from_test releases diff is in
       (at, IsUtf8-package_name diff.name good.named, IsSize-from_test diff.size good.sized, IsHash-from_test diff.hash good.hashed)
 
-  IsDiff-of : (releases : List Release) (diff : Option Diff) → Passes (is_good_diff releases) diff → IsDiff (option_map (diff_part codebase) diff)
+  IsDiff-of : (releases : List Release) (diff : Option Diff) → Passes (is_valid_diff releases) diff → IsDiff (option_map (diff_part codebase) diff)
   IsDiff-of releases None is = tt
   IsDiff-of releases (Some diff) is = IsPart-diff releases diff is
 
-  IsOffer-of : (app : App) (release : Release) (diff : Option Diff) → is_good_release app.cohorts release ≡ true →
-      Passes (is_good_diff app.releases) diff → IsOffer (offer_of codebase release diff)
+  IsOffer-of : (app : App) (release : Release) (diff : Option Diff) → is_valid_release app.cohorts release ≡ true →
+      Passes (is_valid_diff app.releases) diff → IsOffer (offer_of codebase release diff)
   IsOffer-of app release diff is differs =
-      let good = GoodRelease-from_test app.cohorts release is in (
+      let good = ValidRelease-from_test app.cohorts release is in (
         IsUtf8-version release.spelled release.version good.spelled,
         IsUtf8-fingerprint release.hash,
         IsPart-full app.cohorts release is,
@@ -118,7 +118,7 @@ codebase-utf8 (Some mirror) is =
 IsCheck-of :
     (app : App) (mirrors : List Mirror) → list_all is_mirror mirrors ≡ true →
     (release : Option Release) (diff : Option Diff) (outcome : Option ℕ) →
-    Passes (is_good_release app.cohorts) release → Passes (is_good_diff app.releases) diff →
+    Passes (is_valid_release app.cohorts) release → Passes (is_valid_diff app.releases) diff →
     IsCheck (check_reply mirrors release diff outcome)
 IsCheck-of app mirrors formed None diff outcome is differs = tt
 IsCheck-of app mirrors formed (Some release) diff None is differs = tt
@@ -127,20 +127,20 @@ IsCheck-of app mirrors formed (Some release) diff (Some mirror) is differs =
     app release diff is differs
 
 release-passes : (app : App) → IsValidApp app → (payload : Option Payload) →
-    Passes (is_good_release app.cohorts) (option_and_then (release_by app) payload)
+    Passes (is_valid_release app.cohorts) (option_and_then (release_by app) payload)
 release-passes app valid None = tt
 release-passes app valid (Some payload) =
-    passes (is_good_release app.cohorts) app.releases (destination_of app payload) valid.releases_good
+    passes (is_valid_release app.cohorts) app.releases (destination_of app payload) valid.releases_valid
 
 diff-passes : (app : App) → IsValidApp app → (payload : Option Payload) →
-    Passes (is_good_diff app.releases) (option_and_then (diff_of app) payload)
+    Passes (is_valid_diff app.releases) (option_and_then (diff_of app) payload)
 diff-passes app valid None = tt
 diff-passes app valid (Some (Full release)) = tt
-diff-passes app valid (Some (Differ index)) = passes (is_good_diff app.releases) app.diffs index valid.diffs_good
+diff-passes app valid (Some (Differ index)) = passes (is_valid_diff app.releases) app.diffs index valid.diffs_valid
 
 -- a client of a valid app, in a bucket
-abbrev IsGoodClient : Client → Type 0
-IsGoodClient client = IsValidApp client.app × (client.track.bucket < 1000)
+abbrev IsValidClient : Client → Type 0
+IsValidClient client = IsValidApp client.app × (client.track.bucket < 1000)
 
 bucket-small : (ask : AppAsk) (session : List ℕ) (found : Option (List ℕ × ℕ)) → parsed ask.cohort ≡ found →
     option_map_or (λ named. named.1) found (session_bucket session) < 1000
@@ -148,36 +148,36 @@ bucket-small ask session None same = session_bucket-small session
 bucket-small ask session (Some (name, bucket)) same = (printed-parsed ask.cohort name bucket same).1
 
 client_at-good : (apps : List App) (session : List ℕ) (ask : AppAsk) (index : ℕ) → AllByRecursion IsValidApp apps →
-    Holds IsGoodClient (client_at apps session ask index)
+    Holds IsValidClient (client_at apps session ask index)
 client_at-good apps session ask index valid = cases (slice_get apps index) (holds IsValidApp apps index valid)
   where
     cases : (app : Option App) → Holds IsValidApp app →
-        Holds IsGoodClient (option_map (λ app. record { index = index; app = app; track = track_of app.cohorts ask session }) app)
+        Holds IsValidClient (option_map (λ app. record { index = index; app = app; track = track_of app.cohorts ask session }) app)
     cases None is = tt
     cases (Some app) is = (is, bucket-small ask session (parsed ask.cohort) refl)
 
 client_of-good : (apps : List App) (session : List ℕ) (ask : AppAsk) → AllByRecursion IsValidApp apps →
-    Holds IsGoodClient (client_of apps session ask)
+    Holds IsValidClient (client_of apps session ask)
 client_of-good apps session ask valid = cases (position (is_app ask.appid) apps)
   where
-    cases : (at : Option ℕ) → Holds IsGoodClient (option_and_then (client_at apps session ask) at)
+    cases : (at : Option ℕ) → Holds IsValidClient (option_and_then (client_at apps session ask) at)
     cases None = tt
     cases (Some index) = client_at-good apps session ask index valid
 
-cohort-utf8 : (releases : List Release) (cohort : Option Cohort) → Passes (is_good_cohort releases) cohort → IsUtf8 (unwrap_or cohort no_cohort).name
+cohort-utf8 : (releases : List Release) (cohort : Option Cohort) → Passes (is_valid_cohort releases) cohort → IsUtf8 (unwrap_or cohort no_cohort).name
 cohort-utf8 releases None is = IsUtf8-nothing
-cohort-utf8 releases (Some cohort) is = IsUtf8-cohort_name cohort.name (GoodCohort-from_test releases cohort is).named
+cohort-utf8 releases (Some cohort) is = IsUtf8-cohort_name cohort.name (ValidCohort-from_test releases cohort is).named
 
 -- the reply to an app
 IsState-of :
     (mirrors : List Mirror) → list_all is_mirror mirrors ≡ true →
-    (client : Option Client) (ask : AppAsk) (decision : Decision) → Holds IsGoodClient client →
+    (client : Option Client) (ask : AppAsk) (decision : Decision) → Holds IsValidClient client →
     IsState (state_of mirrors client ask decision)
 IsState-of mirrors formed None ask decision good = tt
 IsState-of mirrors formed (Some client) ask decision (valid, small) =
     let named : IsUtf8 (cohort_of client).name =
     cohort-utf8 client.app.releases (slice_get client.app.cohorts client.track.cohort)
-    (passes (is_good_cohort client.app.releases) client.app.cohorts client.track.cohort valid.cohorts_good) in
+    (passes (is_valid_cohort client.app.releases) client.app.cohorts client.track.cohort valid.cohorts_valid) in
     (IsUtf8-cohort_text (cohort_of client).name client.track.bucket named small, named, cases ask.check)
   where
     cases : (check : Option Check) → IsOptionalCheck (option_map (λ _. update_reply mirrors client.app decision) check)

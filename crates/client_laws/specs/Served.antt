@@ -4,8 +4,8 @@ use Rattle.std.specs.Prelude.{◌≡◌, ℕ, ◌<◌, ◌^◌, List, Option, Ok
 use Rattle.std.specs.List.{AllZip}
 use Rattle.records.specs.declared.content.App.{App}
 use Rattle.records.specs.declared.mirror.Mirror.{Mirror}
-use Rattle.omaha_json.specs.ReplyWriting.{reply_text}
-use Rattle.omaha_json.specs.RequestReading.{request_of_text}
+use Rattle.omaha_json.specs.ReplyWriting.{reply_bytes}
+use Rattle.omaha_json.specs.RequestReading.{request_of_bytes}
 use Rattle.omaha_json.specs.declared.request.Request.{Request}
 use Rattle.update_client.specs.Walks.{Post}
 use Rattle.replies.specs.Plans.{IsPlan, payloads_of}
@@ -21,9 +21,9 @@ pub record IsPlannedReply (apps : List App) (mirrors : List Mirror) (request : R
   pub planned : IsPlan apps request plan
   pub granted : AllZip (IsGranted mirrors) plan outcomes
   pub dated : moment < 2 ^ 64
-  pub is : bytes ≡ reply_text (reply_of apps request (payloads_of plan) outcomes mirrors moment)
+  pub is : bytes ≡ reply_bytes (reply_of apps request (payloads_of plan) outcomes mirrors moment)
 
 -- a server of these apps replied to the request that it reads in a post
 abbrev pub IsServedPost : List App → List Mirror → Post → Type 0
 IsServedPost apps mirrors post =
-    (request : Request) → request_of_text post.0 ≡ Ok request → IsPlannedReply apps mirrors request post.1
+    (request : Request) → request_of_bytes post.0 ≡ Ok request → IsPlannedReply apps mirrors request post.1

@@ -18,9 +18,9 @@ use Rattle.omaha_json.specs.declared.reply.CheckReply.{CheckReply}
 use Rattle.omaha_json.specs.declared.reply.CheckReply.TheVariants as check
 use Rattle.omaha_json.specs.declared.reply.Offer.{Offer}
 use Rattle.omaha_json.specs.declared.reply.Part.{Part}
-use Rattle.omaha_json.specs.ReplyWriting.{status_data, package_data, offer_data, check_data, acknowledgements, events_data, ping_data, update_data, known_data, state_data, app_data, reply_data, reply_text}
+use Rattle.omaha_json.specs.ReplyWriting.{status_data, package_data, offer_data, check_data, acknowledgements, events_data, ping_data, update_data, known_data, state_data, app_data, reply_data, reply_bytes}
 use Rattle.client_texts.specs.Soundness.{IsHash, IsSize, IsPart, IsOffer, IsCheck, IsOptionalCheck, IsKnown, IsState, IsApp, IsSound}
-use Rattle.client_texts.specs.ReplyReading.{string_at, size_from, hash_from, part_of, full_of, diff_of, offer_of, check_of, known_of, app_of, apps_from, apps_of, reply_of, reply_of_text}
+use Rattle.client_texts.specs.ReplyReading.{string_at, size_from, hash_from, part_of, full_of, diff_of, offer_of, check_of, known_of, app_of, apps_from, apps_of, reply_of, reply_of_bytes}
 use Rattle.client_texts.proofs.ReadBack.{json_of-compact}
 use Rattle.client_texts.proofs.PlainReplies.{known_members, reply_plain, reply_depth}
 
@@ -146,8 +146,8 @@ unfolding reply_of reply_data apps_of
 reply_back reply h = rw (apps_back 0 reply.apps h.2) refl
 
 -- the bytes of a reply that a server can write read as that reply
-pub text_back : (reply : Reply) → IsSound reply → reply_of_text (reply_text reply) ≡ Ok reply
-unfolding reply_of_text
+pub text_back : (reply : Reply) → IsSound reply → reply_of_bytes (reply_bytes reply) ≡ Ok reply
+unfolding reply_of_bytes
 text_back reply h =
     rw (
       json_of-compact (reply_data reply) (reply_plain reply h) (reply_depth reply),

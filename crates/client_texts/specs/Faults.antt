@@ -5,9 +5,9 @@ use Rattle.client_texts.specs.declared.fault.ReplyFault.TheVariants.{NoPrefix, N
 
 -- rule: Printed fault of a reply
 -- the fault's code, a space and its name; of an invalid offer also a space and its index in decimal
-abbrev pub fault_text : ReplyFault → List ℕ
-fault_text NoPrefix = codes "K1 NoPrefix"
-fault_text NotJson = codes "K2 NotJson"
-fault_text NoResponse = codes "K3 NoResponse"
-fault_text BadProtocol = codes "K4 BadProtocol"
-fault_text (BadOffer index) = codes "K5 BadOffer " ++ decimal index
+abbrev pub fault_string : ReplyFault → List ℕ
+fault_string NoPrefix = codes "K1 NoPrefix"
+fault_string NotJson = codes "K2 NotJson"
+fault_string NoResponse = codes "K3 NoResponse"
+fault_string BadProtocol = codes "K4 BadProtocol"
+fault_string (BadOffer index) = codes "K5 BadOffer " ++ decimal index

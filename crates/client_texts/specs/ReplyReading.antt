@@ -7,7 +7,7 @@ use Rattle.std.specs.Str.{bytes_eq}
 use Rattle.hex.specs.Hex.{decode_sized}
 use Rattle.serde_json.specs.Data.{Data, Items, no_items, item}
 use Rattle.serde_json.specs.Find.{get, as_number, as_u64, as_str, as_array}
-use Rattle.omaha_json.specs.Members.{text_at, object_at}
+use Rattle.omaha_json.specs.Members.{string_or_empty_at, object_at}
 use Rattle.omaha_json.specs.RequestReading.{json_of, event_count_of}
 use Rattle.omaha_json.specs.declared.reply.Reply.{Reply}
 use Rattle.omaha_json.specs.declared.reply.AppReply.{AppReply}
@@ -139,7 +139,7 @@ check_with index status update =
 
 -- the reply to an update check; one without a status is `Other`
 abbrev pub check_of : ℕ → Data → Result CheckReply ReplyFault
-check_of index update = check_with index (text_at (codes "status") update) update
+check_of index update = check_with index (string_or_empty_at (codes "status") update) update
 
 -- the reply to an update check, if there is one
 abbrev pub optional_check : ℕ → Option Data → Result (Option CheckReply) ReplyFault
@@ -149,8 +149,8 @@ optional_check index (Some update) = check_of index update >>= (λ reply. Ok (So
 -- a known app, with the reply to its update check
 abbrev pub known_with : Data → Option CheckReply → KnownApp
 known_with app reply = record {
-  cohort = text_at (codes "cohort") app;
-  name = text_at (codes "cohortname") app;
+  cohort = string_or_empty_at (codes "cohort") app;
+  name = string_or_empty_at (codes "cohortname") app;
   ping = is_some (object_at (codes "ping") app);
   events = event_count_of app;
   check = reply;
@@ -199,7 +199,7 @@ daystart_at name response =
 -- the response, if it speaks protocol 3.1
 abbrev pub spoken_response : Data → Option Data
 spoken_response response =
-    if bytes_eq (text_at (codes "protocol") response) (codes "3.1") then Some response else None
+    if bytes_eq (string_or_empty_at (codes "protocol") response) (codes "3.1") then Some response else None
 
 -- the reply of a JSON value, or its first fault after K2
 unfoldable pub reply_of : Data → Result Reply ReplyFault
@@ -223,8 +223,8 @@ after_guard text = if bytes_eq (take 4 text) guard then Some (drop 4 text) else 
 
 -- rule: Faults of a reply
 -- the reply that the bytes are, or their first fault
-unfoldable pub reply_of_text : List ℕ → Result Reply ReplyFault
-reply_of_text text = do
+unfoldable pub reply_of_bytes : List ℕ → Result Reply ReplyFault
+reply_of_bytes text = do
   json_text ← ok_or (after_guard text) NoPrefix
   json ← ok_or (json_of json_text) NotJson
   reply_of json

@@ -65,8 +65,8 @@ request_data request = object (member (codes "request") (object
 
 -- rule: Bytes of a request
 -- the bytes of a request: the value with no space in it
-abbrev pub request_text : Request → List ℕ
-request_text request = compact_text (request_data request)
+abbrev pub request_bytes : Request → List ℕ
+request_bytes request = compact_text (request_data request)
 
 -- the identifier has 1 to 256 bytes
 abbrev pub IsAppid : List ℕ → Type 0

@@ -26,9 +26,9 @@ pub enum ReplyFault {
 // rule: Printed fault of a reply
 impl fmt::Display for ReplyFault {
     ghost use Rattle.std.specs.Prelude.{Some};
-    ghost use Rattle.client_texts.specs.Faults.{fault_text};
+    ghost use Rattle.client_texts.specs.Faults.{fault_string};
 
-    ghost output = { λ fault. Some (fault_text fault) };
+    ghost output = { λ fault. Some (fault_string fault) };
 
     fn fmt<W: fmt::Write>(&self, f: &mut fmt::Formatter<W>) -> fmt::Result {
         match self {

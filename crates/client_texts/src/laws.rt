@@ -4,11 +4,11 @@
 
 ghost use Rattle.std.specs.Prelude.{◌≡◌};
 ghost use Rattle.omaha_json.specs.declared.reply.Reply.{Reply};
-ghost use Rattle.omaha_json.specs.ReplyWriting.{reply_text};
-ghost use Rattle.client_texts.specs.ReplyReading.{reply_of_text};
+ghost use Rattle.omaha_json.specs.ReplyWriting.{reply_bytes};
+ghost use Rattle.client_texts.specs.ReplyReading.{reply_of_bytes};
 ghost use Rattle.client_texts.specs.Soundness.{IsSound};
 
 /// Shows that each reply that a server writes is read back as the same record.
 pub fn replies_are_read_back()
-    ensures { (reply : Reply) → IsSound reply → reply_of_text (reply_text reply) ≡ Ok reply }
+    ensures { (reply : Reply) → IsSound reply → reply_of_bytes (reply_bytes reply) ≡ Ok reply }
 {}

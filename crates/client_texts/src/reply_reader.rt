@@ -6,10 +6,10 @@ ghost use Rattle.std.specs.Prelude.{◌≡◌, IfOk, option_map, is_some};
 ghost use Rattle.std.specs.Option.{ok_or};
 ghost use Rattle.values.specs.Reading.{Reads};
 ghost use Rattle.serde_json.specs.View.{view, items_view};
-ghost use Rattle.omaha_json.specs.Members.{text_at, object_at};
+ghost use Rattle.omaha_json.specs.Members.{string_or_empty_at, object_at};
 ghost use Rattle.omaha_json.specs.RequestReading.{json_of, event_count_of};
 ghost use Rattle.client_texts.specs.declared.fault.ReplyFault.TheVariants.{BadOffer};
-ghost use Rattle.client_texts.specs.ReplyReading.{string_at, count_at, size_at, hash_at, first_string, only_item, address_of, package_of, part_of, full_of, names_diff, diff_address, diff_of, offer_of, check_of, optional_check, known_with, known_of, state_with, app_of, apps_from, apps_of, daystart_at, reply_of, after_guard, reply_of_text};
+ghost use Rattle.client_texts.specs.ReplyReading.{string_at, count_at, size_at, hash_at, first_string, only_item, address_of, package_of, part_of, full_of, names_diff, diff_address, diff_of, offer_of, check_of, optional_check, known_with, known_of, state_with, app_of, apps_from, apps_of, daystart_at, reply_of, after_guard, reply_of_bytes};
 
 use crate::fault::ReplyFault;
 use hex::FromHex;
@@ -22,7 +22,7 @@ const SCRIPT_GUARD: &[u8; 4] = b")]}'";
 
 const MAX_SIZE: u64 = 1 << 40;
 
-fn bad_offer(index: usize) -> ReadError<ReplyFault>
+fn invalid_offer(index: usize) -> ReadError<ReplyFault>
     ensures { result ≡ ReadError.Fault (BadOffer index) }
 {
     ReadError::Fault(ReplyFault::BadOffer { index })
@@ -36,8 +36,8 @@ fn string_member<'v>(json: &'v Value, name: &str) -> Option<&'v str>
 }
 
 // Borrows a member that is a string, or the empty string.
-fn text_member<'v>(json: &'v Value, name: &str) -> &'v str
-    ensures { result.now ≡ text_at name.now (view json.now) }
+fn string_or_empty<'v>(json: &'v Value, name: &str) -> &'v str
+    ensures { result.now ≡ string_or_empty_at name.now (view json.now) }
 {
     json.get(name).and_then(Value::as_str).unwrap_or("")
 }
@@ -127,13 +127,13 @@ fn read_part(
         (part_of index codebase.now (view json.now) name.now size.now hash.now) }
 {
     let Some(name) = string_member(json, name) else {
-        return Err(bad_offer(index));
+        return Err(invalid_offer(index));
     };
     let Some(size) = read_size(json, size) else {
-        return Err(bad_offer(index));
+        return Err(invalid_offer(index));
     };
     let Some(hash) = read_hash(json, hash) else {
-        return Err(bad_offer(index));
+        return Err(invalid_offer(index));
     };
     Ok(Part {
         codebase: Text::copy_of(alloc, codebase)?,
@@ -154,7 +154,7 @@ fn read_full(
         (full_of index (view update.now) (view json.now)) }
 {
     let Some(codebase) = find_address(update, "codebase") else {
-        return Err(bad_offer(index));
+        return Err(invalid_offer(index));
     };
     read_part(alloc, index, codebase, json, "name", "size", "hash_sha256")
 }
@@ -209,16 +209,16 @@ fn read_offer(alloc: Global, index: usize, update: &Value) -> Result<Offer, Read
     ensures { Reads (λ offer. offer) result (offer_of index (view update.now)) }
 {
     let Some(manifest) = update.get("manifest") else {
-        return Err(bad_offer(index));
+        return Err(invalid_offer(index));
     };
     let Some(version) = string_member(manifest, "version") else {
-        return Err(bad_offer(index));
+        return Err(invalid_offer(index));
     };
     let Some(json) = find_package(manifest) else {
-        return Err(bad_offer(index));
+        return Err(invalid_offer(index));
     };
     let Some(fp) = string_member(json, "fp") else {
-        return Err(bad_offer(index));
+        return Err(invalid_offer(index));
     };
     let full = read_full(alloc, index, update, json)?;
     let diff = read_diff(alloc, index, update, json)?;
@@ -239,7 +239,7 @@ fn read_check(
 ) -> Result<CheckReply, ReadError<ReplyFault>>
     ensures { Reads (λ reply. reply) result (check_of index (view update.now)) }
 {
-    let status = text_member(update, "status");
+    let status = string_or_empty(update, "status");
     if status == "ok" {
         let offer = read_offer(alloc, index, update)?;
         Ok(CheckReply::Offered(offer))
@@ -280,8 +280,8 @@ fn copy_known(alloc: Global, app: &Value, check: Option<CheckReply>) -> Result<K
     ensures { IfOk result (λ known. known ≡ known_with (view app.now) check) }
 {
     Ok(KnownApp {
-        cohort: Text::copy_of(alloc, text_member(app, "cohort"))?,
-        name: Text::copy_of(alloc, text_member(app, "cohortname"))?,
+        cohort: Text::copy_of(alloc, string_or_empty(app, "cohort"))?,
+        name: Text::copy_of(alloc, string_or_empty(app, "cohortname"))?,
         ping: object_member(app, "ping").is_some(),
         events: count_events(app),
         check,
@@ -318,10 +318,10 @@ fn read_app(alloc: Global, index: usize, app: &Value) -> Result<AppReply, ReadEr
     ensures { Reads (λ reply. reply) result (app_of index (view app.now)) }
 {
     let Some(appid) = string_member(app, "appid") else {
-        return Err(bad_offer(index));
+        return Err(invalid_offer(index));
     };
     let Some(status) = string_member(app, "status") else {
-        return Err(bad_offer(index));
+        return Err(invalid_offer(index));
     };
     let state = read_state(alloc, index, status, app)?;
     let appid = Text::copy_of(alloc, appid)?;
@@ -351,7 +351,7 @@ fn read_apps(
         return Ok(Items::empty(alloc));
     };
     let Some(apps) = listed.as_array() else {
-        return Err(bad_offer(0));
+        return Err(invalid_offer(0));
     };
     let replies = read_listed(alloc, apps)?;
     Ok(Items::new(replies))
@@ -373,7 +373,7 @@ fn read_json_reply(alloc: Global, json: &Value) -> Result<Reply, ReadError<Reply
     let Some(response) = object_member(json, "response") else {
         return Err(ReadError::Fault(ReplyFault::NoResponse));
     };
-    if text_member(response, "protocol") != "3.1" {
+    if string_or_empty(response, "protocol") != "3.1" {
         return Err(ReadError::Fault(ReplyFault::BadProtocol));
     }
     let apps = read_apps(alloc, response.get("app"))?;
@@ -414,9 +414,9 @@ fn strip_guard(bytes: &[u8]) -> Option<&[u8]>
 /// so does an update check without a status. A differential is read if its three members and an
 /// address of it are all there; if they are and one is invalid, so is the offer.
 // rule: Faults of a reply
-#[tactic(auto, unfolding(crate::specs::ReplyReading::reply_of_text))]
+#[tactic(auto, unfolding(crate::specs::ReplyReading::reply_of_bytes))]
 pub fn read_reply(alloc: Global, bytes: &[u8]) -> Result<Reply, ReadError<ReplyFault>>
-    ensures { Reads (λ reply. reply) result (reply_of_text bytes.now) }
+    ensures { Reads (λ reply. reply) result (reply_of_bytes bytes.now) }
 {
     let Some(text) = strip_guard(bytes) else {
         return Err(ReadError::Fault(ReplyFault::NoPrefix));

@@ -4,14 +4,14 @@ ghost use Rattle.std.specs.Prelude.{◌≡◌, IfOk, OnOk, option_map};
 ghost use Rattle.serde_json.specs.Data.{string, put as with_member};
 ghost use Rattle.serde_json.specs.View.{view, members_view};
 ghost use Rattle.omaha_json.specs.ReplyWriting.{with_some};
-ghost use Rattle.omaha_json.specs.RequestReading.{request_of_text};
-ghost use Rattle.client_texts.specs.RequestWriting.{IsWritable, blanks, events_data, ping_data, check_data, packages_data, ask_data, asks_data, request_data, request_text};
+ghost use Rattle.omaha_json.specs.RequestReading.{request_of_bytes};
+ghost use Rattle.client_texts.specs.RequestWriting.{IsWritable, blanks, events_data, ping_data, check_data, packages_data, ask_data, asks_data, request_data, request_bytes};
 
 use omaha_json::{AppAsk, Check, Request};
 use serde_json::{Map, Value, json, put};
 use std::alloc::{AllocError, Global};
 
-fn put_text(
+fn put_string(
     members: &mut Map<String, Value>,
     alloc: Global,
     name: &str,
@@ -102,14 +102,14 @@ fn ask_value(alloc: Global, ask: &AppAsk) -> Result<Value, AllocError>
     let ping = ping_value(alloc, ask.ping)?;
     let check = optional_check(alloc, ask.check.as_ref())?;
     let mut app = Map::new(alloc);
-    put_text(&mut app, alloc, "appid", ask.appid.as_str())?;
-    put_text(&mut app, alloc, "cohort", ask.cohort.as_str())?;
-    put_text(&mut app, alloc, "cohorthint", ask.hint.as_str())?;
+    put_string(&mut app, alloc, "appid", ask.appid.as_str())?;
+    put_string(&mut app, alloc, "cohort", ask.cohort.as_str())?;
+    put_string(&mut app, alloc, "cohorthint", ask.hint.as_str())?;
     put_some(&mut app, alloc, "event", event)?;
     put(&mut app, alloc, "packages", packages)?;
     put_some(&mut app, alloc, "ping", ping)?;
     put_some(&mut app, alloc, "updatecheck", check)?;
-    put_text(&mut app, alloc, "version", ask.version.as_str())?;
+    put_string(&mut app, alloc, "version", ask.version.as_str())?;
     Ok(Value::Object(app))
 }
 
@@ -145,8 +145,8 @@ fn request_value(alloc: Global, request: &Request) -> Result<Value, AllocError>
 // rule: Bytes of a request
 pub fn write_request(alloc: Global, request: &Request) -> Result<Vec<u8>, AllocError>
     requires { IsWritable request.now }
-    ensures text { IfOk result (λ text. text.items ≡ request_text request.now) }
-    ensures reads_back { IfOk result (λ text. request_of_text text.items ≡ Ok request.now) }
+    ensures text { IfOk result (λ text. text.items ≡ request_bytes request.now) }
+    ensures reads_back { IfOk result (λ text. request_of_bytes text.items ≡ Ok request.now) }
 {
     let value = request_value(alloc, request)?;
     let text = value.to_vec(alloc)?;

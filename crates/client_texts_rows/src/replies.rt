@@ -5,7 +5,7 @@ use std::test::Fail;
 use values::ReadError;
 
 // What bytes are read as: the reply's parts, or its fault as it is printed.
-fn told(alloc: Global, body: &[u8]) -> Result<String, AllocError> {
+fn outcome_of(alloc: Global, body: &[u8]) -> Result<String, AllocError> {
     match read_reply(alloc, body) {
         Ok(reply) => shown(alloc, &reply),
         Err(ReadError::Fault(fault)) => format!(in alloc; "{fault}"),
@@ -71,7 +71,7 @@ fn first_wrong(alloc: Global, rows: &str, front: &str, back: &str) -> Result<Str
             return format!(in alloc; "no row: {row}");
         };
         let body = format!(in alloc; "{front}{middle}{back}")?;
-        let got = told(alloc, body.as_str().as_bytes())?;
+        let got = outcome_of(alloc, body.as_str().as_bytes())?;
         if got.as_str() != want {
             return format!(in alloc; "{got} in place of {row}");
         }

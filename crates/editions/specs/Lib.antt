@@ -1,3 +1,3 @@
 pub mod Editions
-pub mod FaultTexts
-pub mod Refusals
+pub mod FaultStrings
+pub mod NextErrors

@@ -1,5 +1,5 @@
 ghost use Rattle.std.specs.Prelude.{Some};
-ghost use Rattle.editions.specs.FaultTexts.{error_text};
+ghost use Rattle.editions.specs.FaultStrings.{error_string};
 
 use catalogue::{ApplyError, Refused};
 use std::alloc::{AllocError, AllocFailed};
@@ -21,7 +21,7 @@ pub enum NextError {
 
 // rule: Printed error of a batch
 impl fmt::Display for NextError {
-    ghost output = { λ e. Some (error_text e) };
+    ghost output = { λ e. Some (error_string e) };
 
     fn fmt<W: fmt::Write>(&self, f: &mut fmt::Formatter<W>) -> fmt::Result {
         match self {
@@ -36,9 +36,9 @@ impl Error for NextError {}
 
 impl From<ApplyError> for NextError {
     ghost use Rattle.std.specs.Prelude.{◌≡◌};
-    ghost use Rattle.editions.specs.Refusals.{refusal_of};
+    ghost use Rattle.editions.specs.NextErrors.{next_error_of};
 
-    ghost from_gives = { λ refused e. e ≡ refusal_of refused };
+    ghost from_gives = { λ refused e. e ≡ next_error_of refused };
 
     fn from(refused: ApplyError) -> NextError {
         match refused {

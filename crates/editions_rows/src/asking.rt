@@ -87,7 +87,7 @@ pub(crate) fn body(
 }
 
 // Whether an edition replies so to a request of session `abc` for its apps.
-fn is_answered(
+fn gets_reply(
     alloc: Global,
     edition: &Edition,
     is_granted: bool,
@@ -101,7 +101,7 @@ fn is_answered(
 }
 
 /// Tests rows of an edition: the apps of the reply, a bar, the apps of the request.
-pub(crate) fn answers(
+pub(crate) fn replies_with(
     rt: &impl Abort,
     alloc: Global,
     edition: &Edition,
@@ -110,7 +110,7 @@ pub(crate) fn answers(
 ) -> Result<(), Fail> {
     for row in rows.lines() {
         let (wanted, asked) = row.split_once(" | ").ok_or("no bar")?;
-        let is_right = is_answered(alloc, edition, is_granted, asked, wanted)?;
+        let is_right = gets_reply(alloc, edition, is_granted, asked, wanted)?;
         assert!(rt; is_right, "{row}");
     }
     Ok(())

@@ -1,4 +1,4 @@
-use crate::asking::{answers, body, reply, request};
+use crate::asking::{body, replies_with, reply, request};
 use crate::batches::small;
 use editions::Edition;
 use omaha_json::{Request, read_request};
@@ -55,7 +55,7 @@ const NO_UPDATE: &str =
 #[test]
 fn offers_nothing_without_a_chain(rt: HostRuntime) -> Result<(), Fail> {
     let alloc = rt.alloc();
-    answers(&rt, alloc, &small(alloc)?, true, NO_UPDATE)
+    replies_with(&rt, alloc, &small(alloc)?, true, NO_UPDATE)
 }
 
 const IN_ORDER: &str =
@@ -64,7 +64,7 @@ const IN_ORDER: &str =
 #[test]
 fn replies_to_apps_in_order_as_they_are_spelled(rt: HostRuntime) -> Result<(), Fail> {
     let alloc = rt.alloc();
-    answers(&rt, alloc, &small(alloc)?, true, IN_ORDER)
+    replies_with(&rt, alloc, &small(alloc)?, true, IN_ORDER)
 }
 
 const NOT_GRANTED: &str =
@@ -73,7 +73,7 @@ const NOT_GRANTED: &str =
 #[test]
 fn reports_an_update_without_a_mirror_as_internal(rt: HostRuntime) -> Result<(), Fail> {
     let alloc = rt.alloc();
-    answers(&rt, alloc, &small(alloc)?, false, NOT_GRANTED)
+    replies_with(&rt, alloc, &small(alloc)?, false, NOT_GRANTED)
 }
 
 // A choice as `full 1 for 56` or `differential 0 for 300`, or `none`.

@@ -1,6 +1,6 @@
 // Plans by least chains, of full packages and differentials.
 
-use crate::asking::{answers, request};
+use crate::asking::{replies_with, request};
 use crate::batches::{edit, stoned};
 use crate::bodies::planned;
 use editions::Edition;
@@ -97,5 +97,5 @@ const DIFFERENTIAL: &str =
 #[test]
 fn offers_a_differential_with_its_full_package(rt: HostRuntime) -> Result<(), Fail> {
     let alloc = rt.alloc();
-    answers(&rt, alloc, &stoned(alloc)?, true, DIFFERENTIAL)
+    replies_with(&rt, alloc, &stoned(alloc)?, true, DIFFERENTIAL)
 }

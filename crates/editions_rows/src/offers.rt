@@ -1,4 +1,4 @@
-use crate::asking::answers;
+use crate::asking::replies_with;
 use crate::batches::demo;
 use std::test::Fail;
 
@@ -14,7 +14,7 @@ const OFFERS: &str =
 #[test]
 fn offers_the_target_of_the_track(rt: HostRuntime) -> Result<(), Fail> {
     let alloc = rt.alloc();
-    answers(&rt, alloc, &demo(alloc)?, true, OFFERS)
+    replies_with(&rt, alloc, &demo(alloc)?, true, OFFERS)
 }
 
 const NO_TARGET: &str =
@@ -23,7 +23,7 @@ const NO_TARGET: &str =
 #[test]
 fn offers_nothing_without_a_target(rt: HostRuntime) -> Result<(), Fail> {
     let alloc = rt.alloc();
-    answers(&rt, alloc, &demo(alloc)?, true, NO_TARGET)
+    replies_with(&rt, alloc, &demo(alloc)?, true, NO_TARGET)
 }
 
 const ACKNOWLEDGED: &str =
@@ -32,5 +32,5 @@ const ACKNOWLEDGED: &str =
 #[test]
 fn names_the_bucket_of_the_session(rt: HostRuntime) -> Result<(), Fail> {
     let alloc = rt.alloc();
-    answers(&rt, alloc, &demo(alloc)?, true, ACKNOWLEDGED)
+    replies_with(&rt, alloc, &demo(alloc)?, true, ACKNOWLEDGED)
 }

@@ -1,4 +1,4 @@
-use crate::asking::answers;
+use crate::asking::replies_with;
 use crate::batches::{releases, set_target, small};
 use catalogue::Batch;
 use editions::{Edition, NextError};
@@ -42,8 +42,8 @@ fn leaves_the_edition_before_as_it_was(rt: HostRuntime) -> Result<(), Fail> {
     let second = first.next(set_target(alloc, "3.0")?)?;
     assert_eq!(rt; first.number(), 1);
     assert_eq!(rt; second.number(), 2);
-    answers(&rt, alloc, &first, true, NOTHING)?;
-    answers(&rt, alloc, &second, true, THIRD)
+    replies_with(&rt, alloc, &first, true, NOTHING)?;
+    replies_with(&rt, alloc, &second, true, THIRD)
 }
 
 #[test]

@@ -10,9 +10,9 @@ use Rattle.explanations.specs.declared.walks.TheConstants.{WALKS}
 use Rattle.explanations.specs.declared.words.TheConstants.{WORDS}
 
 -- what the first entry of a code says
-abbrev pub text_in : List (List ℕ × List ℕ) → List ℕ → Option (List ℕ)
-text_in [] code = None
-text_in (entry ∷ entries) code = if bytes_eq entry.0 code then Some entry.1 else text_in entries code
+abbrev pub string_in : List (List ℕ × List ℕ) → List ℕ → Option (List ℕ)
+string_in [] code = None
+string_in (entry ∷ entries) code = if bytes_eq entry.0 code then Some entry.1 else string_in entries code
 
 -- the entries of a table
 abbrev pub entries_of : List (Bor (List ℕ) × Bor (List ℕ)) → List (List ℕ × List ℕ)
@@ -23,9 +23,9 @@ entries_of table = map (λ entry. (entry.0.now, entry.1.now)) table
 abbrev pub explanation_of : List ℕ → Option (List ℕ)
 explanation_of code =
     option_or (option_or (option_or (option_or (option_or
-    (text_in (map (λ entry. (entry.0.now, entry.1.now)) EDITS) code)
-    (text_in (map (λ entry. (entry.0.now, entry.1.now)) PROFILES) code))
-    (text_in (map (λ entry. (entry.0.now, entry.1.now)) REQUESTS) code))
-    (text_in (map (λ entry. (entry.0.now, entry.1.now)) CERTIFICATES) code))
-    (text_in (map (λ entry. (entry.0.now, entry.1.now)) WALKS) code))
-    (text_in (map (λ entry. (entry.0.now, entry.1.now)) WORDS) code)
+    (string_in (map (λ entry. (entry.0.now, entry.1.now)) EDITS) code)
+    (string_in (map (λ entry. (entry.0.now, entry.1.now)) PROFILES) code))
+    (string_in (map (λ entry. (entry.0.now, entry.1.now)) REQUESTS) code))
+    (string_in (map (λ entry. (entry.0.now, entry.1.now)) CERTIFICATES) code))
+    (string_in (map (λ entry. (entry.0.now, entry.1.now)) WALKS) code))
+    (string_in (map (λ entry. (entry.0.now, entry.1.now)) WORDS) code)

@@ -1,7 +1,7 @@
 //! The entry of a code, and the list of all.
 
 ghost use Rattle.std.specs.Prelude.{◌≡◌, option_map};
-ghost use Rattle.explanations.specs.Explaining.{entries_of, explanation_of, text_in};
+ghost use Rattle.explanations.specs.Explaining.{entries_of, explanation_of, string_in};
 
 use crate::certificates::CERTIFICATES;
 use crate::edits::EDITS;
@@ -13,7 +13,7 @@ use std::alloc::{AllocError, Global};
 
 // What a table says of a code.
 fn find(table: &[(&'static str, &'static str)], code: &str) -> Option<&'static str>
-    ensures { option_map (λ text. text.now) result ≡ text_in (entries_of table.now) code.now }
+    ensures { option_map (λ text. text.now) result ≡ string_in (entries_of table.now) code.now }
 {
     for (name, text) in table {
         if *name == code {

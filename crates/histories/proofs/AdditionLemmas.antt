@@ -11,7 +11,7 @@ use Rattle.catalogue.proofs.Accepted.Releases.{TakesRelease}
 use Rattle.catalogue.proofs.AppLemmas.{app_of-same_id, read_app-change, read_app-kept, read_app-push, read_app-push_none, read_app-same_id, read_app-then}
 use Rattle.values.proofs.ChangedLemmas.{list_any-change}
 use Rattle.catalogue.proofs.FitLemmas.{Fits, Fits-accepted}
-use Rattle.catalogue.proofs.GoodCohortLemmas.{name-with_setting}
+use Rattle.catalogue.proofs.ValidCohortLemmas.{name-with_setting}
 use Rattle.values.proofs.InsertedLemmas.{list_any-Inserts}
 use Rattle.values.proofs.InsertionLemmas.{Inserts-insert, Inserts-push}
 use Rattle.catalogue.specs.Changes.{Change, NewApp, NewCohort, NewDiff, NewRelease, SetsCohort, SetsRelease, changed, in_cohort, in_release, new_app, new_cohort, new_diff, new_release, placed, placed_diff, with_cohort, with_diff, with_release, with_release_setting, with_setting}

@@ -10,9 +10,9 @@ use Rattle.version.specs.Laws.{LenientAgrees}
 use Rattle.version.specs.Versions.{is_below, lenient_version_of, version_of}
 use Rattle.catalogue.proofs.AcceptedLemmas.{None-from_not_some}
 use Rattle.catalogue.proofs.AppLemmas.{lowered}
-use Rattle.catalogue.proofs.GoodCohortLemmas.{GoodCohort, GoodCohort-from_test}
-use Rattle.catalogue.proofs.GoodDiffLemmas.{GoodDiff, GoodDiff-from_test}
-use Rattle.catalogue.proofs.GoodReleaseLemmas.{GoodRelease, GoodRelease-from_test}
+use Rattle.catalogue.proofs.ValidCohortLemmas.{ValidCohort, ValidCohort-from_test}
+use Rattle.catalogue.proofs.ValidDiffLemmas.{ValidDiff, ValidDiff-from_test}
+use Rattle.catalogue.proofs.ValidReleaseLemmas.{ValidRelease, ValidRelease-from_test}
 use Rattle.histories.proofs.HistoryLemmas.{Makes, Makes-append}
 use Rattle.values.proofs.InsertedLemmas.{list_all-weaker}
 use Rattle.records.proofs.KeyLemmas.{IsOrder-pairs, IsOrder-versions, VersionLaws}
@@ -29,7 +29,7 @@ use Rattle.histories.specs.Contents.{default_name, edit_of_cohort, edit_of_diff,
 use Rattle.catalogue.specs.Edits.CohortSettings.{setting_of_set_target}
 use Rattle.records.specs.Limits.{max_apps, max_cohorts, max_diffs, max_releases, max_share}
 use Rattle.records.specs.Lookups.{has_cohort, has_diff, has_hash, has_release, is_app, is_cohort, is_pair_below, is_release, packages_of, pair_of, same_pair}
-use Rattle.records.specs.Validity.{IsValid, IsValidApp, is_diff_before, is_good_audience, is_good_release, is_package, is_release_below, spells}
+use Rattle.records.specs.Validity.{IsValid, IsValidApp, is_diff_before, is_valid_audience, is_valid_release, is_package, is_release_below, spells}
 use Rattle.values.specs.Lists.{IsOnce}
 use Rattle.records.specs.declared.content.App.{App}
 use Rattle.records.specs.declared.content.Cohort.{Cohort}
@@ -54,11 +54,11 @@ has_cohort-bare name [] = refl
 has_cohort-bare name (cohort ∷ cohorts) = ap (λ b. is_cohort name cohort || b) (has_cohort-bare name cohorts)
 
 -- an audience of cohorts is one of bare cohorts
-is_good_audience-bare :
-    (cohorts : List Cohort) (names : Option (List (List ℕ))) → is_good_audience cohorts names ≡ true →
-    is_good_audience (map bare cohorts) names ≡ true
-is_good_audience-bare cohorts None known = refl
-is_good_audience-bare cohorts (Some names) known =
+is_valid_audience-bare :
+    (cohorts : List Cohort) (names : Option (List (List ℕ))) → is_valid_audience cohorts names ≡ true →
+    is_valid_audience (map bare cohorts) names ≡ true
+is_valid_audience-bare cohorts None known = refl
+is_valid_audience-bare cohorts (Some names) known =
     list_all-weaker (has_cohort cohorts) (has_cohort (map bare cohorts)) (λ name there. has_cohort-bare name cohorts ∙ there) names known
 
 length-bare : (cohorts : List Cohort) → length (map bare cohorts) ≡ length cohorts
@@ -71,32 +71,32 @@ module _ (laws : VersionLaws) (agrees : LenientAgrees) (front : List App) (app :
   abbrev stands : List Cohort → List Release → List Diff → List App
   stands cohorts releases diffs = front ++ grown app cohorts releases diffs ∷ []
 
-  good_cohort :
+  valid_cohort :
       (before : List Cohort) (cohort : Cohort) (behind : List Cohort) →
       app.cohorts ≡ before ++ cohort ∷ behind →
-      GoodCohort app.releases cohort
-  good_cohort before cohort behind cut =
-      GoodCohort-from_test app.releases cohort (list_all-at _ before cohort behind (rw cut at valid.cohorts_good))
+      ValidCohort app.releases cohort
+  valid_cohort before cohort behind cut =
+      ValidCohort-from_test app.releases cohort (list_all-at _ before cohort behind (rw cut at valid.cohorts_valid))
 
-  good_release :
+  valid_release :
       (below : List Release) (release : Release) (above : List Release) →
       app.releases ≡ below ++ release ∷ above →
-      GoodRelease app.cohorts release
-  good_release below release above cut =
-      GoodRelease-from_test app.cohorts release (list_all-at _ below release above (rw cut at valid.releases_good))
+      ValidRelease app.cohorts release
+  valid_release below release above cut =
+      ValidRelease-from_test app.cohorts release (list_all-at _ below release above (rw cut at valid.releases_valid))
 
-  good_diff :
+  valid_diff :
       (below : List Diff) (diff : Diff) (above : List Diff) →
       app.diffs ≡ below ++ diff ∷ above →
-      GoodDiff app.releases diff
-  good_diff below diff above cut =
-      GoodDiff-from_test app.releases diff (list_all-at _ below diff above (rw cut at valid.diffs_good))
+      ValidDiff app.releases diff
+  valid_diff below diff above cut =
+      ValidDiff-from_test app.releases diff (list_all-at _ below diff above (rw cut at valid.diffs_valid))
 
   -- each release's spelling spells its version
   spelled_releases : list_all (λ release. spells release.spelled release.version) app.releases ≡ true
   spelled_releases =
-      list_all-weaker (is_good_release app.cohorts) (λ release. spells release.spelled release.version)
-      (λ release is_good. (GoodRelease-from_test app.cohorts release is_good).spelled) app.releases valid.releases_good
+      list_all-weaker (is_valid_release app.cohorts) (λ release. spells release.spelled release.version)
+      (λ release is_good. (ValidRelease-from_test app.cohorts release is_good).spelled) app.releases valid.releases_valid
 
   -- no cohort before another has its name
   new_name :
@@ -114,14 +114,14 @@ module _ (laws : VersionLaws) (agrees : LenientAgrees) (front : List App) (app :
       Makes (edit.AddApp (record { app = app.id; default = default_name cohorts }) ∷ map (edit_of_cohort app) (drop 1 cohorts)) front (stands (map bare cohorts) [] [])
   makes_cohorts [] is some = absurd (omega arith)
   makes_cohorts (default ∷ others) is some = (
-    accepts_app front (record { app = app.id; default = default.name }) valid.identified (good_cohort [] default others is).named fresh room,
+    accepts_app front (record { app = app.id; default = default.name }) valid.identified (valid_cohort [] default others is).named fresh room,
     Makes-each_one (λ before behind. stands (map bare before) [] []) (edit_of_cohort app) (default ∷ others)
         (λ before cohort behind cut.
         let at = is ∙ cut in
         let few : length (before ++ cohort ∷ behind) ≤ max_cohorts = rw at at valid.few_cohorts in
         let there_before = length-before before cohort behind max_cohorts few in
         let as_many = length-bare before in (
-          accepts_cohort front app.id fresh (grown app (map bare before) [] []) refl cohort.name (good_cohort before cohort behind at).named
+          accepts_cohort front app.id fresh (grown app (map bare before) [] []) refl cohort.name (valid_cohort before cohort behind at).named
               (has_cohort-bare cohort.name before ∙ new_name before cohort behind at) (omega arith),
           change-last front app.id fresh (with_cohort (bare cohort)) (grown app (map bare before) [] []) refl
               ∙ ap (λ (cs : List Cohort). stands cs [] []) (sym (map-append bare before (cohort ∷ []))),
@@ -137,8 +137,8 @@ module _ (laws : VersionLaws) (agrees : LenientAgrees) (front : List App) (app :
     abbrev released : Release → List App
     released at = stands cohorts (below ++ at ∷ []) []
 
-    good : GoodRelease app.cohorts release
-    good = good_release below release above cut
+    good : ValidRelease app.cohorts release
+    good = valid_release below release above cut
 
     lower : list_all (λ r. is_release_below r release) below ≡ true
     lower = ascend-before is_release_below below release above (rw cut at valid.releases_ascend)
@@ -212,7 +212,7 @@ module _ (laws : VersionLaws) (agrees : LenientAgrees) (front : List App) (app :
         (released-set (release_setting.Withdrawn true) stoned refl)))
         (Makes-option release.audience (edit.SetAudience (record { app = app.id; version = release.spelled; cohorts = release.audience })) by_audience
         (λ names given. (
-          accepts_audience front app.id fresh (grown app cohorts (below ++ withdrawn ∷ []) []) refl release.spelled release.audience spelled (there withdrawn refl) (is_good_audience-bare app.cohorts release.audience good.heard),
+          accepts_audience front app.id fresh (grown app cohorts (below ++ withdrawn ∷ []) []) refl release.spelled release.audience spelled (there withdrawn refl) (is_valid_audience-bare app.cohorts release.audience good.heard),
           released-set (release_setting.Audience release.audience) withdrawn refl,
         )))
 
@@ -229,7 +229,7 @@ module _ (laws : VersionLaws) (agrees : LenientAgrees) (front : List App) (app :
   makes_diffs made =
       Makes-each_one (λ below above. stands made app.releases below) (edit_of_diff app) app.diffs
       (λ below diff above cut.
-      let good = good_diff below diff above cut in
+      let good = valid_diff below diff above cut in
       let lower = ascend-before is_diff_before below diff above (rw cut at valid.diffs_ascend) in
       let e = added_diff app.id app.releases diff in
       let partial = grown app made app.releases below in
@@ -287,8 +287,8 @@ module _ (laws : VersionLaws) (agrees : LenientAgrees) (front : List App) (app :
     makes_targets : Makes (edits_of_targets app cohort) (settled (bare cohort)) (settled targeted)
     makes_targets = cases (is_some cohort.target || is_some cohort.held) refl
       where
-        known : GoodCohort app.releases cohort
-        known = good_cohort before cohort behind cut
+        known : ValidCohort app.releases cohort
+        known = valid_cohort before cohort behind cut
 
         e : SetTarget
         e = record {
@@ -328,7 +328,7 @@ module _ (laws : VersionLaws) (agrees : LenientAgrees) (front : List App) (app :
             ap (λ (n : ℕ). settled (with_setting (setting.Share n) targeted)) (eqb-true cohort.share max_share all)
         cases false given =
             Makes-one (edit_of_share app cohort) (settled targeted) (settled shared)
-            (accepts_share front app.id fresh (with_among targeted) refl cohort.name cohort.share (cohort_there targeted refl) (good_cohort before cohort behind cut).shared)
+            (accepts_share front app.id fresh (with_among targeted) refl cohort.name cohort.share (cohort_there targeted refl) (valid_cohort before cohort behind cut).shared)
             (settled-set (with_setting (setting.Share cohort.share)) targeted refl)
 
     -- the content by the cohort's rollback flag, and by its open flag

@@ -20,7 +20,7 @@ use Rattle.catalogue.specs.Edits.Releases.{tests_of_add_release}
 use Rattle.records.specs.Forms.{hash_named, hash_of, is_app_id, is_cohort_name, is_package_name, is_size}
 use Rattle.records.specs.Limits.{max_apps, max_cohorts, max_diffs, max_releases, max_share}
 use Rattle.records.specs.Lookups.{app_of, declared_of, has_cohort, has_diff, has_hash, has_release, is_app}
-use Rattle.records.specs.Validity.{is_good_audience}
+use Rattle.records.specs.Validity.{is_valid_audience}
 use Rattle.records.specs.declared.content.App.{App}
 use Rattle.records.specs.declared.content.Declared.{Declared}
 use Rattle.catalogue.specs.declared.edit.Edit.TheVariants as edit
@@ -239,7 +239,7 @@ module _ (front : List App) (id : List ℕ) (fresh : list_any (is_app id) front 
   pub accepts_audience :
       (app : App) → app.id ≡ id → (text : List ℕ) (names : Option (List (List ℕ))) →
       is_none (version_of text) ≡ false → has_release app.releases (lenient_version_of text) ≡ true →
-      is_good_audience app.cohorts names ≡ true →
+      is_valid_audience app.cohorts names ≡ true →
       fault_of (front ++ app ∷ []) (edit.SetAudience (record { app = id; version = text; cohorts = names })) ≡ None
   accepts_audience app same text names spelled there known =
       let apps = front ++ app ∷ [] in
@@ -251,7 +251,7 @@ module _ (front : List App) (id : List ℕ) (fresh : list_any (is_app id) front 
           spelled,
           (
             release_there app same (lenient_version_of text) there,
-            (not_from_true _ (ap (λ (o : Option App). is_good_audience (option_map_or (λ a. a.cohorts) o []) names) found ∙ known), tt),
+            (not_from_true _ (ap (λ (o : Option App). is_valid_audience (option_map_or (λ a. a.cohorts) o []) names) found ∙ known), tt),
           ),
         ),
       )

@@ -6,8 +6,8 @@ use Rattle.std.proofs.lemmas.Grind.{flat_map-append}
 use Rattle.std.proofs.lemmas.List.{append-nil, map-append}
 use Rattle.version.specs.Laws.{LenientAgrees}
 use Rattle.hex.specs.Hex.{encode_lower}
-use Rattle.catalogue.proofs.GoodDiffLemmas.{GoodDiff}
-use Rattle.catalogue.proofs.GoodReleaseLemmas.{GoodRelease}
+use Rattle.catalogue.proofs.ValidDiffLemmas.{ValidDiff}
+use Rattle.catalogue.proofs.ValidReleaseLemmas.{ValidRelease}
 use Rattle.histories.proofs.LastAppLemmas.{bytes_eq-same}
 use Rattle.histories.proofs.SpellingLemmas.{hash_named-encode_lower, lenient_version_of-spells}
 use Rattle.values.proofs.SplitLemmas.{list_any-before, lookup-nowhere}
@@ -35,7 +35,7 @@ added id release =
 
 -- it adds that release at its first values
 pub new_release-added :
-    LenientAgrees → (id : List ℕ) (cohorts : List Cohort) (release : Release) → GoodRelease cohorts release →
+    LenientAgrees → (id : List ℕ) (cohorts : List Cohort) (release : Release) → ValidRelease cohorts release →
     new_release (added id release) ≡ bare_release release
 new_release-added agrees id cohorts release good =
     ap (λ (v : List ℕ). record (bare_release release) { version = v; hash = (new_release (added id release)).hash })
@@ -56,7 +56,7 @@ added_diff id releases diff =
 
 -- it adds that differential
 pub new_diff-added :
-    LenientAgrees → (id : List ℕ) (releases : List Release) (diff : Diff) → GoodDiff releases diff →
+    LenientAgrees → (id : List ℕ) (releases : List Release) (diff : Diff) → ValidDiff releases diff →
     spells (spelling_of releases diff.from) diff.from ≡ true →
     spells (spelling_of releases diff.to) diff.to ≡ true →
     new_diff (added_diff id releases diff) ≡ diff

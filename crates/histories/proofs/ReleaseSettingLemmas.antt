@@ -9,7 +9,7 @@ use Rattle.catalogue.proofs.Accepted.ReleaseSettings.{NamesRelease, TakesRelease
 use Rattle.catalogue.proofs.Accepted.Releases.{TakesRelease}
 use Rattle.catalogue.proofs.AppLemmas.{read_app-change, read_app-kept, read_app-push_none, read_app-same_id, read_app-then}
 use Rattle.catalogue.proofs.FitLemmas.{Fits, Fits-accepted}
-use Rattle.catalogue.proofs.GoodReleaseLemmas.{version-with_release_setting}
+use Rattle.catalogue.proofs.ValidReleaseLemmas.{version-with_release_setting}
 use Rattle.values.proofs.InsertionLemmas.{Inserts-insert}
 use Rattle.values.proofs.LookupLemmas.{Some-from_list_any, find-change}
 use Rattle.values.proofs.ReadLemmas.{read_found, read_found-Inserts}

@@ -8,7 +8,7 @@ use Rattle.version.specs.Versions.{lenient_version_of}
 use Rattle.catalogue.proofs.Accepted.CohortSettings.{NamesCohort, TakesSetting}
 use Rattle.catalogue.proofs.AppLemmas.{read_app-change, read_app-kept, read_app-push_none, read_app-same_id, read_app-then}
 use Rattle.catalogue.proofs.FitLemmas.{Fits-accepted}
-use Rattle.catalogue.proofs.GoodCohortLemmas.{name-with_setting}
+use Rattle.catalogue.proofs.ValidCohortLemmas.{name-with_setting}
 use Rattle.values.proofs.LookupLemmas.{Some-from_list_any, find-change}
 use Rattle.catalogue.specs.Changes.{Change, NewApp, NewCohort, NewDiff, NewRelease, SetsCohort, SetsRelease, changed, in_cohort, in_release, new_app, new_cohort, new_diff, new_release, with_cohort, with_diff, with_release, with_release_setting, with_setting}
 use Rattle.values.specs.Lists.{change}

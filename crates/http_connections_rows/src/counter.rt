@@ -2,7 +2,7 @@
 
 ghost use Rattle.std.specs.Prelude.{codes};
 
-use http_desks::{Answer, AnswerStatus, Clock, Declared, Desk, Off};
+use http_desks::{Answer, Clock, Declared, Desk, DeskStatus, Off};
 use http_packages::Packages;
 use http_wire::Failed;
 
@@ -32,7 +32,7 @@ impl<R: AllocGlobal> Desk<R> for Counter {
         self.asked = self.asked.saturating_add(1);
         match Vec::from_slice(rt.alloc(), &letter) {
             Ok(body) => Ok(Answer {
-                status: AnswerStatus::Success,
+                status: DeskStatus::Success,
                 body,
             }),
             Err(_) => Err(Off::Memory),

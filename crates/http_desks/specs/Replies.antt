@@ -11,14 +11,14 @@ use Rattle.http_wire.specs.Sending.{AppendsPart}
 use Rattle.http_wire.specs.declared.device.Failed.{Failed}
 use Rattle.http_desks.specs.declared.answering.Handled.{Handled}
 use Rattle.http_desks.specs.declared.answering.Handled.TheVariants.{Answered, Off, Cut}
-use Rattle.http_desks.specs.declared.desk.AnswerStatus.{AnswerStatus}
-use Rattle.http_desks.specs.declared.desk.AnswerStatus.TheVariants as answered
+use Rattle.http_desks.specs.declared.desk.DeskStatus.{DeskStatus}
+use Rattle.http_desks.specs.declared.desk.DeskStatus.TheVariants as answered
 use Rattle.http_desks.specs.declared.desk.Declared.{Declared}
 use Rattle.http_desks.specs.Calls.{Call, Leads}
 use Rattle.http_desks.specs.Uses.{Fetch, Mismatched, Read, Broken, IsFetch, Use, Nowhere, Misused, Asked, Unknown, Untaken, Fetched, calls_of}
 
 -- the status of the reply
-abbrev pub status_of : AnswerStatus → Status
+abbrev pub status_of : DeskStatus → Status
 status_of answered.Success = status.Success
 status_of answered.BadRequest = status.BadRequest
 status_of answered.Conflict = status.Conflict
@@ -39,7 +39,7 @@ kind_for kind [] = []
 kind_for kind (byte ∷ bytes) = kind
 
 -- the reply of a desk; the connection ends after it if the desk is off
-abbrev pub answer_reply : List ℕ → Bool → Option (AnswerStatus × List ℕ) → List ℕ
+abbrev pub answer_reply : List ℕ → Bool → Option (DeskStatus × List ℕ) → List ℕ
 answer_reply kind closes None = empty_reply status.InternalServerError None true
 answer_reply kind closes (Some answer) =
     head_lines (status_of answer.0) (kind_for kind answer.1) None (length answer.1) closes ++ answer.1

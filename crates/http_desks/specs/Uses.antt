@@ -2,7 +2,7 @@
 use Rattle.std.specs.Prelude.{◌≡◌, ◌≢◌, ◌≤◌, ℕ, List, [], ◌∷◌, length, Option, None, Some, if◌then◌else◌, bytes_eq, codes}
 use Rattle.http_heads.specs.Targets.{package_in, path_in}
 use Rattle.http_packages.specs.Downloads.{IsRead, Reads, ReadsFrom, full_blocks}
-use Rattle.http_desks.specs.declared.desk.AnswerStatus.{AnswerStatus}
+use Rattle.http_desks.specs.declared.desk.DeskStatus.{DeskStatus}
 use Rattle.http_desks.specs.declared.desk.Declared.{Declared}
 use Rattle.http_desks.specs.declared.method.Method.{Method}
 use Rattle.http_desks.specs.declared.method.Method.TheVariants.{Get, Post, Other}
@@ -40,7 +40,7 @@ pub data Fetch : Type 0 where
 pub data Use : Type 0 where
   Nowhere : Use
   Misused : Use
-  Asked : ℕ → Option (AnswerStatus × List ℕ) → Use
+  Asked : ℕ → Option (DeskStatus × List ℕ) → Use
   Unknown : List ℕ → Use
   Untaken : List ℕ → Declared → Use
   Fetched : List ℕ → Declared → Fetch → Use
@@ -85,11 +85,11 @@ IsAsked tells (Untaken name declared) = ⊥
 IsAsked tells (Fetched name declared fetch) = ⊥
 
 -- the desk was asked for the package of this name
-abbrev pub IsTaken : (Option ℕ → Type 0) → Reads → Method → List ℕ → Use → Type 0
-IsTaken sizes reads method path (Unknown name) = name ≡ path
-IsTaken sizes reads method path (Untaken name declared) = (name ≡ path) × (method ≢ Get)
-IsTaken sizes reads method path (Fetched name declared fetch) =
+abbrev pub IsRouted : (Option ℕ → Type 0) → Reads → Method → List ℕ → Use → Type 0
+IsRouted sizes reads method path (Unknown name) = name ≡ path
+IsRouted sizes reads method path (Untaken name declared) = (name ≡ path) × (method ≢ Get)
+IsRouted sizes reads method path (Fetched name declared fetch) =
     (name ≡ path) × (method ≡ Get) × IsFetch sizes reads declared.size fetch
-IsTaken sizes reads method path Nowhere = ⊥
-IsTaken sizes reads method path Misused = ⊥
-IsTaken sizes reads method path (Asked moment answer) = ⊥
+IsRouted sizes reads method path Nowhere = ⊥
+IsRouted sizes reads method path Misused = ⊥
+IsRouted sizes reads method path (Asked moment answer) = ⊥

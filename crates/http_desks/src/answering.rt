@@ -1,13 +1,13 @@
 ghost use Rattle.std.specs.Prelude.{◌≡◌, ◌+◌, ℕ, length, Some, is_ok, if◌then◌else◌};
 ghost use Rattle.http_desks.specs.declared.answering.Handled.TheVariants.{Answered};
 ghost use Rattle.http_desks.specs.Replies.{Answers, Writes, empty_reply, kind_for};
-ghost use Rattle.http_desks.specs.Uses.{IsAsked, IsTaken, IsUse};
+ghost use Rattle.http_desks.specs.Uses.{IsAsked, IsRouted, IsUse};
 
 use crate::clock::Clock;
 use crate::desk::Desk;
+use crate::empty::send_empty;
 use crate::fetching::fetch;
 use crate::method::Method;
-use crate::refusing::refuse;
 use http_heads::{Allow, ReplyHead, Status, package_name, path_of};
 use http_packages::Packages;
 use http_wire::{Failed, Sink, send_reply};
@@ -75,7 +75,7 @@ fn ask<R, W: Sink, D: Desk<R>, C: Clock>(
                 Err(error) => Err(error),
             }
         }
-        Err(_) => match refuse(sink, block, Status::InternalServerError, None, true) {
+        Err(_) => match send_empty(sink, block, Status::InternalServerError, None, true) {
             Ok(()) => Ok(Handled::Off),
             Err(error) => Err(error),
         },
@@ -92,7 +92,7 @@ fn take<R, W: Sink, D: Desk<R>, P: Packages>(
     request: &Request<'_>,
 ) -> Result<Handled, Failed>
     requires { length block.old ≡ 65536 }
-    ensures taken { Answers (IsTaken (P.sizes packages.now name.now) (P.reads packages.now name.now) request.now.method name.now)
+    ensures taken { Answers (IsRouted (P.sizes packages.now name.now) (P.reads packages.now name.now) request.now.method name.now)
         D.steps (D.content_type desk.old) request.now.body.now request.now.closes
         desk.old desk.new (W.contents sink.old) (W.contents sink.new) result }
     ensures path { D.path desk.new ≡ D.path desk.old }
@@ -125,7 +125,7 @@ fn deny<W: Sink>(
     ensures sends { Writes (empty_reply status allow closes) (Some Answered) (W.contents sink.old) (W.contents sink.new) result }
     ensures failed { W.failures sink.new ≡ W.failures sink.old + (if is_ok result then 0 else 1) }
 {
-    match refuse(sink, block, status, allow, closes) {
+    match send_empty(sink, block, status, allow, closes) {
         Ok(()) => Ok(Handled::Answered),
         Err(error) => Err(error),
     }

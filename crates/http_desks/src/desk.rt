@@ -6,7 +6,7 @@ use http_heads::Status;
 
 /// The status that a desk gives its reply.
 #[derive(Clone, Copy, Debug, Drop, PartialEq, Eq)]
-pub enum AnswerStatus {
+pub enum DeskStatus {
     /// 200: what was asked for.
     Success,
     /// 400: the body is malformed.
@@ -17,16 +17,16 @@ pub enum AnswerStatus {
     UnprocessableContent,
 }
 
-impl AnswerStatus {
+impl DeskStatus {
     /// Returns the status of the reply.
     pub fn status(self) -> Status
         ensures { result ≡ status_of self }
     {
         match self {
-            AnswerStatus::Success => Status::Success,
-            AnswerStatus::BadRequest => Status::BadRequest,
-            AnswerStatus::Conflict => Status::Conflict,
-            AnswerStatus::UnprocessableContent => Status::UnprocessableContent,
+            DeskStatus::Success => Status::Success,
+            DeskStatus::BadRequest => Status::BadRequest,
+            DeskStatus::Conflict => Status::Conflict,
+            DeskStatus::UnprocessableContent => Status::UnprocessableContent,
         }
     }
 }
@@ -35,7 +35,7 @@ impl AnswerStatus {
 #[derive(Drop)]
 pub struct Answer {
     /// How the desk took the message.
-    pub status: AnswerStatus,
+    pub status: DeskStatus,
     /// The body of the reply, which may be empty.
     pub body: Vec<u8>,
 }

@@ -12,12 +12,12 @@
 mod answering;
 mod clock;
 mod desk;
+mod empty;
 mod fetching;
 mod method;
-mod refusing;
 
 pub use crate::answering::{Handled, Request, answer};
 pub use crate::clock::Clock;
-pub use crate::desk::{Answer, AnswerStatus, Declared, Desk, Off};
+pub use crate::desk::{Answer, Declared, Desk, DeskStatus, Off};
+pub use crate::empty::send_empty;
 pub use crate::method::Method;
-pub use crate::refusing::refuse;

@@ -5,7 +5,7 @@ use Rattle.std.proofs.lemmas.List.{take_more, map-append, append-nil}
 use Rattle.std.proofs.lemmas.Grind.{flat_map-append}
 use Rattle.std.proofs.lemmas.List.Folds.{list_any-append}
 use Rattle.http_heads.specs.Framing.{length_by}
-use Rattle.http_heads.specs.Lengths.{StandsFor, length_for}
+use Rattle.http_heads.specs.Lengths.{IsLengthOf, length_for}
 use Rattle.http_heads.specs.declared.body_length.Length.{Length}
 use Rattle.http_heads.specs.declared.body_length.Length.TheVariants as lengths
 use Rattle.http_heads.specs.Fields.{Pair, is_named, values_named}
@@ -73,7 +73,7 @@ values_named-same name f xs at d inside other =
 -- what is kept gives the length, or the status of an error
 pub length_by-kept :
     (kept : Length) (method : List ℕ) (values : List (List ℕ)) →
-    StandsFor kept values →
+    IsLengthOf kept values →
     length_by method values ≡ length_for method kept
 length_by-kept lengths.Missing method values none = ap (length_by method) none
 length_by-kept (lengths.Known size) method values (value, alone, known) = ap (length_by method) alone ∙ known

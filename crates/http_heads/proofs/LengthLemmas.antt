@@ -5,25 +5,25 @@ use Rattle.std.specs.Char.{digit_value}
 use Rattle.std.specs.Str.Parse.{digits_value}
 use Rattle.std.proofs.lemmas.Int.Digits.{digits_value_more}
 use Rattle.http_heads.specs.Framing.{length_by, length_in}
-use Rattle.http_heads.specs.Lengths.{StandsFor}
+use Rattle.http_heads.specs.Lengths.{IsLengthOf}
 use Rattle.http_heads.specs.declared.status.Status.{Status}
 use Rattle.http_heads.specs.declared.status.Status.TheVariants as status
 use Rattle.http_heads.specs.declared.body_length.Length.{Length}
 use Rattle.http_heads.specs.declared.body_length.Length.TheVariants as lengths
 
-pub StandsFor-known :
+pub IsLengthOf-known :
     (values : List (List ℕ)) (value : List ℕ) (size : ℕ) →
     values ≡ [] →
     length_in value ≡ Ok size →
-    StandsFor (lengths.Known size) (values ++ value ∷ [])
-StandsFor-known values value size none known = (value, ap (λ (before : List (List ℕ)). before ++ value ∷ []) none, known)
+    IsLengthOf (lengths.Known size) (values ++ value ∷ [])
+IsLengthOf-known values value size none known = (value, ap (λ (before : List (List ℕ)). before ++ value ∷ []) none, known)
 
-pub StandsFor-refused :
+pub IsLengthOf-refused :
     (values : List (List ℕ)) (value : List ℕ) (why : Status) →
     values ≡ [] →
     length_in value ≡ Err why →
-    StandsFor (lengths.Refused why) (values ++ value ∷ [])
-StandsFor-refused values value why none refused =
+    IsLengthOf (lengths.Refused why) (values ++ value ∷ [])
+IsLengthOf-refused values value why none refused =
     let alone = ap (λ (before : List (List ℕ)). before ++ value ∷ []) none in
     (value, [], alone, λ method. ap (length_by method) alone ∙ refused)
 
@@ -36,20 +36,20 @@ two_refused method first (second ∷ more) last = refl
 one_more_refused :
     (values : List (List ℕ)) (first : List ℕ) (more : List (List ℕ)) (value : List ℕ) →
     values ≡ first ∷ more →
-    StandsFor (lengths.Refused status.BadRequest) (values ++ value ∷ [])
+    IsLengthOf (lengths.Refused status.BadRequest) (values ++ value ∷ [])
 one_more_refused values first more value some =
     let longer = ap (λ (before : List (List ℕ)). before ++ value ∷ []) some in
     (first, more ++ value ∷ [], longer, λ method. ap (length_by method) longer ∙ two_refused method first more value)
 
-pub StandsFor-twice :
+pub IsLengthOf-twice :
     (kept : Length) (values : List (List ℕ)) (value : List ℕ) →
     (kept ≡ lengths.Missing → ⊥) →
-    StandsFor kept values →
-    StandsFor (lengths.Refused status.BadRequest) (values ++ value ∷ [])
-StandsFor-twice lengths.Missing values value some stands = absurd (some refl)
-StandsFor-twice (lengths.Known size) values value some (first, alone, known) =
+    IsLengthOf kept values →
+    IsLengthOf (lengths.Refused status.BadRequest) (values ++ value ∷ [])
+IsLengthOf-twice lengths.Missing values value some stands = absurd (some refl)
+IsLengthOf-twice (lengths.Known size) values value some (first, alone, known) =
     one_more_refused values first [] value alone
-StandsFor-twice (lengths.Refused why) values value some (first, more, several, refused) =
+IsLengthOf-twice (lengths.Refused why) values value some (first, more, several, refused) =
     one_more_refused values first more value several
 
 -- a number that stops growing past a maximum, one digit on

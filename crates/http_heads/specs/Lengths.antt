@@ -6,11 +6,11 @@ use Rattle.http_heads.specs.declared.body_length.Length.{Length}
 use Rattle.http_heads.specs.declared.body_length.Length.TheVariants as lengths
 
 -- it counts as the values: none; one, which is this number; or some, which this status rejects
-abbrev pub StandsFor : Length → List (List ℕ) → Type 0
-StandsFor lengths.Missing values = values ≡ []
-StandsFor (lengths.Known size) values =
+abbrev pub IsLengthOf : Length → List (List ℕ) → Type 0
+IsLengthOf lengths.Missing values = values ≡ []
+IsLengthOf (lengths.Known size) values =
     (value : List ℕ) × (values ≡ value ∷ []) × (length_in value ≡ Ok size)
-StandsFor (lengths.Refused status) values =
+IsLengthOf (lengths.Refused status) values =
     (value : List ℕ) × (more : List (List ℕ)) × (values ≡ value ∷ more)
     × ((method : List ℕ) → length_by method values ≡ Err status)
 

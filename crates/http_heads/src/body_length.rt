@@ -1,7 +1,7 @@
 ghost use Rattle.std.specs.Prelude.{◌≡◌, ℕ, ◌∷◌, ◌++◌, [], List, length, map, All};
 ghost use Rattle.httparse.specs.Spans.{IsHeaderWithin, header_bytes};
 ghost use Rattle.http_heads.specs.Framing.{framing_of, length_in};
-ghost use Rattle.http_heads.specs.Lengths.{StandsFor, length_for};
+ghost use Rattle.http_heads.specs.Lengths.{IsLengthOf, length_for};
 
 use crate::field::is_named;
 use crate::status::Status;
@@ -21,7 +21,7 @@ enum Length {
 impl Length {
     // One more field has this value.
     fn then(self, value: &[u8]) -> Length
-        ensures { (before : List (List ℕ)) → StandsFor self before → StandsFor result (before ++ value.now ∷ []) }
+        ensures { (before : List (List ℕ)) → IsLengthOf self before → IsLengthOf result (before ++ value.now ∷ []) }
     {
         match self {
             Length::Missing => match read_length(value) {

@@ -18,6 +18,6 @@ mod target;
 
 pub use crate::body_length::{MAX_BODY, framing};
 pub use crate::closing::wants_close;
-pub use crate::reply::{Allow, ReplyHead, allow_text, last_text};
+pub use crate::reply::{Allow, ReplyHead, allow_field, last_field};
 pub use crate::status::Status;
 pub use crate::target::{package_name, path_of};

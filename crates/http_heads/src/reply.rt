@@ -29,7 +29,7 @@ pub struct ReplyHead<'a> {
 
 /// Returns the field that names the method which a path takes, or nothing.
 #[tactic(auto, unfolding(crate::specs::Replies::allow_line))]
-pub fn allow_text(allow: Option<Allow>) -> &'static str
+pub fn allow_field(allow: Option<Allow>) -> &'static str
     ensures { result.now ≡ allow_line allow }
 {
     match allow {
@@ -41,7 +41,7 @@ pub fn allow_text(allow: Option<Allow>) -> &'static str
 
 /// Returns the end of a reply's head: the empty line, after `Connection: close` if it closes.
 #[tactic(auto, unfolding(crate::specs::Replies::last_lines))]
-pub fn last_text(closes: bool) -> &'static str
+pub fn last_field(closes: bool) -> &'static str
     ensures { result.now ≡ last_lines closes }
 {
     if closes {

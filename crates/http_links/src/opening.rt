@@ -1,12 +1,12 @@
 ghost use Rattle.std.specs.Prelude.{◌≡◌, ◌+◌};
-ghost use Rattle.http_replies.specs.Requests.{get_text};
+ghost use Rattle.http_replies.specs.Requests.{get_request};
 ghost use Rattle.http_links.specs.Bodies.{BodyOpened};
 ghost use Rattle.http_links.specs.Replies.{RequestWritten, failed_reads, failed_writes};
 
 use crate::body::Body;
 use crate::fault::LinkFault;
 use crate::reading::{BLOCK, read_head};
-use http_replies::{Address, get_text};
+use http_replies::{Address, get_request};
 use http_wire::{Sink, Source, send};
 use std::alloc::Global;
 
@@ -41,11 +41,11 @@ pub fn open_over<S: Source, W: Sink>(
     address: &Address<'_>,
 ) -> Result<Body, LinkFault>
     ensures opened { failed_writes result ≡ 0 → BodyOpened (S.remaining source.old) (S.remaining source.new) result }
-    ensures written { RequestWritten (W.contents sink.old) (W.contents sink.new) (get_text address.now) result }
+    ensures written { RequestWritten (W.contents sink.old) (W.contents sink.new) (get_request address.now) result }
     ensures reads { S.failures source.new ≡ S.failures source.old + failed_reads result }
     ensures writes { W.failures sink.new ≡ W.failures sink.old + failed_writes result }
 {
-    let Ok(text) = get_text(alloc, address) else {
+    let Ok(text) = get_request(alloc, address) else {
         return Err(LinkFault::Memory);
     };
     match send(sink, &text) {

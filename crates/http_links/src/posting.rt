@@ -1,11 +1,11 @@
 ghost use Rattle.std.specs.Prelude.{◌≡◌, ◌+◌, ◌≤◌, ◌<◌, length, vec_len};
 ghost use Rattle.std.specs.Result.{result_map_both};
-ghost use Rattle.http_replies.specs.Requests.{post_text};
+ghost use Rattle.http_replies.specs.Requests.{post_request};
 ghost use Rattle.http_links.specs.Replies.{ReplyRead, RequestWritten, RestRead, failed_reads, failed_writes};
 
 use crate::fault::LinkFault;
 use crate::reading::{BLOCK, read_head, read_more};
-use http_replies::post_text;
+use http_replies::post_request;
 use http_wire::{Sink, Source, send};
 use std::alloc::Global;
 
@@ -78,11 +78,11 @@ pub fn post_over<S: Source, W: Sink>(
 ) -> Result<Vec<u8>, LinkFault>
     ensures read { failed_writes result ≡ 0 → ReplyRead (S.remaining source.old) (S.remaining source.new)
         (result_map_both (λ body. body.items) (λ fault. fault) result) }
-    ensures written { RequestWritten (W.contents sink.old) (W.contents sink.new) (post_text host.now path.now body.now) result }
+    ensures written { RequestWritten (W.contents sink.old) (W.contents sink.new) (post_request host.now path.now body.now) result }
     ensures reads { S.failures source.new ≡ S.failures source.old + failed_reads result }
     ensures writes { W.failures sink.new ≡ W.failures sink.old + failed_writes result }
 {
-    let Ok(text) = post_text(alloc, host, path, body) else {
+    let Ok(text) = post_request(alloc, host, path, body) else {
         return Err(LinkFault::Memory);
     };
     match send(sink, &text) {

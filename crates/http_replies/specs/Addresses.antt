@@ -118,12 +118,12 @@ parts_after None = None
 parts_after (Some (gap, rest)) = if length gap == 0 then parts_by (split_at 47 rest) else None
 
 -- the parts, by what is before and after the first slash
-abbrev pub parts_behind : Option (List ℕ × List ℕ) → Option Parts
-parts_behind None = None
-parts_behind (Some (scheme, rest)) =
+abbrev pub parts_after_scheme : Option (List ℕ × List ℕ) → Option Parts
+parts_after_scheme None = None
+parts_after_scheme (Some (scheme, rest)) =
     if bytes_eq scheme (codes "http:") then parts_after (split_at 47 rest) else None
 
 -- rule: Parts of an address
 -- the parts of `http://AUTHORITY/PATH`; another string has none
 unfoldable pub address_in : List ℕ → Option Parts
-address_in text = parts_behind (split_at 47 text)
+address_in text = parts_after_scheme (split_at 47 text)

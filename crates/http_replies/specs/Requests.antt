@@ -15,10 +15,10 @@ post_lines host path size =
     ++ codes "\r\nConnection: close\r\n\r\n")))))
 
 -- GET of the address's path, to the host that the address writes; it has no body
-abbrev pub get_text : Address → List ℕ
-get_text address = get_lines address.authority.now address.path.now
+abbrev pub get_request : Address → List ℕ
+get_request address = get_lines address.authority.now address.path.now
 
 -- rule: Request of a post
 -- POST to the path, and the body
-abbrev pub post_text : List ℕ → List ℕ → List ℕ → List ℕ
-post_text host path body = post_lines host path (length body) ++ body
+abbrev pub post_request : List ℕ → List ℕ → List ℕ → List ℕ
+post_request host path body = post_lines host path (length body) ++ body

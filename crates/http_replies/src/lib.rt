@@ -1,7 +1,7 @@
 //! The head of a reply as a client reads it, the requests that a client sends, and where it sends them.
 //!
-//! `read_start` finds the head of a reply at the front of bytes, and how long its body is. `post_text` and
-//! `get_text` write requests, and `parse_address` reads the address of a download. Read
+//! `read_start` finds the head of a reply at the front of bytes, and how long its body is. `post_request` and
+//! `get_request` write requests, and `parse_address` reads the address of a download. Read
 //! `specs/Lengths.antt`, `specs/Starts.antt`, `specs/Requests.antt` and `specs/Addresses.antt`.
 //!
 //! It does not read or write: its caller carries the bytes.
@@ -17,5 +17,5 @@ mod start;
 pub use crate::address::{Address, parse_address};
 pub use crate::fault::ReplyFault;
 pub use crate::length::body_length;
-pub use crate::request::{get_text, post_text};
+pub use crate::request::{get_request, post_request};
 pub use crate::start::{MAX_FIELDS, MAX_HEAD, Start, read_start};

@@ -1,5 +1,5 @@
 ghost use Rattle.std.specs.Prelude.{◌≡◌, IfOk, string_bytes};
-ghost use Rattle.http_replies.specs.Requests.{get_lines, get_text, post_lines, post_text};
+ghost use Rattle.http_replies.specs.Requests.{get_lines, get_request, post_lines, post_request};
 
 use crate::address::Address;
 use std::alloc::{AllocError, Global};
@@ -23,8 +23,8 @@ fn post_head(alloc: Global, host: &str, path: &str, size: usize) -> Result<Strin
 }
 
 /// Returns the request of a download.
-pub fn get_text(alloc: Global, address: &Address<'_>) -> Result<Vec<u8>, AllocError>
-    ensures { IfOk result (λ text. text.items ≡ get_text address.now) }
+pub fn get_request(alloc: Global, address: &Address<'_>) -> Result<Vec<u8>, AllocError>
+    ensures { IfOk result (λ text. text.items ≡ get_request address.now) }
 {
     let text = get_head(alloc, address.authority, address.path)?;
     Ok(text.into_bytes())
@@ -34,8 +34,13 @@ pub fn get_text(alloc: Global, address: &Address<'_>) -> Result<Vec<u8>, AllocEr
 /// Returns the request that posts a body of JSON to a path of a host, the body included.
 ///
 /// `host` may end in a port. Neither string is checked.
-pub fn post_text(alloc: Global, host: &str, path: &str, body: &[u8]) -> Result<Vec<u8>, AllocError>
-    ensures { IfOk result (λ text. text.items ≡ post_text host.now path.now body.now) }
+pub fn post_request(
+    alloc: Global,
+    host: &str,
+    path: &str,
+    body: &[u8],
+) -> Result<Vec<u8>, AllocError>
+    ensures { IfOk result (λ text. text.items ≡ post_request host.now path.now body.now) }
 {
     let mut text = post_head(alloc, host, path, body.len())?.into_bytes();
     text.extend_from_slice(body)?;

@@ -3,7 +3,7 @@
 ghost use Rattle.std.specs.Prelude.{codes};
 ghost use Rattle.http_desks.specs.Calls.{Call};
 
-use http_desks::{Answer, AnswerStatus, Clock, Declared, Desk, Off};
+use http_desks::{Answer, Clock, Declared, Desk, DeskStatus, Off};
 use http_packages::Packages;
 use http_wire::Failed;
 
@@ -37,16 +37,13 @@ impl<R: AllocGlobal> Desk<R> for Echo {
 
     fn answer(&mut self, rt: &R, body: &[u8], _moment: u64) -> Result<Answer, Off> {
         let (status, text) = match body {
-            b"{" => (AnswerStatus::BadRequest, b"".as_slice()),
-            b"base" => (AnswerStatus::Conflict, b"stale 2\n".as_slice()),
-            b"fault" => (
-                AnswerStatus::UnprocessableContent,
-                b"refused 0\n".as_slice(),
-            ),
+            b"{" => (DeskStatus::BadRequest, b"".as_slice()),
+            b"base" => (DeskStatus::Conflict, b"stale 2\n".as_slice()),
+            b"fault" => (DeskStatus::UnprocessableContent, b"refused 0\n".as_slice()),
             b"memory" => return Err(Off::Memory),
             b"closed" => return Err(Off::Closed),
-            b"{\"request\":{\"protocol\":\"3.1\"}}" => (AnswerStatus::Success, EMPTY_REPLY),
-            other => (AnswerStatus::Success, other),
+            b"{\"request\":{\"protocol\":\"3.1\"}}" => (DeskStatus::Success, EMPTY_REPLY),
+            other => (DeskStatus::Success, other),
         };
         match Vec::from_slice(rt.alloc(), text) {
             Ok(body) => Ok(Answer { status, body }),

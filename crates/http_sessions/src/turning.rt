@@ -6,7 +6,7 @@ use crate::buffers::Buffers;
 use crate::ends::{End, Fault, Served};
 use crate::message::{Message, Plan, read_message};
 use crate::session::{MAX_MESSAGES, Session, Turn};
-use http_desks::{Clock, Desk, Handled, Request, answer, refuse};
+use http_desks::{Clock, Desk, Handled, Request, answer, send_empty};
 use http_heads::Status;
 use http_packages::Packages;
 use http_wire::{Sink, Source, Window};
@@ -52,7 +52,7 @@ impl Session {
         ensures rejects { Rejects (replies self) status (W.contents sink.old) (W.contents sink.new) result }
         ensures writes { W.failures sink.new ≡ W.failures sink.old + failed_writes result }
     {
-        match refuse(sink, block, status, None, true) {
+        match send_empty(sink, block, status, None, true) {
             Ok(()) => Ok(Turn::Ended(Served {
                 requests: self.begun + 1,
                 end: End::Refused,

@@ -4,7 +4,7 @@ ghost use Rattle.http_wire.specs.Sending.{Sends, joined};
 
 use crate::device::{Failed, Sink};
 use crate::sending::{join, send, send_all};
-use http_heads::{ReplyHead, allow_text, last_text};
+use http_heads::{ReplyHead, allow_field, last_field};
 use itoa::Buffer;
 
 // Writes the strings in one write, if they fit the block.
@@ -48,7 +48,7 @@ fn send_parts<'a, W: Sink>(
 
 // The parts of the field that names a type, if there is one.
 #[tactic(auto, unfolding(http_heads::specs::Replies::type_line))]
-fn type_texts<'a>(kind: &'a str) -> (&'a str, &'a str, &'a str)
+fn type_fields<'a>(kind: &'a str) -> (&'a str, &'a str, &'a str)
     ensures { result.0.now ++ (result.1.now ++ result.2.now) ≡ type_line kind.now }
 {
     if kind.is_empty() {
@@ -73,15 +73,15 @@ pub fn send_reply<W: Sink>(
 {
     let mut digits = Buffer::new();
     let size = digits.format(head.size).as_bytes();
-    let kind = type_texts(head.kind);
+    let kind = type_fields(head.kind);
     send_parts(
         sink,
         block,
         head.status.line().as_bytes(),
         (kind.0.as_bytes(), kind.1.as_bytes(), kind.2.as_bytes()),
-        allow_text(head.allow).as_bytes(),
+        allow_field(head.allow).as_bytes(),
         size,
-        last_text(head.closes).as_bytes(),
+        last_field(head.closes).as_bytes(),
         body,
     )
 }

@@ -13,7 +13,7 @@ use std::test::Fail;
 use values::Text;
 
 // The index of the mirror that grants each number of bytes, `-` for none.
-fn push_answers<A: BudgetName, B: BudgetName, C: BudgetName, D: BudgetName, R: Wait>(
+fn push_grants<A: BudgetName, B: BudgetName, C: BudgetName, D: BudgetName, R: Wait>(
     rt: &R,
     alloc: Global,
     line: &mut String,
@@ -63,7 +63,7 @@ fn opened<A: BudgetName, B: BudgetName, C: BudgetName, D: BudgetName, R: Wait>(
     let (books, shares) = open_books::<A, B, C, D, R>(rt, alloc, blanks, mirrors, 1)?;
     let mut shares = shares;
     let mut line = String::new(alloc);
-    push_answers(rt, alloc, &mut line, &books, &mut shares[0], asks.as_str())?;
+    push_grants(rt, alloc, &mut line, &books, &mut shares[0], asks.as_str())?;
     line.push_str(",")?;
     push_fifty(rt, alloc, &mut line, &books, &mut shares[0])?;
     line.push_str(",")?;

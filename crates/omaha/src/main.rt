@@ -4,7 +4,7 @@
 
 #![tactic(auto)]
 
-use omaha_cli::{refuse, run};
+use omaha_cli::{report_unreadable, run};
 use std::process::ExitCode;
 use std::rt::Env;
 use std::{env, io};
@@ -21,6 +21,6 @@ fn main(rt: HostRuntime) -> ExitCode {
     let mut errors = rt.stderr();
     ExitCode::from(match arguments(&rt) {
         Ok(arguments) => run(&rt, &arguments, &mut input, &mut output, &mut errors),
-        Err(error) => refuse(&error, &mut errors),
+        Err(error) => report_unreadable(&error, &mut errors),
     })
 }

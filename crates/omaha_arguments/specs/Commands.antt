@@ -6,7 +6,7 @@ use Rattle.clap.specs.Kinds.{or_else}
 use Rattle.clap.specs.Simple.{on_top}
 use Rattle.clap.specs.Words.{App, Kinds, Row, Text, fault_of, first_of, new_app, subcommand_of, with_rule, with_subcommand}
 use Rattle.clap.specs.declared.error.kind.ErrorKind.TheVariants.{ValueValidation}
-use Rattle.omaha_arguments.specs.Options.{number_in, option_named, texts_in}
+use Rattle.omaha_arguments.specs.Options.{number_in, option_named, strings_in}
 use Rattle.omaha_arguments.specs.ReportArguments.{certify_app, check_app, comparison_in, describe_app, explain_app, faults_of_report, report_in, verify_app}
 use Rattle.omaha_arguments.specs.ServeArguments.{faults_of_serve, serve_app, serve_in}
 use Rattle.omaha_arguments.specs.WalkArguments.{faults_of_walk, walk_app, walk_in}
@@ -40,20 +40,20 @@ omaha_app =
     walk_app.top
 
 -- the number of `--moment`, or 0 without the option; none if it is no number
-abbrev pub moment_in : List Row → Option ℕ
-moment_in options = number_in (codes "moment") 0 options
+abbrev pub timestamp_in : List Row → Option ℕ
+timestamp_in options = number_in (codes "moment") 0 options
 
 -- what the options of `once` ask for
 abbrev pub once_in : List Row → Once
 once_in options =
     record {
       profile = first_of (codes "profile") options;
-      moment = unwrap_or (moment_in options) 0;
+      moment = unwrap_or (timestamp_in options) 0;
     }
 
 -- what is wrong with the options of `once`
 abbrev pub faults_of_once : List Row → Kinds
-faults_of_once options = option_map_or (λ moment. []) (moment_in options) (ValueValidation ∷ [])
+faults_of_once options = option_map_or (λ moment. []) (timestamp_in options) (ValueValidation ∷ [])
 
 -- without a command: the built-in catalogue, at the time 0
 abbrev pub plain_once : Once
@@ -72,7 +72,7 @@ command_in name options =
     else (if bytes_eq name (codes "serve") then command.Serve (serve_in options)
     else (if bytes_eq name (codes "explain") then command.Explain (first_of (codes "CODE") options)
     else (if bytes_eq name (codes "walk") then command.Walk (walk_in options)
-    else (if bytes_eq name (codes "describe") then command.Describe (texts_in (codes "FILE") options)
+    else (if bytes_eq name (codes "describe") then command.Describe (strings_in (codes "FILE") options)
     else (if bytes_eq name (codes "check") then check_in options
     else command.Report (report_in name options))))))
 

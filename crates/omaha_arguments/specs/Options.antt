@@ -31,12 +31,12 @@ abbrev pub flag_in : List ℕ → List Row → Bool
 flag_in name options = nat_lt 0 (count_of name options)
 
 -- the values of an argument, in their order
-abbrev pub texts_in : List ℕ → List Row → List (List ℕ)
-texts_in name options = unwrap_or (all_of name options) []
+abbrev pub strings_in : List ℕ → List Row → List (List ℕ)
+strings_in name options = unwrap_or (all_of name options) []
 
 -- the value of an argument, or nothing
-abbrev pub text_in : List ℕ → List Row → List ℕ
-text_in name options = unwrap_or (first_of name options) []
+abbrev pub string_in : List ℕ → List Row → List ℕ
+string_in name options = unwrap_or (first_of name options) []
 
 -- the string begins with a `+`
 abbrev pub has_plus : List ℕ → Bool

@@ -7,7 +7,7 @@ use Rattle.clap.specs.declared.error.kind.ErrorKind.TheVariants.{ValueValidation
 use Rattle.cohorts.specs.declared.track.Lane.{Lane}
 use Rattle.cohorts.specs.declared.track.Lane.TheVariants.{Target, Held}
 use Rattle.reports.specs.declared.names.TrackNames.{TrackNames}
-use Rattle.omaha_arguments.specs.Options.{option_named, text_in, wanted, wanted_list}
+use Rattle.omaha_arguments.specs.Options.{option_named, string_in, wanted, wanted_list}
 use Rattle.omaha_arguments.specs.declared.command.Comparison.{Comparison}
 use Rattle.omaha_arguments.specs.declared.command.Question.{Question}
 use Rattle.omaha_arguments.specs.declared.command.Question.TheVariants.{Check, Certify, Verify}
@@ -45,8 +45,8 @@ lane_of word =
     else (if bytes_eq word (codes "held") then Some Held else None)
 
 -- what `yes` or `no` says
-abbrev pub answer_of : List ℕ → Option Bool
-answer_of word =
+abbrev pub yes_or_no : List ℕ → Option Bool
+yes_or_no word =
     if bytes_eq word (codes "yes") then Some true
     else (if bytes_eq word (codes "no") then Some false else None)
 
@@ -54,10 +54,10 @@ answer_of word =
 abbrev pub names_in : List Row → TrackNames
 names_in options =
     record {
-      app = text_in (codes "APP") options;
-      cohort = text_in (codes "COHORT") options;
-      lane = unwrap_or (lane_of (text_in (codes "LANE") options)) Target;
-      rollback = unwrap_or (answer_of (text_in (codes "ROLLBACK") options)) false;
+      app = string_in (codes "APP") options;
+      cohort = string_in (codes "COHORT") options;
+      lane = unwrap_or (lane_of (string_in (codes "LANE") options)) Target;
+      rollback = unwrap_or (yes_or_no (string_in (codes "ROLLBACK") options)) false;
     }
 
 -- the question of the command of a name
@@ -65,24 +65,24 @@ abbrev pub question_in : List ℕ → List Row → Question
 question_in name options =
     if bytes_eq name (codes "check") then Check
     else (if bytes_eq name (codes "certify") then Certify (names_in options)
-    else Verify (text_in (codes "CERT") options))
+    else Verify (string_in (codes "CERT") options))
 
 -- rule: Arguments of a report
 -- what the command of a name asks about a profile
 abbrev pub report_in : List ℕ → List Row → Report
-report_in name options = record { profile = text_in (codes "F") options; question = question_in name options }
+report_in name options = record { profile = string_in (codes "F") options; question = question_in name options }
 
 -- rule: Arguments of a comparison
 -- what `check` is asked to compare: the packages of the profile with the files of the folder, if one is given
 abbrev pub comparison_in : List Row → Option Comparison
 comparison_in options =
-    option_map (λ packages. record { profile = text_in (codes "F") options; packages = packages })
+    option_map (λ packages. record { profile = string_in (codes "F") options; packages = packages })
     (first_of (codes "packages") options)
 
 -- LANE and ROLLBACK are such words
 abbrev pub faults_of_certify : List Row → Kinds
 faults_of_certify options =
-    if is_some (lane_of (text_in (codes "LANE") options)) && is_some (answer_of (text_in (codes "ROLLBACK") options))
+    if is_some (lane_of (string_in (codes "LANE") options)) && is_some (yes_or_no (string_in (codes "ROLLBACK") options))
     then [] else ValueValidation ∷ []
 
 -- what is wrong with the arguments of the command of a name

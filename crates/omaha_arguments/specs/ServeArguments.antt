@@ -3,7 +3,7 @@ use Rattle.std.specs.Prelude.{ℕ, ◌&&◌, Bool, if◌then◌else◌, List, []
 use Rattle.std.specs.Option.{option_map, option_map_or}
 use Rattle.clap.specs.Words.{App, Kinds, Row, first_of, new_app, with_rule}
 use Rattle.clap.specs.declared.error.kind.ErrorKind.TheVariants.{ValueValidation}
-use Rattle.omaha_arguments.specs.Options.{number_in, number_of, option_named, text_in, wanted_option}
+use Rattle.omaha_arguments.specs.Options.{number_in, number_of, option_named, string_in, wanted_option}
 use Rattle.omaha_arguments.specs.declared.command.Serve.{Serve}
 
 -- the command `serve`, with its six options
@@ -44,9 +44,9 @@ timeout_in options = option_map_or timeout_of (number_in (codes "timeout") 30 op
 abbrev pub serve_in : List Row → Serve
 serve_in options =
     record {
-      profile = text_in (codes "profile") options;
-      packages = text_in (codes "packages") options;
-      listen = text_in (codes "listen") options;
+      profile = string_in (codes "profile") options;
+      packages = string_in (codes "packages") options;
+      listen = string_in (codes "listen") options;
       sessions = unwrap_or (sessions_in options) None;
       timeout = unwrap_or (timeout_in options) 0;
       log = first_of (codes "log") options;

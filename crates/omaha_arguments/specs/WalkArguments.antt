@@ -3,7 +3,7 @@ use Rattle.std.specs.Prelude.{ℕ, ⊤, ◌&&◌, Bool, if◌then◌else◌, Lis
 use Rattle.clap.specs.Words.{App, Kinds, Row, new_app, with_rule}
 use Rattle.clap.specs.declared.error.kind.ErrorKind.TheVariants.{ValueValidation}
 use Rattle.client_texts.specs.RequestWriting.{IsAppid}
-use Rattle.omaha_arguments.specs.Options.{flag_in, flag_named, option_named, text_in, wanted_option}
+use Rattle.omaha_arguments.specs.Options.{flag_in, flag_named, option_named, string_in, wanted_option}
 use Rattle.omaha_arguments.specs.declared.command.Command.{Command}
 use Rattle.omaha_arguments.specs.declared.command.Command.TheVariants as command
 use Rattle.omaha_arguments.specs.declared.command.Walk.{Walk}
@@ -28,12 +28,12 @@ walk_app =
 abbrev pub walk_in : List Row → Walk
 walk_in options =
     record {
-      to = text_in (codes "to") options;
-      app = text_in (codes "app") options;
-      version = text_in (codes "version") options;
-      fp = text_in (codes "fp") options;
-      cohort = text_in (codes "cohort") options;
-      session = text_in (codes "session") options;
+      to = string_in (codes "to") options;
+      app = string_in (codes "app") options;
+      version = string_in (codes "version") options;
+      fp = string_in (codes "fp") options;
+      cohort = string_in (codes "cohort") options;
+      session = string_in (codes "session") options;
       rollback = flag_in (codes "rollback") options;
     }
 
@@ -43,7 +43,7 @@ is_appid app = nat_lt 0 (length app) && nat_lt (length app) 257
 
 -- what is wrong with the options of `walk`
 abbrev pub faults_of_walk : List Row → Kinds
-faults_of_walk options = if is_appid (text_in (codes "app") options) then [] else ValueValidation ∷ []
+faults_of_walk options = if is_appid (string_in (codes "app") options) then [] else ValueValidation ∷ []
 
 -- the app of a walk has an identifier that a client can ask with
 abbrev pub IsAskable : Command → Type 0

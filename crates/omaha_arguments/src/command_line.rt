@@ -9,7 +9,7 @@ ghost use Rattle.omaha_arguments.specs.WalkArguments.{IsAskable};
 use crate::command::{Command, Once};
 use crate::error::{ArgumentError, argument_error};
 use crate::once_arguments::{once_command, read_once};
-use crate::options::{optional_text, texts_in};
+use crate::options::{optional_string, strings_in};
 use crate::report_arguments::{
     certify_command, check_command, describe_command, explain_command, read_comparison,
     read_report, verify_command,
@@ -93,13 +93,13 @@ fn read_command(alloc: Global, name: &str, matches: &ArgMatches<'_>) -> Result<C
         return Ok(Command::Serve(read_serve(alloc, matches)?));
     }
     if name == "explain" {
-        return Ok(Command::Explain(optional_text(alloc, matches, "CODE")?));
+        return Ok(Command::Explain(optional_string(alloc, matches, "CODE")?));
     }
     if name == "walk" {
         return Ok(Command::Walk(read_walk(alloc, matches)?));
     }
     if name == "describe" {
-        return Ok(Command::Describe(texts_in(alloc, matches, "FILE")?));
+        return Ok(Command::Describe(strings_in(alloc, matches, "FILE")?));
     }
     if name == "check" {
         return read_check(alloc, matches);

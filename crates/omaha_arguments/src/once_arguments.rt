@@ -2,10 +2,10 @@
 
 ghost use Rattle.std.specs.Prelude.{◌≡◌, codes, IfOk};
 ghost use Rattle.clap.specs.Words.{FailsBy, app_of, found_of, kind_of, rows_of};
-ghost use Rattle.omaha_arguments.specs.Commands.{faults_of_once, moment_in, once_app, once_in};
+ghost use Rattle.omaha_arguments.specs.Commands.{faults_of_once, timestamp_in, once_app, once_in};
 
 use crate::command::Once;
-use crate::options::{number_in, optional_text, titled, with_option};
+use crate::options::{number_in, optional_string, titled, with_option};
 use clap::error::ErrorKind;
 use clap::{ArgMatches, Error};
 use std::alloc::{AllocError, Global};
@@ -15,7 +15,7 @@ const ONCE: &str =
 
 const PROFILE: &str = "The catalogue: a TOML file of at most 64 MiB [default: a built-in one]";
 
-const MOMENT: &str = "The time of the reply, in seconds since 1970 UTC [default: 0]";
+const TIMESTAMP: &str = "The time of the reply, in seconds since 1970 UTC [default: 0]";
 
 const AFTER_ONCE: &str =
     "N is a decimal number from 0 to 18446744073709551615. The built-in catalogue has one app, `mini`.
@@ -45,12 +45,12 @@ pub(crate) fn once_command<'a>(alloc: Global) -> Result<clap::Command<'a>, Alloc
 {
     let command = titled(alloc, "once", ONCE, AFTER_ONCE);
     let command = with_option(alloc, command, "profile", "F", PROFILE)?;
-    let command = with_option(alloc, command, "moment", "N", MOMENT)?;
+    let command = with_option(alloc, command, "moment", "N", TIMESTAMP)?;
     Ok(command)
 }
 
 // The error for a `--moment` that is no such number, built like the errors of `clap`.
-fn invalid_moment(alloc: Global, text: &str) -> Result<Error, AllocError>
+fn invalid_timestamp(alloc: Global, text: &str) -> Result<Error, AllocError>
     ensures { IfOk result (λ error. kind_of error ≡ ErrorKind.ValueValidation) }
 {
     let message = format!(in alloc;
@@ -61,8 +61,8 @@ fn invalid_moment(alloc: Global, text: &str) -> Result<Error, AllocError>
 }
 
 // The number of `--moment`.
-fn moment_in(matches: &ArgMatches<'_>) -> Option<u64>
-    ensures { result ≡ moment_in (rows_of (found_of matches.now)) }
+fn timestamp_in(matches: &ArgMatches<'_>) -> Option<u64>
+    ensures { result ≡ timestamp_in (rows_of (found_of matches.now)) }
 {
     number_in(matches, "moment", 0)
 }
@@ -72,10 +72,10 @@ pub(crate) fn read_once(alloc: Global, matches: &ArgMatches<'_>) -> Result<Once,
     ensures faults { FailsBy (faults_of_once (rows_of (found_of matches.now))) result }
     ensures once { IfOk result (λ once. once ≡ once_in (rows_of (found_of matches.now))) }
 {
-    let Some(moment) = moment_in(matches) else {
+    let Some(moment) = timestamp_in(matches) else {
         let text = matches.get_str("moment").unwrap_or("");
-        return Err(invalid_moment(alloc, text)?);
+        return Err(invalid_timestamp(alloc, text)?);
     };
-    let profile = optional_text(alloc, matches, "profile")?;
+    let profile = optional_string(alloc, matches, "profile")?;
     Ok(Once { profile, moment })
 }

@@ -2,7 +2,7 @@
 
 ghost use Rattle.std.specs.Prelude.{◌≡◌, IfOk, map};
 ghost use Rattle.clap.specs.Words.{app_of, first_of, found_of, new_app, rows_of, with_rule};
-ghost use Rattle.omaha_arguments.specs.Options.{flag_in, flag_named, has_plus, number_in, number_of, option_named, text_in, texts_in, wanted, wanted_list, wanted_option};
+ghost use Rattle.omaha_arguments.specs.Options.{flag_in, flag_named, has_plus, number_in, number_of, option_named, string_in, strings_in, wanted, wanted_list, wanted_option};
 
 use clap::{Arg, ArgAction, ArgMatches};
 use std::alloc::{AllocError, Global};
@@ -101,8 +101,8 @@ pub(crate) fn number_in(matches: &ArgMatches<'_>, id: &str, default: u64) -> Opt
 }
 
 /// The value of an argument, or nothing.
-pub(crate) fn text_in<'a>(matches: &ArgMatches<'a>, id: &str) -> &'a str
-    ensures { result.now ≡ text_in id.now (rows_of (found_of matches.now)) }
+pub(crate) fn string_in<'a>(matches: &ArgMatches<'a>, id: &str) -> &'a str
+    ensures { result.now ≡ string_in id.now (rows_of (found_of matches.now)) }
 {
     match matches.get_str(id) {
         Some(text) => text,
@@ -111,7 +111,7 @@ pub(crate) fn text_in<'a>(matches: &ArgMatches<'a>, id: &str) -> &'a str
 }
 
 /// The value of an option or an argument, if it is given.
-pub(crate) fn optional_text(
+pub(crate) fn optional_string(
     alloc: Global,
     matches: &ArgMatches<'_>,
     id: &str,
@@ -177,12 +177,12 @@ fn copy_all(alloc: Global, texts: &[&str]) -> Result<Items<Text>, AllocError>
 }
 
 /// The values of an argument that may be given several times.
-pub(crate) fn texts_in(
+pub(crate) fn strings_in(
     alloc: Global,
     matches: &ArgMatches<'_>,
     id: &str,
 ) -> Result<Items<Text>, AllocError>
-    ensures { IfOk result (λ texts. texts ≡ texts_in id.now (rows_of (found_of matches.now))) }
+    ensures { IfOk result (λ texts. texts ≡ strings_in id.now (rows_of (found_of matches.now))) }
 {
     match matches.get_strs(id) {
         None => Ok(Items::empty(alloc)),

@@ -2,10 +2,12 @@
 
 ghost use Rattle.std.specs.Prelude.{◌≡◌, codes, IfOk};
 ghost use Rattle.clap.specs.Words.{FailsBy, app_of, found_of, kind_of, rows_of};
-ghost use Rattle.omaha_arguments.specs.ReportArguments.{answer_of, certify_app, check_app, comparison_in, describe_app, explain_app, faults_of_certify, faults_of_report, lane_of, names_in, question_in, report_in, verify_app};
+ghost use Rattle.omaha_arguments.specs.ReportArguments.{yes_or_no, certify_app, check_app, comparison_in, describe_app, explain_app, faults_of_certify, faults_of_report, lane_of, names_in, question_in, report_in, verify_app};
 
 use crate::command::{Comparison, Question, Report};
-use crate::options::{optional_text, text_in, titled, with_option, with_wanted, with_wanted_list};
+use crate::options::{
+    optional_string, string_in, titled, with_option, with_wanted, with_wanted_list,
+};
 use clap::error::ErrorKind;
 use clap::{Arg, ArgMatches, Error};
 use cohorts::Lane;
@@ -155,8 +157,8 @@ fn lane_of(word: &str) -> Option<Lane>
 }
 
 // What `yes` or `no` says.
-fn answer_of(word: &str) -> Option<bool>
-    ensures { result ≡ answer_of word.now }
+fn yes_or_no(word: &str) -> Option<bool>
+    ensures { result ≡ yes_or_no word.now }
 {
     if word == "yes" {
         Some(true)
@@ -183,14 +185,14 @@ fn read_names(alloc: Global, matches: &ArgMatches<'_>) -> Result<TrackNames, Err
     ensures faults { FailsBy (faults_of_certify (rows_of (found_of matches.now))) result }
     ensures names { IfOk result (λ names. names ≡ names_in (rows_of (found_of matches.now))) }
 {
-    let lane = lane_of(text_in(matches, "LANE"));
-    let rollback = answer_of(text_in(matches, "ROLLBACK"));
+    let lane = lane_of(string_in(matches, "LANE"));
+    let rollback = yes_or_no(string_in(matches, "ROLLBACK"));
     let (Some(lane), Some(rollback)) = (lane, rollback) else {
         return Err(invalid_words(alloc)?);
     };
     Ok(TrackNames {
-        app: Text::copy_of(alloc, text_in(matches, "APP"))?,
-        cohort: Text::copy_of(alloc, text_in(matches, "COHORT"))?,
+        app: Text::copy_of(alloc, string_in(matches, "APP"))?,
+        cohort: Text::copy_of(alloc, string_in(matches, "COHORT"))?,
         lane,
         rollback,
     })
@@ -207,7 +209,7 @@ fn read_question(alloc: Global, name: &str, matches: &ArgMatches<'_>) -> Result<
     if name == "certify" {
         return Ok(Question::Certify(read_names(alloc, matches)?));
     }
-    Ok(Question::Verify(Text::copy_of(alloc, text_in(matches, "CERT"))?))
+    Ok(Question::Verify(Text::copy_of(alloc, string_in(matches, "CERT"))?))
 }
 
 // rule: Arguments of a report
@@ -221,7 +223,7 @@ pub(crate) fn read_report(
     ensures report { IfOk result (λ report. report ≡ report_in name.now (rows_of (found_of matches.now))) }
 {
     let question = read_question(alloc, name, matches)?;
-    let profile = Text::copy_of(alloc, text_in(matches, "F"))?;
+    let profile = Text::copy_of(alloc, string_in(matches, "F"))?;
     Ok(Report { profile, question })
 }
 
@@ -233,10 +235,10 @@ pub(crate) fn read_comparison(
 ) -> Result<Option<Comparison>, AllocError>
     ensures { IfOk result (λ comparison. comparison ≡ comparison_in (rows_of (found_of matches.now))) }
 {
-    match optional_text(alloc, matches, "packages")? {
+    match optional_string(alloc, matches, "packages")? {
         None => Ok(None),
         Some(packages) => Ok(Some(Comparison {
-            profile: Text::copy_of(alloc, text_in(matches, "F"))?,
+            profile: Text::copy_of(alloc, string_in(matches, "F"))?,
             packages,
         })),
     }

@@ -6,7 +6,7 @@ ghost use Rattle.omaha_arguments.specs.ServeArguments.{faults_of_serve, limit_of
 
 use crate::command::Serve;
 use crate::options::{
-    number_in, number_of, optional_text, text_in, titled, with_option, with_wanted_option,
+    number_in, number_of, optional_string, string_in, titled, with_option, with_wanted_option,
 };
 use clap::error::ErrorKind;
 use clap::{ArgMatches, Error};
@@ -119,11 +119,11 @@ pub(crate) fn read_serve(alloc: Global, matches: &ArgMatches<'_>) -> Result<Serv
         return Err(invalid_number(alloc)?);
     };
     Ok(Serve {
-        profile: Text::copy_of(alloc, text_in(matches, "profile"))?,
-        packages: Text::copy_of(alloc, text_in(matches, "packages"))?,
-        listen: Text::copy_of(alloc, text_in(matches, "listen"))?,
+        profile: Text::copy_of(alloc, string_in(matches, "profile"))?,
+        packages: Text::copy_of(alloc, string_in(matches, "packages"))?,
+        listen: Text::copy_of(alloc, string_in(matches, "listen"))?,
         sessions,
         timeout,
-        log: optional_text(alloc, matches, "log")?,
+        log: optional_string(alloc, matches, "log")?,
     })
 }

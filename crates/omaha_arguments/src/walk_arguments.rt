@@ -6,7 +6,7 @@ ghost use Rattle.client_texts.specs.RequestWriting.{IsAppid};
 ghost use Rattle.omaha_arguments.specs.WalkArguments.{faults_of_walk, is_appid, walk_app, walk_in};
 
 use crate::command::Walk;
-use crate::options::{flag_in, text_in, titled, with_flag, with_option, with_wanted_option};
+use crate::options::{flag_in, string_in, titled, with_flag, with_option, with_wanted_option};
 use clap::error::ErrorKind;
 use clap::{ArgMatches, Error};
 use std::alloc::{AllocError, Global};
@@ -96,16 +96,16 @@ pub(crate) fn read_walk(alloc: Global, matches: &ArgMatches<'_>) -> Result<Walk,
     ensures walk { IfOk result (λ walk. walk ≡ walk_in (rows_of (found_of matches.now))) }
     ensures named { IfOk result (λ walk. IsAppid walk.app) }
 {
-    if !is_appid(text_in(matches, "app")) {
+    if !is_appid(string_in(matches, "app")) {
         return Err(invalid_app(alloc)?);
     }
     Ok(Walk {
-        to: Text::copy_of(alloc, text_in(matches, "to"))?,
-        app: Text::copy_of(alloc, text_in(matches, "app"))?,
-        version: Text::copy_of(alloc, text_in(matches, "version"))?,
-        fp: Text::copy_of(alloc, text_in(matches, "fp"))?,
-        cohort: Text::copy_of(alloc, text_in(matches, "cohort"))?,
-        session: Text::copy_of(alloc, text_in(matches, "session"))?,
+        to: Text::copy_of(alloc, string_in(matches, "to"))?,
+        app: Text::copy_of(alloc, string_in(matches, "app"))?,
+        version: Text::copy_of(alloc, string_in(matches, "version"))?,
+        fp: Text::copy_of(alloc, string_in(matches, "fp"))?,
+        cohort: Text::copy_of(alloc, string_in(matches, "cohort"))?,
+        session: Text::copy_of(alloc, string_in(matches, "session"))?,
         rollback: flag_in(matches, "rollback"),
     })
 }

@@ -7,7 +7,7 @@ use Rattle.editions.specs.Editions.{content_of}
 use Rattle.omaha_service.specs.declared.service.Service.{Service}
 use Rattle.package_files.specs.Findings.{AreFindings}
 use Rattle.package_files.specs.declared.finding.Finding.{Finding}
-use Rattle.package_reports.specs.Findings.{findings_text}
+use Rattle.package_reports.specs.Findings.{findings_string}
 use Rattle.package_reports.specs.Storages.{Storage}
 use Rattle.records.specs.Lookups.{packages_of}
 use Rattle.reports.specs.Summaries.{summary_of}
@@ -20,7 +20,7 @@ use Rattle.omaha_cli.specs.declared.failure.Failure.TheVariants as failure
 -- what is printed of a service's packages: its summary if there is no finding, else the findings
 abbrev pub report_of : Service → List Finding → List ℕ
 report_of service [] = summary_of (length service.edition) (content_of service.edition)
-report_of service (finding ∷ findings) = findings_text (finding ∷ findings)
+report_of service (finding ∷ findings) = findings_string (finding ∷ findings)
 
 -- how the command ends then
 abbrev pub end_of : List Finding → Result (Unit {0}) Failure

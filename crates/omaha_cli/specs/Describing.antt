@@ -3,7 +3,7 @@ use Rattle.std.specs.Prelude.{◌≡◌, ⊤, ℕ, List, Result, Ok, Err}
 use Rattle.package_reports.specs.Paths.{AreDescribed, IsUndescribed}
 use Rattle.package_reports.specs.Storages.{Storage}
 use Rattle.package_reports.specs.declared.paths.PathError.{PathError}
-use Rattle.omaha_cli.specs.Refusals.{failure_of_path}
+use Rattle.omaha_cli.specs.Rejections.{failure_of_path}
 use Rattle.omaha_cli.specs.Reports.{Prints}
 use Rattle.omaha_cli.specs.Streams.{Streams}
 use Rattle.omaha_cli.specs.declared.failure.Failure.{Failure}

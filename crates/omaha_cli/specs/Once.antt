@@ -4,11 +4,11 @@ use Rattle.std.specs.Io.KnownBytes.{Appends}
 use Rattle.streams.specs.Reading.{IsLonger, IsWhole}
 use Rattle.streams.specs.Streams.{Known}
 use Rattle.streams.specs.Writing.{Breaks}
-use Rattle.omaha_json.specs.RequestReading.{request_of_text}
+use Rattle.omaha_json.specs.RequestReading.{request_of_bytes}
 use Rattle.omaha_json.specs.declared.fault.RequestFault.{RequestFault}
 use Rattle.omaha_service.specs.Answering.{Answers}
 use Rattle.omaha_service.specs.Builtin.{builtin_service}
-use Rattle.omaha_service.specs.Services.{service_of_text}
+use Rattle.omaha_service.specs.Services.{service_of_bytes}
 use Rattle.omaha_service.specs.declared.fault.ServiceFault.{ServiceFault}
 use Rattle.omaha_service.specs.declared.fault.ServiceFault.TheVariants as service
 use Rattle.omaha_service.specs.declared.service.Service.{Service}
@@ -33,7 +33,7 @@ Files = List ℕ → Known
 
 -- the file's bytes make this service, or have this fault
 abbrev pub IsOfFile : Known → Result Service ServiceFault → Type 0
-IsOfFile file made = (bytes : List ℕ) × IsWhole file max_profile bytes × (service_of_text bytes ≡ made)
+IsOfFile file made = (bytes : List ℕ) × IsWhole file max_profile bytes × (service_of_bytes bytes ≡ made)
 
 -- the file can't be read, or has too many bytes
 abbrev pub IsUnreadable : Known → Type 0
@@ -62,7 +62,7 @@ pub record IsReplyTo (service : Service) (moment : ℕ) (held : Known) (reply : 
 -- the input is no request, for that reason
 abbrev pub HasFault : Known → RequestFault → Type 0
 HasFault held fault =
-    (input : List ℕ) × IsWhole held max_input input × (request_of_text input ≡ Err fault)
+    (input : List ℕ) × IsWhole held max_input input × (request_of_bytes input ≡ Err fault)
 
 -- What a service replies: the reply is written and nothing else; or the writer failed within it; or
 -- nothing is written, since the input can't be read, is too long or has the fault, or memory ran out.

@@ -10,7 +10,7 @@ use Rattle.reports.specs.Certificates.{Certifies, Verifies}
 use Rattle.reports.specs.Summaries.{summary_of}
 use Rattle.reports.specs.declared.fault.CertificateError.{CertificateError}
 use Rattle.omaha_cli.specs.Once.{Files, IsServed, IsUnreadable, max_profile}
-use Rattle.omaha_cli.specs.Refusals.{failure_of_certificate}
+use Rattle.omaha_cli.specs.Rejections.{failure_of_certificate}
 use Rattle.omaha_cli.specs.Streams.{Streams}
 use Rattle.omaha_arguments.specs.declared.command.Question.{Question}
 use Rattle.omaha_arguments.specs.declared.command.Question.TheVariants.{Check, Certify, Verify}

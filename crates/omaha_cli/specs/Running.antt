@@ -9,7 +9,7 @@ use Rattle.omaha_arguments.specs.declared.error.ArgumentError.{ArgumentError}
 use Rattle.omaha_arguments.specs.declared.error.ArgumentError.TheVariants as argument
 use Rattle.package_reports.specs.Storages.{Storage}
 use Rattle.omaha_cli.specs.Doing.{Does}
-use Rattle.omaha_cli.specs.Failures.{failure_text}
+use Rattle.omaha_cli.specs.Failures.{failure_string}
 use Rattle.omaha_cli.specs.Once.{Files}
 use Rattle.omaha_cli.specs.Streams.{Streams}
 use Rattle.omaha_cli.specs.declared.failure.Failure.{Failure}
@@ -66,18 +66,18 @@ Ends files storage words old new (ending.Failed refusal) =
 
 -- the line of a failure
 abbrev pub failure_line : Failure → List ℕ
-failure_line refusal = codes "omaha: " ++ failure_text refusal ++ 10 ∷ []
+failure_line refusal = codes "omaha: " ++ failure_string refusal ++ 10 ∷ []
 
 -- the failure's line is printed or, as a line takes memory, that of a failed allocation
-abbrev pub IsTold : Failure → Known → Known → Type 0
-IsTold refusal before after =
+abbrev pub IsPrinted : Failure → Known → Known → Type 0
+IsPrinted refusal before after =
     IsWritten before after (failure_line refusal) ⊎ IsWritten before after (failure_line failure.Memory)
 
 -- what is printed on the standard error after an ending
 abbrev pub IsReported : Ending → Known → Known → Type 0
 IsReported ending.Replied before after = after ≡ before
 IsReported ending.Shown before after = after ≡ before
-IsReported (ending.Failed refusal) before after = IsTold refusal before after
+IsReported (ending.Failed refusal) before after = IsPrinted refusal before after
 IsReported (ending.Mistaken text) before after = IsWritten before after text
 
 -- rule: Status of the program

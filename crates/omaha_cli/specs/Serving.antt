@@ -2,7 +2,7 @@
 use Rattle.std.specs.Prelude.{◌≡◌, ◌⊎◌, ℕ, List, Option, None, Some, Result, Ok, Err}
 use Rattle.streams.specs.Streams.{Known}
 use Rattle.omaha_arguments.specs.declared.command.Serve.{Serve}
-use Rattle.omaha_server.specs.Serving.{Serves}
+use Rattle.omaha_server.specs.Serving.{IsLogged, Serves}
 use Rattle.omaha_server.specs.declared.error.ServerError.{ServerError}
 use Rattle.omaha_server.specs.declared.error.ServerError.TheVariants as server
 use Rattle.omaha_service.specs.Answering.{stock_of}
@@ -26,10 +26,10 @@ EndsAs (Err server.Log) serve result = (named : Failure) × IsUnopened serve.log
 EndsAs (Err server.Write) serve result = result ≡ Err failure.Write
 EndsAs (Err server.Memory) serve result = result ≡ Err failure.Memory
 
--- a service was served to its end, or to an error; or memory ran out before
+-- a service was served to its end, or to an error, of its log only if one was asked for; or memory ran out before
 abbrev pub IsHosted : Stock → Serve → Known → Known → Result (Unit {0}) Failure → Type 0
 IsHosted stock serve old new result =
-    ((ended : Result (Unit {0}) ServerError) × Serves stock serve.sessions old new ended × EndsAs ended serve result)
+    ((ended : Result (Unit {0}) ServerError) × Serves stock serve.sessions old new ended × IsLogged serve.log ended × EndsAs ended serve result)
     ⊎ ((result ≡ Err failure.Memory) × (new ≡ old))
 
 -- what follows from what was made of the profile

@@ -5,7 +5,7 @@ use Rattle.omaha_arguments.specs.declared.command.Walk.{Walk}
 use Rattle.omaha_walk.specs.Walking.{IsWalkOver}
 use Rattle.omaha_walk.specs.declared.error.WalkError.{WalkError}
 use Rattle.update_client.specs.Installed.{Installed}
-use Rattle.omaha_cli.specs.Refusals.{failure_of_walk}
+use Rattle.omaha_cli.specs.Rejections.{failure_of_walk}
 use Rattle.omaha_cli.specs.Streams.{Streams}
 use Rattle.omaha_cli.specs.declared.failure.Failure.{Failure}
 use Rattle.omaha_cli.specs.declared.failure.Failure.TheVariants as failure

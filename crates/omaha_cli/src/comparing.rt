@@ -12,7 +12,7 @@ use crate::failure::Failure;
 use crate::once::open_profile;
 use omaha_arguments::Comparison;
 use omaha_service::Service;
-use package_reports::{Finding, Folders, findings_text};
+use package_reports::{Finding, Folders, findings_string};
 use reports::summary;
 use std::alloc::{AllocError, Global};
 use streams::{Disk, WriteWhole};
@@ -38,7 +38,7 @@ fn report_of(alloc: Global, service: &Service, findings: &[Finding]) -> Result<S
     if findings.is_empty() {
         summary(alloc, &service.edition)
     } else {
-        findings_text(alloc, findings)
+        findings_string(alloc, findings)
     }
 }
 

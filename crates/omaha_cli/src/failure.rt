@@ -1,5 +1,5 @@
 ghost use Rattle.std.specs.Prelude.{Some};
-ghost use Rattle.omaha_cli.specs.Failures.{failure_text};
+ghost use Rattle.omaha_cli.specs.Failures.{failure_string};
 
 use catalogue::Refused;
 use omaha_json::RequestFault;
@@ -54,7 +54,7 @@ pub enum Failure {
 
 // rule: Printed failure
 impl fmt::Display for Failure {
-    ghost output = { λ f. Some (failure_text f) };
+    ghost output = { λ f. Some (failure_string f) };
 
     fn fmt<W: fmt::Write>(&self, f: &mut fmt::Formatter<W>) -> fmt::Result {
         match self {
@@ -111,7 +111,7 @@ impl From<AllocError> for Failure {
 
 impl From<ReadFailure> for Failure {
     ghost use Rattle.std.specs.Prelude.{◌≡◌};
-    ghost use Rattle.omaha_cli.specs.Refusals.{failure_of_input};
+    ghost use Rattle.omaha_cli.specs.Rejections.{failure_of_input};
 
     ghost from_gives = { λ error failure. failure ≡ failure_of_input error };
 
@@ -126,7 +126,7 @@ impl From<ReadFailure> for Failure {
 
 impl From<ReadError<ServiceFault>> for Failure {
     ghost use Rattle.std.specs.Prelude.{◌≡◌};
-    ghost use Rattle.omaha_cli.specs.Refusals.{failure_of_service};
+    ghost use Rattle.omaha_cli.specs.Rejections.{failure_of_service};
 
     ghost from_gives = { λ error failure. failure ≡ failure_of_service error };
 
@@ -141,7 +141,7 @@ impl From<ReadError<ServiceFault>> for Failure {
 
 impl From<ReadError<RequestFault>> for Failure {
     ghost use Rattle.std.specs.Prelude.{◌≡◌};
-    ghost use Rattle.omaha_cli.specs.Refusals.{failure_of_request};
+    ghost use Rattle.omaha_cli.specs.Rejections.{failure_of_request};
 
     ghost from_gives = { λ error failure. failure ≡ failure_of_request error };
 
@@ -155,7 +155,7 @@ impl From<ReadError<RequestFault>> for Failure {
 
 impl From<CertificateError> for Failure {
     ghost use Rattle.std.specs.Prelude.{◌≡◌};
-    ghost use Rattle.omaha_cli.specs.Refusals.{failure_of_certificate};
+    ghost use Rattle.omaha_cli.specs.Rejections.{failure_of_certificate};
 
     ghost from_gives = { λ error failure. failure ≡ failure_of_certificate error };
 
@@ -169,7 +169,7 @@ impl From<CertificateError> for Failure {
 
 impl From<PathError> for Failure {
     ghost use Rattle.std.specs.Prelude.{◌≡◌};
-    ghost use Rattle.omaha_cli.specs.Refusals.{failure_of_path};
+    ghost use Rattle.omaha_cli.specs.Rejections.{failure_of_path};
 
     ghost from_gives = { λ error failure. failure ≡ failure_of_path error };
 
@@ -183,7 +183,7 @@ impl From<PathError> for Failure {
 
 impl From<WalkError> for Failure {
     ghost use Rattle.std.specs.Prelude.{◌≡◌};
-    ghost use Rattle.omaha_cli.specs.Refusals.{failure_of_walk};
+    ghost use Rattle.omaha_cli.specs.Rejections.{failure_of_walk};
 
     ghost from_gives = { λ error failure. failure ≡ failure_of_walk error };
 

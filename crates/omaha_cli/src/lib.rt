@@ -29,7 +29,7 @@ pub use crate::failure::Failure;
 pub use crate::once::respond;
 pub use crate::reporting::report_on;
 pub use crate::running::{Ending, Status, run};
-pub use crate::unreadable::refuse;
+pub use crate::unreadable::report_unreadable;
 pub use omaha_arguments::{Command, Comparison, Once, Question, Report, Serve, Walk};
 pub use omaha_server::{Host, Place, ServerError};
 pub use omaha_service::{Service, ServiceFault, answer, builtin_service, read_service};

@@ -49,7 +49,7 @@ fn find<R: Disk + AllocGlobal>(
 }
 
 // What a report finds.
-fn answer_to<R: Disk + AllocGlobal>(rt: &R, report: &Report) -> Result<Vec<u8>, Failure>
+fn report_bytes<R: Disk + AllocGlobal>(rt: &R, report: &Report) -> Result<Vec<u8>, Failure>
     ensures ok { IfOk result (λ text. IsReported (R.file_at rt.now) report.now (Ok text.items)) }
     ensures err { IfErr result (λ failure. IsReported (R.file_at rt.now) report.now (Err failure)) }
 {
@@ -74,7 +74,7 @@ pub fn report_on<R: Disk + AllocGlobal, W: WriteWhole>(
         (record { input = input; output = W.output writer.old })
         (record { input = input; output = W.output writer.new }) result }
 {
-    match answer_to(rt, asked) {
+    match report_bytes(rt, asked) {
         Ok(text) => print(text.as_slice(), writer),
         Err(failure) => Err(failure),
     }

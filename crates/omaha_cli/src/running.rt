@@ -3,7 +3,7 @@
 ghost use Rattle.std.specs.Prelude.{◌≡◌, map, string_bytes};
 ghost use Rattle.omaha_arguments.specs.WalkArguments.{IsAskable};
 ghost use Rattle.omaha_cli.specs.Doing.{Does};
-ghost use Rattle.omaha_cli.specs.Running.{Ends, EndsBy, IsMistaken, IsReported, IsTold, Runs, Shows, code_of, status_of};
+ghost use Rattle.omaha_cli.specs.Running.{Ends, EndsBy, IsMistaken, IsReported, IsPrinted, Runs, Shows, code_of, status_of};
 
 use crate::comparing::compare_on;
 use crate::describing::describe_files;
@@ -139,8 +139,8 @@ fn carry_out<
 }
 
 // Prints the one line of a failure.
-fn tell<F: WriteWhole>(alloc: Global, failure: &Failure, errors: &mut F)
-    ensures { IsTold failure.now (F.output errors.old) (F.output errors.new) }
+fn print_failure<F: WriteWhole>(alloc: Global, failure: &Failure, errors: &mut F)
+    ensures { IsPrinted failure.now (F.output errors.old) (F.output errors.new) }
 {
     match format!(in alloc; "omaha: {failure}\n") {
         Ok(line) => offer(errors, line.as_bytes()),
@@ -155,7 +155,7 @@ fn report<F: WriteWhole>(alloc: Global, ending: &Ending, errors: &mut F)
     match ending {
         Ending::Replied => {}
         Ending::Shown => {}
-        Ending::Failed(failure) => tell(alloc, failure, errors),
+        Ending::Failed(failure) => print_failure(alloc, failure, errors),
         Ending::Mistaken(text) => offer(errors, text.as_str().as_bytes()),
     }
 }

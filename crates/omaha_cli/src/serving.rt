@@ -42,7 +42,8 @@ fn end_of(ended: Result<(), ServerError>, asked: &Serve) -> Result<(), Failure>
 
 // Where and for how long to serve.
 fn place_of(asked: &Serve) -> Result<Place, AllocError>
-    ensures { IfOk result (λ place. place.sessions ≡ asked.now.sessions) }
+    ensures sessions { IfOk result (λ place. place.sessions ≡ asked.now.sessions) }
+    ensures log { IfOk result (λ place. place.log ≡ asked.now.log) }
 {
     let log = match &asked.log {
         Some(path) => Some(path.clone()?),

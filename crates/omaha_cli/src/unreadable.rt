@@ -13,7 +13,7 @@ use streams::{WriteWhole, offer};
 ///
 /// That is 1 after the line `omaha: memory` if memory ran out, else 2 after a line that says that an
 /// argument isn't UTF-8.
-pub fn refuse<F: WriteWhole>(error: &io::Error, errors: &mut F) -> u8
+pub fn report_unreadable<F: WriteWhole>(error: &io::Error, errors: &mut F) -> u8
     ensures memory { error_kind error.now ≡ ErrorKind.OutOfMemory → result ≡ 1 }
     ensures arguments { error_kind error.now ≢ ErrorKind.OutOfMemory → result ≡ 2 }
     ensures told { IsWritten (F.output errors.old) (F.output errors.new) (rejection_of result) }

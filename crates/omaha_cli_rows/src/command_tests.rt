@@ -1,5 +1,5 @@
 use crate::devices::Breaks;
-use crate::ending::{ends, ends_over, refused, replied, shows};
+use crate::ending::{ends, ends_over, failed, replied, shows};
 use crate::runs::first_wrong;
 use crate::shelf::Shelf;
 use crate::staged::{
@@ -107,7 +107,7 @@ fn reads_the_profile_before_an_input_that_fails(rt: HostRuntime) -> Result<(), F
         kind: ErrorKind::ConnectionReset,
     };
     let words = ["once", "--profile", "broken.toml"];
-    let wanted = refused("omaha: F1 NotToml\n");
+    let wanted = failed("omaha: F1 NotToml\n");
     let shelf = shelf(rt);
     ends_over(&shelf.rt, &shelf, &words, &mut reader, wanted)
 }
@@ -121,7 +121,7 @@ fn reports_the_request_after_a_valid_profile(rt: HostRuntime) -> Result<(), Fail
         &shelf,
         &words,
         "{",
-        refused("omaha: J1 NotJson\n"),
+        failed("omaha: J1 NotJson\n"),
     )
 }
 

@@ -27,7 +27,7 @@ pub(crate) fn replied(output: &str) -> Ending<'_> {
 }
 
 /// A run that fails with a line.
-pub(crate) fn refused(faults: &str) -> Ending<'_> {
+pub(crate) fn failed(faults: &str) -> Ending<'_> {
     Ending {
         status: 1,
         output: "",

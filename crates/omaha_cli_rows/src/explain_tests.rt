@@ -1,6 +1,6 @@
 // The command `explain`: every code that the program prints has its explanation.
 
-use crate::ending::{ends, refused, replied};
+use crate::ending::{ends, failed, replied};
 use crate::report_tests::shelf;
 use catalogue::Fault;
 use explanations::{explain, list};
@@ -126,6 +126,6 @@ Remedy: Write the certificate anew by `omaha certify`.
     ends(&shelf.rt, &shelf, &["explain", "P1"], "{", replied(wanted))?;
     let all = list(shelf.rt.alloc())?;
     ends(&shelf.rt, &shelf, &["explain"], "{", replied(all.as_str()))?;
-    let unknown = refused("omaha: no code C18\n");
+    let unknown = failed("omaha: no code C18\n");
     ends(&shelf.rt, &shelf, &["explain", "C18"], "{", unknown)
 }

@@ -1,7 +1,7 @@
 use crate::devices::{Blank, Breaks, Full};
-use crate::ending::{ends_over, refused, replied};
+use crate::ending::{ends_over, failed, replied};
 use crate::offers::{OFFER, OLD};
-use omaha_cli::{refuse, run};
+use omaha_cli::{report_unreadable, run};
 use std::io;
 use std::io::{ErrorKind, Read};
 use std::test::Fail;
@@ -15,7 +15,7 @@ fn rejects_an_input_that_breaks_off(rt: HostRuntime) -> Result<(), Fail> {
     for (kind, line) in rows {
         for left in [0, 1, 40] {
             let mut reader = Breaks { left, kind };
-            ends_over(&rt, &rt, &[], &mut reader, refused(line))?;
+            ends_over(&rt, &rt, &[], &mut reader, failed(line))?;
         }
     }
     Ok(())
@@ -25,14 +25,14 @@ fn rejects_an_input_that_breaks_off(rt: HostRuntime) -> Result<(), Fail> {
 fn rejects_an_input_that_is_too_long(rt: HostRuntime) -> Result<(), Fail> {
     let rows = [(262144, "omaha: J1 NotJson\n"), (262145, "omaha: read\n")];
     for (left, line) in rows {
-        ends_over(&rt, &rt, &[], &mut Blank { left }, refused(line))?;
+        ends_over(&rt, &rt, &[], &mut Blank { left }, failed(line))?;
     }
     let left = 262144 - OLD.len();
     let mut fits = OLD.as_bytes().chain(Blank { left });
     ends_over(&rt, &rt, &[], &mut fits, replied(OFFER))?;
     let left = left + 1;
     let mut too_long = OLD.as_bytes().chain(Blank { left });
-    ends_over(&rt, &rt, &[], &mut too_long, refused("omaha: read\n"))
+    ends_over(&rt, &rt, &[], &mut too_long, failed("omaha: read\n"))
 }
 
 #[test]
@@ -61,7 +61,7 @@ fn reports_arguments_that_are_not_read(rt: HostRuntime) -> Result<(), Fail> {
     ];
     for (kind, status, line) in rows {
         let mut told = Vec::new(rt.alloc());
-        let ended = refuse(&io::Error::from(kind), &mut told);
+        let ended = report_unreadable(&io::Error::from(kind), &mut told);
         assert_eq!(rt; ended, status);
         assert_eq!(rt; told.as_slice(), line.as_bytes());
     }

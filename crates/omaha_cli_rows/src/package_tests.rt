@@ -1,6 +1,6 @@
 // The commands `check` with a folder of packages, and `describe`.
 
-use crate::ending::{Ending, ends, refused, replied};
+use crate::ending::{Ending, ends, failed, replied};
 use std::alloc::Global;
 use std::net::{Net, TcpListener, TcpStream};
 use std::process::Abort;
@@ -121,7 +121,7 @@ fn finds_no_package_in_another_folder(rt: HostRuntime) -> Result<(), Fail> {
     ends(&rt, &rt, &words, "{", wanted)?;
     let broken = path_of(rt.alloc(), folder.as_str(), "broken.toml")?;
     let words = ["check", broken.as_str(), "--packages", elsewhere.as_str()];
-    ends(&rt, &rt, &words, "{", refused("omaha: F1 NotToml\n"))?;
+    ends(&rt, &rt, &words, "{", failed("omaha: F1 NotToml\n"))?;
     fs::remove_dir_all(&rt, folder.as_str())?;
     Ok(())
 }
@@ -144,7 +144,7 @@ fn describes_files(rt: HostRuntime) -> Result<(), Fail> {
     describes(&rt, &rt, first.as_str(), diff.as_str(), replied(BOTH_LINES))?;
     let none = path_of(rt.alloc(), folder.as_str(), "none.bin")?;
     let line = format!(in rt.alloc(); "omaha: file {}: missing\n", none.as_str())?;
-    let wanted = refused(line.as_str());
+    let wanted = failed(line.as_str());
     describes(&rt, &rt, first.as_str(), none.as_str(), wanted)?;
     fs::remove_dir_all(&rt, folder.as_str())?;
     Ok(())

@@ -50,8 +50,8 @@ fn responds_with_a_reply_or_a_failure(rt: HostRuntime) -> Result<(), Fail> {
     let mut written = Vec::new(rt.alloc());
     respond(&rt, &once, &mut OLD.as_bytes(), &mut written)?;
     assert_eq!(rt; written.as_slice(), OFFER.as_bytes());
-    let refused = respond(&rt, &once, &mut b"{".as_slice(), &mut written);
-    assert!(rt; matches!(refused, Err(Failure::Request(_))));
+    let failed = respond(&rt, &once, &mut b"{".as_slice(), &mut written);
+    assert!(rt; matches!(failed, Err(Failure::Request(_))));
     assert_eq!(rt; written.as_slice(), OFFER.as_bytes());
     Ok(())
 }

@@ -1,4 +1,4 @@
-use crate::ending::{Ending, ends, refused, replied};
+use crate::ending::{Ending, ends, failed, replied};
 use crate::offers::{ACKNOWLEDGED, LATEST, NONE, OFFER, OLD, PINGS};
 use std::net::{Net, TcpListener, TcpStream};
 use std::process::Abort;
@@ -8,7 +8,7 @@ use std::test::Fail;
 use std::time::Clock;
 
 // Tests a run over the built-in catalogue, without arguments and with `once`.
-fn answers<
+fn replies_with<
     R: Abort + Net<Listener = TcpListener, Stream = TcpStream> + Clock + Files + Wait + AllocGlobal,
 >(rt: &R, input: &str, wanted: Ending<'_>) -> Result<(), Fail> {
     ends(rt, rt, &[], input, wanted)?;
@@ -17,17 +17,17 @@ fn answers<
 
 #[test]
 fn offers_the_second_release(rt: HostRuntime) -> Result<(), Fail> {
-    answers(&rt, OLD, replied(OFFER))
+    replies_with(&rt, OLD, replied(OFFER))
 }
 
 #[test]
 fn has_no_update_at_the_target(rt: HostRuntime) -> Result<(), Fail> {
-    answers(&rt, LATEST, replied(NONE))
+    replies_with(&rt, LATEST, replied(NONE))
 }
 
 #[test]
 fn acknowledges_apps_in_order_as_they_are_spelled(rt: HostRuntime) -> Result<(), Fail> {
-    answers(&rt, PINGS, replied(ACKNOWLEDGED))
+    replies_with(&rt, PINGS, replied(ACKNOWLEDGED))
 }
 
 #[test]
@@ -46,7 +46,7 @@ fn fails_with_one_line(rt: HostRuntime) -> Result<(), Fail> {
         ),
     ];
     for (input, line) in rows {
-        answers(&rt, input, refused(line))?;
+        replies_with(&rt, input, failed(line))?;
     }
     Ok(())
 }
@@ -59,5 +59,5 @@ fn rejects_257_apps(rt: HostRuntime) -> Result<(), Fail> {
         input.push_str(r#"{"appid":"mini"},"#)?;
     }
     input.push_str(r#"{"appid":"mini"}]}}"#)?;
-    answers(&rt, input.as_str(), refused("omaha: J5 TooManyApps\n"))
+    replies_with(&rt, input.as_str(), failed("omaha: J5 TooManyApps\n"))
 }

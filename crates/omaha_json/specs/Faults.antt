@@ -5,9 +5,9 @@ use Rattle.omaha_json.specs.declared.fault.RequestFault.TheVariants.{NotJson, No
 
 -- rule: Printed fault of a request
 -- the fault's code, a space and its name; of an invalid app also a space and its index in decimal
-abbrev pub fault_text : RequestFault → List ℕ
-fault_text NotJson = codes "J1 NotJson"
-fault_text NoRequest = codes "J2 NoRequest"
-fault_text BadProtocol = codes "J3 BadProtocol"
-fault_text (BadApp index) = codes "J4 BadApp " ++ decimal index
-fault_text TooManyApps = codes "J5 TooManyApps"
+abbrev pub fault_string : RequestFault → List ℕ
+fault_string NotJson = codes "J1 NotJson"
+fault_string NoRequest = codes "J2 NoRequest"
+fault_string BadProtocol = codes "J3 BadProtocol"
+fault_string (BadApp index) = codes "J4 BadApp " ++ decimal index
+fault_string TooManyApps = codes "J5 TooManyApps"

@@ -6,8 +6,8 @@ use Rattle.serde_json.specs.Find.{get, as_bool, as_str, as_object}
 
 -- rule: Missing member
 -- the member that is a string, else the empty string
-abbrev pub text_at : List ℕ → Data → List ℕ
-text_at name json = unwrap_or (option_and_then as_str (get name json)) []
+abbrev pub string_or_empty_at : List ℕ → Data → List ℕ
+string_or_empty_at name json = unwrap_or (option_and_then as_str (get name json)) []
 
 -- the value, if it is an object
 abbrev pub object_of : Data → Option Data

@@ -4,11 +4,11 @@ use Rattle.omaha_json.specs.declared.reply.Reply.{Reply}
 use Rattle.omaha_json.specs.declared.reply.AppState.{AppState}
 use Rattle.omaha_json.specs.declared.reply.AppState.TheVariants as state
 use Rattle.omaha_json.specs.declared.reply.CheckReply.TheVariants as check
-use Rattle.omaha_json.specs.ReplyWriting.{reply_text}
+use Rattle.omaha_json.specs.ReplyWriting.{reply_bytes}
 
 -- the reply of that record has that JSON after the guard
 abbrev pub Writes : Reply → List ℕ → Type 0
-Writes reply json = reply_text reply ≡ codes ")]}'" ++ 10 ∷ json
+Writes reply json = reply_bytes reply ≡ codes ")]}'" ++ 10 ∷ json
 
 -- a reply to a request without an app, at the first second of 1970
 abbrev pub empty_reply : Reply
@@ -22,7 +22,7 @@ EmptyReplyWrites = Writes empty_reply
 
 -- it has 95 bytes
 abbrev pub EmptyReplyLength : Type 0
-EmptyReplyLength = length (reply_text empty_reply) ≡ 95
+EmptyReplyLength = length (reply_bytes empty_reply) ≡ 95
 
 -- the SHA-256 of the 56 bytes `abcdbcdecdefdefgefghfghighijhijkijkljklmklmnlmnomnopnopq`
 abbrev pub full_hash : List ℕ

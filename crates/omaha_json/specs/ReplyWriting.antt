@@ -168,8 +168,8 @@ script_guard = codes ")]}'" ++ 10 ∷ []
 
 -- rule: Bytes of a reply
 -- the bytes of a reply: the guard, and the value with no space in it
-abbrev pub reply_text : Reply → List ℕ
-reply_text reply = script_guard ++ compact_text (reply_data reply)
+abbrev pub reply_bytes : Reply → List ℕ
+reply_bytes reply = script_guard ++ compact_text (reply_data reply)
 
 -- the reply to an update check is writable
 abbrev pub IsCheckWritable : Option CheckReply → Type 0

@@ -2,7 +2,7 @@
 use Rattle.std.specs.Prelude.{◌≡◌, List, ℕ, [], ◌∷◌, ◌++◌, Some, true, false, Ok, Err, codes}
 use Rattle.omaha_json.specs.declared.request.Request.{Request}
 use Rattle.omaha_json.specs.declared.fault.RequestFault.{RequestFault}
-use Rattle.omaha_json.specs.RequestReading.{request_of_text}
+use Rattle.omaha_json.specs.RequestReading.{request_of_bytes}
 
 -- a client of one app, which has version 1.0 installed and an update check
 abbrev pub update_request : Request
@@ -21,8 +21,8 @@ update_request = record {
 }
 
 -- the bytes of that client, with a line feed at its end
-abbrev pub update_request_text : List ℕ
-update_request_text =
+abbrev pub update_request_bytes : List ℕ
+update_request_bytes =
     codes "{\"request\":{\"app\":[{\"appid\":\"mini\",\"cohort\":\"stable:0\","
     ++ codes "\"packages\":{\"package\":["
     ++ codes "{\"fp\":\"1.ba7816bf8f01cfea414140de5dae2223b00361a396177a9cb410ff61f20015ad\"}"
@@ -32,7 +32,7 @@ update_request_text =
 
 -- the bytes read as the record
 abbrev pub UpdateRequestReads : Type 0
-UpdateRequestReads = request_of_text update_request_text ≡ Ok update_request
+UpdateRequestReads = request_of_bytes update_request_bytes ≡ Ok update_request
 
 -- a client that says all that is read of an app
 abbrev pub full_request : Request
@@ -51,8 +51,8 @@ full_request = record {
 }
 
 -- the bytes of that client
-abbrev pub full_request_text : List ℕ
-full_request_text =
+abbrev pub full_request_bytes : List ℕ
+full_request_bytes =
     codes "{\"request\":{\"protocol\":\"3.1\",\"app\":["
     ++ codes "{\"appid\":\"A\",\"version\":\"2\",\"cohort\":\"c\",\"cohorthint\":\"h\","
     ++ codes "\"packages\":{\"package\":[{\"fp\":\"f\"},{\"fp\":\"g\"}]},\"updatecheck\":"
@@ -61,7 +61,7 @@ full_request_text =
 
 -- the bytes read as the record
 abbrev pub FullRequestReads : Type 0
-FullRequestReads = request_of_text full_request_text ≡ Ok full_request
+FullRequestReads = request_of_bytes full_request_bytes ≡ Ok full_request
 
 -- a client that asks for no app
 abbrev pub empty_request : Request
@@ -70,8 +70,8 @@ empty_request = record { session = []; apps = [] }
 -- the 30 bytes of that client read as the record
 abbrev pub EmptyRequestReads : Type 0
 EmptyRequestReads =
-    request_of_text (codes "{\"request\":{\"protocol\":\"3.1\"}}") ≡ Ok empty_request
+    request_of_bytes (codes "{\"request\":{\"protocol\":\"3.1\"}}") ≡ Ok empty_request
 
 -- the bytes are rejected with that fault
-abbrev pub IsRefused : List ℕ → RequestFault → Type 0
-IsRefused text fault = request_of_text text ≡ Err fault
+abbrev pub IsInvalid : List ℕ → RequestFault → Type 0
+IsInvalid text fault = request_of_bytes text ≡ Err fault

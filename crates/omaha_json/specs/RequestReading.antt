@@ -7,7 +7,7 @@ use Rattle.serde_json.specs.Data.{Data, Items, no_items, item}
 use Rattle.serde_json.specs.Read.{read}
 use Rattle.serde_json.specs.Find.{get, at, as_str, as_array}
 use Rattle.serde_json.specs.Events.{items_len}
-use Rattle.omaha_json.specs.Members.{text_at, object_at, true_at}
+use Rattle.omaha_json.specs.Members.{string_or_empty_at, object_at, true_at}
 use Rattle.omaha_json.specs.declared.request.Request.{Request}
 use Rattle.omaha_json.specs.declared.request.AppAsk.{AppAsk}
 use Rattle.omaha_json.specs.declared.request.Check.{Check}
@@ -42,14 +42,14 @@ first_package app =
 
 -- the fingerprint of the first installed package, else the empty string
 abbrev pub fp_of : Data → List ℕ
-fp_of app = unwrap_or (option_map (text_at (codes "fp")) (first_package app)) []
+fp_of app = unwrap_or (option_map (string_or_empty_at (codes "fp")) (first_package app)) []
 
 -- what is said with an update check
 abbrev pub check_with : Data → Check
 check_with asked = record {
   disabled = true_at (codes "updatedisabled") asked;
   rollback = true_at (codes "rollback_allowed") asked;
-  prefix = text_at (codes "targetversionprefix") asked;
+  prefix = string_or_empty_at (codes "targetversionprefix") asked;
 }
 
 -- the update check, if `updatecheck` is an object
@@ -66,10 +66,10 @@ event_count_of app =
 abbrev pub ask_with : Data → List ℕ → AppAsk
 ask_with app appid = record {
   appid = appid;
-  version = text_at (codes "version") app;
+  version = string_or_empty_at (codes "version") app;
   fp = fp_of app;
-  cohort = text_at (codes "cohort") app;
-  hint = text_at (codes "cohorthint") app;
+  cohort = string_or_empty_at (codes "cohort") app;
+  hint = string_or_empty_at (codes "cohorthint") app;
   check = check_of app;
   ping = is_some (object_at (codes "ping") app);
   events = event_count_of app;
@@ -104,7 +104,7 @@ asks_of (Some listed) = do
 -- the request, if it speaks protocol 3.1
 abbrev pub spoken_request : Data → Option Data
 spoken_request request =
-    if bytes_eq (text_at (codes "protocol") request) (codes "3.1") then Some request else None
+    if bytes_eq (string_or_empty_at (codes "protocol") request) (codes "3.1") then Some request else None
 
 -- the request of a JSON value, or its first fault after J1
 unfoldable pub request_of : Data → Result Request RequestFault
@@ -112,11 +112,11 @@ request_of json = do
   found ← ok_or (object_at (codes "request") json) NoRequest
   request ← ok_or (spoken_request found) BadProtocol
   apps ← asks_of (get (codes "app") request)
-  Ok (record { session = text_at (codes "sessionid") request; apps = apps })
+  Ok (record { session = string_or_empty_at (codes "sessionid") request; apps = apps })
 
 -- rule: Faults of a request
 -- the request that the bytes are, or their first fault
-unfoldable pub request_of_text : List ℕ → Result Request RequestFault
-request_of_text text = do
+unfoldable pub request_of_bytes : List ℕ → Result Request RequestFault
+request_of_bytes text = do
   json ← ok_or (json_of text) NotJson
   request_of json

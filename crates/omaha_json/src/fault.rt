@@ -25,9 +25,9 @@ pub enum RequestFault {
 // rule: Printed fault of a request
 impl fmt::Display for RequestFault {
     ghost use Rattle.std.specs.Prelude.{Some};
-    ghost use Rattle.omaha_json.specs.Faults.{fault_text};
+    ghost use Rattle.omaha_json.specs.Faults.{fault_string};
 
-    ghost output = { λ fault. Some (fault_text fault) };
+    ghost output = { λ fault. Some (fault_string fault) };
 
     fn fmt<W: fmt::Write>(&self, f: &mut fmt::Formatter<W>) -> fmt::Result {
         match self {

@@ -3,7 +3,7 @@
 //! Each function does nothing when it runs: its contract is the law.
 
 ghost use Rattle.std.specs.Prelude.{codes};
-ghost use Rattle.omaha_json.specs.RequestExamples.{UpdateRequestReads, FullRequestReads, EmptyRequestReads, IsRefused};
+ghost use Rattle.omaha_json.specs.RequestExamples.{UpdateRequestReads, FullRequestReads, EmptyRequestReads, IsInvalid};
 ghost use Rattle.omaha_json.specs.ReplyExamples.{EmptyReplyWrites, EmptyReplyLength, FullReplyWrites, DiffReplyWrites, AcknowledgingReplyWrites};
 
 use crate::fault::RequestFault;
@@ -24,12 +24,12 @@ pub fn empty_request_reads()
 {}
 
 /// Shows a request with each fault but the fifth, which takes 257 apps.
-pub fn faulty_texts_are_refused()
-    ensures not_json { IsRefused (codes "{") RequestFault.NotJson }
-    ensures no_request { IsRefused (codes "[]") RequestFault.NoRequest }
-    ensures bad_protocol { IsRefused (codes "{\"request\":{\"protocol\":\"3.0\"}}")
+pub fn faulty_requests_are_rejected()
+    ensures not_json { IsInvalid (codes "{") RequestFault.NotJson }
+    ensures no_request { IsInvalid (codes "[]") RequestFault.NoRequest }
+    ensures bad_protocol { IsInvalid (codes "{\"request\":{\"protocol\":\"3.0\"}}")
         RequestFault.BadProtocol }
-    ensures bad_app { IsRefused (codes "{\"request\":{\"app\":[1],\"protocol\":\"3.1\"}}")
+    ensures bad_app { IsInvalid (codes "{\"request\":{\"app\":[1],\"protocol\":\"3.1\"}}")
         (RequestFault.BadApp 0) }
 {}
 

@@ -3,7 +3,7 @@
 ghost use Rattle.std.specs.Prelude.{◌≡◌, IfOk, OnOk, option_map};
 ghost use Rattle.serde_json.specs.Data.{string, put as with_member};
 ghost use Rattle.serde_json.specs.View.{view, members_view};
-ghost use Rattle.omaha_json.specs.ReplyWriting.{IsWritable, status_data, package_data, manifest_data, urls_data, offer_data, check_data, with_some, acknowledgements, events_data, ping_data, update_data, known_data, unknown_data, app_data, apps_data, reply_data, reply_text};
+ghost use Rattle.omaha_json.specs.ReplyWriting.{IsWritable, status_data, package_data, manifest_data, urls_data, offer_data, check_data, with_some, acknowledgements, events_data, ping_data, update_data, known_data, unknown_data, app_data, apps_data, reply_data, reply_bytes};
 
 use crate::reply::{AppReply, AppState, CheckReply, KnownApp, Offer, Reply};
 use serde_json::{Map, Value, json, put};
@@ -17,7 +17,7 @@ fn status_value(alloc: Global, status: &str) -> Result<Value, AllocError>
     json!(in alloc; { "status": status })
 }
 
-fn put_text(
+fn put_string(
     members: &mut Map<String, Value>,
     alloc: Global,
     name: &str,
@@ -154,12 +154,12 @@ fn known_value(alloc: Global, appid: &str, app: &KnownApp) -> Result<Value, Allo
     let ping = ping_value(alloc, app.ping)?;
     let update = update_value(alloc, app.check.as_ref())?;
     let mut answer = Map::new(alloc);
-    put_text(&mut answer, alloc, "appid", appid)?;
-    put_text(&mut answer, alloc, "cohort", app.cohort.as_str())?;
-    put_text(&mut answer, alloc, "cohortname", app.name.as_str())?;
+    put_string(&mut answer, alloc, "appid", appid)?;
+    put_string(&mut answer, alloc, "cohort", app.cohort.as_str())?;
+    put_string(&mut answer, alloc, "cohortname", app.name.as_str())?;
     put_some(&mut answer, alloc, "event", event)?;
     put_some(&mut answer, alloc, "ping", ping)?;
-    put_text(&mut answer, alloc, "status", "ok")?;
+    put_string(&mut answer, alloc, "status", "ok")?;
     put_some(&mut answer, alloc, "updatecheck", update)?;
     Ok(Value::Object(answer))
 }
@@ -216,7 +216,7 @@ fn reply_value(alloc: Global, reply: &Reply) -> Result<Value, AllocError>
 // rule: Bytes of a reply
 pub fn write_reply(alloc: Global, reply: &Reply) -> Result<Vec<u8>, AllocError>
     requires { IsWritable reply.now }
-    ensures { IfOk result (λ text. text.items ≡ reply_text reply.now) }
+    ensures { IfOk result (λ text. text.items ≡ reply_bytes reply.now) }
 {
     let value = reply_value(alloc, reply)?;
     let json = value.to_vec(alloc)?;

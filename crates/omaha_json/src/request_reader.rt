@@ -6,8 +6,8 @@ ghost use Rattle.std.specs.Prelude.{◌≡◌, IfOk, option_map};
 ghost use Rattle.values.specs.Reading.{Reads};
 ghost use Rattle.serde_json.specs.View.{view, items_view};
 ghost use Rattle.std.specs.Option.{ok_or};
-ghost use Rattle.omaha_json.specs.Members.{text_at, object_at, true_at};
-ghost use Rattle.omaha_json.specs.RequestReading.{json_of, appid_of, first_package, fp_of, check_with, check_of, event_count_of, ask_with, ask_of, asks_from, asks_of, request_of, request_of_text};
+ghost use Rattle.omaha_json.specs.Members.{string_or_empty_at, object_at, true_at};
+ghost use Rattle.omaha_json.specs.RequestReading.{json_of, appid_of, first_package, fp_of, check_with, check_of, event_count_of, ask_with, ask_of, asks_from, asks_of, request_of, request_of_bytes};
 
 use crate::fault::RequestFault;
 use crate::request::{AppAsk, Check, Request};
@@ -21,8 +21,8 @@ const MAX_APPID: usize = 256;
 
 // Borrows a member that is a string, or the empty string.
 // rule: Missing member
-fn text_member<'v>(json: &'v Value, name: &str) -> &'v str
-    ensures { result.now ≡ text_at name.now (view json.now) }
+fn string_or_empty<'v>(json: &'v Value, name: &str) -> &'v str
+    ensures { result.now ≡ string_or_empty_at name.now (view json.now) }
 {
     json.get(name).and_then(Value::as_str).unwrap_or("")
 }
@@ -78,7 +78,7 @@ fn read_fp(app: &Value) -> &str
     ensures { result.now ≡ fp_of (view app.now) }
 {
     match find_package(app) {
-        Some(package) => text_member(package, "fp"),
+        Some(package) => string_or_empty(package, "fp"),
         None => "",
     }
 }
@@ -89,7 +89,7 @@ fn read_check(alloc: Global, asked: &Value) -> Result<Check, AllocError>
     Ok(Check {
         disabled: is_set(asked, "updatedisabled"),
         rollback: is_set(asked, "rollback_allowed"),
-        prefix: Text::copy_of(alloc, text_member(asked, "targetversionprefix"))?,
+        prefix: Text::copy_of(alloc, string_or_empty(asked, "targetversionprefix"))?,
     })
 }
 
@@ -117,10 +117,10 @@ fn copy_ask(alloc: Global, app: &Value, appid: &str) -> Result<AppAsk, AllocErro
 {
     Ok(AppAsk {
         appid: Text::copy_of(alloc, appid)?,
-        version: Text::copy_of(alloc, text_member(app, "version"))?,
+        version: Text::copy_of(alloc, string_or_empty(app, "version"))?,
         fp: Text::copy_of(alloc, read_fp(app))?,
-        cohort: Text::copy_of(alloc, text_member(app, "cohort"))?,
-        hint: Text::copy_of(alloc, text_member(app, "cohorthint"))?,
+        cohort: Text::copy_of(alloc, string_or_empty(app, "cohort"))?,
+        hint: Text::copy_of(alloc, string_or_empty(app, "cohorthint"))?,
         check: read_optional_check(alloc, app)?,
         ping: object_member(app, "ping").is_some(),
         events: count_events(app),
@@ -176,11 +176,11 @@ fn read_json_request(alloc: Global, json: &Value) -> Result<Request, ReadError<R
     let Some(request) = object_member(json, "request") else {
         return Err(ReadError::Fault(RequestFault::NoRequest));
     };
-    if text_member(request, "protocol") != "3.1" {
+    if string_or_empty(request, "protocol") != "3.1" {
         return Err(ReadError::Fault(RequestFault::BadProtocol));
     }
     let apps = read_apps(alloc, request.get("app"))?;
-    let session = Text::copy_of(alloc, text_member(request, "sessionid"))?;
+    let session = Text::copy_of(alloc, string_or_empty(request, "sessionid"))?;
     Ok(Request { session, apps })
 }
 
@@ -191,9 +191,9 @@ fn read_json_request(alloc: Global, json: &Value) -> Result<Request, ReadError<R
 /// one name, at most 127 levels of arrays and objects. A member of another type than the protocol's
 /// counts as missing, except `app` and `appid`.
 // rule: Faults of a request
-#[tactic(auto, unfolding(crate::specs::RequestReading::request_of_text))]
+#[tactic(auto, unfolding(crate::specs::RequestReading::request_of_bytes))]
 pub fn read_request(alloc: Global, bytes: &[u8]) -> Result<Request, ReadError<RequestFault>>
-    ensures { Reads (λ request. request) result (request_of_text bytes.now) }
+    ensures { Reads (λ request. request) result (request_of_bytes bytes.now) }
 {
     let json = parse_json(alloc, bytes)?;
     read_json_request(alloc, &json)

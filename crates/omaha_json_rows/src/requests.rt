@@ -4,7 +4,7 @@ use std::test::Fail;
 use values::ReadError;
 
 // What a body is read as: its session and asks, or its fault as it is printed.
-fn told(alloc: Global, body: &[u8]) -> Result<String, AllocError> {
+fn outcome_of(alloc: Global, body: &[u8]) -> Result<String, AllocError> {
     match read_request(alloc, body) {
         Ok(request) => shown(alloc, &request),
         Err(ReadError::Fault(fault)) => format!(in alloc; "{fault}"),
@@ -43,7 +43,7 @@ fn first_wrong(alloc: Global, rows: &str, front: &str, back: &str) -> Result<Str
             return format!(in alloc; "no row: {row}");
         };
         let body = format!(in alloc; "{front}{middle}{back}")?;
-        let got = told(alloc, body.as_str().as_bytes())?;
+        let got = outcome_of(alloc, body.as_str().as_bytes())?;
         if got.as_str() != want {
             return format!(in alloc; "{got} in place of {row}");
         }
@@ -88,14 +88,14 @@ fn reports_the_first_fault_of_a_body(rt: HostRuntime) -> Result<(), Fail> {
 
 #[test]
 fn rejects_bytes_that_are_no_utf_8(rt: HostRuntime) -> Result<(), Fail> {
-    let empty = told(rt.alloc(), b"")?;
+    let empty = outcome_of(rt.alloc(), b"")?;
     assert!(rt; empty.as_str() == "J1 NotJson");
-    let no_utf8 = told(
+    let no_utf8 = outcome_of(
         rt.alloc(),
         b"{\"request\":{\"protocol\":\"3.1\"},\"\xff\":0}",
     )?;
     assert!(rt; no_utf8.as_str() == "J1 NotJson");
-    let marked = told(
+    let marked = outcome_of(
         rt.alloc(),
         b"\xef\xbb\xbf{\"request\":{\"protocol\":\"3.1\"}}",
     )?;
@@ -169,9 +169,9 @@ const ODD_BROWSER: &str = r#"{"request":{
 #[test]
 fn ignores_the_members_that_are_not_read(rt: HostRuntime) -> Result<(), Fail> {
     let want = "s{5f}; mhjfbmdg v1.2.3 f1.ab cstable:7 h false false p true 1";
-    let got = told(rt.alloc(), BROWSER.as_bytes())?;
+    let got = outcome_of(rt.alloc(), BROWSER.as_bytes())?;
     assert!(rt; got.as_str() == want, "{got}");
-    let got = told(rt.alloc(), ODD_BROWSER.as_bytes())?;
+    let got = outcome_of(rt.alloc(), ODD_BROWSER.as_bytes())?;
     assert!(rt; got.as_str() == want, "{got}");
     Ok(())
 }
@@ -194,7 +194,11 @@ fn repeated(
 
 // Whether what a body is read as begins so.
 fn begins(alloc: Global, body: &str, want: &str) -> Result<bool, AllocError> {
-    Ok(told(alloc, body.as_bytes())?.as_str().starts_with(want))
+    Ok(
+        outcome_of(alloc, body.as_bytes())?
+            .as_str()
+            .starts_with(want),
+    )
 }
 
 #[test]

@@ -8,7 +8,7 @@ use Rattle.mirror_ledger.specs.Named.{totals_of}
 use Rattle.records.specs.declared.content.App.{App}
 use Rattle.records.specs.declared.mirror.Mirror.{Mirror}
 use Rattle.omaha_server.specs.Serving.{AreServed, AreTotals, AreWithin}
-use Rattle.omaha_server.specs.Totals.{names_of, total_line, totals_text}
+use Rattle.omaha_server.specs.Totals.{names_of, total_line, totals_string}
 
 pub names_of-last : (mirrors : List Mirror) (mirror : Mirror) → names_of (mirrors ++ mirror ∷ []) ≡ names_of mirrors ++ mirror.name ∷ []
 names_of-last mirrors mirror = map-append (λ (m : Mirror). m.name) mirrors (mirror ∷ [])

@@ -1,5 +1,5 @@
 -- What a server does from its start to its end; this project's profile.
-use Rattle.std.specs.Prelude.{◌≡◌, ◌⊎◌, ◌≤◌, ◌<◌, ◌^◌, ℕ, true, List, [], codes, length, slice_index, Option, IfSome, Result, Ok, Err}
+use Rattle.std.specs.Prelude.{◌≡◌, ◌⊎◌, ◌≤◌, ◌<◌, ◌^◌, ℕ, true, List, [], codes, length, slice_index, Option, Some, None, IfSome, Result, Ok, Err, IfErr, ⊤}
 use Rattle.std.specs.Io.KnownBytes.{Appends}
 use Rattle.http_connections.specs.Connections.{IsSession, Visit, Visits, limit_of}
 use Rattle.http_connections.specs.Opening.{ready_line}
@@ -16,7 +16,7 @@ use Rattle.streams.specs.Writing.{Breaks}
 use Rattle.update_desk.specs.Answering.{Stock}
 use Rattle.update_desk.specs.Asking.{GrantsFirst}
 use Rattle.update_desk.specs.Desks.{IsCall}
-use Rattle.omaha_server.specs.Totals.{names_of, totals_text}
+use Rattle.omaha_server.specs.Totals.{names_of, totals_string}
 use Rattle.omaha_server.specs.declared.error.ServerError.{ServerError}
 use Rattle.omaha_server.specs.declared.error.ServerError.TheVariants as server
 
@@ -78,12 +78,24 @@ Stops old new server.Log = new ≡ old
 Stops old new server.Write = Breaks old new ready_line
 Stops old new server.Memory = (new ≡ old) ⊎ IsReady old new
 
+-- an error that isn't that of a log
+abbrev pub IsUnlogged : ServerError → Type 0
+IsUnlogged server.Net = ⊤
+IsUnlogged server.Log = ⊥
+IsUnlogged server.Write = ⊤
+IsUnlogged server.Memory = ⊤
+
+-- a log that could not be opened is one that was asked for
+abbrev pub IsLogged : Option (List ℕ) → Result (Unit {0}) ServerError → Type 0
+IsLogged (Some path) result = ⊤
+IsLogged None result = IfErr result IsUnlogged
+
 -- the lines of the totals were written; or a first part of them
 abbrev pub PrintsTotals : Stock → List ℕ → Known → Known → Result (Unit {0}) ServerError → Type 0
 PrintsTotals stock totals old new (Ok done) =
-    Appends old.bytes new.bytes (totals_text (names_of stock.mirrors) totals)
+    Appends old.bytes new.bytes (totals_string (names_of stock.mirrors) totals)
 PrintsTotals stock totals old new (Err error) =
-    (error ≡ server.Write) × Breaks old new (totals_text (names_of stock.mirrors) totals)
+    (error ≡ server.Write) × Breaks old new (totals_string (names_of stock.mirrors) totals)
 
 -- rule: Run of a server
 -- the sessions were served after `ready`, and the totals printed after them, whole or not; or the server

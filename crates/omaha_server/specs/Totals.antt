@@ -13,5 +13,5 @@ total_line row = row.0 ++ codes " " ++ decimal row.1 ++ codes "\n"
 
 -- rule: Lines of the totals
 -- a line for each mirror, in order
-abbrev pub totals_text : List (List ℕ) → List ℕ → List ℕ
-totals_text names totals = flat_map total_line (zip names totals)
+abbrev pub totals_string : List (List ℕ) → List ℕ → List ℕ
+totals_string names totals = flat_map total_line (zip names totals)

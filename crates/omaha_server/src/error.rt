@@ -1,7 +1,7 @@
 // Why a server ends early.
 
 ghost use Rattle.std.specs.Prelude.{◌≡◌};
-ghost use Rattle.omaha_server.specs.Serving.{error_of};
+ghost use Rattle.omaha_server.specs.Serving.{IsUnlogged, error_of};
 
 use http_connections::ServeError;
 
@@ -20,7 +20,8 @@ pub enum ServerError {
 
 // The error of a server whose connections could not be served.
 pub(crate) fn error_of(error: ServeError) -> ServerError
-    ensures { result ≡ error_of error }
+    ensures error { result ≡ error_of error }
+    ensures unlogged { IsUnlogged result }
 {
     match error {
         ServeError::Net => ServerError::Net,

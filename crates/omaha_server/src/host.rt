@@ -1,6 +1,6 @@
 // What can serve.
 
-ghost use Rattle.omaha_server.specs.Serving.{Serves};
+ghost use Rattle.omaha_server.specs.Serving.{IsLogged, Serves};
 ghost use Rattle.omaha_service.specs.Answering.{stock_of};
 
 use crate::error::ServerError;
@@ -21,7 +21,8 @@ pub trait Host {
         place: &Place,
         out: &mut W,
     ) -> Result<(), ServerError>
-        ensures { Serves (stock_of service) place.now.sessions (W.output out.old) (W.output out.new) result };
+        ensures serves { Serves (stock_of service) place.now.sessions (W.output out.old) (W.output out.new) result }
+        ensures logged { IsLogged place.now.log result };
 }
 
 impl<R: Net<Listener = TcpListener, Stream = TcpStream> + Clock + Files + Wait + AllocGlobal> Host

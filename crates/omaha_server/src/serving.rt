@@ -5,12 +5,12 @@ ghost use Rattle.editions.specs.Editions.{content_of};
 ghost use Rattle.mirror_ledger.specs.Asks.{AreTallied};
 ghost use Rattle.mirror_ledger.specs.Named.{IsNamed, totals_of};
 ghost use Rattle.mirror_ledger.specs.Order.{HaveOnePart};
-ghost use Rattle.omaha_server.specs.Serving.{AreServed, AreTotals, AreWithin, IsReady, Serves, Stops, error_of};
+ghost use Rattle.omaha_server.specs.Serving.{AreServed, AreTotals, AreWithin, IsLogged, IsReady, IsUnlogged, Serves, Stops, error_of};
 ghost use Rattle.omaha_service.specs.Answering.{stock_of};
 
 use crate::error::{ServerError, error_of};
 use crate::logging::open_log;
-use crate::totals::{names_of, totals_text};
+use crate::totals::{names_of, totals_string};
 use access_logs::AccessLog;
 use editions::Edition;
 use http_connections::{ServeError, serve_clients};
@@ -164,6 +164,7 @@ fn serve_over<
     ensures ok { IfOk result (λ totals.
         AreTotals (stock_of service) place.now.sessions totals.items × IsReady (W.output out.old) (W.output out.new)) }
     ensures err { IfErr result (λ error. Stops (W.output out.old) (W.output out.new) error) }
+    ensures unlogged { IfErr result IsUnlogged }
 {
     let Service { edition, mirrors } = service;
     let alloc = rt.alloc();
@@ -192,7 +193,8 @@ fn serve_watched<
     W: WriteWhole,
     V: Watch,
 >(rt: &R, service: Service, place: &Place, out: &mut W, watch: &V) -> Result<(), ServerError>
-    ensures { Serves (stock_of service) place.now.sessions (W.output out.old) (W.output out.new) result }
+    ensures serves { Serves (stock_of service) place.now.sessions (W.output out.old) (W.output out.new) result }
+    ensures unlogged { IfErr result IsUnlogged }
 {
     let Ok(names) = names_of(rt.alloc(), service.mirrors.as_slice()) else {
         return Err(ServerError::Memory);
@@ -201,7 +203,7 @@ fn serve_watched<
     let totals = serve_over::<Brand, Brand, Brand, Brand, R, W, V>(
         rt, blanks, service, place, out, watch,
     )?;
-    let Ok(text) = totals_text(rt.alloc(), names.as_slice(), &totals) else {
+    let Ok(text) = totals_string(rt.alloc(), names.as_slice(), &totals) else {
         return Err(ServerError::Memory);
     };
     match out.write_whole(text.as_str().as_bytes()) {
@@ -239,7 +241,8 @@ pub fn serve<
     R: Net<Listener = TcpListener, Stream = TcpStream> + Clock + Files + Wait + AllocGlobal,
     W: WriteWhole,
 >(rt: &R, service: Service, place: &Place, out: &mut W) -> Result<(), ServerError>
-    ensures { Serves (stock_of service) place.now.sessions (W.output out.old) (W.output out.new) result }
+    ensures serves { Serves (stock_of service) place.now.sessions (W.output out.old) (W.output out.new) result }
+    ensures logged { IsLogged place.now.log result }
 {
     match &place.log {
         None => serve_watched(rt, service, place, out, &Unwatched),

@@ -1,7 +1,7 @@
 // The lines of the mirrors' totals.
 
 ghost use Rattle.std.specs.Prelude.{◌≡◌, IfOk, Some, string_bytes};
-ghost use Rattle.omaha_server.specs.Totals.{names_of, total_line, totals_text};
+ghost use Rattle.omaha_server.specs.Totals.{names_of, total_line, totals_string};
 
 use records::Mirror;
 use std::alloc::{AllocError, Global};
@@ -46,12 +46,12 @@ fn line_of(alloc: Global, name: &str, total: u64) -> Result<String, AllocError>
 
 // rule: Lines of the totals
 /// The lines of the mirrors of those names.
-pub(crate) fn totals_text(
+pub(crate) fn totals_string(
     alloc: Global,
     names: &[Text],
     totals: &[u64],
 ) -> Result<String, AllocError>
-    ensures { IfOk result (λ text. string_bytes text ≡ totals_text names.now totals.now) }
+    ensures { IfOk result (λ text. string_bytes text ≡ totals_string names.now totals.now) }
 {
     let mut text = String::new(alloc);
     for index in 0..names.len().min(totals.len()) {

@@ -3,7 +3,7 @@
 use Rattle.std.specs.Prelude.{ℕ, List, [], Result, Ok, Err}
 use Rattle.editions.specs.Editions.{content_of}
 use Rattle.mirror_ledger.specs.Asks.{Ask}
-use Rattle.omaha_json.specs.RequestReading.{request_of_text}
+use Rattle.omaha_json.specs.RequestReading.{request_of_bytes}
 use Rattle.omaha_json.specs.declared.fault.RequestFault.{RequestFault}
 use Rattle.update_desk.specs.Answering.{Answers as IsAnswered, Stock}
 use Rattle.update_desk.specs.Asking.{AreGranted}
@@ -21,4 +21,4 @@ stock_of service = record { content = content_of service.edition; mirrors = serv
 abbrev pub Answers : Service → ℕ → List ℕ → Result (List ℕ) (ReadError RequestFault) → Type 0
 Answers service moment input (Ok reply) =
     (asks : List Ask) × IsAnswered (stock_of service) input moment [] asks (Ok reply) × AreGranted service.mirrors [] asks
-Answers service moment input (Err error) = Explains error (request_of_text input)
+Answers service moment input (Err error) = Explains error (request_of_bytes input)

@@ -1,4 +1,4 @@
 pub mod Answering
 pub mod Builtin
-pub mod FaultTexts
+pub mod FaultStrings
 pub mod Services

@@ -5,7 +5,7 @@ use Rattle.records.specs.declared.content.App.{App}
 use Rattle.records.specs.declared.mirror.Mirror.{Mirror}
 use Rattle.catalogue.specs.declared.edit.Edit.{Edit}
 use Rattle.catalogue.specs.declared.fault.Refused.{Refused}
-use Rattle.profile_toml.specs.Reading.{profile_of_text}
+use Rattle.profile_toml.specs.Reading.{profile_of_bytes}
 use Rattle.profile_toml.specs.declared.fault.ProfileFault.{ProfileFault}
 use Rattle.omaha_service.specs.declared.fault.ServiceFault.{ServiceFault}
 use Rattle.omaha_service.specs.declared.fault.ServiceFault.TheVariants as fault
@@ -31,5 +31,5 @@ service_by (Err reason) = Err (fault.Profile reason)
 
 -- rule: Service of a profile
 -- the service of a profile's bytes; its first fault, or the first of its edits that is rejected
-abbrev pub service_of_text : List ℕ → Result Service ServiceFault
-service_of_text text = service_by (profile_of_text text)
+abbrev pub service_of_bytes : List ℕ → Result Service ServiceFault
+service_of_bytes text = service_by (profile_of_bytes text)

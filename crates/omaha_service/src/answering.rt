@@ -13,7 +13,7 @@ use std::sync::Wait;
 use values::ReadError;
 
 // Replies over books whose ledgers have these names, for one worker.
-fn answer_over<A: BudgetName, B: BudgetName, C: BudgetName, D: BudgetName, R: Wait>(
+fn reply_over<A: BudgetName, B: BudgetName, C: BudgetName, D: BudgetName, R: Wait>(
     rt: &R,
     alloc: Global,
     blanks: Blanks,
@@ -60,5 +60,5 @@ pub fn answer<R: Wait>(
     ensures refused { IfErr result (λ error. Answers service moment input.now (Err error)) }
 {
     let blanks = Blanks::new(1);
-    answer_over::<Brand, Brand, Brand, Brand, R>(rt, alloc, blanks, service, moment, input)
+    reply_over::<Brand, Brand, Brand, Brand, R>(rt, alloc, blanks, service, moment, input)
 }

@@ -1,5 +1,5 @@
 ghost use Rattle.std.specs.Prelude.{Some};
-ghost use Rattle.omaha_service.specs.FaultTexts.{fault_text};
+ghost use Rattle.omaha_service.specs.FaultStrings.{fault_string};
 
 use catalogue::Refused;
 use profile_toml::ProfileFault;
@@ -17,7 +17,7 @@ pub enum ServiceFault {
 
 // rule: Printed fault of a service
 impl fmt::Display for ServiceFault {
-    ghost output = { λ fault. Some (fault_text fault) };
+    ghost output = { λ fault. Some (fault_string fault) };
 
     fn fmt<W: fmt::Write>(&self, f: &mut fmt::Formatter<W>) -> fmt::Result {
         match self {

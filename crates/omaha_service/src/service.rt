@@ -3,7 +3,7 @@
 ghost use Rattle.std.specs.Prelude.{◌≡◌, IfOk};
 ghost use Rattle.editions.specs.Editions.{content_of};
 ghost use Rattle.omaha_service.specs.Builtin.{builtin_apps, builtin_service};
-ghost use Rattle.omaha_service.specs.Services.{service_of, service_of_text};
+ghost use Rattle.omaha_service.specs.Services.{service_of, service_of_bytes};
 ghost use Rattle.profile_toml.specs.Laws.{AreMirrors};
 ghost use Rattle.values.specs.Reading.{Reads};
 
@@ -66,7 +66,7 @@ fn publish(
 /// Fails with the profile's first fault, as `profile_toml::read_profile` does; else with the first of
 /// its edits that the empty catalogue rejects.
 pub fn read_service(alloc: Global, profile: &[u8]) -> Result<Service, ReadError<ServiceFault>>
-    ensures { Reads (λ service. service) result (service_of_text profile.now) }
+    ensures { Reads (λ service. service) result (service_of_bytes profile.now) }
 {
     laws::mirrors();
     match read_profile(alloc, profile) {

@@ -12,7 +12,7 @@ use Rattle.update_client.specs.declared.fault.Fault.{Fault}
 use Rattle.update_client.specs.declared.installer.Step.{Step}
 use Rattle.update_client.proofs.WalkLemmas.{Follows-more, posts-more, addresses-more, bytes-more}
 use Rattle.omaha_walk.specs.Lines.{done_line, lines_from, step_line}
-use Rattle.omaha_walk.specs.Walking.{ArePrinted, IsWalk, IsTold, IsClosed, error_of}
+use Rattle.omaha_walk.specs.Walking.{ArePrinted, IsWalk, IsPrinted, IsClosed, error_of}
 use Rattle.omaha_walk.specs.declared.error.WalkError.{WalkError}
 use Rattle.omaha_walk.specs.declared.error.WalkError.TheVariants as walk
 
@@ -142,7 +142,7 @@ so_far-more client after old new asked opened before between out steps bytes ste
 pub walk_breaks : (client after : Installed) (old new : List Post) (asked opened : List (List ℕ))
     (received : List ℕ) (ended : Type 0) (before between out : Known) (steps bytes : ℕ) (step : Step) (error : WalkError)
     → OneMore client after old new asked opened before between steps bytes step
-    → IsTold steps step between out (Err error)
+    → IsPrinted steps step between out (Err error)
     → IsWalk client after old new asked opened received ended before out (Err error)
 walk_breaks client after old new asked opened received ended before between out steps bytes step (walk.Fault found) more (is, broke) =
     let P : List ℕ → Type 0 = Breaks between out in

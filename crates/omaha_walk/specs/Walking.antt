@@ -79,12 +79,12 @@ pub record IsWalkOver (client after : Installed) (before out : Known) (result : 
   pub walk : IsWalk client after old new asked opened received (left ≡ 0) before out result
 
 -- the line of a step is printed, or broke, or there was no memory for it
-abbrev pub IsTold : ℕ → Step → Known → Known → Result (Unit {0}) WalkError → Type 0
-IsTold number step before out (Ok done) = Appends before.bytes out.bytes (step_line number step)
-IsTold number step before out (Err (walk.Fault found)) =
+abbrev pub IsPrinted : ℕ → Step → Known → Known → Result (Unit {0}) WalkError → Type 0
+IsPrinted number step before out (Ok done) = Appends before.bytes out.bytes (step_line number step)
+IsPrinted number step before out (Err (walk.Fault found)) =
     (found ≡ fault.Install) × Breaks before out (step_line number step)
-IsTold number step before out (Err walk.Write) = ⊥
-IsTold number step before out (Err walk.Memory) = out ≡ before
+IsPrinted number step before out (Err walk.Write) = ⊥
+IsPrinted number step before out (Err walk.Memory) = out ≡ before
 
 -- the same of the last line
 abbrev pub IsClosed : ℕ → ℕ → Known → Known → Result (Unit {0}) WalkError → Type 0

@@ -1,7 +1,7 @@
 //! A walk with a line for each step.
 
 ghost use Rattle.std.specs.Prelude.{◌≡◌, ◌<◌, [], length};
-ghost use Rattle.omaha_walk.specs.Walking.{IsClosed, IsTold, IsWalk};
+ghost use Rattle.omaha_walk.specs.Walking.{IsClosed, IsPrinted, IsWalk};
 
 use crate::error::WalkError;
 use crate::keeper::Keeper;
@@ -20,7 +20,7 @@ fn print_step<W: WriteWhole>(
     step: &Step,
     out: &mut W,
 ) -> Result<(), WalkError>
-    ensures { IsTold number step.now (W.output out.old) (W.output out.new) result }
+    ensures { IsPrinted number step.now (W.output out.old) (W.output out.new) result }
 {
     let line = StepLine { number, step };
     let line = format!(in alloc; "{line}")?;

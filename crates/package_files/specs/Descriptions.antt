@@ -9,8 +9,8 @@ use Rattle.package_files.specs.declared.describing.DescribeError.{DescribeError}
 use Rattle.package_files.specs.declared.describing.DescribeError.TheVariants as error
 
 -- the lines of a name, a size and the digits of a SHA-256; a package's name needs no escapes
-abbrev pub description_text : List ℕ → ℕ → List ℕ → List ℕ
-description_text name size digits =
+abbrev pub description_string : List ℕ → ℕ → List ℕ → List ℕ
+description_string name size digits =
     codes "name = \"" ++ name ++ codes "\"\nsize = " ++ decimal size ++ codes "\nsha256 = \"" ++ digits
     ++ codes "\"\n"
 
@@ -29,15 +29,15 @@ abbrev pub Describes : Sizes → Reads → List ℕ → Result (List ℕ) Descri
 Describes sizes reads name (Ok text) =
     (is_package_name name ≡ true)
     × ((size : ℕ) × (hash : List ℕ) × IsMeasured sizes reads size hash
-    × (text ≡ description_text name size (encode_lower hash)))
+    × (text ≡ description_string name size (encode_lower hash)))
 Describes sizes reads name (Err error.Name) = is_package_name name ≡ false
 Describes sizes reads name (Err error.Missing) = (is_package_name name ≡ true) × sizes None
 Describes sizes reads name (Err error.Unreadable) = (is_package_name name ≡ true) × IsUnreadable sizes reads
 Describes sizes reads name (Err error.Memory) = ⊤
 
 -- why a file is not described, in a few words
-abbrev pub error_text : DescribeError → List ℕ
-error_text error.Name = codes "no package name"
-error_text error.Missing = codes "missing"
-error_text error.Unreadable = codes "unreadable"
-error_text error.Memory = codes "memory"
+abbrev pub error_string : DescribeError → List ℕ
+error_string error.Name = codes "no package name"
+error_string error.Missing = codes "missing"
+error_string error.Unreadable = codes "unreadable"
+error_string error.Memory = codes "memory"

@@ -1,4 +1,4 @@
 pub mod Descriptions
-pub mod FindingTexts
+pub mod FindingStrings
 pub mod Findings
 pub mod Hashing

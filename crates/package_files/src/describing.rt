@@ -2,7 +2,7 @@
 
 ghost use Rattle.std.specs.Prelude.{◌≡◌, Err, IfErr, IfOk, Ok, Some, string_bytes};
 ghost use Rattle.hex.specs.Hex.{encode_lower};
-ghost use Rattle.package_files.specs.Descriptions.{Describes, description_text};
+ghost use Rattle.package_files.specs.Descriptions.{Describes, description_string};
 
 use crate::hashing::hash_package;
 use http_packages::{BLOCK, Packages};
@@ -26,9 +26,9 @@ pub enum DescribeError {
 
 /// Writes why in a few words.
 impl fmt::Display for DescribeError {
-    ghost use Rattle.package_files.specs.Descriptions.{error_text};
+    ghost use Rattle.package_files.specs.Descriptions.{error_string};
 
-    ghost output = { λ error. Some (error_text error) };
+    ghost output = { λ error. Some (error_string error) };
 
     fn fmt<W: fmt::Write>(&self, f: &mut fmt::Formatter<W>) -> fmt::Result {
         match self {
@@ -62,7 +62,7 @@ struct Description<'a> {
 }
 
 impl fmt::Display for Description<'_> {
-    ghost output = { λ file. Some (description_text file.name.now file.size file.digits.now) };
+    ghost output = { λ file. Some (description_string file.name.now file.size file.digits.now) };
 
     fn fmt<W: fmt::Write>(&self, f: &mut fmt::Formatter<W>) -> fmt::Result {
         let name = self.name;
@@ -77,7 +77,7 @@ impl fmt::Display for Description<'_> {
 
 // Writes the three lines of a file.
 fn write_lines(alloc: Global, name: &str, size: u64, hash: [u8; 32]) -> Result<String, AllocError>
-    ensures { IfOk result (λ text. string_bytes text ≡ description_text name.now size (encode_lower hash)) }
+    ensures { IfOk result (λ text. string_bytes text ≡ description_string name.now size (encode_lower hash)) }
 {
     let digits = hex::encode(alloc, hash)?;
     let description = Description {

@@ -1,5 +1,5 @@
 ghost use Rattle.std.specs.Prelude.{Some};
-ghost use Rattle.package_files.specs.FindingTexts.{finding_text, mismatch_text};
+ghost use Rattle.package_files.specs.FindingStrings.{finding_string, mismatch_string};
 
 use percent_encoding::{CONTROLS, percent_encode};
 use std::fmt;
@@ -25,7 +25,7 @@ pub enum Mismatch {
 
 /// Writes what differs in a few words.
 impl fmt::Display for Mismatch {
-    ghost output = { λ mismatch. Some (mismatch_text mismatch) };
+    ghost output = { λ mismatch. Some (mismatch_string mismatch) };
 
     fn fmt<W: fmt::Write>(&self, f: &mut fmt::Formatter<W>) -> fmt::Result {
         match *self {
@@ -52,7 +52,7 @@ pub struct Finding {
 /// Control characters and bytes outside ASCII, which no name of a catalogue has, are written as `%` and two
 /// hexadecimal digits.
 impl fmt::Display for Finding {
-    ghost output = { λ finding. Some (finding_text finding) };
+    ghost output = { λ finding. Some (finding_string finding) };
 
     fn fmt<W: fmt::Write>(&self, f: &mut fmt::Formatter<W>) -> fmt::Result {
         let name = percent_encode(self.name.as_str().as_bytes(), CONTROLS);

@@ -1,7 +1,7 @@
 // The lines of findings.
 
 ghost use Rattle.std.specs.Prelude.{◌≡◌, IfOk, string_bytes};
-ghost use Rattle.package_reports.specs.Findings.{finding_line, findings_text};
+ghost use Rattle.package_reports.specs.Findings.{finding_line, findings_string};
 
 use package_files::Finding;
 use std::alloc::{AllocError, Global};
@@ -15,8 +15,8 @@ fn line_of(alloc: Global, finding: &Finding) -> Result<String, AllocError>
 
 // rule: Lines of findings
 /// Writes a line for each finding, in their order.
-pub fn findings_text(alloc: Global, findings: &[Finding]) -> Result<String, AllocError>
-    ensures { IfOk result (λ text. string_bytes text ≡ findings_text findings.now) }
+pub fn findings_string(alloc: Global, findings: &[Finding]) -> Result<String, AllocError>
+    ensures { IfOk result (λ text. string_bytes text ≡ findings_string findings.now) }
 {
     let mut text = String::new(alloc);
     for finding in findings {

@@ -7,7 +7,7 @@ use Rattle.std.proofs.lemmas.List.{get_or-map, length-map}
 use Rattle.std.proofs.lemmas.Option.{slice_get-get_or}
 use Rattle.version.specs.Laws.{BelowIsIrreflexive, BelowIsTransitive}
 use Rattle.records.specs.Forms.{is_size}
-use Rattle.records.specs.Validity.{is_good_diff}
+use Rattle.records.specs.Validity.{is_valid_diff}
 use Rattle.records.specs.declared.content.App.{App}
 use Rattle.records.specs.declared.content.Cohort.{Cohort}
 use Rattle.records.specs.declared.content.Diff.{Diff}
@@ -19,7 +19,7 @@ use Rattle.payload_graph.proofs.DoorLemmas.{get_or-doors_of}
 use Rattle.payload_graph.proofs.IndexLemmas.{IsIndex, IsIndex-released, find-index_of, index_of-below, released_one}
 use Rattle.payload_graph.proofs.OrderLemmas.{list_all-get_or}
 use Rattle.payload_graph.proofs.UpwardLemmas.{and-true, leads_up-above, leads_up-inside, leads_up-past}
-use Rattle.payload_graph.proofs.WalkLemmas.{AreGood, LeadsUp-good, ends_above, pairs_rise}
+use Rattle.payload_graph.proofs.WalkLemmas.{AreValid, LeadsUp-good, ends_above, pairs_rise}
 use Rattle.payload_graph.specs.Net.{differs_of, doors_of, edge_of, net_of, net_with, resolved_of, version_of_index}
 use Rattle.payload_graph.specs.Soundness.{AreResolved, is_reached, net_from, no_door, reach_of}
 use Rattle.payload_graph.specs.declared.door.Door.{Door}
@@ -41,7 +41,7 @@ filter-map_agree {A} {B} good f p q agrees (x ∷ xs) all =
     both true = refl
     both false = refl
 
-module _ (irreflexive : BelowIsIrreflexive) (transitive : BelowIsTransitive) (app : App) (are : AreGood app.releases app.diffs) where
+module _ (irreflexive : BelowIsIrreflexive) (transitive : BelowIsTransitive) (app : App) (are : AreValid app.releases app.diffs) where
   -- resolved differentials lead up and are sorted by origin
   pub AreResolved-app : AreResolved (length app.releases) (resolved_of app)
   AreResolved-app = record {
@@ -82,8 +82,8 @@ module _ (irreflexive : BelowIsIrreflexive) (transitive : BelowIsTransitive) (ap
       some_diff [] k within = absurd (omega arith)
       some_diff (diff ∷ diffs) k within = diff
 
-      good_at : (k : ℕ) (d : Diff) → k < length app.diffs → is_good_diff app.releases (get_or app.diffs k d) ≡ true
-      good_at k d within = list_all-get_or (is_good_diff app.releases) app.diffs k d are.good within
+      good_at : (k : ℕ) (d : Diff) → k < length app.diffs → is_valid_diff app.releases (get_or app.diffs k d) ≡ true
+      good_at k d within = list_all-get_or (is_valid_diff app.releases) app.diffs k d are.good within
 
   module _ (cohort : Cohort) (target : ℕ) (aimed : target < length app.releases) where
     abbrev doors : List Door
@@ -91,7 +91,7 @@ module _ (irreflexive : BelowIsIrreflexive) (transitive : BelowIsTransitive) (ap
 
     -- a differential is reached if it is permitted
     reached-at :
-        (diff : Diff) → is_good_diff app.releases diff ≡ true →
+        (diff : Diff) → is_valid_diff app.releases diff ≡ true →
         is_reached target doors (edge_of app.releases diff)
         ≡ permits_differ app.releases cohort (version_of_index app.releases target) diff
     reached-at diff good =
@@ -145,7 +145,7 @@ module _ (irreflexive : BelowIsIrreflexive) (transitive : BelowIsTransitive) (ap
 
     pub reached_are_permitted : filter (is_reached target doors) (resolved_of app) ≡ differs_of app cohort target
     reached_are_permitted =
-        filter-map_agree (is_good_diff app.releases) (edge_of app.releases) (is_reached target doors) (permits_differ app.releases cohort (version_of_index app.releases target)) reached-at app.diffs are.good
+        filter-map_agree (is_valid_diff app.releases) (edge_of app.releases) (is_reached target doors) (permits_differ app.releases cohort (version_of_index app.releases target)) reached-at app.diffs are.good
 
     -- the graph of the releases and resolved differentials is the track's
     pub net_from-app : (key : TrackKey) → net_from key cohort app.releases target (resolved_of app) ≡ net_of app key cohort target

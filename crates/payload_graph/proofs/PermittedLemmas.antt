@@ -8,7 +8,7 @@ use Rattle.std.proofs.lemmas.Slice.Eq.{bytes_eq-Decides}
 use Rattle.version.specs.Laws.{BelowIsIrreflexive, BelowIsTransitive}
 use Rattle.version.specs.Versions.{is_below}
 use Rattle.records.specs.Lookups.{is_release}
-use Rattle.records.specs.Validity.{IsValidApp, is_good_diff}
+use Rattle.records.specs.Validity.{IsValidApp, is_valid_diff}
 use Rattle.records.specs.declared.content.App.{App}
 use Rattle.records.specs.declared.content.Cohort.{Cohort}
 use Rattle.records.specs.declared.content.Diff.{Diff}
@@ -80,7 +80,7 @@ module _ (irreflexive : BelowIsIrreflexive) (transitive : BelowIsTransitive) (ap
 
   -- it starts at the release
   starts-at :
-      (diff : Diff) → is_good_diff app.releases diff ≡ true →
+      (diff : Diff) → is_valid_diff app.releases diff ≡ true →
       starts_at app.releases (At from) diff ≡ eqb from (index_of app.releases diff.from)
   starts-at diff good =
       let up = LeadsUp-good app.releases diff good in
@@ -113,7 +113,7 @@ module _ (irreflexive : BelowIsIrreflexive) (transitive : BelowIsTransitive) (ap
       permits app key (At from) (Differ k)
       ≡ (leaves from (edge_of app.releases (get_or app.diffs k d)) && passes (get_or app.diffs k d))
   permits-at k d within =
-      let good = list_all-get_or (is_good_diff app.releases) app.diffs k d valid.diffs_good within in
+      let good = list_all-get_or (is_valid_diff app.releases) app.diffs k d valid.diffs_valid within in
       let aimed = ap (λ found. option_map_or (λ (r : Release). r.version) found []) track.release_there in
       rw (track.cohort_there, track.targeted, slice_get-get_or app.diffs k d within)
       (ap (λ version. starts_at app.releases (At from) (get_or app.diffs k d) && permits_differ app.releases cohort version (get_or app.diffs k d)) (sym aimed)

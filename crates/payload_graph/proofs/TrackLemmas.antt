@@ -8,7 +8,7 @@ use Rattle.std.proofs.lemmas.Option.{cond_some, get_or_from_slice_get, slice_get
 use Rattle.version.specs.Laws.{BelowIsIrreflexive, BelowIsTransitive}
 use Rattle.records.specs.Forms.{is_hash, is_package_name, is_size}
 use Rattle.records.specs.Lookups.{is_release}
-use Rattle.records.specs.Validity.{IsValid, IsValidApp, is_good_audience, is_good_release, spells}
+use Rattle.records.specs.Validity.{IsValid, IsValidApp, is_valid_audience, is_valid_release, spells}
 use Rattle.records.specs.declared.content.App.{App}
 use Rattle.records.specs.declared.content.Cohort.{Cohort}
 use Rattle.records.specs.declared.content.Release.{Release}
@@ -17,18 +17,18 @@ use Rattle.payload_rules.specs.Chains.{lane_target}
 use Rattle.payload_rules.specs.declared.payload.TrackKey.{TrackKey}
 use Rattle.payload_graph.proofs.DifferLemmas.{net_from-app}
 use Rattle.payload_graph.proofs.OrderLemmas.{list_all-get_or}
-use Rattle.payload_graph.proofs.WalkLemmas.{AreGood}
+use Rattle.payload_graph.proofs.WalkLemmas.{AreValid}
 use Rattle.payload_graph.specs.Net.{Net, net_among, net_in, net_of, resolved_at, resolved_of}
 use Rattle.payload_graph.specs.Soundness.{AreBounded, net_from, net_in_app, net_in_cohort}
 
 -- an app of a valid content has valid differentials
-pub AreGood-app :
+pub AreValid-app :
     (apps : List App) (index : ℕ) (app : App) →
-    IsValid apps → slice_get apps index ≡ Some app → AreGood app.releases app.diffs
-AreGood-app apps index app valid there =
+    IsValid apps → slice_get apps index ≡ Some app → AreValid app.releases app.diffs
+AreValid-app apps index app valid there =
     let within = slice_get_within apps index app there in
     let own = subst IsValidApp (get_or_from_slice_get apps index app app there) (All-from_recursion IsValidApp apps valid.apps_valid index app within) in
-    record { rises = own.releases_ascend; sorted = own.diffs_ascend; good = own.diffs_good }
+    record { rises = own.releases_ascend; sorted = own.diffs_ascend; good = own.diffs_valid }
 
 -- it has few releases, of valid sizes
 pub AreBounded-app :
@@ -40,12 +40,12 @@ AreBounded-app apps index app valid there =
     record {
       few = own.few_releases;
       sized = λ k d inside.
-          sized-release app.cohorts (get_or app.releases k d) (list_all-get_or (is_good_release app.cohorts) app.releases k d own.releases_good inside);
+          sized-release app.cohorts (get_or app.releases k d) (list_all-get_or (is_valid_release app.cohorts) app.releases k d own.releases_valid inside);
     }
   where
-    sized-release : (cohorts : List Cohort) (release : Release) → is_good_release cohorts release ≡ true → is_size release.size ≡ true
+    sized-release : (cohorts : List Cohort) (release : Release) → is_valid_release cohorts release ≡ true → is_size release.size ≡ true
     sized-release cohorts release good =
-        let audience = and_parts (spells release.spelled release.version && is_package_name release.name && is_size release.size && is_hash release.hash) (is_good_audience cohorts release.audience) good in
+        let audience = and_parts (spells release.spelled release.version && is_package_name release.name && is_size release.size && is_hash release.hash) (is_valid_audience cohorts release.audience) good in
         let hashed = and_parts (spells release.spelled release.version && is_package_name release.name && is_size release.size) (is_hash release.hash) audience.0 in
         (and_parts (spells release.spelled release.version && is_package_name release.name) (is_size release.size) hashed.0).1
 
@@ -66,7 +66,7 @@ target-within app cohort key target found = cases (target_of cohort key.lane) fo
 -- with the app's own differentials, the graph is the track's
 pub net_in_app-own :
     BelowIsIrreflexive → BelowIsTransitive → (app : App) (key : TrackKey) →
-    AreGood app.releases app.diffs → net_in_app app key (resolved_of app) ≡ net_in app key
+    AreValid app.releases app.diffs → net_in_app app key (resolved_of app) ≡ net_in app key
 net_in_app-own irreflexive transitive app key are = cases (slice_get app.cohorts key.cohort)
   where
     own :

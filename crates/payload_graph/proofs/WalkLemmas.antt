@@ -10,7 +10,7 @@ use Rattle.version.specs.Versions.{is_below}
 use Rattle.records.specs.Forms.{is_hash, is_package_name, is_size}
 use Rattle.records.specs.Lookups.{has_release}
 use Rattle.values.specs.Ordered.{ascend}
-use Rattle.records.specs.Validity.{is_diff_before, is_good_diff, is_release_below}
+use Rattle.records.specs.Validity.{is_diff_before, is_valid_diff, is_release_below}
 use Rattle.records.specs.declared.content.Diff.{Diff}
 use Rattle.records.specs.declared.content.Release.{Release}
 use Rattle.payload_rules.specs.Chains.{index_of}
@@ -27,7 +27,7 @@ pub record LeadsUp (releases : List Release) (diff : Diff) : Type 0 where
   pub ends : has_release releases diff.to ≡ true
   pub sized : is_size diff.size ≡ true
 
-pub LeadsUp-good : (releases : List Release) (diff : Diff) → is_good_diff releases diff ≡ true → LeadsUp releases diff
+pub LeadsUp-good : (releases : List Release) (diff : Diff) → is_valid_diff releases diff ≡ true → LeadsUp releases diff
 LeadsUp-good releases diff good =
     let hashed = and_parts (is_below diff.from diff.to && has_release releases diff.from && has_release releases diff.to && is_package_name diff.name && is_size diff.size) (is_hash diff.hash) good in
     let sized = and_parts (is_below diff.from diff.to && has_release releases diff.from && has_release releases diff.to && is_package_name diff.name) (is_size diff.size) hashed.0 in
@@ -54,14 +54,14 @@ abbrev pub differ : ℕ → ℕ → ℕ → Edge
 differ from to bytes = record { from = from; to = to; kind = kind.Differ; bytes = bytes }
 
 -- differentials of valid releases
-pub record AreGood (releases : List Release) (diffs : List Diff) : Type 0 where
+pub record AreValid (releases : List Release) (diffs : List Diff) : Type 0 where
   pub rises : ascend is_release_below releases ≡ true
   pub sorted : ascend is_diff_before diffs ≡ true
-  pub good : list_all (is_good_diff releases) diffs ≡ true
+  pub good : list_all (is_valid_diff releases) diffs ≡ true
 
-module _ (irreflexive : BelowIsIrreflexive) (transitive : BelowIsTransitive) (releases : List Release) (diffs : List Diff) (are : AreGood releases diffs) where
+module _ (irreflexive : BelowIsIrreflexive) (transitive : BelowIsTransitive) (releases : List Release) (diffs : List Diff) (are : AreValid releases diffs) where
   good_at : (k : ℕ) (d : Diff) → k < length diffs → LeadsUp releases (get_or diffs k d)
-  good_at k d within = LeadsUp-good releases (get_or diffs k d) (list_all-get_or (is_good_diff releases) diffs k d are.good within)
+  good_at k d within = LeadsUp-good releases (get_or diffs k d) (list_all-get_or (is_valid_diff releases) diffs k d are.good within)
 
   -- the origin is below the destination
   pub ends_above :

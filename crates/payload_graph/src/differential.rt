@@ -4,7 +4,7 @@ ghost use Rattle.std.specs.Prelude.{◌≡◌, ◌-◌, ◌^◌, ◌<◌, ◌≤
 ghost use Rattle.std.specs.List.{filter, list_all, AllWithin};
 ghost use Rattle.std.specs.List.Sorted.{IsNonDecreasingBy};
 ghost use Rattle.values.specs.Ordered.{ascend};
-ghost use Rattle.records.specs.Validity.{is_diff_before, is_good_diff, is_release_below};
+ghost use Rattle.records.specs.Validity.{is_diff_before, is_valid_diff, is_release_below};
 ghost use Rattle.payload_rules.specs.Chains.{index_of};
 ghost use Rattle.payload_graph.specs.Net.{edge_of, leaves};
 ghost use Rattle.payload_graph.specs.declared.edge.Edge.{Edge};
@@ -44,7 +44,7 @@ pub(crate) fn resolve(
 ) -> Result<Vec<Edge>, AllocError>
     requires rises { ascend is_release_below releases.now ≡ true }
     requires sorted { ascend is_diff_before diffs.now ≡ true }
-    requires good { list_all (is_good_diff releases.now) diffs.now ≡ true }
+    requires good { list_all (is_valid_diff releases.now) diffs.now ≡ true }
     ensures { IfOk result (λ edges. edges.items ≡ map (edge_of releases.now) diffs.now) }
 {
     version::laws::order();

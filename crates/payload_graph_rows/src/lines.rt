@@ -16,13 +16,13 @@ struct Fields {
 }
 
 impl Fields {
-    fn text(&mut self) -> Text {
+    fn string(&mut self) -> Text {
         let empty = Text::new(String::new(self.alloc));
         self.last_first.pop().unwrap_or(empty)
     }
 
     fn optional(&mut self) -> Option<Text> {
-        let text = self.text();
+        let text = self.string();
         if text.as_str() == "-" {
             None
         } else {
@@ -31,16 +31,16 @@ impl Fields {
     }
 
     fn number(&mut self) -> u64 {
-        self.text().as_str().parse().unwrap_or(0)
+        self.string().as_str().parse().unwrap_or(0)
     }
 
     fn flag(&mut self) -> bool {
-        self.text().as_str() == "on"
+        self.string().as_str() == "on"
     }
 
     fn audience(&mut self) -> Result<Option<Items<Text>>, AllocError> {
         let mut names = Items::empty(self.alloc);
-        let name = self.text();
+        let name = self.string();
         if name.as_str() != "_" {
             names.push(name)?;
         }
@@ -64,38 +64,38 @@ fn fields_of(alloc: Global, line: &str) -> Result<Fields, AllocError> {
 }
 
 fn added_of(verb: &str, fields: &mut Fields) -> Option<Edit> {
-    let app = fields.text();
+    let app = fields.string();
     match verb {
         "add_app" => {
-            let default = fields.text();
+            let default = fields.string();
             Some(Edit::AddApp(AddApp { app, default }))
         }
         "add_cohort" => {
-            let cohort = fields.text();
+            let cohort = fields.string();
             Some(Edit::AddCohort(AddCohort { app, cohort }))
         }
         "add_release" => Some(Edit::AddRelease(AddRelease {
             app,
-            version: fields.text(),
-            name: fields.text(),
+            version: fields.string(),
+            name: fields.string(),
             size: fields.number(),
-            sha256: fields.text(),
+            sha256: fields.string(),
         })),
         "add_diff" => Some(Edit::AddDiff(AddDiff {
             app,
-            from: fields.text(),
-            to: fields.text(),
-            name: fields.text(),
+            from: fields.string(),
+            to: fields.string(),
+            name: fields.string(),
             size: fields.number(),
-            sha256: fields.text(),
+            sha256: fields.string(),
         })),
         _ => None,
     }
 }
 
 fn set_of_cohort(verb: &str, fields: &mut Fields) -> Option<Edit> {
-    let app = fields.text();
-    let cohort = fields.text();
+    let app = fields.string();
+    let cohort = fields.string();
     match verb {
         "set_target" => Some(Edit::SetTarget(SetTarget {
             app,
@@ -112,8 +112,8 @@ fn set_of_cohort(verb: &str, fields: &mut Fields) -> Option<Edit> {
 }
 
 fn set_of_release(verb: &str, fields: &mut Fields) -> Result<Option<Edit>, AllocError> {
-    let app = fields.text();
-    let version = fields.text();
+    let app = fields.string();
+    let version = fields.string();
     match verb {
         "set_stone" => {
             let on = fields.flag();
@@ -137,7 +137,7 @@ fn set_of_release(verb: &str, fields: &mut Fields) -> Result<Option<Edit>, Alloc
 
 fn edit_of(alloc: Global, line: &str) -> Result<Edit, Fail> {
     let mut fields = fields_of(alloc, line)?;
-    let verb = fields.text();
+    let verb = fields.string();
     let edit = match verb.as_str() {
         "add_app" | "add_cohort" | "add_release" | "add_diff" => {
             added_of(verb.as_str(), &mut fields)

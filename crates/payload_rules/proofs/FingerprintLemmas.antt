@@ -10,11 +10,12 @@ use Rattle.std.proofs.lemmas.List.{get_or_past}
 use Rattle.std.proofs.lemmas.Slice.Eq.{bytes_eq-Decides}
 use Rattle.std.specs.Prelude.{Result, Ok}
 use Rattle.std.specs.Result.{result_ok}
+use Rattle.values.specs.Lists.{IsOnce}
 use Rattle.hex.specs.Hex.{IsBytes, decode_sized, encode_lower, encode_with, hex_digit_value, lower_digits}
 use Rattle.hex.specs.declared.error.FromHexError.{FromHexError}
 use Rattle.hex.proofs.HexLemmas.{IsDigits-lower_digits, decode_sized-encode_lower}
 use Rattle.records.specs.Lookups.{cohorts_at, has_hash, releases_at}
-use Rattle.records.specs.Validity.{IsValid, IsValidApp, is_good_release}
+use Rattle.records.specs.Validity.{IsValid, IsValidApp, is_valid_release}
 use Rattle.records.specs.declared.content.App.{App}
 use Rattle.records.specs.declared.content.Cohort.{Cohort}
 use Rattle.records.specs.declared.content.Release.{Release}
@@ -126,7 +127,7 @@ IsBytes-small (byte ∷ bytes) small (suc index) = IsBytes-small bytes (and_part
 
 -- a string that is no hash's fingerprint is no release's
 is_not_fingerprint : (fp : List ℕ) (cohorts : List Cohort) (release : Release) → IsHashOf fp None
-    → is_good_release cohorts release ≡ true → has_fingerprint fp release ≡ false
+    → is_valid_release cohorts release ≡ true → has_fingerprint fp release ≡ false
 is_not_fingerprint fp cohorts release none good =
     let hash = and_parts _ _ (and_parts _ _ (and_parts _ _ good).0).1 in
     let sized : length release.hash ≡ 32 = eqb-true _ _ hash.0 in
@@ -135,13 +136,13 @@ is_not_fingerprint fp cohorts release none good =
 
 -- a string that is no hash's fingerprint has no release
 position-has_fingerprint : (fp : List ℕ) (cohorts : List Cohort) (releases : List Release)
-    → IsHashOf fp None → list_all (is_good_release cohorts) releases ≡ true
+    → IsHashOf fp None → list_all (is_valid_release cohorts) releases ≡ true
     → position (has_fingerprint fp) releases ≡ None
 position-has_fingerprint fp cohorts releases none good =
     let past : position_or_len (has_fingerprint fp) releases ≡ length releases = first_past releases good in
     rw past (grind (arith, nat_tests))
   where
-    first_past : (releases : List Release) → list_all (is_good_release cohorts) releases ≡ true → position_or_len (has_fingerprint fp) releases ≡ length releases
+    first_past : (releases : List Release) → list_all (is_valid_release cohorts) releases ≡ true → position_or_len (has_fingerprint fp) releases ≡ length releases
     first_past [] good = refl
     first_past (release ∷ releases) good =
         let parts = and_parts _ _ good in
@@ -158,16 +159,24 @@ at_index P (first ∷ apps) (suc index) app all there = at_index P apps index ap
 
 -- the releases of each app of a valid content are valid
 releases_at-good : (apps : List App) (index : ℕ) → IsValid apps
-    → list_all (is_good_release (cohorts_at apps index)) (releases_at apps index) ≡ true
+    → list_all (is_valid_release (cohorts_at apps index)) (releases_at apps index) ≡ true
 releases_at-good apps index valid = cases (slice_get apps index) refl
   where
     cases : (found : Option App) → slice_get apps index ≡ found
-        → list_all (is_good_release (option_map_or (λ app. app.cohorts) found [])) (option_map_or (λ app. app.releases) found []) ≡ true
+        → list_all (is_valid_release (option_map_or (λ app. app.cohorts) found [])) (option_map_or (λ app. app.releases) found []) ≡ true
     cases None nowhere = refl
-    cases (Some app) there = (at_index IsValidApp apps index app valid.apps_valid there).releases_good
+    cases (Some app) there = (at_index IsValidApp apps index app valid.apps_valid there).releases_valid
 
 -- in a valid content a string that is no hash's fingerprint has no release
 pub position-no_fingerprint : (apps : List App) (index : ℕ) (fp : List ℕ) → IsValid apps
     → IsHashOf fp None → position (has_fingerprint fp) (releases_at apps index) ≡ None
 position-no_fingerprint apps index fp valid none =
     position-has_fingerprint fp (cohorts_at apps index) (releases_at apps index) none (releases_at-good apps index valid)
+
+-- in a valid content no two releases of an app have one hash
+pub hashes_at-once : (apps : List App) (index : ℕ) → IsValid apps → IsOnce has_hash (releases_at apps index)
+hashes_at-once apps index valid = cases (slice_get apps index) refl
+  where
+    cases : (found : Option App) → slice_get apps index ≡ found → IsOnce has_hash (option_map_or (λ app. app.releases) found [])
+    cases None nowhere = λ hash. omega arith
+    cases (Some app) there = (at_index IsValidApp apps index app valid.apps_valid there).hashes_once

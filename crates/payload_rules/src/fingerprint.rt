@@ -2,11 +2,12 @@
 
 ghost use Rattle.std.specs.Prelude.{◌≡◌, ◌<◌, length, position};
 ghost use Rattle.hex.specs.Hex.{encode_lower};
-ghost use Rattle.records.specs.Lookups.{releases_at};
+ghost use Rattle.records.specs.Lookups.{has_hash, releases_at};
 ghost use Rattle.payload_rules.specs.Places.{has_fingerprint, IsHashOf};
 
 use catalogue::Catalogue;
 use hex::FromHex;
+use version::Version;
 
 fn encode_digits(hash: [u8; 32]) -> [u8; 64]
     ensures { result ≡ encode_lower hash }
@@ -28,12 +29,33 @@ fn parse_fingerprint(fp: &str) -> Option<[u8; 32]>
     Some(hash)
 }
 
-/// Finds the index of the release that has a fingerprint.
-pub(crate) fn find_fingerprint(catalogue: &Catalogue, app: usize, fp: &str) -> Option<usize>
+// Finds the index of the release of a hash. The release of the client's version is looked at first: mostly it is the one.
+fn find_hash(catalogue: &Catalogue, app: usize, hash: &[u8; 32], version: &Version) -> Option<usize>
+    requires { app < length catalogue.now }
+    ensures { result ≡ position (has_hash hash.now) (releases_at catalogue.now app) }
+{
+    catalogue.validity();
+    if let Some(index) = catalogue.find_release(app, version) {
+        if let Some(release) = catalogue.releases(app).get(index) {
+            if *hash == release.hash {
+                return Some(index);
+            }
+        }
+    }
+    catalogue.find_hash(app, hash)
+}
+
+/// Finds the index of the release that has a fingerprint, whatever the client's version.
+pub(crate) fn find_fingerprint(
+    catalogue: &Catalogue,
+    app: usize,
+    fp: &str,
+    version: &Version,
+) -> Option<usize>
     requires { app < length catalogue.now }
     ensures { result ≡ position (has_fingerprint fp.now) (releases_at catalogue.now app) }
 {
     catalogue.validity();
     let hash = parse_fingerprint(fp)?;
-    catalogue.find_hash(app, &hash)
+    find_hash(catalogue, app, &hash, version)
 }

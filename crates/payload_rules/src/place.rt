@@ -25,9 +25,10 @@ pub fn place_of(catalogue: &Catalogue, app: usize, fp: &str, version: &str) -> P
     ensures place { result ≡ place_of (releases_at catalogue.now app) fp.now version.now }
     ensures within { IsWithin (releases_at catalogue.now app) result }
 {
-    match find_fingerprint(catalogue, app, fp) {
+    let version = Version::lenient(version);
+    match find_fingerprint(catalogue, app, fp, &version) {
         Some(release) => Place::At(release),
-        None => Place::Outside(Version::lenient(version)),
+        None => Place::Outside(version),
     }
 }
 

@@ -15,7 +15,7 @@ use Rattle.price_cert.specs.Rules.{adds_up, is_named, is_next, is_same_kind}
 use Rattle.price_cert.specs.declared.row.Row.{Row}
 use Rattle.price_cert.specs.declared.row.Row.TheVariants.{Nothing, End, Price}
 use Rattle.price_cert.proofs.BetterLemmas.{behind-improved, behind-others}
-use Rattle.price_cert.specs.Best.{IsBest, improved, improved_by, is_behind, is_better, names_one, taken}
+use Rattle.price_cert.specs.Best.{IsBest, improved, improved_by, is_no_better, is_better, names_one, taken}
 
 -- a test that follows from another one
 pub list_all-follows :
@@ -103,8 +103,8 @@ module _ (rows : List Row) (edges : List Edge) (edge : Edge) (more : List Edge) 
   IsBest-more : (row : Row) → IsBest rows edges row → IsBest rows more (improved rows row edge)
   IsBest-more row best = record {
     behind =
-        grown.all (is_behind rows (improved rows row edge))
-        (list_all-follows (is_behind rows row) (is_behind rows (improved rows row edge))
+        grown.all (is_no_better rows (improved rows row edge))
+        (list_all-follows (is_no_better rows row) (is_no_better rows (improved rows row edge))
         (λ other behind. behind-others (price_at rows edge.to) (price_at rows other.to) row edge other behind)
         edges best.behind)
         (behind-improved (price_at rows edge.to) row edge);
@@ -131,16 +131,16 @@ pub IsBest-from :
 IsBest-from rows doors from other row best = record { behind = behinds row best.behind; names = named row best.names }
   where
     all :
-        (row : Row) → ((door : Door) → is_behind rows row (full other door) ≡ is_behind rows row (full from door)) →
-        list_all (is_behind rows row) (fulls from doors) ≡ true → list_all (is_behind rows row) (fulls other doors) ≡ true
+        (row : Row) → ((door : Door) → is_no_better rows row (full other door) ≡ is_no_better rows row (full from door)) →
+        list_all (is_no_better rows row) (fulls from doors) ≡ true → list_all (is_no_better rows row) (fulls other doors) ≡ true
     all row same behind =
-        list_all-map (is_behind rows row) (full other) (filter (λ (door : Door). door.offered) doors)
-        ∙ list_all-agree (λ (door : Door). is_behind rows row (full other door)) (λ (door : Door). is_behind rows row (full from door))
+        list_all-map (is_no_better rows row) (full other) (filter (λ (door : Door). door.offered) doors)
+        ∙ list_all-agree (λ (door : Door). is_no_better rows row (full other door)) (λ (door : Door). is_no_better rows row (full from door))
         (filter (λ (door : Door). door.offered) doors) (λ k d within. same (get_or (filter (λ (door : Door). door.offered) doors) k d))
-        ∙ sym (list_all-map (is_behind rows row) (full from) (filter (λ (door : Door). door.offered) doors))
+        ∙ sym (list_all-map (is_no_better rows row) (full from) (filter (λ (door : Door). door.offered) doors))
         ∙ behind
 
-    behinds : (row : Row) → list_all (is_behind rows row) (fulls from doors) ≡ true → list_all (is_behind rows row) (fulls other doors) ≡ true
+    behinds : (row : Row) → list_all (is_no_better rows row) (fulls from doors) ≡ true → list_all (is_no_better rows row) (fulls other doors) ≡ true
     behinds Nothing behind = all Nothing (λ door. refl) behind
     behinds End behind = all End (λ door. refl) behind
     behinds (Price price kind to) behind = all (Price price kind to) (λ door. refl) behind

@@ -7,7 +7,7 @@ use Rattle.payload_graph.specs.declared.edge.Kind.TheVariants.{Full, Differ}
 use Rattle.price_cert.specs.Rules.{is_same_kind, yields}
 use Rattle.price_cert.specs.declared.row.Row.{Row}
 use Rattle.price_cert.specs.declared.row.Row.TheVariants.{Nothing, End, Price}
-use Rattle.price_cert.specs.Best.{improved_by, is_behind_by, is_better, is_kind_better, leads_higher}
+use Rattle.price_cert.specs.Best.{improved_by, is_no_better_by, is_better, is_kind_better, leads_higher}
 
 -- kinds, where one isn't better than the other
 kind_yields : (kind other : Kind) → is_kind_better kind other ≡ false → (is_same_kind kind Differ || is_same_kind other Full) ≡ true
@@ -81,7 +81,7 @@ yields-higher edge other kind to higher yielding =
     ]
 
 -- a payload isn't better than the row that names it
-behind-own : (rest : ℕ) (edge : Edge) → is_behind_by (Some rest) (Price (edge.bytes + rest) edge.kind edge.to) edge ≡ true
+behind-own : (rest : ℕ) (edge : Edge) → is_no_better_by (Some rest) (Price (edge.bytes + rest) edge.kind edge.to) edge ≡ true
 behind-own rest edge =
     and_from (leb (edge.bytes + rest) (edge.bytes + rest)) _
     (le-leb (edge.bytes + rest) (edge.bytes + rest) (omega arith))
@@ -91,7 +91,7 @@ behind-own rest edge =
 behind-kept :
     (rest price : ℕ) (kind : Kind) (to : ℕ) (edge : Edge) →
     is_better (Price price kind to) (edge.bytes + rest) edge ≡ false →
-    is_behind_by (Some rest) (Price price kind to) edge ≡ true
+    is_no_better_by (Some rest) (Price price kind to) edge ≡ true
 behind-kept rest price kind to edge worse =
     let parts = or_parts (ltb (edge.bytes + rest) price) (eqb (edge.bytes + rest) price && leads_higher edge kind to) worse in
     and_from (leb price (edge.bytes + rest)) _
@@ -105,7 +105,7 @@ behind-kept rest price kind to edge worse =
     ])
 
 -- the payload isn't better than the better one of it and a row's
-pub behind-improved : (rest : Option ℕ) (row : Row) (edge : Edge) → is_behind_by rest (improved_by rest row edge) edge ≡ true
+pub behind-improved : (rest : Option ℕ) (row : Row) (edge : Edge) → is_no_better_by rest (improved_by rest row edge) edge ≡ true
 behind-improved None Nothing edge = refl
 behind-improved None End edge = refl
 behind-improved None (Price price kind to) edge = refl
@@ -116,7 +116,7 @@ behind-improved (Some rest) (Price price kind to) edge =
   where
     cases :
         (b : Bool) → is_better (Price price kind to) (edge.bytes + rest) edge ≡ b →
-        is_behind_by (Some rest) (cond b (Price (edge.bytes + rest) edge.kind edge.to) (Price price kind to)) edge ≡ true
+        is_no_better_by (Some rest) (cond b (Price (edge.bytes + rest) edge.kind edge.to) (Price price kind to)) edge ≡ true
     cases true better = behind-own rest edge
     cases false worse = behind-kept rest price kind to edge worse
 
@@ -124,8 +124,8 @@ behind-improved (Some rest) (Price price kind to) edge =
 behind-better :
     (rest : Option ℕ) (price : ℕ) (kind : Kind) (to sum : ℕ) (edge other : Edge) →
     is_better (Price price kind to) sum edge ≡ true →
-    is_behind_by rest (Price price kind to) other ≡ true →
-    is_behind_by rest (Price sum edge.kind edge.to) other ≡ true
+    is_no_better_by rest (Price price kind to) other ≡ true →
+    is_no_better_by rest (Price sum edge.kind edge.to) other ≡ true
 behind-better None price kind to sum edge other better behind = refl
 behind-better (Some rest) price kind to sum edge other better behind =
     let parts = and_parts (leb price (other.bytes + rest)) (not (eqb price (other.bytes + rest)) || yields other kind to) behind in
@@ -149,14 +149,14 @@ behind-better (Some rest) price kind to sum edge other better behind =
           ])
     ]
 
-behind-nothing : (rest : Option ℕ) (other : Edge) (sum to : ℕ) (kind : Kind) → is_behind_by rest Nothing other ≡ true → is_behind_by rest (Price sum kind to) other ≡ true
+behind-nothing : (rest : Option ℕ) (other : Edge) (sum to : ℕ) (kind : Kind) → is_no_better_by rest Nothing other ≡ true → is_no_better_by rest (Price sum kind to) other ≡ true
 behind-nothing None other sum to kind behind = refl
 behind-nothing (Some rest) other sum to kind behind = absurd (false≢true behind)
 
 -- what isn't better than a row's payload isn't better than the better one of it and another
 pub behind-others :
     (rest there : Option ℕ) (row : Row) (edge other : Edge) →
-    is_behind_by there row other ≡ true → is_behind_by there (improved_by rest row edge) other ≡ true
+    is_no_better_by there row other ≡ true → is_no_better_by there (improved_by rest row edge) other ≡ true
 behind-others None there row edge other behind = behind
 behind-others (Some rest) there Nothing edge other behind = behind-nothing there other (edge.bytes + rest) edge.to edge.kind behind
 behind-others (Some rest) there End edge other behind = behind
@@ -165,6 +165,6 @@ behind-others (Some rest) there (Price price kind to) edge other behind =
   where
     cases :
         (b : Bool) → is_better (Price price kind to) (edge.bytes + rest) edge ≡ b →
-        is_behind_by there (cond b (Price (edge.bytes + rest) edge.kind edge.to) (Price price kind to)) other ≡ true
+        is_no_better_by there (cond b (Price (edge.bytes + rest) edge.kind edge.to) (Price price kind to)) other ≡ true
     cases true better = behind-better there price kind to (edge.bytes + rest) edge other better behind
     cases false worse = behind

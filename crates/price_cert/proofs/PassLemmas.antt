@@ -4,9 +4,9 @@ use Rattle.std.specs.List.{list_all}
 use Rattle.std.proofs.lemmas.Bool.{and_from, and_parts, cases_eq, cases_lt, eq-eqb, false≢true, le-leb, ne_eqb}
 use Rattle.payload_graph.specs.Net.{Net, edges_from}
 use Rattle.price_cert.proofs.BestLemmas.{list_all-follows}
-use Rattle.price_cert.specs.Best.{AreBest, IsBest, IsBestTable, is_behind, is_dearer_or_yields, names_one}
+use Rattle.price_cert.specs.Best.{AreBest, IsBest, IsBestTable, is_no_better, is_larger_or_yields, names_one}
 use Rattle.price_cert.specs.Rows.{price_at, row_at}
-use Rattle.price_cert.specs.Rules.{AreCertified, broken_rule, comes_first, ends_at_target, first_failed, is_at_most, is_attained, is_bounded, is_first_or_dearer, meets_bounds}
+use Rattle.price_cert.specs.Rules.{AreCertified, broken_rule, comes_first, ends_at_target, first_failed, is_at_most, is_attained, is_bounded, is_first_or_larger, meets_bounds}
 use Rattle.price_cert.specs.declared.row.Row.{Row}
 use Rattle.price_cert.specs.declared.row.Row.TheVariants.{Nothing, End, Price}
 
@@ -43,8 +43,8 @@ unbroken-best :
 unbroken-best net rows from apart row best =
     unbroken (ends_at_target net.target from row) (meets_bounds net rows from row) (is_attained net rows from row) (comes_first net rows from row)
     (ends row best.names)
-    (list_all-follows (is_behind rows row) (is_bounded rows row)
-    (λ edge behind. (and_parts (is_bounded rows row edge) (is_dearer_or_yields (price_at rows edge.to) row edge) behind).0)
+    (list_all-follows (is_no_better rows row) (is_bounded rows row)
+    (λ edge behind. (and_parts (is_bounded rows row edge) (is_larger_or_yields (price_at rows edge.to) row edge) behind).0)
     (edges_from net from) best.behind)
     (attains row best.names)
     (firsts row best.behind)
@@ -59,12 +59,12 @@ unbroken-best net rows from apart row best =
     attains End names = refl
     attains (Price price kind to) names = names
 
-    firsts : (row : Row) → list_all (is_behind rows row) (edges_from net from) ≡ true → comes_first net rows from row ≡ true
+    firsts : (row : Row) → list_all (is_no_better rows row) (edges_from net from) ≡ true → comes_first net rows from row ≡ true
     firsts Nothing behind = refl
     firsts End behind = refl
     firsts (Price price kind to) behind =
-        list_all-follows (is_behind rows (Price price kind to)) (is_first_or_dearer rows price kind to)
-        (λ edge each. (and_parts (is_bounded rows (Price price kind to) edge) (is_first_or_dearer rows price kind to edge) each).1)
+        list_all-follows (is_no_better rows (Price price kind to)) (is_first_or_larger rows price kind to)
+        (λ edge each. (and_parts (is_bounded rows (Price price kind to) edge) (is_first_or_larger rows price kind to edge) each).1)
         (edges_from net from) behind
 
 -- a table whose rows are the best ones is certified

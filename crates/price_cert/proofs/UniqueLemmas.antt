@@ -9,7 +9,7 @@ use Rattle.price_cert.proofs.LeastLemmas.{chain-price, keeps, leads_nearer, near
 use Rattle.price_cert.proofs.RuleLemmas.{HasNext-attained, Keeps, passed, yields_to, yields_to-both, yields_to-named}
 use Rattle.price_cert.specs.Laws.{IsGraph}
 use Rattle.price_cert.specs.Rows.{price_at, price_of, row_at}
-use Rattle.price_cert.specs.Rules.{AreCertified, adds_up, costs, is_first_or_dearer, yields}
+use Rattle.price_cert.specs.Rules.{AreCertified, adds_up, costs, is_first_or_larger, yields}
 use Rattle.price_cert.specs.declared.row.Row.{Row}
 use Rattle.price_cert.specs.declared.row.Row.TheVariants.{Nothing, End, Price}
 
@@ -28,7 +28,7 @@ yields_to-first nearer net rows others from price kind other_kind to other graph
     let edge = next.edge in
     let there = nearer-within net from edge.to graph within (leads_nearer nearer net from edge graph within next.inside) in
     let costing : costs others price edge ≡ true = sym (ap (λ (r : Option ℕ). adds_up r price edge.bytes) (same edge.to there)) ∙ next.costing in
-    let first = passed (is_first_or_dearer others price other_kind other) (edges_from net from) edge two.first next.inside in
+    let first = passed (is_first_or_larger others price other_kind other) (edges_from net from) edge two.first next.inside in
     elim (or_cases (not (costs others price edge)) (yields edge other_kind other) first) [
       | inl dearer ↦ absurd (false≢true (sym (ap not costing) ∙ dearer))
       | inr yielding ↦ yields_to-named edge kind to other_kind other next.named yielding

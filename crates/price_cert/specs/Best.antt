@@ -45,18 +45,18 @@ taken rows row from door = if door.offered then improved rows row (full from doo
 
 -- a payload to a release of that price doesn't give the row's sum, or yields to the one that the row
 -- names
-abbrev pub is_dearer_or_yields : Option ℕ → Row → Edge → Bool
-is_dearer_or_yields rest Nothing edge = true
-is_dearer_or_yields rest End edge = true
-is_dearer_or_yields rest (Price price kind to) edge = not (adds_up rest price edge.bytes) || yields edge kind to
+abbrev pub is_larger_or_yields : Option ℕ → Row → Edge → Bool
+is_larger_or_yields rest Nothing edge = true
+is_larger_or_yields rest End edge = true
+is_larger_or_yields rest (Price price kind to) edge = not (adds_up rest price edge.bytes) || yields edge kind to
 
 -- a payload to a release of that price isn't better than the one that a row names
-abbrev pub is_behind_by : Option ℕ → Row → Edge → Bool
-is_behind_by rest row edge = is_at_most rest (price_of row) edge.bytes && is_dearer_or_yields rest row edge
+abbrev pub is_no_better_by : Option ℕ → Row → Edge → Bool
+is_no_better_by rest row edge = is_at_most rest (price_of row) edge.bytes && is_larger_or_yields rest row edge
 
 -- the same by a table
-abbrev pub is_behind : List Row → Row → Edge → Bool
-is_behind rows row edge = is_behind_by (price_at rows edge.to) row edge
+abbrev pub is_no_better : List Row → Row → Edge → Bool
+is_no_better rows row edge = is_no_better_by (price_at rows edge.to) row edge
 
 -- a row names a payload of the list, with its sum, or has nothing
 abbrev pub names_one : List Row → List Edge → Row → Bool
@@ -67,7 +67,7 @@ names_one rows edges (Price price kind to) = list_any (is_next rows price kind t
 -- rule: Best payload
 -- a row names the best payload of a list, or has nothing since none leads to a priced release
 pub record IsBest (rows : List Row) (edges : List Edge) (row : Row) : Type 0 where
-  pub behind : list_all (is_behind rows row) edges ≡ true
+  pub behind : list_all (is_no_better rows row) edges ≡ true
   pub names : names_one rows edges row ≡ true
 
 -- the doors that a release above the target leads down through

@@ -77,8 +77,8 @@ yields edge kind to =
     || (edge.to == to && (is_same_kind kind Differ || is_same_kind edge.kind Full))
 
 -- the payload doesn't give the price, or yields to the one that the row names
-abbrev pub is_first_or_dearer : List Row → ℕ → Kind → ℕ → Edge → Bool
-is_first_or_dearer rows price kind to edge = not (costs rows price edge) || yields edge kind to
+abbrev pub is_first_or_larger : List Row → ℕ → Kind → ℕ → Edge → Bool
+is_first_or_larger rows price kind to edge = not (costs rows price edge) || yields edge kind to
 
 -- rule: First payload
 -- C4: of the payloads that give the price, the row names the one that leads highest, and of two of
@@ -87,7 +87,7 @@ abbrev pub comes_first : Net → List Row → ℕ → Row → Bool
 comes_first net rows from Nothing = true
 comes_first net rows from End = true
 comes_first net rows from (Price price kind to) =
-    list_all (is_first_or_dearer rows price kind to) (edges_from net from)
+    list_all (is_first_or_larger rows price kind to) (edges_from net from)
 
 -- the first of four tests that fails
 abbrev pub first_failed : Bool → Bool → Bool → Bool → Option Rule

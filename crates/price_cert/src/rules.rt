@@ -2,7 +2,7 @@
 
 ghost use Rattle.std.specs.Prelude.{◌≡◌, ◌<◌, length, MatchOption};
 ghost use Rattle.price_cert.specs.Rows.{price_of};
-ghost use Rattle.price_cert.specs.Rules.{adds_up, broken_at, broken_rule, comes_first, costs, ends_at_target, is_at_most, is_attained, is_bounded, is_first_or_dearer, is_named, is_next, is_same_kind, meets_bounds, yields, AreCertified, IsFirstWrong};
+ghost use Rattle.price_cert.specs.Rules.{adds_up, broken_at, broken_rule, comes_first, costs, ends_at_target, is_at_most, is_attained, is_bounded, is_first_or_larger, is_named, is_next, is_same_kind, meets_bounds, yields, AreCertified, IsFirstWrong};
 
 use crate::row::{Row, row_at};
 use payload_graph::{Edge, Graph, Kind};
@@ -127,8 +127,8 @@ fn yields(edge: &Edge, kind: Kind, to: usize) -> bool
             && (is_same_kind(kind, Kind::Differ) || is_same_kind(edge.kind, Kind::Full)))
 }
 
-fn is_first_or_dearer(rows: &[Row], price: u64, kind: Kind, to: usize, edge: &Edge) -> bool
-    ensures { result ≡ is_first_or_dearer rows.now price kind to edge.now }
+fn is_first_or_larger(rows: &[Row], price: u64, kind: Kind, to: usize, edge: &Edge) -> bool
+    ensures { result ≡ is_first_or_larger rows.now price kind to edge.now }
 {
     !costs(rows, price, edge) || yields(edge, kind, to)
 }
@@ -141,7 +141,7 @@ fn comes_first(graph: &Graph, rows: &[Row], from: usize, row: Row) -> bool
     match row {
         Row::Price { price, kind, to } => graph
             .edges_from(from)
-            .all(|edge| is_first_or_dearer(rows, price, kind, to, &edge)),
+            .all(|edge| is_first_or_larger(rows, price, kind, to, &edge)),
         _ => true,
     }
 }

@@ -16,8 +16,8 @@ use Rattle.payload_rules.specs.declared.payload.TrackKey.{TrackKey}
 use Rattle.price_cert.specs.declared.row.Row.{Row}
 use Rattle.price_texts.specs.Forms.{first_of, is_version, rest_of}
 use Rattle.price_texts.specs.Headings.{heading_line, headings, is_heading}
-use Rattle.price_texts.specs.Reading.{entry_of, heading_flaw, is_entry, is_feed, is_row, line_split, on_line, or_other, past_heading, read_headings, read_row, read_rows, read_text, row_of, rows_after, with_row}
-use Rattle.price_texts.specs.Texts.{ended, headings_text, row_line, rows_from, spelled_at, text_of}
+use Rattle.price_texts.specs.Reading.{entry_of, heading_flaw, is_entry, is_feed, is_row, line_split, on_line, or_other, past_heading, read_headings, read_row, read_rows, read_body, row_of, rows_after, with_row}
+use Rattle.price_texts.specs.Strings.{ended, headings_string, row_line, rows_from, spelled_at, string_of}
 use Rattle.price_texts.specs.declared.fault.Fault.{Fault}
 use Rattle.price_texts.specs.declared.fault.Flaw.{Flaw}
 use Rattle.price_texts.specs.declared.fault.Flaw.TheVariants.{Form, Other}
@@ -165,8 +165,8 @@ headings-back :
     (app : App) (cohort : Cohort) (key : TrackKey) (target : Release) (left : List Heading) (n : ℕ) (text rest : List ℕ)
     →
     read_headings app cohort key target left n text ≡ Ok rest →
-    text ≡ headings_text app cohort key target left ++ rest
-unfolding read_headings headings_text
+    text ≡ headings_string app cohort key target left ++ rest
+unfolding read_headings headings_string
 headings-back app cohort key target [] n text rest read = ap (λ (r : Result (List ℕ) Fault). text_or r rest) read
 headings-back app cohort key target (heading ∷ others) n text rest read =
     by_line (line_split text) refl (λ behind is. headings-back app cohort key target others (n + 1) behind rest is) read
@@ -176,19 +176,19 @@ headings-back app cohort key target (heading ∷ others) n text rest read =
 
     Later : Type 0
     Later = (behind : List ℕ) → read_headings app cohort key target others (n + 1) behind ≡ Ok rest →
-        behind ≡ headings_text app cohort key target others ++ rest
+        behind ≡ headings_string app cohort key target others ++ rest
 
     by_same :
         (line behind : List ℕ) → Later → text ≡ ended line ++ behind →
         (same formed : Bool) → bytes_eq line wanted ≡ same →
         past_heading n (cond {A = Option Flaw} same None (cond formed (Some Other) (Some Form)))
         (read_headings app cohort key target others (n + 1) behind) ≡ Ok rest →
-        text ≡ headings_text app cohort key target (heading ∷ others) ++ rest
+        text ≡ headings_string app cohort key target (heading ∷ others) ++ rest
     by_same line behind later whole true formed same read =
         whole
         ∙ ap (λ first. ended first ++ behind) ((bytes_eq-Decides line wanted).0 same)
         ∙ ap (λ after. ended wanted ++ after) (later behind read)
-        ∙ sym (append_assoc (ended wanted) (headings_text app cohort key target others) rest)
+        ∙ sym (append_assoc (ended wanted) (headings_string app cohort key target others) rest)
     by_same line behind later whole false true same read = cc
     by_same line behind later whole false false same read = cc
 
@@ -196,24 +196,24 @@ headings-back app cohort key target (heading ∷ others) n text rest read =
         (split : Option (List ℕ × List ℕ)) → line_split text ≡ split → Later →
         on_line n split (λ line behind. past_heading n (heading_flaw heading line wanted)
         (read_headings app cohort key target others (n + 1) behind)) ≡ Ok rest →
-        text ≡ headings_text app cohort key target (heading ∷ others) ++ rest
+        text ≡ headings_string app cohort key target (heading ∷ others) ++ rest
     by_line None is later read = cc
     by_line (Some parts) is later read =
         by_same parts.0 parts.1 later (split-whole text parts.0 parts.1 is) (bytes_eq parts.0 wanted)
         (is_heading heading parts.0) refl read
 
 -- all of them
-pub read_text-back :
+pub read_body-back :
     (app : App) (cohort : Cohort) (key : TrackKey) (target : Release) (text : List ℕ) (rows : List Row) →
-    read_text app cohort key target text ≡ Ok rows → text_of app cohort key target rows ≡ text
-read_text-back app cohort key target text rows read =
+    read_body app cohort key target text ≡ Ok rows → string_of app cohort key target rows ≡ text
+read_body-back app cohort key target text rows read =
     by_headings (read_headings app cohort key target headings 1 text) refl read
   where
     by_headings :
         (found : Result (List ℕ) Fault) → read_headings app cohort key target headings 1 text ≡ found →
-        rows_after app.releases found ≡ Ok rows → text_of app cohort key target rows ≡ text
+        rows_after app.releases found ≡ Ok rows → string_of app cohort key target rows ≡ text
     by_headings (Err fault) is read = cc
     by_headings (Ok rest) is read =
-        ap (λ behind. headings_text app cohort key target headings ++ behind)
+        ap (λ behind. headings_string app cohort key target headings ++ behind)
         (sym (rows-back app.releases app.releases 0 8 rest rows refl read))
         ∙ sym (headings-back app cohort key target headings 1 text rest is)

@@ -7,7 +7,7 @@ use Rattle.std.proofs.lemmas.Bool.{and_parts, lt-ltb, not-true}
 use Rattle.std.proofs.lemmas.List.{drop_at, take_at}
 use Rattle.price_texts.specs.Forms.{first_of, is_space, rest_of}
 use Rattle.price_texts.specs.Reading.{is_feed, line_split}
-use Rattle.price_texts.specs.Texts.{ended}
+use Rattle.price_texts.specs.Strings.{ended}
 use Rattle.price_texts.proofs.VisibleLemmas.{IsLine, IsVisible, no_feed, no_space}
 
 -- the first item that passes is after those that don't

@@ -22,7 +22,7 @@ use Rattle.price_cert.specs.declared.row.Row.{Row}
 use Rattle.price_cert.specs.declared.row.Row.TheVariants.{Nothing, End, Price}
 use Rattle.price_texts.specs.Forms.{first_of, is_either, is_plain, is_space, is_version, number_below, price_bound, rest_of}
 use Rattle.price_texts.specs.Reading.{entry_of, is_entry, is_payload, is_spelled, kind_named, payload_of}
-use Rattle.price_texts.specs.Texts.{entry_text, kind_word, spelled_at}
+use Rattle.price_texts.specs.Strings.{entry_string, kind_word, spelled_at}
 use Rattle.price_texts.proofs.NumberLemmas.{IsPlain-is_plain, numerals}
 
 -- a line with something after its first space is both parts with that space
@@ -93,7 +93,7 @@ kind-back word is = by_word (bytes_eq word (codes "full")) refl is
 -- what a line states of a payload is written as it was read
 payload-back :
     (releases : List Release) (entry : List ℕ) (row : Row) →
-    is_payload entry ≡ true → payload_of releases entry ≡ Some row → entry ≡ entry_text releases row
+    is_payload entry ≡ true → payload_of releases entry ≡ Some row → entry ≡ entry_string releases row
 payload-back releases entry row is read =
     by_price (number_below price_bound (first_of entry)) refl read
   where
@@ -120,7 +120,7 @@ payload-back releases entry row is read =
         (price : ℕ) → decimal price ≡ first_of entry → (found : Option ℕ) →
         position (is_spelled version) releases ≡ found →
         option_map (λ to. Price price (kind_named (first_of rest)) to) found ≡ Some row →
-        entry ≡ entry_text releases row
+        entry ≡ entry_string releases row
     by_place price written None found read = cc
     by_place price written (Some to) found read =
         let same : Price price (kind_named (first_of rest)) to ≡ row = ap (λ (r : Option Row). unwrap_or r row) read in
@@ -129,13 +129,13 @@ payload-back releases entry row is read =
         ∙ ap (λ word. decimal price ++ 32 ∷ (word ++ 32 ∷ version)) (sym (kind-back (first_of rest) is_kind))
         ∙ ap (λ spelled. decimal price ++ 32 ∷ (kind_word (kind_named (first_of rest)) ++ 32 ∷ spelled))
         (sym (spelled-back releases version to found))
-        ∙ ap (entry_text releases) same
+        ∙ ap (entry_string releases) same
 
     by_price :
         (found : Option ℕ) → number_below price_bound (first_of entry) ≡ found →
         option_and_then (λ price. option_map (λ to. Price price (kind_named (first_of rest)) to)
         (position (is_spelled version) releases)) found ≡ Some row →
-        entry ≡ entry_text releases row
+        entry ≡ entry_string releases row
     by_price None found read = cc
     by_price (Some price) found read =
         by_place price (number-back price_bound (first_of entry) price found) (position (is_spelled version) releases)
@@ -144,15 +144,15 @@ payload-back releases entry row is read =
 -- so is all that a line states of its release
 pub entry-back :
     (releases : List Release) (entry : List ℕ) (row : Row) →
-    is_entry entry ≡ true → entry_of releases entry ≡ Some row → entry ≡ entry_text releases row
+    is_entry entry ≡ true → entry_of releases entry ≡ Some row → entry ≡ entry_string releases row
 entry-back releases entry row is read = by_nothing (bytes_eq entry (codes "none")) refl is read
   where
     by_end :
         (end : Bool) → bytes_eq entry (codes "0 end") ≡ end → (end || is_payload entry) ≡ true →
-        cond end (Some End) (payload_of releases entry) ≡ Some row → entry ≡ entry_text releases row
+        cond end (Some End) (payload_of releases entry) ≡ Some row → entry ≡ entry_string releases row
     by_end true same is read =
         (bytes_eq-Decides entry (codes "0 end")).0 same
-        ∙ ap (entry_text releases) (ap (λ (r : Option Row). unwrap_or r row) read)
+        ∙ ap (entry_string releases) (ap (λ (r : Option Row). unwrap_or r row) read)
     by_end false other is read = payload-back releases entry row is read
 
     by_nothing :
@@ -160,8 +160,8 @@ entry-back releases entry row is read = by_nothing (bytes_eq entry (codes "none"
         ((nothing || bytes_eq entry (codes "0 end")) || is_payload entry) ≡ true →
         cond nothing (Some Nothing) (cond (bytes_eq entry (codes "0 end")) (Some End) (payload_of releases entry)) ≡
         Some row →
-        entry ≡ entry_text releases row
+        entry ≡ entry_string releases row
     by_nothing true same is read =
         (bytes_eq-Decides entry (codes "none")).0 same
-        ∙ ap (entry_text releases) (ap (λ (r : Option Row). unwrap_or r row) read)
+        ∙ ap (entry_string releases) (ap (λ (r : Option Row). unwrap_or r row) read)
     by_nothing false other is read = by_end (bytes_eq entry (codes "0 end")) refl is read

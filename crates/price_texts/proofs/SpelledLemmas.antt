@@ -15,12 +15,12 @@ use Rattle.std.proofs.lemmas.Slice.Eq.{bytes_eq-Decides}
 use Rattle.version.specs.Laws.{BelowIsIrreflexive}
 use Rattle.version.specs.Versions.{is_below, version_of}
 use Rattle.values.specs.Ordered.{ascend}
-use Rattle.records.specs.Validity.{is_good_release, is_release_below}
+use Rattle.records.specs.Validity.{is_valid_release, is_release_below}
 use Rattle.records.specs.declared.content.Cohort.{Cohort}
 use Rattle.records.specs.declared.content.Release.{Release}
 use Rattle.price_texts.specs.Forms.{has_leading_zero, is_plain, is_version, number_below}
 use Rattle.price_texts.specs.Reading.{is_spelled}
-use Rattle.price_texts.specs.Texts.{spelled_at}
+use Rattle.price_texts.specs.Strings.{spelled_at}
 use Rattle.price_texts.proofs.NumberLemmas.{numerals}
 use Rattle.price_texts.proofs.VisibleLemmas.{IsVisible, IsVisible-version}
 
@@ -54,7 +54,7 @@ record HasVersion (release : Release) : Type 0 where
   is : version_of release.spelled ≡ Some read
   same : read.0 ≡ release.version
 
-HasVersion-good : (cohorts : List Cohort) (release : Release) → is_good_release cohorts release ≡ true →
+HasVersion-good : (cohorts : List Cohort) (release : Release) → is_valid_release cohorts release ≡ true →
     HasVersion release
 HasVersion-good cohorts release good =
     by_read (version_of release.spelled) refl
@@ -88,13 +88,13 @@ ascend-at before (x ∷ xs) (suc i) (suc j) d rises less within =
 -- the releases of an app: in order, and each spelled as its version
 pub record AreSpelled (cohorts : List Cohort) (releases : List Release) : Type 0 where
   pub ascends : ascend is_release_below releases ≡ true
-  pub good : list_all (is_good_release cohorts) releases ≡ true
+  pub good : list_all (is_valid_release cohorts) releases ≡ true
 
 module _ (irreflexive : BelowIsIrreflexive) (cohorts : List Cohort) (releases : List Release)
     (spelled : AreSpelled cohorts releases) where
   version-at : (index : ℕ) (d : Release) → index < length releases → HasVersion (get_or releases index d)
   version-at index d within = HasVersion-good cohorts (get_or releases index d)
-      (list_all-at (is_good_release cohorts) releases index d spelled.good within)
+      (list_all-at (is_valid_release cohorts) releases index d spelled.good within)
 
   spelled-at : (index : ℕ) (d : Release) → index < length releases →
       spelled_at releases index ≡ (get_or releases index d).spelled

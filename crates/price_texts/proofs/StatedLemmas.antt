@@ -16,7 +16,7 @@ use Rattle.price_cert.specs.declared.row.Row.TheVariants.{Nothing, End, Price}
 use Rattle.price_texts.specs.Forms.{first_of, is_either, is_version, number_below, price_bound, rest_of}
 use Rattle.price_texts.specs.Laws.{IsStatable}
 use Rattle.price_texts.specs.Reading.{entry_of, is_entry, is_payload, is_row, is_spelled, kind_named, payload_of, read_row, row_of}
-use Rattle.price_texts.specs.Texts.{entry_text, kind_word, row_line, spelled_at}
+use Rattle.price_texts.specs.Strings.{entry_string, kind_word, row_line, spelled_at}
 use Rattle.price_texts.proofs.CutLemmas.{first_of-cut, rest_of-cut}
 use Rattle.price_texts.proofs.VisibleLemmas.{IsLine, IsLine-append, IsLine-space, IsLine-visible, IsVisible, IsVisible-decimal, utf8-line}
 use Rattle.price_texts.proofs.SpelledLemmas.{AreSpelled, IsVisible-spelled, is_version-spelled, number_below-decimal, position-spelled}
@@ -49,7 +49,7 @@ module _ (irreflexive : BelowIsIrreflexive) (cohorts : List Cohort) (releases : 
   module _ (price : ℕ) (kind : Kind) (to : ℕ) (d : Release)
       (statable : IsStatable (length releases) (Price price kind to)) where
     abbrev entry : List ℕ
-    entry = entry_text releases (Price price kind to)
+    entry = entry_string releases (Price price kind to)
 
     abbrev goal : List ℕ
     goal = spelled_at releases to
@@ -120,18 +120,18 @@ module _ (irreflexive : BelowIsIrreflexive) (cohorts : List Cohort) (releases : 
 
   -- each entry
   is_entry-text : (row : Row) (d : Release) → IsStatable (length releases) row →
-      is_entry (entry_text releases row) ≡ true
+      is_entry (entry_string releases row) ≡ true
   is_entry-text Nothing d statable = refl
   is_entry-text End d statable = refl
   is_entry-text (Price price kind to) d statable = is_entry-payload price kind to d statable
 
   entry_of-text : (row : Row) (d : Release) → IsStatable (length releases) row →
-      entry_of releases (entry_text releases row) ≡ Some row
+      entry_of releases (entry_string releases row) ≡ Some row
   entry_of-text Nothing d statable = refl
   entry_of-text End d statable = refl
   entry_of-text (Price price kind to) d statable = entry_of-payload price kind to d statable
 
-  IsLine-entry : (row : Row) (d : Release) → IsStatable (length releases) row → IsLine (entry_text releases row)
+  IsLine-entry : (row : Row) (d : Release) → IsStatable (length releases) row → IsLine (entry_string releases row)
   IsLine-entry Nothing d statable = refl
   IsLine-entry End d statable = refl
   IsLine-entry (Price price kind to) d statable = IsLine-payload price kind to d statable
@@ -144,17 +144,17 @@ module _ (irreflexive : BelowIsIrreflexive) (cohorts : List Cohort) (releases : 
     -- the line of a row
     pub IsLine-row : IsLine line
     IsLine-row =
-        IsLine-append (spelled_at releases index) (32 ∷ entry_text releases row)
+        IsLine-append (spelled_at releases index) (32 ∷ entry_string releases row)
         (IsLine-visible (spelled_at releases index)
         (IsVisible-spelled irreflexive cohorts releases spelled index d within))
-        (IsLine-space (entry_text releases row) (IsLine-entry row d statable))
+        (IsLine-space (entry_string releases row) (IsLine-entry row d statable))
 
     name : first_of line ≡ spelled_at releases index
-    name = first_of-cut (spelled_at releases index) (entry_text releases row)
+    name = first_of-cut (spelled_at releases index) (entry_string releases row)
         (IsVisible-spelled irreflexive cohorts releases spelled index d within)
 
-    stated : rest_of line ≡ entry_text releases row
-    stated = rest_of-cut (spelled_at releases index) (entry_text releases row)
+    stated : rest_of line ≡ entry_string releases row
+    stated = rest_of-cut (spelled_at releases index) (entry_string releases row)
         (IsVisible-spelled irreflexive cohorts releases spelled index d within)
 
     is_row-line : is_row line ≡ true

@@ -9,7 +9,7 @@ use Rattle.records.specs.declared.content.Cohort.{Cohort}
 use Rattle.payload_rules.specs.Chains.{lane_target}
 use Rattle.payload_rules.specs.declared.payload.TrackKey.{TrackKey}
 use Rattle.payload_graph.specs.Net.{Net, net_among, net_in, net_of}
-use Rattle.price_texts.specs.Texts.{track_at}
+use Rattle.price_texts.specs.Strings.{track_at}
 
 -- a graph has a place for each release of its app
 length-doors :

@@ -7,7 +7,7 @@ use Rattle.records.specs.declared.content.Release.{Release}
 use Rattle.payload_rules.specs.declared.payload.TrackKey.{TrackKey}
 use Rattle.price_cert.specs.declared.row.Row.{Row}
 use Rattle.price_texts.specs.Headings.{heading_line}
-use Rattle.price_texts.specs.Texts.{ended, headings_text, row_line, rows_from}
+use Rattle.price_texts.specs.Strings.{ended, headings_string, row_line, rows_from}
 use Rattle.price_texts.specs.declared.heading.Heading.{Heading}
 
 -- what is left of a list is its next item and what is left after that
@@ -17,25 +17,25 @@ drop-next items index item within =
     drop-cons items index item within ∙ ap (λ next. get_or items index item ∷ drop next items) (sym (add-one index))
 
 -- the line of a heading joins those before it
-pub headings_text-next :
+pub headings_string-next :
     (text : List ℕ) (app : App) (cohort : Cohort) (key : TrackKey) (target : Release) (headings : List Heading)
     (index : ℕ) (heading : Heading) →
     index < length headings →
-    (text ++ ended (heading_line app cohort key target (get_or headings index heading))) ++ headings_text app cohort key
+    (text ++ ended (heading_line app cohort key target (get_or headings index heading))) ++ headings_string app cohort key
     target (drop (index + 1) headings)
-    ≡ text ++ headings_text app cohort key target (drop index headings)
-unfolding headings_text
-headings_text-next text app cohort key target headings index heading within =
+    ≡ text ++ headings_string app cohort key target (drop index headings)
+unfolding headings_string
+headings_string-next text app cohort key target headings index heading within =
     append_assoc text _ _ ∙ rw (drop-next headings index heading within) refl
 
 -- no heading is left after the last
-pub headings_text-end :
+pub headings_string-end :
     (text : List ℕ) (app : App) (cohort : Cohort) (key : TrackKey) (target : Release) (headings : List Heading)
     (index : ℕ) →
     length headings ≤ index →
-    text ++ headings_text app cohort key target (drop index headings) ≡ text
-unfolding headings_text
-headings_text-end text app cohort key target headings index past =
+    text ++ headings_string app cohort key target (drop index headings) ≡ text
+unfolding headings_string
+headings_string-end text app cohort key target headings index past =
     rw (drop_all index headings past) (append-nil text)
 
 -- the same of the lines of rows

@@ -17,8 +17,8 @@ use Rattle.payload_rules.specs.declared.payload.TrackKey.{TrackKey}
 use Rattle.price_cert.specs.declared.row.Row.{Row}
 use Rattle.price_texts.specs.Headings.{heading_line, headings, is_heading, lane_word, rollback_word}
 use Rattle.price_texts.specs.Laws.{IsStatable}
-use Rattle.price_texts.specs.Reading.{heading_flaw, line_split, on_line, past_heading, read_headings, read_row, read_rows, read_text, rows_after, with_row}
-use Rattle.price_texts.specs.Texts.{ended, headings_text, row_line, rows_from, spelled_at, text_of}
+use Rattle.price_texts.specs.Reading.{heading_flaw, line_split, on_line, past_heading, read_headings, read_row, read_rows, read_body, rows_after, with_row}
+use Rattle.price_texts.specs.Strings.{ended, headings_string, row_line, rows_from, spelled_at, string_of}
 use Rattle.price_texts.specs.declared.fault.Fault.{Fault}
 use Rattle.price_texts.specs.declared.fault.Flaw.{Flaw}
 use Rattle.price_texts.specs.declared.fault.Flaw.TheVariants.{Form, Other}
@@ -72,14 +72,14 @@ module _ (app : App) (cohort : Cohort) (key : TrackKey) (target : Release) (titl
   -- the headings that are left are read
   pub read_headings-written :
       (left : List Heading) (n : ℕ) (rest : List ℕ) →
-      read_headings app cohort key target left n (headings_text app cohort key target left ++ rest) ≡ Ok rest
-  unfolding read_headings headings_text
+      read_headings app cohort key target left n (headings_string app cohort key target left ++ rest) ≡ Ok rest
+  unfolding read_headings headings_string
   read_headings-written [] n rest = refl
   read_headings-written (own ∷ others) n rest =
       let line = heading_line app cohort key target own in
-      let after = headings_text app cohort key target others ++ rest in
+      let after = headings_string app cohort key target others ++ rest in
       let split = line_split-ended line after (IsLine-heading own) in
-      let whole = append_assoc (ended line) (headings_text app cohort key target others) rest in
+      let whole = append_assoc (ended line) (headings_string app cohort key target others) rest in
       ap (λ (text : List ℕ). on_line n (line_split text)
       (λ first behind. past_heading n (heading_flaw own first line)
       (read_headings app cohort key target others (n + 1) behind))) whole
@@ -126,13 +126,13 @@ module _ (irreflexive : BelowIsIrreflexive) (cohorts : List Cohort) (all : List 
       ∙ ap (λ (r : Result (List Row) Fault). with_row n (Ok row) r) later
 
 -- the bytes of a track's rows are read as those rows
-pub read_text-written :
+pub read_body-written :
     BelowIsIrreflexive →
     (app : App) (cohort : Cohort) (key : TrackKey) (target : Release) (rows : List Row) →
     IsTitled app cohort target → AreSpelled app.cohorts app.releases →
     length rows ≡ length app.releases → AllByRecursion (IsStatable (length app.releases)) rows →
-    read_text app cohort key target (text_of app cohort key target rows) ≡ Ok rows
-read_text-written irreflexive app cohort key target rows titled spelled sized each =
+    read_body app cohort key target (string_of app cohort key target rows) ≡ Ok rows
+read_body-written irreflexive app cohort key target rows titled spelled sized each =
     ap (λ (r : Result (List ℕ) Fault). rows_after app.releases r)
     (read_headings-written app cohort key target titled headings 1 (rows_from app.releases 0 rows))
     ∙ read_rows-written irreflexive app.cohorts app.releases spelled app.releases 0 8 rows refl sized each

@@ -9,7 +9,7 @@ use Rattle.std.proofs.lemmas.Option.{get_or_from_slice_get, slice_get-get_or, sl
 use Rattle.hex.specs.Hex.{encode_lower}
 use Rattle.version.specs.Laws.{BelowIsIrreflexive}
 use Rattle.records.specs.Lookups.{is_release}
-use Rattle.records.specs.Validity.{IsValid, IsValidApp, is_good_cohort, is_good_release}
+use Rattle.records.specs.Validity.{IsValid, IsValidApp, is_valid_cohort, is_valid_release}
 use Rattle.records.specs.declared.content.App.{App}
 use Rattle.records.specs.declared.content.Cohort.{Cohort}
 use Rattle.records.specs.declared.content.Release.{Release}
@@ -19,14 +19,14 @@ use Rattle.payload_rules.specs.declared.payload.TrackKey.{TrackKey}
 use Rattle.payload_graph.specs.Net.{Net, net_among, net_in, net_of}
 use Rattle.price_cert.specs.declared.row.Row.{Row}
 use Rattle.price_texts.specs.Laws.{IsStatable, WrittenIsRead}
-use Rattle.price_texts.specs.Reading.{prices_of_text, read_text, table_of}
-use Rattle.price_texts.specs.Texts.{target_at, text_among, text_of, track_at}
+use Rattle.price_texts.specs.Reading.{prices_of_string, read_body, table_of}
+use Rattle.price_texts.specs.Strings.{target_at, string_among, string_of, track_at}
 use Rattle.price_texts.specs.declared.fault.Fault.{Fault}
 use Rattle.price_texts.specs.declared.fault.Fault.TheVariants.{BadLine}
 use Rattle.price_texts.proofs.SpelledLemmas.{AreSpelled, IsVisible-spelled}
 use Rattle.price_texts.proofs.TrackLemmas.{length-doors-track}
 use Rattle.price_texts.proofs.VisibleLemmas.{IsLine-visible, IsVisible, IsVisible-app_id, IsVisible-cohort_name, IsVisible-hex}
-use Rattle.price_texts.proofs.WrittenLemmas.{IsTitled, read_text-written}
+use Rattle.price_texts.proofs.WrittenLemmas.{IsTitled, read_body-written}
 
 -- what a graph was made of
 record HasTrack (apps : List App) (net : Net) : Type 0 where
@@ -112,7 +112,7 @@ IsValidApp-there apps index app valid there =
     (All-from_recursion IsValidApp apps valid.apps_valid index app (slice_get_within apps index app there))
 
 AreSpelled-valid : (app : App) → IsValidApp app → AreSpelled app.cohorts app.releases
-AreSpelled-valid app valid = record { ascends = valid.releases_ascend; good = valid.releases_good }
+AreSpelled-valid app valid = record { ascends = valid.releases_ascend; good = valid.releases_valid }
 
 -- the headings of a track of a valid content are lines
 IsTitled-track :
@@ -120,10 +120,10 @@ IsTitled-track :
     IsTitled track.app track.cohort track.release
 IsTitled-track irreflexive apps net valid track =
     let app_valid = IsValidApp-there apps net.key.app track.app valid track.app_there in
-    let cohort_good = all-there (is_good_cohort track.app.releases) track.app.cohorts net.key.cohort track.cohort
-    app_valid.cohorts_good track.cohort_there in
-    let release_good = all-there (is_good_release track.app.cohorts) track.app.releases net.target track.release
-    app_valid.releases_good track.release_there in
+    let cohort_good = all-there (is_valid_cohort track.app.releases) track.app.cohorts net.key.cohort track.cohort
+    app_valid.cohorts_valid track.cohort_there in
+    let release_good = all-there (is_valid_release track.app.cohorts) track.app.releases net.target track.release
+    app_valid.releases_valid track.release_there in
     let within = slice_get_within track.app.releases net.target track.release track.release_there in
     let spelled = IsVisible-spelled irreflexive track.app.cohorts track.app.releases
     (AreSpelled-valid track.app app_valid) net.target track.release within in
@@ -156,28 +156,28 @@ module _ (irreflexive : BelowIsIrreflexive) where
       ap (λ (o : Option ℕ). option_and_then (λ index. slice_get app.releases index) o) track.is_target ∙
       track.release_there in
       let count = length-doors-track apps net.key net app cohort there made in
-      let text : List ℕ = text_of app cohort net.key target rows in
-      let written : text_among apps prices ≡ Some text =
+      let text : List ℕ = string_of app cohort net.key target rows in
+      let written : string_among apps prices ≡ Some text =
       ap (λ (k : TrackKey). option_and_then
-      (λ (t : App × Cohort). option_map (λ (release : Release). text_of t.0 t.1 k release rows)
+      (λ (t : App × Cohort). option_map (λ (release : Release). string_of t.0 t.1 k release rows)
       (target_at t.0 t.1 k.lane)) (track_at apps k)) keyed
       ∙ ap (λ (o : Option (App × Cohort)). option_and_then
-      (λ (t : App × Cohort). option_map (λ (release : Release). text_of t.0 t.1 net.key release rows)
+      (λ (t : App × Cohort). option_map (λ (release : Release). string_of t.0 t.1 net.key release rows)
       (target_at t.0 t.1 net.key.lane)) o) there
-      ∙ ap (λ (o : Option Release). option_map (λ (release : Release). text_of app cohort net.key release rows) o)
+      ∙ ap (λ (o : Option Release). option_map (λ (release : Release). string_of app cohort net.key release rows) o)
       aimed in
       let each = subst (λ (n : ℕ). AllByRecursion (IsStatable n) rows) count statable.each in
-      let read = read_text-written irreflexive app cohort net.key target rows
+      let read = read_body-written irreflexive app cohort net.key target rows
       (IsTitled-track irreflexive apps net valid track) (AreSpelled-valid app app_valid) (statable.sized ∙ count)
       each in
-      let back : prices_of_text apps net text ≡ Ok prices =
+      let back : prices_of_string apps net text ≡ Ok prices =
       ap (λ (o : Option (App × Cohort)). unwrap_or
       (option_and_then (λ (t : App × Cohort). option_map
-      (λ (release : Release). table_of net.key (read_text t.0 t.1 net.key release text))
+      (λ (release : Release). table_of net.key (read_body t.0 t.1 net.key release text))
       (slice_get t.0.releases net.target)) o) (Err (BadLine 1))) there
       ∙ ap (λ (o : Option Release). unwrap_or
-      (option_map (λ (release : Release). table_of net.key (read_text app cohort net.key release text)) o)
+      (option_map (λ (release : Release). table_of net.key (read_body app cohort net.key release text)) o)
       (Err (BadLine 1))) track.release_there
       ∙ ap (λ (r : Result (List Row) Fault). table_of net.key r) read
       ∙ ap (λ (k : TrackKey). Ok (record { key = k; rows = rows })) (sym keyed) in
-      subst (λ (o : Option (List ℕ)). MatchOption o ⊥ (λ t. prices_of_text apps net t ≡ Ok prices)) (sym written) back
+      subst (λ (o : Option (List ℕ)). MatchOption o ⊥ (λ t. prices_of_string apps net t ≡ Ok prices)) (sym written) back

@@ -65,8 +65,8 @@ key_of app cohort text =
 
 -- rule: Key of a certificate
 -- the key that the first five lines name in a content, or the first of them that is wrong
-abbrev pub key_of_text : List App → List ℕ → Result TrackKey Fault
-key_of_text apps text =
+abbrev pub key_of_string : List App → List ℕ → Result TrackKey Fault
+key_of_string apps text =
     with_value (app_of apps text) (λ app rest.
     with_value (cohort_of apps app rest) (λ cohort after.
     key_of app cohort after))

@@ -11,14 +11,14 @@ use Rattle.price_cert.specs.declared.row.Prices.{Prices}
 use Rattle.price_cert.specs.declared.row.Row.{Row}
 use Rattle.price_cert.specs.declared.row.Row.TheVariants.{Nothing, End, Price}
 use Rattle.price_texts.specs.Forms.{price_bound}
-use Rattle.price_texts.specs.Reading.{prices_of_text, read_text}
-use Rattle.price_texts.specs.Texts.{text_among, text_of}
+use Rattle.price_texts.specs.Reading.{prices_of_string, read_body}
+use Rattle.price_texts.specs.Strings.{string_among, string_of}
 
 -- bytes that are read are the certificate of the rows that they give
 abbrev pub ReadIsWritten : Type 0
 ReadIsWritten =
     (app : App) (cohort : Cohort) (key : TrackKey) (target : Release) (text : List ℕ) (rows : List Row) →
-    read_text app cohort key target text ≡ Ok rows → text_of app cohort key target rows ≡ text
+    read_body app cohort key target text ≡ Ok rows → string_of app cohort key target rows ≡ text
 
 -- a row that a line can state: its price is below the bound, and it leads to a release
 abbrev pub IsStatable : ℕ → Row → Type 0
@@ -40,4 +40,4 @@ WrittenIsRead =
     net_among apps net.key ≡ Some net →
     prices.key ≡ net.key →
     AreStatable (length net.doors) prices.rows →
-    MatchOption (text_among apps prices) ⊥ (λ text. prices_of_text apps net text ≡ Ok prices)
+    MatchOption (string_among apps prices) ⊥ (λ text. prices_of_string apps net text ≡ Ok prices)

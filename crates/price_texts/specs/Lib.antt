@@ -1,7 +1,7 @@
-pub mod FaultTexts
+pub mod FaultStrings
 pub mod Forms
 pub mod Headings
 pub mod Keys
 pub mod Laws
 pub mod Reading
-pub mod Texts
+pub mod Strings

@@ -15,7 +15,7 @@ use Rattle.price_cert.specs.declared.row.Row.{Row}
 use Rattle.price_cert.specs.declared.row.Row.TheVariants.{Nothing, End, Price}
 use Rattle.price_texts.specs.Forms.{first_of, is_either, is_version, number_below, price_bound, rest_of}
 use Rattle.price_texts.specs.Headings.{heading_line, headings, is_heading}
-use Rattle.price_texts.specs.Texts.{track_at}
+use Rattle.price_texts.specs.Strings.{track_at}
 use Rattle.price_texts.specs.declared.fault.Fault.{Fault}
 use Rattle.price_texts.specs.declared.fault.Fault.TheVariants.{BadLine, NotOfThisGraph}
 use Rattle.price_texts.specs.declared.fault.Flaw.{Flaw}
@@ -134,8 +134,8 @@ rows_after releases (Ok text) = read_rows releases releases 8 text
 
 -- rule: Reading of a certificate
 -- the rows of a certificate, or its first wrong line
-abbrev pub read_text : App → Cohort → TrackKey → Release → List ℕ → Result (List Row) Fault
-read_text app cohort key target text =
+abbrev pub read_body : App → Cohort → TrackKey → Release → List ℕ → Result (List Row) Fault
+read_body app cohort key target text =
     rows_after app.releases (read_headings app cohort key target headings 1 text)
 
 -- the table of a key and rows
@@ -152,12 +152,12 @@ with_rows rows (Err fault) = Err fault
 abbrev pub read_among : List App → Net → List ℕ → Option (Result Prices Fault)
 read_among apps net text =
     option_and_then (λ (track : App × Cohort).
-    option_map (λ (target : Release). table_of net.key (read_text track.0 track.1 net.key target text))
+    option_map (λ (target : Release). table_of net.key (read_body track.0 track.1 net.key target text))
     (slice_get track.0.releases net.target))
     (track_at apps net.key)
 
 -- rule: Table of a certificate
 -- the table that a certificate states for a graph, or its first wrong line; the first line is wrong for
 -- a graph of another catalogue
-abbrev pub prices_of_text : List App → Net → List ℕ → Result Prices Fault
-prices_of_text apps net text = unwrap_or (read_among apps net text) (Err (BadLine 1))
+abbrev pub prices_of_string : List App → Net → List ℕ → Result Prices Fault
+prices_of_string apps net text = unwrap_or (read_among apps net text) (Err (BadLine 1))

@@ -1,7 +1,7 @@
 //! Why bytes are no certificate of a graph.
 
 ghost use Rattle.std.specs.Prelude.{◌≡◌, Some};
-ghost use Rattle.price_texts.specs.FaultTexts.{fault_text};
+ghost use Rattle.price_texts.specs.FaultStrings.{fault_string};
 ghost use Rattle.price_texts.specs.Reading.{fault_at};
 
 use std::error::Error;
@@ -24,7 +24,7 @@ pub enum Fault {
 
 // rule: Printed fault of a certificate
 impl fmt::Display for Fault {
-    ghost output = { λ f. Some (fault_text f) };
+    ghost output = { λ f. Some (fault_string f) };
 
     fn fmt<W: fmt::Write>(&self, f: &mut fmt::Formatter<W>) -> fmt::Result {
         match self {

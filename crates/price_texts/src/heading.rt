@@ -64,7 +64,7 @@ fn rollback_word(rollback: bool) -> &'static str
     if rollback { "yes" } else { "no" }
 }
 
-fn target_text(alloc: Global, spelled: &str, digits: &str) -> Result<String, AllocError>
+fn target_fields(alloc: Global, spelled: &str, digits: &str) -> Result<String, AllocError>
     ensures { IfOk result (λ line. string_bytes line ≡ codes "target " ++ (spelled.now ++ 32 ∷ digits.now)) }
 {
     format!(in alloc; "target {spelled} {digits}")
@@ -74,7 +74,7 @@ fn target_line(alloc: Global, target: &Release) -> Result<String, AllocError>
     ensures { IfOk result (λ line. string_bytes line ≡ codes "target " ++ (target.now.spelled ++ 32 ∷ encode_lower target.now.hash)) }
 {
     let digits = hex::encode(alloc, target.hash)?;
-    target_text(alloc, target.spelled.as_str(), digits.as_str())
+    target_fields(alloc, target.spelled.as_str(), digits.as_str())
 }
 
 // rule: Heading of a certificate

@@ -1,7 +1,7 @@
 //! How the key of a certificate is read.
 
 ghost use Rattle.std.specs.Prelude.{◌≡◌, ◌<◌, length, IfOk, IfSome, position};
-ghost use Rattle.price_texts.specs.Keys.{app_of, cohort_of, is_named, key_of, key_of_text, lane_named, value_of, IsRead};
+ghost use Rattle.price_texts.specs.Keys.{app_of, cohort_of, is_named, key_of, key_of_string, lane_named, value_of, IsRead};
 
 use crate::fault::Fault;
 use crate::heading::{Heading, value_in};
@@ -89,7 +89,7 @@ fn key_of(app: usize, cohort: usize, text: &[u8]) -> Result<TrackKey, Fault>
 /// well formed or is missing, P2 `NotOfThisGraph` if it names an app that the catalogue does not have in
 /// this spelling, or a cohort that the app does not have. It takes no memory.
 pub fn read_key(catalogue: &Catalogue, text: &[u8]) -> Result<TrackKey, Fault>
-    ensures { IsRead (λ key. key) result (key_of_text catalogue.now text.now) }
+    ensures { IsRead (λ key. key) result (key_of_string catalogue.now text.now) }
 {
     let (app, rest) = app_of(catalogue, text)?;
     let (cohort, rest) = cohort_of(catalogue, app, rest)?;

@@ -4,7 +4,7 @@ ghost use Rattle.std.specs.Prelude.{◌≡◌, ◌≤◌, length, IfOk, Some};
 ghost use Rattle.values.specs.Reading.{Reads};
 ghost use Rattle.payload_graph.specs.Net.{net_among};
 ghost use Rattle.price_texts.specs.Headings.{headings};
-ghost use Rattle.price_texts.specs.Reading.{prices_of_text, read_headings, read_rows, read_text};
+ghost use Rattle.price_texts.specs.Reading.{prices_of_string, read_headings, read_rows, read_body};
 
 use crate::entry::read_row;
 use crate::fault::Fault;
@@ -71,7 +71,7 @@ fn read_rows(
 }
 
 // rule: Reading of a certificate
-fn read_text(
+fn read_body(
     alloc: Global,
     app: &App,
     cohort: &Cohort,
@@ -80,7 +80,7 @@ fn read_text(
     text: &[u8],
 ) -> Result<Items<Row>, ReadError<Fault>>
     requires { length app.now.releases ≤ 512 }
-    ensures { Reads (λ rows. rows) result (read_text app.now cohort.now key.now target.now text.now) }
+    ensures { Reads (λ rows. rows) result (read_body app.now cohort.now key.now target.now text.now) }
 {
     let rest = read_headings(alloc, app, cohort, key, target, text)?;
     read_rows(alloc, app.releases.as_slice(), rest)
@@ -100,7 +100,7 @@ pub fn read_prices(
     text: &[u8],
 ) -> Result<Prices, ReadError<Fault>>
     requires { net_among catalogue.now graph.now.key ≡ Some graph.now }
-    ensures reads { Reads (λ prices. prices) result (prices_of_text catalogue.now graph.now text.now) }
+    ensures reads { Reads (λ prices. prices) result (prices_of_string catalogue.now graph.now text.now) }
     ensures key { IfOk result (λ prices. prices.key ≡ graph.now.key) }
     ensures sized { IfOk result (λ prices. length prices.rows ≡ length graph.now.doors) }
 {
@@ -111,6 +111,6 @@ pub fn read_prices(
     let Some(target) = app.releases.as_slice().get(graph.target()) else {
         return Err(ReadError::Fault(Fault::BadLine { n: 1 }));
     };
-    let rows = read_text(alloc, app, cohort, &key, target, text)?;
+    let rows = read_body(alloc, app, cohort, &key, target, text)?;
     Ok(Prices { key, rows })
 }

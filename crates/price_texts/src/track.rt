@@ -1,7 +1,7 @@
 //! The app, the cohort and the target of a track.
 
 ghost use Rattle.std.specs.Prelude.{◌≡◌, ◌≤◌, length, IfSome, option_map};
-ghost use Rattle.price_texts.specs.Texts.{target_at, track_at};
+ghost use Rattle.price_texts.specs.Strings.{target_at, track_at};
 
 use catalogue::{App, Catalogue, Cohort, Release};
 use cohorts::{Lane, target_in};

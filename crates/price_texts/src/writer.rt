@@ -2,7 +2,7 @@
 
 ghost use Rattle.std.specs.Prelude.{◌≡◌, ◌<◌, ◌++◌, length, IfOk, OnOk, IsSome, Some};
 ghost use Rattle.price_texts.specs.Headings.{headings};
-ghost use Rattle.price_texts.specs.Texts.{ended, entry_text, headings_text, kind_word, row_line, rows_from, spelled_at, text_among, text_of};
+ghost use Rattle.price_texts.specs.Strings.{ended, entry_string, headings_string, kind_word, row_line, rows_from, spelled_at, string_among, string_of};
 
 use crate::heading::{HEADINGS, line_of};
 use crate::track::{find_target, find_track};
@@ -31,8 +31,8 @@ fn kind_word(kind: Kind) -> &'static str
     }
 }
 
-fn entry_text(alloc: Global, releases: &[Release], row: Row) -> Result<Text, AllocError>
-    ensures { IfOk result (λ entry. entry ≡ entry_text releases.now row) }
+fn entry_string(alloc: Global, releases: &[Release], row: Row) -> Result<Text, AllocError>
+    ensures { IfOk result (λ entry. entry ≡ entry_string releases.now row) }
 {
     let entry = match row {
         Row::Nothing => format!(in alloc; "none")?,
@@ -50,7 +50,7 @@ fn entry_text(alloc: Global, releases: &[Release], row: Row) -> Result<Text, All
 fn row_line(alloc: Global, releases: &[Release], index: usize, row: Row) -> Result<Text, AllocError>
     ensures { IfOk result (λ line. line ≡ row_line releases.now index row) }
 {
-    let entry = entry_text(alloc, releases, row)?;
+    let entry = entry_string(alloc, releases, row)?;
     let spelled = spelled_at(releases, index);
     let stated = entry.as_str();
     let line = format!(in alloc; "{spelled} {stated}")?;
@@ -73,7 +73,7 @@ fn push_headings(
     target: &Release,
     text: &mut Vec<u8>,
 ) -> Result<(), AllocError>
-    ensures { OnOk result (text.new.items ≡ text.old.items ++ headings_text app.now cohort.now key.now target.now headings) }
+    ensures { OnOk result (text.new.items ≡ text.old.items ++ headings_string app.now cohort.now key.now target.now headings) }
 {
     for index in 0..HEADINGS.len() {
         let line = line_of(alloc, app, cohort, key, target, HEADINGS[index])?;
@@ -98,7 +98,7 @@ fn push_rows(
 }
 
 // rule: Bytes of a certificate
-fn write_text(
+fn write_body(
     alloc: Global,
     app: &App,
     cohort: &Cohort,
@@ -106,7 +106,7 @@ fn write_text(
     target: &Release,
     rows: &[Row],
 ) -> Result<Vec<u8>, AllocError>
-    ensures { IfOk result (λ text. text.items ≡ text_of app.now cohort.now key.now target.now rows.now) }
+    ensures { IfOk result (λ text. text.items ≡ string_of app.now cohort.now key.now target.now rows.now) }
 {
     let mut text = Vec::new(alloc);
     push_headings(alloc, app, cohort, key, target, &mut text)?;
@@ -125,8 +125,8 @@ pub fn write_prices(
     catalogue: &Catalogue,
     prices: &Prices,
 ) -> Result<Vec<u8>, AllocError>
-    requires { IsSome (text_among catalogue.now prices.now) }
-    ensures { IfOk result (λ text. text_among catalogue.now prices.now ≡ Some text.items) }
+    requires { IsSome (string_among catalogue.now prices.now) }
+    ensures { IfOk result (λ text. string_among catalogue.now prices.now ≡ Some text.items) }
 {
     let Some((app, cohort)) = find_track(catalogue, &prices.key) else {
         unreachable!()
@@ -134,7 +134,7 @@ pub fn write_prices(
     let Some(target) = find_target(app, cohort, prices.key.lane) else {
         unreachable!()
     };
-    write_text(
+    write_body(
         alloc,
         app,
         cohort,

@@ -25,9 +25,9 @@ use Rattle.values.proofs.SplitLemmas.{list_any-before, split_next}
 use Rattle.values.specs.Lists.{IsOnce}
 use Rattle.profile_texts.proofs.EntryLemmas.{Read, diff_of-diff_table, entry_of_diff, entry_of_release, mirror_of-mirror_table, release_of-release_table, unwrap_or-given}
 use Rattle.profile_texts.proofs.KeyLemmas.{get_member-filled_table, known_among-filled_table}
-use Rattle.profile_texts.proofs.ReaderLemmas.{each_from-again, optional-flag, optional-natural, optional-text, optional_tables-given, required-text, required_tables-given}
+use Rattle.profile_texts.proofs.ReaderLemmas.{each_from-again, optional-flag, optional-natural, optional-string, optional_tables-given, required-string, required_tables-given}
 use Rattle.profile_texts.specs.Fields.{app_fields, app_table, cohort_fields, cohort_table, diff_table, mirror_table, profile_fields, profile_table, release_table, share_given}
-use Rattle.profile_texts.specs.Tables.{Field, flag, optional_natural, optional_text, table_items, tables, text}
+use Rattle.profile_texts.specs.Tables.{Field, flag, optional_natural, optional_string, table_items, tables, given_string}
 
 abbrev pub CohortEntry : Type 0
 CohortEntry = Read (cohort_of [])
@@ -57,9 +57,9 @@ cohort_of-cohort_table before place releases cohort new =
     fields = cohort_fields releases cohort
 
     by_keys : (members : Members) → known cohort_keys (table_at place members) ≡ Ok tt
-        → get_member (codes "name") members ≡ text cohort.name
-        → get_member (codes "target") members ≡ optional_text (option_map (spelling_of releases) cohort.target)
-        → get_member (codes "held") members ≡ optional_text (option_map (spelling_of releases) cohort.held)
+        → get_member (codes "name") members ≡ given_string cohort.name
+        → get_member (codes "target") members ≡ optional_string (option_map (spelling_of releases) cohort.target)
+        → get_member (codes "held") members ≡ optional_string (option_map (spelling_of releases) cohort.held)
         → get_member (codes "share") members ≡ optional_natural (share_given cohort.share)
         → get_member (codes "rollback") members ≡ flag cohort.rollback
         → get_member (codes "open") members ≡ flag cohort.hintable
@@ -67,10 +67,10 @@ cohort_of-cohort_table before place releases cohort new =
     by_keys members all_known name target held share rollback open_to =
         rw (
           all_known,
-          required-text place (codes "name") members cohort.name name,
+          required-string place (codes "name") members cohort.name name,
           new,
-          optional-text place (codes "target") members (option_map (spelling_of releases) cohort.target) target,
-          optional-text place (codes "held") members (option_map (spelling_of releases) cohort.held) held,
+          optional-string place (codes "target") members (option_map (spelling_of releases) cohort.target) target,
+          optional-string place (codes "held") members (option_map (spelling_of releases) cohort.held) held,
           optional-natural place (codes "share") members (share_given cohort.share) share,
           optional-flag place (codes "rollback") members cohort.rollback rollback,
           optional-flag place (codes "open") members cohort.hintable open_to,
@@ -148,8 +148,8 @@ app_of-app_table place app valid =
     fields = app_fields app
 
     by_keys : (members : Members) → known app_keys (table_at place members) ≡ Ok tt
-        → get_member (codes "id") members ≡ text app.id
-        → get_member (codes "default") members ≡ text (default_name app.cohorts)
+        → get_member (codes "id") members ≡ given_string app.id
+        → get_member (codes "default") members ≡ given_string (default_name app.cohorts)
         → get_member (codes "cohort") members ≡ tables (map (cohort_table app.releases) app.cohorts)
         → get_member (codes "release") members ≡ tables (map release_table app.releases)
         → get_member (codes "diff") members ≡ tables (map (diff_table app.releases) app.diffs)
@@ -157,8 +157,8 @@ app_of-app_table place app valid =
     by_keys members all_known id default cohort release diff =
         rw (
           all_known,
-          required-text place (codes "id") members app.id id,
-          required-text place (codes "default") members (default_name app.cohorts) default,
+          required-string place (codes "id") members app.id id,
+          required-string place (codes "default") members (default_name app.cohorts) default,
           optional_tables-given place (codes "cohort") members (map (cohort_table app.releases) app.cohorts) cohort,
           optional_tables-given place (codes "release") members (map release_table app.releases) release,
           optional_tables-given place (codes "diff") members (map (diff_table app.releases) app.diffs) diff,

@@ -9,11 +9,11 @@ use Rattle.records.specs.declared.mirror.Mirror.{Mirror}
 use Rattle.toml.specs.Data.{Members, items_depth, members_depth}
 use Rattle.profile_texts.proofs.KeyLemmas.{members_depth-filled_table, value_depth}
 use Rattle.profile_texts.specs.Fields.{app_fields, app_table, cohort_fields, cohort_table, diff_fields, diff_table, mirror_fields, mirror_table, profile_fields, profile_table, release_fields, release_table, share_given}
-use Rattle.profile_texts.specs.Tables.{flag, optional_natural, optional_text, optional_list, table_items, tables, text_items}
+use Rattle.profile_texts.specs.Tables.{flag, optional_natural, optional_string, optional_list, table_items, tables, string_items}
 
-items_depth-text_items : (texts : List (List ℕ)) → items_depth (text_items texts) ≡ 0
-items_depth-text_items [] = refl
-items_depth-text_items (text ∷ texts) = let others = items_depth-text_items texts in omega arith
+items_depth-string_items : (texts : List (List ℕ)) → items_depth (string_items texts) ≡ 0
+items_depth-string_items [] = refl
+items_depth-string_items (text ∷ texts) = let others = items_depth-string_items texts in omega arith
 
 items_depth-table_items : (bound : ℕ) (list : List Members) → AllByRecursion (λ one. members_depth one ≤ bound) list
     → items_depth (table_items list) ≤ bound + 1
@@ -33,9 +33,9 @@ value_depth-flag : (on : Bool) → value_depth (flag on) ≤ 1
 value_depth-flag true = omega arith
 value_depth-flag false = omega arith
 
-value_depth-optional_text : (string : Option (List ℕ)) → value_depth (optional_text string) ≤ 1
-value_depth-optional_text None = omega arith
-value_depth-optional_text (Some string) = omega arith
+value_depth-optional_string : (string : Option (List ℕ)) → value_depth (optional_string string) ≤ 1
+value_depth-optional_string None = omega arith
+value_depth-optional_string (Some string) = omega arith
 
 value_depth-optional_natural : (number : Option ℕ) → value_depth (optional_natural number) ≤ 1
 value_depth-optional_natural None = omega arith
@@ -43,7 +43,7 @@ value_depth-optional_natural (Some number) = omega arith
 
 value_depth-optional_list : (texts : Option (List (List ℕ))) → value_depth (optional_list texts) ≤ 1
 value_depth-optional_list None = omega arith
-value_depth-optional_list (Some texts) = let flat = items_depth-text_items texts in omega arith
+value_depth-optional_list (Some texts) = let flat = items_depth-string_items texts in omega arith
 
 all_shallow : {X : Type 0} (write : X → Members) (bound : ℕ) → ((x : X) → members_depth (write x) ≤ bound)
     → (xs : List X) → AllByRecursion (λ one. members_depth one ≤ bound) (map write xs)
@@ -83,9 +83,9 @@ cohort_shallow releases cohort =
     members_depth-filled_table 1 (cohort_fields releases cohort) (
       omega arith,
       (
-        value_depth-optional_text _,
+        value_depth-optional_string _,
         (
-          value_depth-optional_text _,
+          value_depth-optional_string _,
           (
             value_depth-optional_natural (share_given cohort.share),
             (

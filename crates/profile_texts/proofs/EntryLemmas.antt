@@ -13,9 +13,9 @@ use Rattle.profile_toml.specs.Diffs.{diff_in, diff_keys, diff_of}
 use Rattle.profile_toml.specs.Mirrors.{mirror_keys, mirror_of}
 use Rattle.profile_toml.specs.Releases.{package_in, release_keys, release_of}
 use Rattle.profile_texts.proofs.KeyLemmas.{get_member-filled_table, known_among-filled_table}
-use Rattle.profile_texts.proofs.ReaderLemmas.{given, optional-flag, optional_texts-given, required-natural, required-text}
+use Rattle.profile_texts.proofs.ReaderLemmas.{given, optional-flag, optional_strings-given, required-natural, required-string}
 use Rattle.profile_texts.specs.Fields.{diff_fields, diff_table, mirror_fields, mirror_table, release_fields, release_table}
-use Rattle.profile_texts.specs.Tables.{Field, flag, natural, optional_list, text}
+use Rattle.profile_texts.specs.Tables.{Field, flag, natural, optional_list, given_string}
 
 -- what a table is read as
 abbrev pub Read : {A : Type 0} → (PlacedTable → Result A BadEntry) → Type 0
@@ -36,15 +36,15 @@ mirror_of-mirror_table place mirror = by_keys (mirror_table mirror) (known_among
     fields = mirror_fields mirror
 
     by_keys : (members : Members) → known mirror_keys (table_at place members) ≡ Ok tt
-        → get_member (codes "name") members ≡ text mirror.name
-        → get_member (codes "codebase") members ≡ text mirror.codebase
+        → get_member (codes "name") members ≡ given_string mirror.name
+        → get_member (codes "codebase") members ≡ given_string mirror.codebase
         → get_member (codes "budget") members ≡ natural mirror.budget
         → mirror_of (table_at place members) ≡ Ok mirror
     by_keys members all_known name codebase budget =
         rw (
           all_known,
-          required-text place (codes "name") members mirror.name name,
-          required-text place (codes "codebase") members mirror.codebase codebase,
+          required-string place (codes "name") members mirror.name name,
+          required-string place (codes "codebase") members mirror.codebase codebase,
           required-natural place (codes "budget") members mirror.budget budget,
         ) refl
 
@@ -79,10 +79,10 @@ release_of-release_table place release =
     fields = release_fields release
 
     by_keys : (members : Members) → known release_keys (table_at place members) ≡ Ok tt
-        → get_member (codes "version") members ≡ text release.spelled
-        → get_member (codes "name") members ≡ text release.name
+        → get_member (codes "version") members ≡ given_string release.spelled
+        → get_member (codes "name") members ≡ given_string release.name
         → get_member (codes "size") members ≡ natural release.size
-        → get_member (codes "sha256") members ≡ text (encode_lower release.hash)
+        → get_member (codes "sha256") members ≡ given_string (encode_lower release.hash)
         → get_member (codes "stone") members ≡ flag release.stone
         → get_member (codes "withdrawn") members ≡ flag release.withdrawn
         → get_member (codes "audience") members ≡ optional_list release.audience
@@ -90,13 +90,13 @@ release_of-release_table place release =
     by_keys members all_known version name size sha256 stone withdrawn audience =
         rw (
           all_known,
-          required-text place (codes "version") members release.spelled version,
-          required-text place (codes "name") members release.name name,
+          required-string place (codes "version") members release.spelled version,
+          required-string place (codes "name") members release.name name,
           required-natural place (codes "size") members release.size size,
-          required-text place (codes "sha256") members (encode_lower release.hash) sha256,
+          required-string place (codes "sha256") members (encode_lower release.hash) sha256,
           optional-flag place (codes "stone") members release.stone stone,
           optional-flag place (codes "withdrawn") members release.withdrawn withdrawn,
-          optional_texts-given place (codes "audience") members release.audience audience,
+          optional_strings-given place (codes "audience") members release.audience audience,
           unwrap_or-given release.stone,
           unwrap_or-given release.withdrawn,
         ) refl
@@ -127,18 +127,18 @@ diff_of-diff_table place releases diff =
     fields = diff_fields releases diff
 
     by_keys : (members : Members) → known diff_keys (table_at place members) ≡ Ok tt
-        → get_member (codes "from") members ≡ text (spelling_of releases diff.from)
-        → get_member (codes "to") members ≡ text (spelling_of releases diff.to)
-        → get_member (codes "name") members ≡ text diff.name
+        → get_member (codes "from") members ≡ given_string (spelling_of releases diff.from)
+        → get_member (codes "to") members ≡ given_string (spelling_of releases diff.to)
+        → get_member (codes "name") members ≡ given_string diff.name
         → get_member (codes "size") members ≡ natural diff.size
-        → get_member (codes "sha256") members ≡ text (encode_lower diff.hash)
+        → get_member (codes "sha256") members ≡ given_string (encode_lower diff.hash)
         → diff_of (table_at place members) ≡ Ok (entry_of_diff releases diff)
     by_keys members all_known from to name size sha256 =
         rw (
           all_known,
-          required-text place (codes "from") members (spelling_of releases diff.from) from,
-          required-text place (codes "to") members (spelling_of releases diff.to) to,
-          required-text place (codes "name") members diff.name name,
+          required-string place (codes "from") members (spelling_of releases diff.from) from,
+          required-string place (codes "to") members (spelling_of releases diff.to) to,
+          required-string place (codes "name") members diff.name name,
           required-natural place (codes "size") members diff.size size,
-          required-text place (codes "sha256") members (encode_lower diff.hash) sha256,
+          required-string place (codes "sha256") members (encode_lower diff.hash) sha256,
         ) refl

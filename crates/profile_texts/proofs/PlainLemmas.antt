@@ -12,7 +12,7 @@ use Rattle.records.specs.declared.mirror.Mirror.{Mirror}
 use Rattle.toml.specs.Data.{Data, Members, member, no_members}
 use Rattle.profile_texts.proofs.OneTextLemmas.{is_plain, items_are_plain, members_are_plain}
 use Rattle.profile_texts.specs.Fields.{app_fields, app_table, cohort_fields, cohort_table, diff_fields, diff_table, mirror_fields, mirror_table, profile_fields, profile_table, release_fields, release_table, share_given}
-use Rattle.profile_texts.specs.Tables.{Field, flag, optional_natural, optional_text, optional_list, put, table_items, filled_table, tables, text_items, with_fields, with_key}
+use Rattle.profile_texts.specs.Tables.{Field, flag, optional_natural, optional_string, optional_list, put, table_items, filled_table, tables, string_items, with_fields, with_key}
 
 members_are_plain-put : (key : List ℕ) (value : Data) (filled : Members) → is_plain value ≡ true
     → members_are_plain filled ≡ true → members_are_plain (put key value filled) ≡ true
@@ -52,9 +52,9 @@ members_are_plain-filled_table : (fields : List Field) → AllByRecursion (λ fi
     → members_are_plain (filled_table fields) ≡ true
 members_are_plain-filled_table fields plain = members_are_plain-with_fields no_members fields refl plain
 
-items_are_plain-text_items : (texts : List (List ℕ)) → items_are_plain (text_items texts) ≡ true
-items_are_plain-text_items [] = refl
-items_are_plain-text_items (text ∷ texts) = items_are_plain-text_items texts
+items_are_plain-string_items : (texts : List (List ℕ)) → items_are_plain (string_items texts) ≡ true
+items_are_plain-string_items [] = refl
+items_are_plain-string_items (text ∷ texts) = items_are_plain-string_items texts
 
 items_are_plain-table_items : {X : Type 0} (write : X → Members) → ((x : X) → members_are_plain (write x) ≡ true)
     → (xs : List X) → items_are_plain (table_items (map write xs)) ≡ true
@@ -70,9 +70,9 @@ is_plain-flag : (on : Bool) → is_plain_value (flag on) ≡ true
 is_plain-flag true = refl
 is_plain-flag false = refl
 
-is_plain-optional_text : (string : Option (List ℕ)) → is_plain_value (optional_text string) ≡ true
-is_plain-optional_text None = refl
-is_plain-optional_text (Some string) = refl
+is_plain-optional_string : (string : Option (List ℕ)) → is_plain_value (optional_string string) ≡ true
+is_plain-optional_string None = refl
+is_plain-optional_string (Some string) = refl
 
 is_plain-optional_natural : (number : Option ℕ) → is_plain_value (optional_natural number) ≡ true
 is_plain-optional_natural None = refl
@@ -80,7 +80,7 @@ is_plain-optional_natural (Some number) = refl
 
 is_plain-optional_list : (texts : Option (List (List ℕ))) → is_plain_value (optional_list texts) ≡ true
 is_plain-optional_list None = refl
-is_plain-optional_list (Some texts) = items_are_plain-text_items texts
+is_plain-optional_list (Some texts) = items_are_plain-string_items texts
 
 mirror_plain : (mirror : Mirror) → members_are_plain (mirror_table mirror) ≡ true
 mirror_plain mirror = members_are_plain-filled_table (mirror_fields mirror) (refl, (refl, (refl, tt)))
@@ -116,9 +116,9 @@ cohort_plain releases cohort =
     members_are_plain-filled_table (cohort_fields releases cohort) (
       refl,
       (
-        is_plain-optional_text _,
+        is_plain-optional_string _,
         (
-          is_plain-optional_text _,
+          is_plain-optional_string _,
           (
             is_plain-optional_natural (share_given cohort.share),
             (is_plain-flag cohort.rollback, (is_plain-flag cohort.hintable, tt)),

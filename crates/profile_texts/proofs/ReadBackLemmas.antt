@@ -11,11 +11,11 @@ use Rattle.toml.specs.Parse.{parse_document}
 use Rattle.toml_tables.specs.Tables.{document}
 use Rattle.profile_toml.specs.Documents.{check_schema}
 use Rattle.profile_toml.specs.Laws.{AreMirrors}
-use Rattle.profile_toml.specs.Reading.{profile_of_text}
+use Rattle.profile_toml.specs.Reading.{profile_of_bytes}
 use Rattle.profile_texts.proofs.AppEntryLemmas.{profile_of-profile_table}
 use Rattle.profile_texts.proofs.EditLemmas.{edits_of-entries}
 use Rattle.profile_texts.proofs.KeyLemmas.{get_member-filled_table}
-use Rattle.profile_texts.proofs.MirrorLemmas.{good_mirrors-AreMirrors}
+use Rattle.profile_texts.proofs.MirrorLemmas.{valid_mirrors-AreMirrors}
 use Rattle.profile_texts.proofs.ReaderLemmas.{required-natural}
 use Rattle.profile_texts.specs.Fields.{profile_fields, profile_table}
 
@@ -25,17 +25,17 @@ check_schema-written apps mirrors =
     let given = get_member-filled_table (codes "schema") (profile_fields apps mirrors) in
     rw (required-natural [] (codes "schema") (profile_table apps mirrors) 1 given) refl
 
-pub profile_of_text-written : (text : List ℕ) (apps : List App) (mirrors : List Mirror)
+pub profile_of_bytes-written : (text : List ℕ) (apps : List App) (mirrors : List Mirror)
     → IsUtf8 text → parse_document text ≡ Some (profile_table apps mirrors)
     → AllByRecursion IsValidApp apps → AreMirrors mirrors
-    → profile_of_text text ≡ Ok (edits_of_content apps, mirrors)
-unfolding profile_of_text
-profile_of_text-written text apps mirrors utf8 parsed valid are =
+    → profile_of_bytes text ≡ Ok (edits_of_content apps, mirrors)
+unfolding profile_of_bytes
+profile_of_bytes-written text apps mirrors utf8 parsed valid are =
     rw (
       is_utf8-from_IsUtf8 text utf8,
       parsed,
       check_schema-written apps mirrors,
       profile_of-profile_table apps mirrors valid are.some,
-      good_mirrors-AreMirrors mirrors are,
+      valid_mirrors-AreMirrors mirrors are,
       edits_of-entries apps valid,
     ) refl

@@ -6,19 +6,19 @@ use Rattle.toml_tables.specs.Fields.{as_natural, optional, required}
 use Rattle.toml_tables.specs.Lists.{all_tables, each_from, optional_tables, required_tables, tables_of}
 use Rattle.toml_tables.specs.Paths.{path_of}
 use Rattle.toml_tables.specs.Tables.{PlacedTable, list_at, table_at}
-use Rattle.toml_tables.specs.Texts.{optional_texts, texts_from, texts_of}
+use Rattle.toml_tables.specs.Strings.{optional_strings, strings_from, strings_of}
 use Rattle.toml_tables.specs.declared.path.BadEntry.{BadEntry}
-use Rattle.profile_texts.specs.Tables.{flag, natural, optional_natural, optional_text, optional_list, table_items, tables, text, text_items}
+use Rattle.profile_texts.specs.Tables.{flag, natural, optional_natural, optional_string, optional_list, table_items, tables, given_string, string_items}
 
 -- a flag as it is given
 abbrev pub given : Bool → Option Bool
 given true = Some true
 given false = None
 
-texts_from-text_items : (list : List ℕ) (index : ℕ) (texts : List (List ℕ))
-    → texts_from list index (text_items texts) ≡ Ok texts
-texts_from-text_items list index [] = refl
-texts_from-text_items list index (text ∷ texts) = rw (texts_from-text_items list (index + 1) texts) refl
+strings_from-string_items : (list : List ℕ) (index : ℕ) (texts : List (List ℕ))
+    → strings_from list index (string_items texts) ≡ Ok texts
+strings_from-string_items list index [] = refl
+strings_from-string_items list index (text ∷ texts) = rw (strings_from-string_items list (index + 1) texts) refl
 
 all_tables-table_items : (list : List ℕ) (index : ℕ) (tables : List Members)
     → all_tables list index (table_items tables) ≡ Ok tt
@@ -26,18 +26,18 @@ all_tables-table_items list index [] = refl
 all_tables-table_items list index (first ∷ others) = all_tables-table_items list (index + 1) others
 
 module _ (place key : List ℕ) (members : Members) where
-  pub required-text : (string : List ℕ) → get_member key members ≡ text string
+  pub required-string : (string : List ℕ) → get_member key members ≡ given_string string
       → required as_str key (table_at place members) ≡ Ok string
-  required-text string is = rw is refl
+  required-string string is = rw is refl
 
   pub required-natural : (number : ℕ) → get_member key members ≡ natural number
       → required as_natural key (table_at place members) ≡ Ok number
   required-natural number is = rw is refl
 
-  pub optional-text : (string : Option (List ℕ)) → get_member key members ≡ optional_text string
+  pub optional-string : (string : Option (List ℕ)) → get_member key members ≡ optional_string string
       → optional as_str key (table_at place members) ≡ Ok string
-  optional-text None is = rw is refl
-  optional-text (Some string) is = rw is refl
+  optional-string None is = rw is refl
+  optional-string (Some string) is = rw is refl
 
   pub optional-natural : (number : Option ℕ) → get_member key members ≡ optional_natural number
       → optional as_natural key (table_at place members) ≡ Ok number
@@ -49,11 +49,11 @@ module _ (place key : List ℕ) (members : Members) where
   optional-flag true is = rw is refl
   optional-flag false is = rw is refl
 
-  pub optional_texts-given : (texts : Option (List (List ℕ))) → get_member key members ≡ optional_list texts
-      → optional_texts key (table_at place members) ≡ Ok texts
-  unfolding texts_of
-  optional_texts-given None is = rw is refl
-  optional_texts-given (Some texts) is = rw (is, texts_from-text_items (path_of place key) 0 texts) refl
+  pub optional_strings-given : (texts : Option (List (List ℕ))) → get_member key members ≡ optional_list texts
+      → optional_strings key (table_at place members) ≡ Ok texts
+  unfolding strings_of
+  optional_strings-given None is = rw is refl
+  optional_strings-given (Some texts) is = rw (is, strings_from-string_items (path_of place key) 0 texts) refl
 
   pub optional_tables-given : (list : List Members) → get_member key members ≡ tables list
       → optional_tables key (table_at place members) ≡ Ok (list_at (path_of place key) (table_items list))

@@ -7,7 +7,7 @@ use Rattle.toml.specs.Data.{item, push_item, string, table, Members}
 use Rattle.toml.specs.View.{view, members_view}
 use Rattle.toml.specs.declared.value.Value.{Value}
 use Rattle.toml.proofs.Views.{Entry}
-use Rattle.profile_texts.specs.Tables.{put, table_items, text_items}
+use Rattle.profile_texts.specs.Tables.{put, table_items, string_items}
 
 members_view-match_ordering : (o : Ordering) (a b c : List Entry)
     → members_view (match_ordering o a b c) ≡ match_ordering o (members_view a) (members_view b) (members_view c)
@@ -23,10 +23,10 @@ members_view-insert_entry (e ∷ es) k v =
     members_view-match_ordering (string_cmp k e.0) _ _ _ ∙ rw (members_view-insert_entry es k v)
 
 -- one more string, and one more table, at the end
-pub text_items-last : (texts : List (List ℕ)) (text : List ℕ)
-    → text_items (texts ++ text ∷ []) ≡ push_item (text_items texts) (string text)
-text_items-last [] text = refl
-text_items-last (first ∷ texts) text = ap (item (string first)) (text_items-last texts text)
+pub string_items-last : (texts : List (List ℕ)) (text : List ℕ)
+    → string_items (texts ++ text ∷ []) ≡ push_item (string_items texts) (string text)
+string_items-last [] text = refl
+string_items-last (first ∷ texts) text = ap (item (string first)) (string_items-last texts text)
 
 pub table_items-last : (tables : List Members) (one : Members)
     → table_items (tables ++ one ∷ []) ≡ push_item (table_items tables) (table one)

@@ -11,14 +11,14 @@ use Rattle.records.specs.declared.content.Diff.{Diff}
 use Rattle.records.specs.declared.content.Release.{Release}
 use Rattle.records.specs.declared.mirror.Mirror.{Mirror}
 use Rattle.toml.specs.Data.{Members}
-use Rattle.profile_texts.specs.Tables.{Field, flag, natural, optional_natural, optional_text, optional_list, filled_table, tables, text}
+use Rattle.profile_texts.specs.Tables.{Field, flag, natural, optional_natural, optional_string, optional_list, filled_table, tables, given_string}
 
 -- rule: Written mirror
 -- a mirror
 abbrev pub mirror_fields : Mirror → List Field
 mirror_fields mirror =
-    (codes "name", text mirror.name)
-    ∷ (codes "codebase", text mirror.codebase)
+    (codes "name", given_string mirror.name)
+    ∷ (codes "codebase", given_string mirror.codebase)
     ∷ (codes "budget", natural mirror.budget)
     ∷ []
 
@@ -30,9 +30,9 @@ share_given share = if share == max_share then None else Some share
 -- a cohort of an app with these releases
 abbrev pub cohort_fields : List Release → Cohort → List Field
 cohort_fields releases cohort =
-    (codes "name", text cohort.name)
-    ∷ (codes "target", optional_text (option_map (spelling_of releases) cohort.target))
-    ∷ (codes "held", optional_text (option_map (spelling_of releases) cohort.held))
+    (codes "name", given_string cohort.name)
+    ∷ (codes "target", optional_string (option_map (spelling_of releases) cohort.target))
+    ∷ (codes "held", optional_string (option_map (spelling_of releases) cohort.held))
     ∷ (codes "share", optional_natural (share_given cohort.share))
     ∷ (codes "rollback", flag cohort.rollback)
     ∷ (codes "open", flag cohort.hintable)
@@ -42,10 +42,10 @@ cohort_fields releases cohort =
 -- a release
 abbrev pub release_fields : Release → List Field
 release_fields release =
-    (codes "version", text release.spelled)
-    ∷ (codes "name", text release.name)
+    (codes "version", given_string release.spelled)
+    ∷ (codes "name", given_string release.name)
     ∷ (codes "size", natural release.size)
-    ∷ (codes "sha256", text (encode_lower release.hash))
+    ∷ (codes "sha256", given_string (encode_lower release.hash))
     ∷ (codes "stone", flag release.stone)
     ∷ (codes "withdrawn", flag release.withdrawn)
     ∷ (codes "audience", optional_list release.audience)
@@ -55,11 +55,11 @@ release_fields release =
 -- a differential of an app with these releases
 abbrev pub diff_fields : List Release → Diff → List Field
 diff_fields releases diff =
-    (codes "from", text (spelling_of releases diff.from))
-    ∷ (codes "to", text (spelling_of releases diff.to))
-    ∷ (codes "name", text diff.name)
+    (codes "from", given_string (spelling_of releases diff.from))
+    ∷ (codes "to", given_string (spelling_of releases diff.to))
+    ∷ (codes "name", given_string diff.name)
     ∷ (codes "size", natural diff.size)
-    ∷ (codes "sha256", text (encode_lower diff.hash))
+    ∷ (codes "sha256", given_string (encode_lower diff.hash))
     ∷ []
 
 -- their tables
@@ -79,8 +79,8 @@ diff_table releases diff = filled_table (diff_fields releases diff)
 -- an app: all its cohorts, the default one first, its releases and its differentials
 abbrev pub app_fields : App → List Field
 app_fields app =
-    (codes "id", text app.id)
-    ∷ (codes "default", text (default_name app.cohorts))
+    (codes "id", given_string app.id)
+    ∷ (codes "default", given_string (default_name app.cohorts))
     ∷ (codes "cohort", tables (map (cohort_table app.releases) app.cohorts))
     ∷ (codes "release", tables (map release_table app.releases))
     ∷ (codes "diff", tables (map (diff_table app.releases) app.diffs))

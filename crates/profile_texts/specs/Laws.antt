@@ -2,8 +2,8 @@
 use Rattle.std.specs.Prelude.{◌≡◌, ℕ, List, [], Ok}
 use Rattle.catalogue.specs.Batches.{outcome}
 use Rattle.catalogue.specs.declared.edit.Edit.{Edit}
-use Rattle.profile_toml.specs.Reading.{profile_of_text}
-use Rattle.profile_texts.specs.Profiles.{IsProfileText, IsReadAs}
+use Rattle.profile_toml.specs.Reading.{profile_of_bytes}
+use Rattle.profile_texts.specs.Profiles.{IsProfileFile, IsReadAs}
 use Rattle.records.specs.declared.content.App.{App}
 use Rattle.records.specs.declared.mirror.Mirror.{Mirror}
 
@@ -11,14 +11,14 @@ use Rattle.records.specs.declared.mirror.Mirror.{Mirror}
 abbrev pub ProfilesAreWrittenInOneWay : Type 0
 ProfilesAreWrittenInOneWay =
     (apps : List App) (mirrors : List Mirror) (first second : List ℕ) →
-    IsProfileText apps mirrors first → IsProfileText apps mirrors second → first ≡ second
+    IsProfileFile apps mirrors first → IsProfileFile apps mirrors second → first ≡ second
 
 -- a written profile that is read, whose edits are applied and whose content is written again, has the same
 -- bytes
 abbrev pub ReadProfilesAreWrittenAgain : Type 0
 ReadProfilesAreWrittenAgain =
     (apps : List App) (mirrors : List Mirror) (text : List ℕ) →
-    IsProfileText apps mirrors text → IsReadAs apps mirrors text →
+    IsProfileFile apps mirrors text → IsReadAs apps mirrors text →
     (edits : List Edit) (named : List Mirror) (made : List App) →
-    profile_of_text text ≡ Ok (edits, named) → outcome edits [] ≡ Ok made →
-    (again : List ℕ) → IsProfileText made named again → again ≡ text
+    profile_of_bytes text ≡ Ok (edits, named) → outcome edits [] ≡ Ok made →
+    (again : List ℕ) → IsProfileFile made named again → again ≡ text

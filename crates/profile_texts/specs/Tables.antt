@@ -33,9 +33,9 @@ abbrev pub filled_table : List Field → Members
 filled_table fields = with_fields no_members fields
 
 -- the strings of a list
-abbrev pub text_items : List (List ℕ) → Items
-text_items [] = no_items
-text_items (text ∷ texts) = item (string text) (text_items texts)
+abbrev pub string_items : List (List ℕ) → Items
+string_items [] = no_items
+string_items (text ∷ texts) = item (string text) (string_items texts)
 
 -- the tables of a list
 abbrev pub table_items : List Members → Items
@@ -43,8 +43,8 @@ table_items [] = no_items
 table_items (members ∷ tables) = item (table members) (table_items tables)
 
 -- a string, and a number
-abbrev pub text : List ℕ → Option Data
-text bytes = Some (string bytes)
+abbrev pub given_string : List ℕ → Option Data
+given_string bytes = Some (string bytes)
 
 abbrev pub natural : ℕ → Option Data
 natural number = Some (integer (pos number))
@@ -54,14 +54,14 @@ abbrev pub flag : Bool → Option Data
 flag on = if on then Some (boolean true) else None
 
 -- what may be missing
-abbrev pub optional_text : Option (List ℕ) → Option Data
-optional_text bytes = option_map string bytes
+abbrev pub optional_string : Option (List ℕ) → Option Data
+optional_string bytes = option_map string bytes
 
 abbrev pub optional_natural : Option ℕ → Option Data
 optional_natural number = option_map (λ n. integer (pos n)) number
 
 abbrev pub optional_list : Option (List (List ℕ)) → Option Data
-optional_list texts = option_map (λ list. array (text_items list)) texts
+optional_list texts = option_map (λ list. array (string_items list)) texts
 
 -- a list of tables, which is left out if it is empty
 abbrev pub tables : List Members → Option Data

@@ -31,8 +31,8 @@ fn write_app(alloc: Global, app: &App) -> Result<Table, AllocError>
     let releases = app.releases.as_slice();
     let cohorts = app.cohorts.as_slice();
     let mut table = TableWriter::new(alloc);
-    table.text("id", app.id.as_str())?;
-    table.text("default", default_name(cohorts))?;
+    table.string("id", app.id.as_str())?;
+    table.string("default", default_name(cohorts))?;
     table.tables("cohort", write_cohorts(alloc, releases, cohorts)?)?;
     table.tables("release", write_releases(alloc, releases)?)?;
     table.tables("diff", write_diffs(alloc, releases, app.diffs.as_slice())?)?;

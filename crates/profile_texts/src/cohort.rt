@@ -49,9 +49,9 @@ fn write_cohort(alloc: Global, releases: &[Release], cohort: &Cohort) -> Result<
         ≡ cohort_table releases.now cohort.now) }
 {
     let mut table = TableWriter::new(alloc);
-    table.text("name", cohort.name.as_str())?;
-    table.optional_text("target", optional_spelling(releases, &cohort.target))?;
-    table.optional_text("held", optional_spelling(releases, &cohort.held))?;
+    table.string("name", cohort.name.as_str())?;
+    table.optional_string("target", optional_spelling(releases, &cohort.target))?;
+    table.optional_string("held", optional_spelling(releases, &cohort.held))?;
     write_share(&mut table, cohort.share)?;
     table.flag("rollback", cohort.rollback)?;
     table.flag("open", cohort.hintable)?;

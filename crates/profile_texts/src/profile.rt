@@ -5,7 +5,7 @@ ghost use Rattle.std.specs.List.{AllByRecursion};
 ghost use Rattle.profile_toml.specs.Laws.{AreMirrors};
 ghost use Rattle.toml.specs.View.{table_view};
 ghost use Rattle.profile_texts.specs.Fields.{mirror_table, profile_table};
-ghost use Rattle.profile_texts.specs.Profiles.{IsProfileText, IsReadAs};
+ghost use Rattle.profile_texts.specs.Profiles.{IsProfileFile, IsReadAs};
 
 use crate::app::write_apps;
 use crate::table::TableWriter;
@@ -21,8 +21,8 @@ fn write_mirror(alloc: Global, mirror: &Mirror) -> Result<Table, AllocError>
     ensures { IfOk result (λ table. table_view table ≡ mirror_table mirror.now) }
 {
     let mut table = TableWriter::new(alloc);
-    table.text("name", mirror.name.as_str())?;
-    table.text("codebase", mirror.codebase.as_str())?;
+    table.string("name", mirror.name.as_str())?;
+    table.string("codebase", mirror.codebase.as_str())?;
     table.natural("budget", mirror.budget)?;
     Ok(table.into_table())
 }
@@ -69,7 +69,7 @@ pub fn write_profile(
     mirrors: &[Mirror],
 ) -> Result<Vec<u8>, AllocError>
     requires { AreMirrors mirrors.now }
-    ensures text { IfOk result (λ text. IsProfileText catalogue.now mirrors.now text.items) }
+    ensures text { IfOk result (λ text. IsProfileFile catalogue.now mirrors.now text.items) }
     ensures reads_back { IfOk result (λ text. IsReadAs catalogue.now mirrors.now text.items) }
 {
     catalogue.validity();

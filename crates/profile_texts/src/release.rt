@@ -33,13 +33,13 @@ fn write_release(alloc: Global, release: &Release) -> Result<Table, AllocError>
 {
     let digits = hex::encode(alloc, release.hash)?;
     let mut table = TableWriter::new(alloc);
-    table.text("version", release.spelled.as_str())?;
-    table.text("name", release.name.as_str())?;
+    table.string("version", release.spelled.as_str())?;
+    table.string("name", release.name.as_str())?;
     table.natural("size", release.size)?;
-    table.text("sha256", digits.as_str())?;
+    table.string("sha256", digits.as_str())?;
     table.flag("stone", release.stone)?;
     table.flag("withdrawn", release.withdrawn)?;
-    table.optional_texts("audience", &release.audience)?;
+    table.optional_strings("audience", &release.audience)?;
     Ok(table.into_table())
 }
 
@@ -64,11 +64,11 @@ fn write_diff(alloc: Global, releases: &[Release], diff: &Diff) -> Result<Table,
 {
     let digits = hex::encode(alloc, diff.hash)?;
     let mut table = TableWriter::new(alloc);
-    table.text("from", spelling(releases, &diff.from))?;
-    table.text("to", spelling(releases, &diff.to))?;
-    table.text("name", diff.name.as_str())?;
+    table.string("from", spelling(releases, &diff.from))?;
+    table.string("to", spelling(releases, &diff.to))?;
+    table.string("name", diff.name.as_str())?;
     table.natural("size", diff.size)?;
-    table.text("sha256", digits.as_str())?;
+    table.string("sha256", digits.as_str())?;
     Ok(table.into_table())
 }
 

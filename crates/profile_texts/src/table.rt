@@ -3,7 +3,7 @@
 ghost use Rattle.std.specs.Prelude.{◌≡◌, ◌<◌, ◌^◌, map, option_map, IfOk, OnOk};
 ghost use Rattle.toml.specs.Data.{no_members};
 ghost use Rattle.toml.specs.View.{items_view, table_view, view};
-ghost use Rattle.profile_texts.specs.Tables.{flag, natural, optional_natural, optional_text, optional_list, put, table_items, tables, text, text_items, with_key};
+ghost use Rattle.profile_texts.specs.Tables.{flag, natural, optional_natural, optional_string, optional_list, put, table_items, tables, given_string, string_items, with_key};
 ghost use Rattle.profile_texts.specs.Writers.{filled};
 
 use std::alloc::{AllocError, Global};
@@ -17,8 +17,8 @@ pub(crate) struct TableWriter {
     table: Table,
 }
 
-fn text_values(alloc: Global, texts: &[Text]) -> Result<Vec<Value>, AllocError>
-    ensures { IfOk result (λ values. items_view values.items ≡ text_items texts.now) }
+fn string_values(alloc: Global, texts: &[Text]) -> Result<Vec<Value>, AllocError>
+    ensures { IfOk result (λ values. items_view values.items ≡ string_items texts.now) }
 {
     let mut values = Vec::new(alloc);
     for text in texts {
@@ -58,9 +58,9 @@ impl TableWriter {
     }
 
     /// Puts a string under a key.
-    pub fn text(&mut self, key: &str, string: &str) -> Result<(), AllocError>
+    pub fn string(&mut self, key: &str, string: &str) -> Result<(), AllocError>
         ensures { OnOk result
-            (filled self.new ≡ with_key key.now (text string.now) (filled self.old)) }
+            (filled self.new ≡ with_key key.now (given_string string.now) (filled self.old)) }
     {
         self.put(key, Value::string(self.alloc, string)?)
     }
@@ -84,19 +84,19 @@ impl TableWriter {
     }
 
     /// Puts a string under a key if there is one.
-    pub fn optional_text(&mut self, key: &str, string: Option<&str>) -> Result<(), AllocError>
+    pub fn optional_string(&mut self, key: &str, string: Option<&str>) -> Result<(), AllocError>
         ensures { OnOk result
             (let given = option_map (λ bytes. bytes.now) string.entry in
-            filled self.new ≡ with_key key.now (optional_text given) (filled self.old)) }
+            filled self.new ≡ with_key key.now (optional_string given) (filled self.old)) }
     {
         match string {
-            Some(string) => self.text(key, string),
+            Some(string) => self.string(key, string),
             None => Ok(()),
         }
     }
 
     /// Puts a list of strings under a key if there is one.
-    pub fn optional_texts(
+    pub fn optional_strings(
         &mut self,
         key: &str,
         strings: &Option<Items<Text>>,
@@ -106,7 +106,7 @@ impl TableWriter {
     {
         match strings {
             Some(strings) => {
-                let values = text_values(self.alloc, strings.as_slice())?;
+                let values = string_values(self.alloc, strings.as_slice())?;
                 self.put(key, Value::from(values))
             }
             None => Ok(()),

@@ -8,20 +8,20 @@ use Rattle.records.specs.declared.mirror.Mirror.{Mirror}
 use Rattle.toml_tables.specs.Fields.{◌>>=◌, as_natural, required}
 use Rattle.toml_tables.specs.Laws.{IsOneLine}
 use Rattle.toml_tables.specs.Lists.{element}
-use Rattle.toml_tables.specs.Paths.{bad_key}
+use Rattle.toml_tables.specs.Paths.{invalid_key}
 use Rattle.toml_tables.specs.Tables.{PlacedList, PlacedTable, document}
 use Rattle.toml_tables.specs.declared.path.BadEntry.{BadEntry}
-use Rattle.toml_tables.proofs.FaultLemmas.{HasLine, HasLine-cond, HasLine-err, HasLine-ok, HasLine-ok_or, HasLine-then, Tells, each_element, knows, needs, needs_list, reads_each, takes, takes_list, takes_texts}
+use Rattle.toml_tables.proofs.FaultLemmas.{HasLine, HasLine-cond, HasLine-err, HasLine-ok, HasLine-ok_or, HasLine-then, FailsInOneLine, each_element, knows, needs, needs_list, reads_each, takes, takes_list, takes_strings}
 use Rattle.toml_tables.proofs.LineLemmas.{IsOneLine-append, IsOneLine-decimal}
 use Rattle.toml_tables.proofs.PathLemmas.{IsOneLine-path_of}
 use Rattle.profile_toml.specs.Apps.{app_keys, app_of}
 use Rattle.profile_toml.specs.Cohorts.{cohort_keys, cohort_of, cohorts_after, cohorts_of, is_named, new_name}
 use Rattle.profile_toml.specs.Diffs.{diff_in, diff_keys, diff_of}
 use Rattle.profile_toml.specs.Documents.{check_schema, document_of, entries, is_schema_1}
-use Rattle.profile_toml.specs.FaultTexts.{fault_text}
-use Rattle.profile_toml.specs.Mirrors.{bad_mirror, good_mirrors, mirror_keys, mirror_of}
+use Rattle.profile_toml.specs.FaultStrings.{fault_string}
+use Rattle.profile_toml.specs.Mirrors.{invalid_mirror, valid_mirrors, mirror_keys, mirror_of}
 use Rattle.profile_toml.specs.Profiles.{profile_keys, profile_of}
-use Rattle.profile_toml.specs.Reading.{profile_of_text, script_of_text}
+use Rattle.profile_toml.specs.Reading.{profile_of_bytes, script_of_bytes}
 use Rattle.profile_toml.specs.Releases.{package_in, release_keys, release_of}
 use Rattle.profile_toml.specs.ScriptEdits.{app_added, audience_set, cohort_added, diff_added, edit_in, edit_of, keys_of_edit, open_set, release_added, rollback_set, share_set, stone_set, target_set, verb_named, verb_of, withdrawn_set}
 use Rattle.profile_toml.specs.Scripts.{few_edits, max_edits, script_keys, script_of}
@@ -31,60 +31,60 @@ use Rattle.profile_toml.specs.declared.fault.ProfileFault.TheVariants as fault
 use Rattle.profile_toml.specs.declared.script_edit.Verb.{Verb}
 use Rattle.profile_toml.specs.declared.script_edit.Verb.TheVariants as verb
 
-Tells-mirror_of : Tells mirror_of
+FailsInOneLine-mirror_of : FailsInOneLine mirror_of
 unfolding mirror_of
-Tells-mirror_of = λ table at.
+FailsInOneLine-mirror_of = λ table at.
     knows mirror_keys table _ at (λ all_known.
     needs as_str (codes "name") table _ at (λ name.
     needs as_str (codes "codebase") table _ at (λ codebase.
     needs as_natural (codes "budget") table _ at (λ budget. HasLine-ok _))))
 
-Tells-package_in : Tells package_in
+FailsInOneLine-package_in : FailsInOneLine package_in
 unfolding package_in
-Tells-package_in = λ table at.
+FailsInOneLine-package_in = λ table at.
     needs as_str (codes "version") table _ at (λ version.
     needs as_str (codes "name") table _ at (λ name.
     needs as_natural (codes "size") table _ at (λ size.
     needs as_str (codes "sha256") table _ at (λ sha256. HasLine-ok _))))
 
-Tells-release_of : Tells release_of
+FailsInOneLine-release_of : FailsInOneLine release_of
 unfolding release_of
-Tells-release_of = λ table at.
+FailsInOneLine-release_of = λ table at.
     knows release_keys table _ at (λ all_known.
-    HasLine-then (package_in table) _ (Tells-package_in table at) (λ full.
+    HasLine-then (package_in table) _ (FailsInOneLine-package_in table at) (λ full.
     takes as_bool (codes "stone") table _ at (λ stone.
     takes as_bool (codes "withdrawn") table _ at (λ withdrawn.
-    takes_texts (codes "audience") table _ at (λ audience. HasLine-ok _)))))
+    takes_strings (codes "audience") table _ at (λ audience. HasLine-ok _)))))
 
-Tells-diff_in : Tells diff_in
+FailsInOneLine-diff_in : FailsInOneLine diff_in
 unfolding diff_in
-Tells-diff_in = λ table at.
+FailsInOneLine-diff_in = λ table at.
     needs as_str (codes "from") table _ at (λ from.
     needs as_str (codes "to") table _ at (λ to.
     needs as_str (codes "name") table _ at (λ name.
     needs as_natural (codes "size") table _ at (λ size.
     needs as_str (codes "sha256") table _ at (λ sha256. HasLine-ok _)))))
 
-Tells-diff_of : Tells diff_of
+FailsInOneLine-diff_of : FailsInOneLine diff_of
 unfolding diff_of
-Tells-diff_of = λ table at.
-    knows diff_keys table _ at (λ all_known. Tells-diff_in table at)
+FailsInOneLine-diff_of = λ table at.
+    knows diff_keys table _ at (λ all_known. FailsInOneLine-diff_in table at)
 
-Tells-new_name : (before : List CohortEntry) → Tells (new_name before)
+FailsInOneLine-new_name : (before : List CohortEntry) → FailsInOneLine (new_name before)
 unfolding new_name
-Tells-new_name before = λ table at.
+FailsInOneLine-new_name before = λ table at.
     needs as_str (codes "name") table _ at (λ name.
     HasLine-cond (list_any (is_named name) before)
-    (Err (bad_key table.place (codes "name"))) (Ok name)
-    (HasLine-err _ (bad_key table.place (codes "name"))
+    (Err (invalid_key table.place (codes "name"))) (Ok name)
+    (HasLine-err _ (invalid_key table.place (codes "name"))
     (IsOneLine-path_of table.place (codes "name") at))
     (HasLine-ok name))
 
-Tells-cohort_of : (before : List CohortEntry) → Tells (cohort_of before)
+FailsInOneLine-cohort_of : (before : List CohortEntry) → FailsInOneLine (cohort_of before)
 unfolding cohort_of
-Tells-cohort_of before = λ table at.
+FailsInOneLine-cohort_of before = λ table at.
     knows cohort_keys table _ at (λ all_known.
-    HasLine-then (new_name before table) _ (Tells-new_name before table at) (λ name.
+    HasLine-then (new_name before table) _ (FailsInOneLine-new_name before table at) (λ name.
     takes as_str (codes "target") table _ at (λ target.
     takes as_str (codes "held") table _ at (λ held.
     takes as_natural (codes "share") table _ at (λ share.
@@ -96,12 +96,12 @@ HasLine-cohorts_after : (before : List CohortEntry) (list : List ℕ) (index : �
 HasLine-cohorts_after before list index no_items of_list = HasLine-ok before
 HasLine-cohorts_after before list index (item value values) of_list =
     each_element list index value _ of_list (λ table at.
-    HasLine-then (cohort_of before table) _ (Tells-cohort_of before table at) (λ cohort.
+    HasLine-then (cohort_of before table) _ (FailsInOneLine-cohort_of before table at) (λ cohort.
     HasLine-cohorts_after (before ++ cohort ∷ []) list (index + 1) values of_list))
 
-Tells-app_of : Tells app_of
+FailsInOneLine-app_of : FailsInOneLine app_of
 unfolding app_of
-Tells-app_of = λ table at.
+FailsInOneLine-app_of = λ table at.
     knows app_keys table _ at (λ all_known.
     needs as_str (codes "id") table _ at (λ id.
     needs as_str (codes "default") table _ at (λ default.
@@ -110,112 +110,112 @@ Tells-app_of = λ table at.
     takes_list (codes "diff") table _ at (λ diff_list at_diffs.
     HasLine-then (cohorts_of cohort_list) _
     (HasLine-cohorts_after [] cohort_list.path 0 cohort_list.items at_cohorts) (λ cohorts.
-    reads_each release_of release_list _ Tells-release_of at_releases (λ releases.
-    reads_each diff_of diff_list _ Tells-diff_of at_diffs (λ diffs.
+    reads_each release_of release_list _ FailsInOneLine-release_of at_releases (λ releases.
+    reads_each diff_of diff_list _ FailsInOneLine-diff_of at_diffs (λ diffs.
     HasLine-ok _)))))))))
 
-Tells-profile_of : Tells profile_of
+FailsInOneLine-profile_of : FailsInOneLine profile_of
 unfolding profile_of
-Tells-profile_of = λ table at.
+FailsInOneLine-profile_of = λ table at.
     knows profile_keys table _ at (λ all_known.
     needs_list (codes "mirror") table _ at (λ mirror_list at_mirrors.
     takes_list (codes "app") table _ at (λ app_list at_apps.
-    reads_each mirror_of mirror_list _ Tells-mirror_of at_mirrors (λ mirrors.
-    reads_each app_of app_list _ Tells-app_of at_apps (λ apps. HasLine-ok _)))))
+    reads_each mirror_of mirror_list _ FailsInOneLine-mirror_of at_mirrors (λ mirrors.
+    reads_each app_of app_list _ FailsInOneLine-app_of at_apps (λ apps. HasLine-ok _)))))
 
-Tells-verb_of : Tells verb_of
+FailsInOneLine-verb_of : FailsInOneLine verb_of
 unfolding verb_of
-Tells-verb_of = λ table at.
+FailsInOneLine-verb_of = λ table at.
     needs as_str (codes "do") table _ at (λ name.
-    HasLine-ok_or (verb_named name) (bad_key table.place (codes "do"))
+    HasLine-ok_or (verb_named name) (invalid_key table.place (codes "do"))
     (IsOneLine-path_of table.place (codes "do") at))
 
 -- what an edit of a script says
-Tells-edit_in : (kind : Verb) → Tells (edit_in kind)
+FailsInOneLine-edit_in : (kind : Verb) → FailsInOneLine (edit_in kind)
 unfolding edit_in app_added release_added cohort_added target_set share_set open_set diff_added stone_set withdrawn_set audience_set rollback_set
-Tells-edit_in verb.AddApp = λ table at.
+FailsInOneLine-edit_in verb.AddApp = λ table at.
     HasLine-then (app_added table) _
     (knows (keys_of_edit verb.AddApp) table _ at (λ all_known.
     needs as_str (codes "app") table _ at (λ app.
     needs as_str (codes "default") table _ at (λ default. HasLine-ok _)))) (λ e. HasLine-ok _)
-Tells-edit_in verb.AddRelease = λ table at.
+FailsInOneLine-edit_in verb.AddRelease = λ table at.
     HasLine-then (release_added table) _
     (knows (keys_of_edit verb.AddRelease) table _ at (λ all_known.
     needs as_str (codes "app") table _ at (λ app.
-    HasLine-then (package_in table) _ (Tells-package_in table at) (λ full. HasLine-ok _))))
+    HasLine-then (package_in table) _ (FailsInOneLine-package_in table at) (λ full. HasLine-ok _))))
     (λ e. HasLine-ok _)
-Tells-edit_in verb.AddCohort = λ table at.
+FailsInOneLine-edit_in verb.AddCohort = λ table at.
     HasLine-then (cohort_added table) _
     (knows (keys_of_edit verb.AddCohort) table _ at (λ all_known.
     needs as_str (codes "app") table _ at (λ app.
     needs as_str (codes "cohort") table _ at (λ cohort. HasLine-ok _)))) (λ e. HasLine-ok _)
-Tells-edit_in verb.SetTarget = λ table at.
+FailsInOneLine-edit_in verb.SetTarget = λ table at.
     HasLine-then (target_set table) _
     (knows (keys_of_edit verb.SetTarget) table _ at (λ all_known.
     needs as_str (codes "app") table _ at (λ app.
     needs as_str (codes "cohort") table _ at (λ cohort.
     takes as_str (codes "target") table _ at (λ target.
     takes as_str (codes "held") table _ at (λ held. HasLine-ok _)))))) (λ e. HasLine-ok _)
-Tells-edit_in verb.SetShare = λ table at.
+FailsInOneLine-edit_in verb.SetShare = λ table at.
     HasLine-then (share_set table) _
     (knows (keys_of_edit verb.SetShare) table _ at (λ all_known.
     needs as_str (codes "app") table _ at (λ app.
     needs as_str (codes "cohort") table _ at (λ cohort.
     needs as_natural (codes "share") table _ at (λ share. HasLine-ok _))))) (λ e. HasLine-ok _)
-Tells-edit_in verb.SetOpen = λ table at.
+FailsInOneLine-edit_in verb.SetOpen = λ table at.
     HasLine-then (open_set table) _
     (knows (keys_of_edit verb.SetOpen) table _ at (λ all_known.
     needs as_str (codes "app") table _ at (λ app.
     needs as_str (codes "cohort") table _ at (λ cohort.
     needs as_bool (codes "on") table _ at (λ on. HasLine-ok _))))) (λ e. HasLine-ok _)
-Tells-edit_in verb.AddDiff = λ table at.
+FailsInOneLine-edit_in verb.AddDiff = λ table at.
     HasLine-then (diff_added table) _
     (knows (keys_of_edit verb.AddDiff) table _ at (λ all_known.
     needs as_str (codes "app") table _ at (λ app.
-    HasLine-then (diff_in table) _ (Tells-diff_in table at) (λ diff. HasLine-ok _))))
+    HasLine-then (diff_in table) _ (FailsInOneLine-diff_in table at) (λ diff. HasLine-ok _))))
     (λ e. HasLine-ok _)
-Tells-edit_in verb.SetStone = λ table at.
+FailsInOneLine-edit_in verb.SetStone = λ table at.
     HasLine-then (stone_set table) _
     (knows (keys_of_edit verb.SetStone) table _ at (λ all_known.
     needs as_str (codes "app") table _ at (λ app.
     needs as_str (codes "version") table _ at (λ named.
     needs as_bool (codes "on") table _ at (λ on. HasLine-ok _))))) (λ e. HasLine-ok _)
-Tells-edit_in verb.SetWithdrawn = λ table at.
+FailsInOneLine-edit_in verb.SetWithdrawn = λ table at.
     HasLine-then (withdrawn_set table) _
     (knows (keys_of_edit verb.SetWithdrawn) table _ at (λ all_known.
     needs as_str (codes "app") table _ at (λ app.
     needs as_str (codes "version") table _ at (λ named.
     needs as_bool (codes "on") table _ at (λ on. HasLine-ok _))))) (λ e. HasLine-ok _)
-Tells-edit_in verb.SetAudience = λ table at.
+FailsInOneLine-edit_in verb.SetAudience = λ table at.
     HasLine-then (audience_set table) _
     (knows (keys_of_edit verb.SetAudience) table _ at (λ all_known.
     needs as_str (codes "app") table _ at (λ app.
     needs as_str (codes "version") table _ at (λ version.
-    takes_texts (codes "cohorts") table _ at (λ cohorts. HasLine-ok _))))) (λ e. HasLine-ok _)
-Tells-edit_in verb.SetRollback = λ table at.
+    takes_strings (codes "cohorts") table _ at (λ cohorts. HasLine-ok _))))) (λ e. HasLine-ok _)
+FailsInOneLine-edit_in verb.SetRollback = λ table at.
     HasLine-then (rollback_set table) _
     (knows (keys_of_edit verb.SetRollback) table _ at (λ all_known.
     needs as_str (codes "app") table _ at (λ app.
     needs as_str (codes "cohort") table _ at (λ named.
     needs as_bool (codes "on") table _ at (λ on. HasLine-ok _))))) (λ e. HasLine-ok _)
 
-Tells-edit_of : Tells edit_of
+FailsInOneLine-edit_of : FailsInOneLine edit_of
 unfolding edit_of
-Tells-edit_of = λ table at.
-    HasLine-then (verb_of table) _ (Tells-verb_of table at) (λ kind. Tells-edit_in kind table at)
+FailsInOneLine-edit_of = λ table at.
+    HasLine-then (verb_of table) _ (FailsInOneLine-verb_of table at) (λ kind. FailsInOneLine-edit_in kind table at)
 
-Tells-script_of : Tells script_of
+FailsInOneLine-script_of : FailsInOneLine script_of
 unfolding script_of
-Tells-script_of = λ table at.
+FailsInOneLine-script_of = λ table at.
     knows script_keys table _ at (λ all_known.
     needs as_natural (codes "base") table _ at (λ base.
     takes_list (codes "edit") table _ at (λ edit_list at_edits.
-    reads_each edit_of edit_list _ Tells-edit_of at_edits (λ edits. HasLine-ok _))))
+    reads_each edit_of edit_list _ FailsInOneLine-edit_of at_edits (λ edits. HasLine-ok _))))
 
 -- if there is a fault, it prints as one line
 PrintsLine : {A : Type 0} → Result A ProfileFault → Type 0
 PrintsLine (Ok value) = Unit {0}
-PrintsLine (Err told) = IsOneLine (fault_text told)
+PrintsLine (Err told) = IsOneLine (fault_string told)
 
 PrintsLine-then : {X Y : Type 0}
     (first : Result X ProfileFault) (step : X → Result Y ProfileFault)
@@ -247,9 +247,9 @@ unfolding PrintsLine HasLine
 PrintsLine-entries (Ok value) line = tt
 PrintsLine-entries (Err bad) line = IsOneLine-append (codes "F3 BadEntry ") bad.path refl line
 
-PrintsLine-good_mirrors : (mirrors : List Mirror) → PrintsLine (good_mirrors mirrors)
+PrintsLine-valid_mirrors : (mirrors : List Mirror) → PrintsLine (valid_mirrors mirrors)
 unfolding PrintsLine
-PrintsLine-good_mirrors mirrors = by_index (bad_mirror mirrors)
+PrintsLine-valid_mirrors mirrors = by_index (invalid_mirror mirrors)
   where
     by_index : (bad : Option ℕ)
         → PrintsLine (option_map_or (λ index. Err (fault.BadMirror index)) bad (Ok mirrors))
@@ -265,43 +265,43 @@ PrintsLine-few_edits edits = by_test (nat_le (length edits) max_edits)
     by_test true = tt
     by_test false = refl
 
-PrintsLine-profile_of_text : (text : List ℕ) → PrintsLine (profile_of_text text)
-unfolding PrintsLine profile_of_text
-PrintsLine-profile_of_text text =
+PrintsLine-profile_of_bytes : (text : List ℕ) → PrintsLine (profile_of_bytes text)
+unfolding PrintsLine profile_of_bytes
+PrintsLine-profile_of_bytes text =
     PrintsLine-then (ok_or (document_of text) fault.NotToml) _
     (PrintsLine-document (document_of text)) (λ members.
     PrintsLine-then (check_schema (document members)) _
     (PrintsLine-check_schema (document members)) (λ schema_is_1.
     PrintsLine-then (entries (profile_of (document members))) _
-    (PrintsLine-entries (profile_of (document members)) (Tells-profile_of (document members) refl))
+    (PrintsLine-entries (profile_of (document members)) (FailsInOneLine-profile_of (document members) refl))
     (λ profile.
-    PrintsLine-then (good_mirrors profile.mirrors) _ (PrintsLine-good_mirrors profile.mirrors)
+    PrintsLine-then (valid_mirrors profile.mirrors) _ (PrintsLine-valid_mirrors profile.mirrors)
     (λ mirrors. tt))))
 
-PrintsLine-script_of_text : (text : List ℕ) → PrintsLine (script_of_text text)
-unfolding PrintsLine script_of_text
-PrintsLine-script_of_text text =
+PrintsLine-script_of_bytes : (text : List ℕ) → PrintsLine (script_of_bytes text)
+unfolding PrintsLine script_of_bytes
+PrintsLine-script_of_bytes text =
     PrintsLine-then (ok_or (document_of text) fault.NotToml) _
     (PrintsLine-document (document_of text)) (λ members.
     PrintsLine-then (check_schema (document members)) _
     (PrintsLine-check_schema (document members)) (λ schema_is_1.
     PrintsLine-then (entries (script_of (document members))) _
-    (PrintsLine-entries (script_of (document members)) (Tells-script_of (document members) refl))
+    (PrintsLine-entries (script_of (document members)) (FailsInOneLine-script_of (document members) refl))
     (λ script.
     PrintsLine-then (few_edits script.1) _ (PrintsLine-few_edits script.1) (λ edits. tt))))
 
 told_as : {A : Type 0} (read : Result A ProfileFault) → PrintsLine read
-    → (told : ProfileFault) → read ≡ Err told → IsOneLine (fault_text told)
+    → (told : ProfileFault) → read ≡ Err told → IsOneLine (fault_string told)
 unfolding PrintsLine
 told_as (Ok value) line told same = absurd (cc)
 told_as (Err first) line told same = let this : first ≡ told = cc (same) in rw (← this) line
 
 pub IsOneLine-profile : (text : List ℕ) (told : ProfileFault)
-    → profile_of_text text ≡ Err told → IsOneLine (fault_text told)
+    → profile_of_bytes text ≡ Err told → IsOneLine (fault_string told)
 IsOneLine-profile text told same =
-    told_as (profile_of_text text) (PrintsLine-profile_of_text text) told same
+    told_as (profile_of_bytes text) (PrintsLine-profile_of_bytes text) told same
 
 pub IsOneLine-script : (text : List ℕ) (told : ProfileFault)
-    → script_of_text text ≡ Err told → IsOneLine (fault_text told)
+    → script_of_bytes text ≡ Err told → IsOneLine (fault_string told)
 IsOneLine-script text told same =
-    told_as (script_of_text text) (PrintsLine-script_of_text text) told same
+    told_as (script_of_bytes text) (PrintsLine-script_of_bytes text) told same

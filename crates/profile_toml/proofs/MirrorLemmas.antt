@@ -12,9 +12,9 @@ use Rattle.toml_tables.specs.Tables.{document}
 use Rattle.profile_toml.specs.Apps.{edits_of}
 use Rattle.profile_toml.specs.Documents.{check_schema, document_of, entries}
 use Rattle.profile_toml.specs.Laws.{AreMirrors}
-use Rattle.profile_toml.specs.Mirrors.{bad_mirror, first_bad_after, good_mirrors, is_bad_after, is_named, max_mirrors}
+use Rattle.profile_toml.specs.Mirrors.{invalid_mirror, first_invalid_after, valid_mirrors, is_invalid_after, is_named, max_mirrors}
 use Rattle.profile_toml.specs.Profiles.{profile_of}
-use Rattle.profile_toml.specs.Reading.{profile_of_text}
+use Rattle.profile_toml.specs.Reading.{profile_of_bytes}
 use Rattle.profile_toml.specs.declared.fault.ProfileFault.{ProfileFault}
 use Rattle.profile_toml.specs.declared.fault.ProfileFault.TheVariants.{NotToml, BadMirror}
 
@@ -37,16 +37,16 @@ neither : (formed named : Bool) → (not formed || named) ≡ false → (formed 
 neither true named fits = (refl, fits)
 neither false named fits = absurd (cc)
 
-not_bad : (before : List Mirror) (mirror : Mirror) (mirrors : List Mirror)
-    → first_bad_after before (mirror ∷ mirrors) ≡ None
-    → (is_bad_after before mirror ≡ false) × (first_bad_after (before ++ mirror ∷ []) mirrors ≡ None)
-not_bad before mirror mirrors none = no_index (is_bad_after before mirror) (length before) _ none
+not_invalid : (before : List Mirror) (mirror : Mirror) (mirrors : List Mirror)
+    → first_invalid_after before (mirror ∷ mirrors) ≡ None
+    → (is_invalid_after before mirror ≡ false) × (first_invalid_after (before ++ mirror ∷ []) mirrors ≡ None)
+not_invalid before mirror mirrors none = no_index (is_invalid_after before mirror) (length before) _ none
 
 all_formed : (before mirrors : List Mirror)
-    → first_bad_after before mirrors ≡ None → list_all is_mirror mirrors ≡ true
+    → first_invalid_after before mirrors ≡ None → list_all is_mirror mirrors ≡ true
 all_formed before [] none = refl
 all_formed before (mirror ∷ mirrors) none =
-    let good = not_bad before mirror mirrors none in
+    let good = not_invalid before mirror mirrors none in
     let here = neither (is_mirror mirror) (list_any (is_named mirror.name) before) good.0 in
     rw here.0 (all_formed (before ++ mirror ∷ []) mirrors good.1)
 
@@ -87,20 +87,20 @@ once_more name before mirror new once = by_test (is_named name mirror) refl
         omega arith
 
 each_once : (name : List ℕ) (before mirrors : List Mirror)
-    → first_bad_after before mirrors ≡ None → count_by (is_named name) before ≤ 1
+    → first_invalid_after before mirrors ≡ None → count_by (is_named name) before ≤ 1
     → count_by (is_named name) (before ++ mirrors) ≤ 1
 each_once name before [] none once = rw (append-nil before) once
 each_once name before (mirror ∷ mirrors) none once =
-    let good = not_bad before mirror mirrors none in
+    let good = not_invalid before mirror mirrors none in
     let here = neither (is_mirror mirror) (list_any (is_named mirror.name) before) good.0 in
     let more = each_once name (before ++ mirror ∷ []) mirrors good.1 (once_more name before mirror here.1 once) in
     rw append_assoc at more
 
 -- if no index is reported, the mirrors are valid
-AreMirrors-none : (mirrors : List Mirror) → bad_mirror mirrors ≡ None → AreMirrors mirrors
+AreMirrors-none : (mirrors : List Mirror) → invalid_mirror mirrors ≡ None → AreMirrors mirrors
 AreMirrors-none [] none = absurd (cc)
 AreMirrors-none (mirror ∷ mirrors) none =
-    let apart = no_index (nat_lt max_mirrors (length (mirror ∷ mirrors))) max_mirrors (first_bad_after [] (mirror ∷ mirrors)) none in
+    let apart = no_index (nat_lt max_mirrors (length (mirror ∷ mirrors))) max_mirrors (first_invalid_after [] (mirror ∷ mirrors)) none in
     record {
       some = omega arith;
       few = ltb-false max_mirrors (length (mirror ∷ mirrors)) apart.0;
@@ -113,9 +113,9 @@ by_index : (index : Option ℕ) (mirrors good : List Mirror)
 by_index None mirrors good read = (refl, cc)
 by_index (Some i) mirrors good read = absurd (cc)
 
-AreMirrors-good_mirrors : (mirrors good : List Mirror) → good_mirrors mirrors ≡ Ok good → AreMirrors good
-AreMirrors-good_mirrors mirrors good read =
-    let told = by_index (bad_mirror mirrors) mirrors good read in
+AreMirrors-valid_mirrors : (mirrors good : List Mirror) → valid_mirrors mirrors ≡ Ok good → AreMirrors good
+AreMirrors-valid_mirrors mirrors good read =
+    let told = by_index (invalid_mirror mirrors) mirrors good read in
     rw (← told.1) (AreMirrors-none mirrors told.0)
 
 -- a step that gave a value followed one that did
@@ -124,14 +124,14 @@ bind-ok : {X Y : Type 0} (first : Result X ProfileFault) (step : X → Result Y 
 bind-ok (Ok x) step y given = (x, refl, given)
 bind-ok (Err fault) step y given = absurd (cc)
 
-pub AreMirrors-profile_of_text : (text : List ℕ) (edits : List Edit) (mirrors : List Mirror)
-    → profile_of_text text ≡ Ok (edits, mirrors) → AreMirrors mirrors
-unfolding profile_of_text
-AreMirrors-profile_of_text text edits mirrors read =
+pub AreMirrors-profile_of_bytes : (text : List ℕ) (edits : List Edit) (mirrors : List Mirror)
+    → profile_of_bytes text ≡ Ok (edits, mirrors) → AreMirrors mirrors
+unfolding profile_of_bytes
+AreMirrors-profile_of_bytes text edits mirrors read =
     let members = bind-ok (ok_or (document_of text) NotToml) _ (edits, mirrors) read in
     let schema = bind-ok (check_schema (document members.0)) _ (edits, mirrors) members.2 in
     let profile = bind-ok (entries (profile_of (document members.0))) _ (edits, mirrors) schema.2 in
-    let good = bind-ok (good_mirrors profile.0.mirrors) _ (edits, mirrors) profile.2 in
+    let good = bind-ok (valid_mirrors profile.0.mirrors) _ (edits, mirrors) profile.2 in
     let pairs : (edits_of profile.0.apps, good.0) ≡ (edits, mirrors) = cc (good.2) in
     let same : good.0 ≡ mirrors = ap (λ (p : List Edit × List Mirror). p.1) pairs in
-    rw (← same) (AreMirrors-good_mirrors profile.0.mirrors good.0 good.1)
+    rw (← same) (AreMirrors-valid_mirrors profile.0.mirrors good.0 good.1)

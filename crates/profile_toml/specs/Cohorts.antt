@@ -9,7 +9,7 @@ use Rattle.catalogue.specs.declared.edit.Edit.TheVariants as edit
 use Rattle.catalogue.specs.declared.edits.cohort_settings.SetTarget.{SetTarget}
 use Rattle.toml_tables.specs.Fields.{◌>>=◌, as_natural, known, optional, required}
 use Rattle.toml_tables.specs.Lists.{element}
-use Rattle.toml_tables.specs.Paths.{bad_key}
+use Rattle.toml_tables.specs.Paths.{invalid_key}
 use Rattle.toml_tables.specs.Tables.{PlacedList, PlacedTable}
 use Rattle.toml_tables.specs.declared.path.BadEntry.{BadEntry}
 use Rattle.profile_toml.specs.declared.cohort.CohortEntry.{CohortEntry}
@@ -23,7 +23,7 @@ is_named name cohort = bytes_eq name cohort.name
 unfoldable pub new_name : List CohortEntry → PlacedTable → Result (List ℕ) BadEntry
 new_name before table = do
   name ← required as_str (codes "name") table
-  if list_any (is_named name) before then Err (bad_key table.place (codes "name")) else Ok name
+  if list_any (is_named name) before then Err (invalid_key table.place (codes "name")) else Ok name
 
 -- the keys of a cohort, in the order in which they are read
 abbrev pub cohort_keys : List (List ℕ)

@@ -7,9 +7,9 @@ use Rattle.values.specs.Lists.{IsOnce}
 use Rattle.catalogue.specs.declared.edit.Edit.{Edit}
 use Rattle.records.specs.declared.mirror.Mirror.{Mirror}
 use Rattle.toml_tables.specs.Laws.{IsOneLine}
-use Rattle.profile_toml.specs.FaultTexts.{fault_text}
+use Rattle.profile_toml.specs.FaultStrings.{fault_string}
 use Rattle.profile_toml.specs.Mirrors.{is_named, max_mirrors}
-use Rattle.profile_toml.specs.Reading.{profile_of_text, script_of_text}
+use Rattle.profile_toml.specs.Reading.{profile_of_bytes, script_of_bytes}
 use Rattle.profile_toml.specs.declared.fault.ProfileFault.{ProfileFault}
 
 -- one to four mirrors, each valid, no two of one name
@@ -23,16 +23,16 @@ pub record AreMirrors (mirrors : List Mirror) : Type 0 where
 abbrev pub ProfilesNameMirrors : Type 0
 ProfilesNameMirrors =
     (text : List ℕ) (edits : List Edit) (mirrors : List Mirror) →
-    profile_of_text text ≡ Ok (edits, mirrors) → AreMirrors mirrors
+    profile_of_bytes text ≡ Ok (edits, mirrors) → AreMirrors mirrors
 
 -- rule: A fault is one line
 -- the fault of a profile is printed as one line, and so is that of a script
 abbrev pub FaultsOfProfilesAreOneLine : Type 0
 FaultsOfProfilesAreOneLine =
     (text : List ℕ) (fault : ProfileFault) →
-    profile_of_text text ≡ Err fault → IsOneLine (fault_text fault)
+    profile_of_bytes text ≡ Err fault → IsOneLine (fault_string fault)
 
 abbrev pub FaultsOfScriptsAreOneLine : Type 0
 FaultsOfScriptsAreOneLine =
     (text : List ℕ) (fault : ProfileFault) →
-    script_of_text text ≡ Err fault → IsOneLine (fault_text fault)
+    script_of_bytes text ≡ Err fault → IsOneLine (fault_string fault)

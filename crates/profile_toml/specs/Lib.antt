@@ -3,7 +3,7 @@ pub mod CohortNames
 pub mod Cohorts
 pub mod Diffs
 pub mod Documents
-pub mod FaultTexts
+pub mod FaultStrings
 pub mod Laws
 pub mod Mirrors
 pub mod Profiles

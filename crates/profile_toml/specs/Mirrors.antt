@@ -36,26 +36,26 @@ abbrev pub is_named : List ℕ → Mirror → Bool
 is_named name mirror = bytes_eq name mirror.name
 
 -- a mirror that is invalid, or has the name of one before it
-abbrev pub is_bad_after : List Mirror → Mirror → Bool
-is_bad_after before mirror = not (is_mirror mirror) || list_any (is_named mirror.name) before
+abbrev pub is_invalid_after : List Mirror → Mirror → Bool
+is_invalid_after before mirror = not (is_mirror mirror) || list_any (is_named mirror.name) before
 
 -- the index of the first invalid one among mirrors, of which those before are valid
-abbrev pub first_bad_after : List Mirror → List Mirror → Option ℕ
-first_bad_after before [] = None
-first_bad_after before (mirror ∷ mirrors) =
-    if is_bad_after before mirror then Some (length before)
-    else first_bad_after (before ++ mirror ∷ []) mirrors
+abbrev pub first_invalid_after : List Mirror → List Mirror → Option ℕ
+first_invalid_after before [] = None
+first_invalid_after before (mirror ∷ mirrors) =
+    if is_invalid_after before mirror then Some (length before)
+    else first_invalid_after (before ++ mirror ∷ []) mirrors
 
 -- the index that is reported of a list of mirrors: 0 if there is none, 4 if there is a fifth, else
 -- that of the first invalid one
-abbrev pub bad_mirror : List Mirror → Option ℕ
-bad_mirror [] = Some 0
-bad_mirror (mirror ∷ mirrors) =
+abbrev pub invalid_mirror : List Mirror → Option ℕ
+invalid_mirror [] = Some 0
+invalid_mirror (mirror ∷ mirrors) =
     if nat_lt max_mirrors (length (mirror ∷ mirrors)) then Some max_mirrors
-    else first_bad_after [] (mirror ∷ mirrors)
+    else first_invalid_after [] (mirror ∷ mirrors)
 
 -- rule: Mirrors of a profile
 -- the mirrors, if a profile may name them
-abbrev pub good_mirrors : List Mirror → Result (List Mirror) ProfileFault
-good_mirrors mirrors =
-    option_map_or (λ index. Err (BadMirror index)) (bad_mirror mirrors) (Ok mirrors)
+abbrev pub valid_mirrors : List Mirror → Result (List Mirror) ProfileFault
+valid_mirrors mirrors =
+    option_map_or (λ index. Err (BadMirror index)) (invalid_mirror mirrors) (Ok mirrors)

@@ -6,7 +6,7 @@ use Rattle.catalogue.specs.declared.edit.Edit.{Edit}
 use Rattle.catalogue.specs.declared.edit.Edit.TheVariants as edit
 use Rattle.toml_tables.specs.Fields.{◌>>=◌, as_natural, known, optional, required}
 use Rattle.toml_tables.specs.Tables.{PlacedTable}
-use Rattle.toml_tables.specs.Texts.{optional_texts}
+use Rattle.toml_tables.specs.Strings.{optional_strings}
 use Rattle.toml_tables.specs.declared.path.BadEntry.{BadEntry}
 use Rattle.profile_toml.specs.declared.release.PackageEntry.{PackageEntry}
 use Rattle.profile_toml.specs.declared.release.ReleaseEntry.{ReleaseEntry}
@@ -34,7 +34,7 @@ release_of table = do
   full ← package_in table
   stone ← optional as_bool (codes "stone") table
   withdrawn ← optional as_bool (codes "withdrawn") table
-  audience ← optional_texts (codes "audience") table
+  audience ← optional_strings (codes "audience") table
   let is_stone = unwrap_or stone false
   let is_withdrawn = unwrap_or withdrawn false
   Ok (record { full = full; stone = is_stone; withdrawn = is_withdrawn; audience = audience })

@@ -20,9 +20,9 @@ use Rattle.catalogue.specs.declared.edits.releases.AddRelease.{AddRelease}
 use Rattle.catalogue.specs.declared.edit.Edit.{Edit}
 use Rattle.catalogue.specs.declared.edit.Edit.TheVariants as edit
 use Rattle.toml_tables.specs.Fields.{◌>>=◌, as_natural, known, optional, required}
-use Rattle.toml_tables.specs.Paths.{bad_key}
+use Rattle.toml_tables.specs.Paths.{invalid_key}
 use Rattle.toml_tables.specs.Tables.{PlacedTable}
-use Rattle.toml_tables.specs.Texts.{optional_texts}
+use Rattle.toml_tables.specs.Strings.{optional_strings}
 use Rattle.toml_tables.specs.declared.path.BadEntry.{BadEntry}
 use Rattle.profile_toml.specs.Diffs.{diff_added_to, diff_in}
 use Rattle.profile_toml.specs.Releases.{added_to, package_in}
@@ -52,7 +52,7 @@ verb_named name = lookup (bytes_eq name) verbs
 unfoldable pub verb_of : PlacedTable → Result Verb BadEntry
 verb_of table = do
   name ← required as_str (codes "do") table
-  ok_or (verb_named name) (bad_key table.place (codes "do"))
+  ok_or (verb_named name) (invalid_key table.place (codes "do"))
 
 -- the keys of an edit, in the order in which they are read
 abbrev pub keys_of_edit : Verb → List (List ℕ)
@@ -146,7 +146,7 @@ audience_set table = do
   all_known ← known (keys_of_edit verb.SetAudience) table
   app ← required as_str (codes "app") table
   version ← required as_str (codes "version") table
-  cohorts ← optional_texts (codes "cohorts") table
+  cohorts ← optional_strings (codes "cohorts") table
   Ok (record { app = app; version = version; cohorts = cohorts })
 
 unfoldable pub rollback_set : PlacedTable → Result SetRollback BadEntry

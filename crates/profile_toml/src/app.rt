@@ -38,8 +38,8 @@ fn read_app(table: &TableReader<'_>) -> Result<AppEntry, ReadError<BadEntry>>
     ensures { Reads (λ app. app) result (app_of (placed table.now)) }
 {
     table.check_keys(&["id", "default", "cohort", "release", "diff"])?;
-    let id = table.text("id")?;
-    let default = table.text("default")?;
+    let id = table.string("id")?;
+    let default = table.string("default")?;
     let cohorts = table.optional_list("cohort")?;
     let releases = table.optional_list("release")?;
     let diffs = table.optional_list("diff")?;

@@ -92,9 +92,9 @@ impl Cohorts {
 fn read_new_name(before: &Cohorts, table: &TableReader<'_>) -> Result<Text, ReadError<BadEntry>>
     ensures { Reads (λ name. name) result (new_name before.now (placed table.now)) }
 {
-    let name = table.text("name")?;
+    let name = table.string("name")?;
     if before.has_name(name.as_str()) {
-        return Err(ReadError::Fault(table.bad_entry("name")?));
+        return Err(ReadError::Fault(table.invalid_entry("name")?));
     }
     Ok(name)
 }
@@ -110,8 +110,8 @@ fn read_cohort(
     table.check_keys(&["name", "target", "held", "share", "rollback", "open"])?;
     Ok(CohortEntry {
         name: read_new_name(before, table)?,
-        target: table.optional_text("target")?,
-        held: table.optional_text("held")?,
+        target: table.optional_string("target")?,
+        held: table.optional_string("held")?,
         share: table.optional_natural("share")?,
         rollback: table.optional_flag("rollback")?.unwrap_or(false),
         hintable: table.optional_flag("open")?.unwrap_or(false),

@@ -31,11 +31,11 @@ pub(crate) fn read_diff_package(table: &TableReader<'_>) -> Result<DiffEntry, Re
     ensures { Reads (λ diff. diff) result (diff_in (placed table.now)) }
 {
     Ok(DiffEntry {
-        from: table.text("from")?,
-        to: table.text("to")?,
-        name: table.text("name")?,
+        from: table.string("from")?,
+        to: table.string("to")?,
+        name: table.string("name")?,
         size: table.natural("size")?,
-        sha256: table.text("sha256")?,
+        sha256: table.string("sha256")?,
     })
 }
 

@@ -25,9 +25,9 @@ pub enum ProfileFault {
 /// Writes the fault's code and name, and after a space the path or the index.
 impl fmt::Display for ProfileFault {
     ghost use Rattle.std.specs.Prelude.{Some};
-    ghost use Rattle.profile_toml.specs.FaultTexts.{fault_text};
+    ghost use Rattle.profile_toml.specs.FaultStrings.{fault_string};
 
-    ghost output = { λ fault. Some (fault_text fault) };
+    ghost output = { λ fault. Some (fault_string fault) };
 
     fn fmt<W: fmt::Write>(&self, f: &mut fmt::Formatter<W>) -> fmt::Result {
         match self {

@@ -4,7 +4,7 @@ ghost use Rattle.std.specs.Prelude.{◌≡◌, []};
 ghost use Rattle.std.specs.List.{list_any};
 ghost use Rattle.values.specs.Reading.{Reads};
 ghost use Rattle.toml_tables.specs.Readers.{placed};
-ghost use Rattle.profile_toml.specs.Mirrors.{bad_mirror, first_bad_after, good_mirrors, is_bad_after, is_named, mirror_of};
+ghost use Rattle.profile_toml.specs.Mirrors.{invalid_mirror, first_invalid_after, valid_mirrors, is_invalid_after, is_named, mirror_of};
 
 use crate::fault::ProfileFault;
 use catalogue::Mirror;
@@ -20,8 +20,8 @@ fn read_mirror(table: &TableReader<'_>) -> Result<Mirror, ReadError<BadEntry>>
 {
     table.check_keys(&["name", "codebase", "budget"])?;
     Ok(Mirror {
-        name: table.text("name")?,
-        codebase: table.text("codebase")?,
+        name: table.string("name")?,
+        codebase: table.string("codebase")?,
         budget: table.natural("budget")?,
     })
 }
@@ -47,25 +47,25 @@ fn has_name(mirrors: &[Mirror], name: &str) -> bool
     mirrors.iter().any(|mirror| name == mirror.name.as_str())
 }
 
-fn is_bad(before: &[Mirror], mirror: &Mirror) -> bool
-    ensures { result ≡ is_bad_after before.now mirror.now }
+fn is_invalid(before: &[Mirror], mirror: &Mirror) -> bool
+    ensures { result ≡ is_invalid_after before.now mirror.now }
 {
     !mirror.is_valid() || has_name(before, mirror.name.as_str())
 }
 
-fn find_bad(mirrors: &[Mirror]) -> Option<usize>
-    ensures { result ≡ first_bad_after [] mirrors.now }
+fn find_invalid(mirrors: &[Mirror]) -> Option<usize>
+    ensures { result ≡ first_invalid_after [] mirrors.now }
 {
     for (index, mirror) in mirrors.iter().enumerate() {
-        if is_bad(&mirrors[..index], mirror) {
+        if is_invalid(&mirrors[..index], mirror) {
             return Some(index);
         }
     }
     None
 }
 
-fn bad_index(mirrors: &[Mirror]) -> Option<usize>
-    ensures { result ≡ bad_mirror mirrors.now }
+fn invalid_index(mirrors: &[Mirror]) -> Option<usize>
+    ensures { result ≡ invalid_mirror mirrors.now }
 {
     if mirrors.is_empty() {
         return Some(0);
@@ -73,7 +73,7 @@ fn bad_index(mirrors: &[Mirror]) -> Option<usize>
     if mirrors.len() > MAX_MIRRORS {
         return Some(MAX_MIRRORS);
     }
-    find_bad(mirrors)
+    find_invalid(mirrors)
 }
 
 // rule: Mirrors of a profile
@@ -81,9 +81,9 @@ fn bad_index(mirrors: &[Mirror]) -> Option<usize>
 pub(crate) fn check_mirrors(
     mirrors: Items<Mirror>,
 ) -> Result<Items<Mirror>, ReadError<ProfileFault>>
-    ensures { Reads (λ good. good) result (good_mirrors mirrors) }
+    ensures { Reads (λ good. good) result (valid_mirrors mirrors) }
 {
-    match bad_index(mirrors.as_slice()) {
+    match invalid_index(mirrors.as_slice()) {
         None => Ok(mirrors),
         Some(index) => Err(ReadError::Fault(ProfileFault::BadMirror(index))),
     }

@@ -4,7 +4,7 @@ ghost use Rattle.values.specs.Reading.{Reads};
 ghost use Rattle.toml_tables.specs.Readers.{placed};
 ghost use Rattle.profile_toml.specs.Documents.{entries};
 ghost use Rattle.profile_toml.specs.Profiles.{profile_of};
-ghost use Rattle.profile_toml.specs.Reading.{profile_of_text};
+ghost use Rattle.profile_toml.specs.Reading.{profile_of_bytes};
 
 use crate::app::{AppEntry, AppTable, edits_of};
 use crate::document::{check_schema, parse};
@@ -54,12 +54,12 @@ fn read_entries(document: &TableReader<'_>) -> Result<Profile, ReadError<Profile
 /// unknown keys are reported before its others, the least of them in byte order. TOML is what the
 /// crate `toml` reads: version 1.1, integers of 64 bits, at most 80 levels. What the edits say is
 /// not checked.
-#[tactic(auto, unfolding(crate::specs::Reading::profile_of_text))]
+#[tactic(auto, unfolding(crate::specs::Reading::profile_of_bytes))]
 pub fn read_profile(
     alloc: Global,
     bytes: &[u8],
 ) -> Result<(Batch, Vec<Mirror>), ReadError<ProfileFault>>
-    ensures { Reads (λ profile. (profile.0, profile.1.items)) result (profile_of_text bytes.now) }
+    ensures { Reads (λ profile. (profile.0, profile.1.items)) result (profile_of_bytes bytes.now) }
 {
     let document = parse(alloc, bytes)?;
     let document = TableReader::new(alloc, &document);

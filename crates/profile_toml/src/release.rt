@@ -42,10 +42,10 @@ pub(crate) fn read_package(table: &TableReader<'_>) -> Result<PackageEntry, Read
     ensures { Reads (λ full. full) result (package_in (placed table.now)) }
 {
     Ok(PackageEntry {
-        version: table.text("version")?,
-        name: table.text("name")?,
+        version: table.string("version")?,
+        name: table.string("name")?,
         size: table.natural("size")?,
-        sha256: table.text("sha256")?,
+        sha256: table.string("sha256")?,
     })
 }
 
@@ -67,7 +67,7 @@ fn read_release(table: &TableReader<'_>) -> Result<ReleaseEntry, ReadError<BadEn
         full: read_package(table)?,
         stone: table.optional_flag("stone")?.unwrap_or(false),
         withdrawn: table.optional_flag("withdrawn")?.unwrap_or(false),
-        audience: table.optional_texts("audience")?,
+        audience: table.optional_strings("audience")?,
     })
 }
 

@@ -3,7 +3,7 @@
 ghost use Rattle.values.specs.Reading.{Reads};
 ghost use Rattle.toml_tables.specs.Readers.{placed};
 ghost use Rattle.profile_toml.specs.Documents.{entries};
-ghost use Rattle.profile_toml.specs.Reading.{script_of_text};
+ghost use Rattle.profile_toml.specs.Reading.{script_of_bytes};
 ghost use Rattle.profile_toml.specs.Scripts.{few_edits, script_of};
 
 use crate::document::{check_schema, parse};
@@ -53,9 +53,9 @@ fn read_entries(document: &TableReader<'_>) -> Result<(u64, Items<Edit>), ReadEr
 /// Returns the first fault in the order of `ProfileFault`. Tables are read from the top. An edit's
 /// `do` is read before its other keys, of which unknown ones are reported first, the least in byte
 /// order. There are at most 4096 edits. What the edits say is not checked.
-#[tactic(auto, unfolding(crate::specs::Reading::script_of_text))]
+#[tactic(auto, unfolding(crate::specs::Reading::script_of_bytes))]
 pub fn read_script(alloc: Global, bytes: &[u8]) -> Result<(u64, Batch), ReadError<ProfileFault>>
-    ensures { Reads (λ script. script) result (script_of_text bytes.now) }
+    ensures { Reads (λ script. script) result (script_of_bytes bytes.now) }
 {
     let document = parse(alloc, bytes)?;
     let document = TableReader::new(alloc, &document);

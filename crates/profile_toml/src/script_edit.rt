@@ -55,10 +55,10 @@ impl Verb {
 fn read_verb(table: &TableReader<'_>) -> Result<Verb, ReadError<BadEntry>>
     ensures { Reads (λ verb. verb) result (verb_of (placed table.now)) }
 {
-    let name = table.text("do")?;
+    let name = table.string("do")?;
     match Verb::from_name(name.as_str()) {
         Some(verb) => Ok(verb),
-        None => Err(ReadError::Fault(table.bad_entry("do")?)),
+        None => Err(ReadError::Fault(table.invalid_entry("do")?)),
     }
 }
 
@@ -68,8 +68,8 @@ fn read_add_app(table: &TableReader<'_>) -> Result<AddApp, ReadError<BadEntry>>
 {
     table.check_keys(&["do", "app", "default"])?;
     Ok(AddApp {
-        app: table.text("app")?,
-        default: table.text("default")?,
+        app: table.string("app")?,
+        default: table.string("default")?,
     })
 }
 
@@ -78,7 +78,7 @@ fn read_add_release(table: &TableReader<'_>) -> Result<AddRelease, ReadError<Bad
     ensures { Reads (λ edit. edit) result (release_added (placed table.now)) }
 {
     table.check_keys(&["do", "app", "version", "name", "size", "sha256"])?;
-    let app = table.text("app")?;
+    let app = table.string("app")?;
     Ok(added_to(app, read_package(table)?))
 }
 
@@ -88,8 +88,8 @@ fn read_add_cohort(table: &TableReader<'_>) -> Result<AddCohort, ReadError<BadEn
 {
     table.check_keys(&["do", "app", "cohort"])?;
     Ok(AddCohort {
-        app: table.text("app")?,
-        cohort: table.text("cohort")?,
+        app: table.string("app")?,
+        cohort: table.string("cohort")?,
     })
 }
 
@@ -99,10 +99,10 @@ fn read_set_target(table: &TableReader<'_>) -> Result<SetTarget, ReadError<BadEn
 {
     table.check_keys(&["do", "app", "cohort", "target", "held"])?;
     Ok(SetTarget {
-        app: table.text("app")?,
-        cohort: table.text("cohort")?,
-        target: table.optional_text("target")?,
-        held: table.optional_text("held")?,
+        app: table.string("app")?,
+        cohort: table.string("cohort")?,
+        target: table.optional_string("target")?,
+        held: table.optional_string("held")?,
     })
 }
 
@@ -112,8 +112,8 @@ fn read_set_share(table: &TableReader<'_>) -> Result<SetShare, ReadError<BadEntr
 {
     table.check_keys(&["do", "app", "cohort", "share"])?;
     Ok(SetShare {
-        app: table.text("app")?,
-        cohort: table.text("cohort")?,
+        app: table.string("app")?,
+        cohort: table.string("cohort")?,
         share: table.natural("share")?,
     })
 }
@@ -124,8 +124,8 @@ fn read_set_open(table: &TableReader<'_>) -> Result<SetOpen, ReadError<BadEntry>
 {
     table.check_keys(&["do", "app", "cohort", "on"])?;
     Ok(SetOpen {
-        app: table.text("app")?,
-        cohort: table.text("cohort")?,
+        app: table.string("app")?,
+        cohort: table.string("cohort")?,
         on: table.flag("on")?,
     })
 }
@@ -135,7 +135,7 @@ fn read_add_diff(table: &TableReader<'_>) -> Result<AddDiff, ReadError<BadEntry>
     ensures { Reads (λ edit. edit) result (diff_added (placed table.now)) }
 {
     table.check_keys(&["do", "app", "from", "to", "name", "size", "sha256"])?;
-    let app = table.text("app")?;
+    let app = table.string("app")?;
     Ok(diff_added_to(app, read_diff_package(table)?))
 }
 
@@ -145,8 +145,8 @@ fn read_set_stone(table: &TableReader<'_>) -> Result<SetStone, ReadError<BadEntr
 {
     table.check_keys(&["do", "app", "version", "on"])?;
     Ok(SetStone {
-        app: table.text("app")?,
-        version: table.text("version")?,
+        app: table.string("app")?,
+        version: table.string("version")?,
         on: table.flag("on")?,
     })
 }
@@ -157,8 +157,8 @@ fn read_set_withdrawn(table: &TableReader<'_>) -> Result<SetWithdrawn, ReadError
 {
     table.check_keys(&["do", "app", "version", "on"])?;
     Ok(SetWithdrawn {
-        app: table.text("app")?,
-        version: table.text("version")?,
+        app: table.string("app")?,
+        version: table.string("version")?,
         on: table.flag("on")?,
     })
 }
@@ -169,9 +169,9 @@ fn read_set_audience(table: &TableReader<'_>) -> Result<SetAudience, ReadError<B
 {
     table.check_keys(&["do", "app", "version", "cohorts"])?;
     Ok(SetAudience {
-        app: table.text("app")?,
-        version: table.text("version")?,
-        cohorts: table.optional_texts("cohorts")?,
+        app: table.string("app")?,
+        version: table.string("version")?,
+        cohorts: table.optional_strings("cohorts")?,
     })
 }
 
@@ -181,8 +181,8 @@ fn read_set_rollback(table: &TableReader<'_>) -> Result<SetRollback, ReadError<B
 {
     table.check_keys(&["do", "app", "cohort", "on"])?;
     Ok(SetRollback {
-        app: table.text("app")?,
-        cohort: table.text("cohort")?,
+        app: table.string("app")?,
+        cohort: table.string("cohort")?,
         on: table.flag("on")?,
     })
 }

@@ -9,7 +9,7 @@ use profile_toml::{ProfileFault, read_profile, read_script};
 use std::alloc::{AllocError, Global};
 use values::{ReadError, Text};
 
-fn refusal(alloc: Global, error: &ReadError<ProfileFault>) -> Result<String, AllocError> {
+fn fault_line(alloc: Global, error: &ReadError<ProfileFault>) -> Result<String, AllocError> {
     match error {
         ReadError::Memory => Err(AllocError),
         ReadError::Fault(fault) => format!(in alloc; "{fault}"),
@@ -125,7 +125,7 @@ pub(crate) fn profile(alloc: Global, text: &[u8]) -> Result<String, AllocError> 
             push_edits(alloc, &mut line, batch.edits())?;
             Ok(line)
         }
-        Err(error) => refusal(alloc, &error),
+        Err(error) => fault_line(alloc, &error),
     }
 }
 
@@ -137,7 +137,7 @@ fn script(alloc: Global, text: &[u8]) -> Result<String, AllocError> {
             push_edits(alloc, &mut line, batch.edits())?;
             Ok(line)
         }
-        Err(error) => refusal(alloc, &error),
+        Err(error) => fault_line(alloc, &error),
     }
 }
 
@@ -156,7 +156,7 @@ fn counts(alloc: Global, apps: &[App]) -> Result<String, AllocError> {
 fn applied(alloc: Global, text: &[u8]) -> Result<String, AllocError> {
     let batch = match read_profile(alloc, text) {
         Ok((batch, _mirrors)) => batch,
-        Err(error) => return refusal(alloc, &error),
+        Err(error) => return fault_line(alloc, &error),
     };
     let mut catalogue = Catalogue::empty(alloc);
     match catalogue.apply(&batch) {
@@ -173,7 +173,7 @@ pub(crate) enum Form {
     Applied,
 }
 
-fn told(alloc: Global, form: Form, text: &[u8]) -> Result<String, AllocError> {
+fn outcome_of(alloc: Global, form: Form, text: &[u8]) -> Result<String, AllocError> {
     match form {
         Form::Profile => profile(alloc, text),
         Form::Script => script(alloc, text),
@@ -240,7 +240,7 @@ fn wrong_row(alloc: Global, form: Form, front: &str, row: &str) -> Result<String
     document.push_str("\n")?;
     let mut line = String::new(alloc);
     push_expanded(alloc, &mut line, want)?;
-    let got = told(alloc, form, document.as_str().as_bytes())?;
+    let got = outcome_of(alloc, form, document.as_str().as_bytes())?;
     if got.as_str() == line.as_str() {
         return Ok(String::new(alloc));
     }

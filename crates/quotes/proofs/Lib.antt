@@ -1,4 +1,5 @@
 mod AmongLemmas
+mod BestLemmas
 mod ChainLemmas
 mod MemberLemmas
 mod NamedLemmas

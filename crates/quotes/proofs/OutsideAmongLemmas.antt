@@ -8,7 +8,7 @@ use Rattle.version.specs.Laws.{BelowIsIrreflexive}
 use Rattle.values.specs.Ordered.{ascend}
 use Rattle.records.specs.Forms.{is_hash, is_package_name, is_size}
 use Rattle.records.specs.Lookups.{cohorts_at, releases_at}
-use Rattle.records.specs.Validity.{IsValid, is_good_audience, is_good_release, is_release_below, spells}
+use Rattle.records.specs.Validity.{IsValid, is_valid_audience, is_valid_release, is_release_below, spells}
 use Rattle.records.specs.declared.content.App.{App}
 use Rattle.records.specs.declared.content.Cohort.{Cohort}
 use Rattle.records.specs.declared.content.Release.{Release}
@@ -29,17 +29,17 @@ use Rattle.quotes.specs.Quotes.{IsQuote, IsQuoteAmong}
 use Rattle.quotes.specs.declared.outside.Best.{Best}
 
 -- the sizes of valid releases are within bounds
-sizes_good :
+sizes_valid :
     (cohorts : List Cohort) (releases : List Release) →
-    ((k : ℕ) (d : Release) → k < length releases → is_good_release cohorts (get_or releases k d) ≡ true) →
+    ((k : ℕ) (d : Release) → k < length releases → is_valid_release cohorts (get_or releases k d) ≡ true) →
     All (λ (release : Release). is_size release.size ≡ true) releases
-sizes_good cohorts releases good k d within =
+sizes_valid cohorts releases good k d within =
     let release = get_or releases k d in
     let spelled = spells release.spelled release.version in
     let named = is_package_name release.name in
     let sized = is_size release.size in
     let hashed = is_hash release.hash in
-    let one = and_parts (spelled && named && sized && hashed) (is_good_audience cohorts release.audience) (good k d within) in
+    let one = and_parts (spelled && named && sized && hashed) (is_valid_audience cohorts release.audience) (good k d within) in
     let two = and_parts (spelled && named && sized) hashed one.0 in
     (and_parts (spelled && named) sized two.0).1
 
@@ -59,7 +59,7 @@ module _ (irreflexive : BelowIsIrreflexive) (fulls : FullsArePermitted) (differs
   pub sizes_among : All (λ (release : Release). is_size release.size ≡ true) (releases_at apps key.app)
   sizes_among =
       subst (λ (releases : List Release). All (λ (release : Release). is_size release.size ≡ true) releases) (sym releases_are)
-      (sizes_good has.app.cohorts has.app.releases (AllPass-from_list_all (is_good_release has.app.cohorts) has.app.releases has.valid.releases_good))
+      (sizes_valid has.app.cohorts has.app.releases (AllPass-from_list_all (is_valid_release has.app.cohorts) has.app.releases has.valid.releases_valid))
 
   -- a track of a graph has a target
   pub some_target :

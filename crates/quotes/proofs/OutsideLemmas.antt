@@ -1,6 +1,6 @@
 -- Which full packages are permitted from a version, by one pass over the releases.
-use Rattle.std.proofs.Common.{◌≡◌, ℕ, zero, suc, ◌+◌, ◌<◌, ◌≤◌, ◌&&◌, ◌||◌, inl, inr, not, Bool, true, false, cond, List, [], ◌∷◌, length, get_or, take, Option, None, Some, refl, sym, ap, ◌∙◌, subst, arith}
-use Rattle.std.specs.List.{list_all, list_any, slice_get}
+use Rattle.std.proofs.Common.{◌≡◌, ℕ, zero, suc, ◌+◌, ◌<◌, ◌≤◌, ◌&&◌, ◌||◌, inl, inr, not, Bool, true, false, List, [], ◌∷◌, length, get_or, take, Option, Some, refl, sym, ap, ◌∙◌, arith}
+use Rattle.std.specs.List.{list_all, list_any}
 use Rattle.std.specs.Option.{option_and_then}
 use Rattle.std.proofs.lemmas.Bool.{and_parts, cases_eq, false_from_ne_true, false≢true}
 use Rattle.std.proofs.lemmas.List.{get_or_default}
@@ -14,7 +14,7 @@ use Rattle.records.specs.declared.content.Cohort.{Cohort}
 use Rattle.records.specs.declared.content.Release.{Release}
 use Rattle.payload_rules.specs.Permitted.{is_offered, is_stone_between, jumps_stone, leads_down, permits_full}
 use Rattle.price_cert.specs.declared.row.Row.{Row}
-use Rattle.quotes.specs.Outside.{IsBest, is_blocked, is_stone_above, leads_to, rises_to, sum_if, sum_into}
+use Rattle.quotes.specs.Outside.{IsBest, is_blocked, is_stone_above, leads_to, sum_if, sum_into}
 use Rattle.quotes.specs.declared.outside.Best.{Best}
 
 -- what the pass has found below an index

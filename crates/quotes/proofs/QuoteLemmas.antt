@@ -22,7 +22,7 @@ use Rattle.payload_graph.specs.declared.edge.Kind.{Kind}
 use Rattle.payload_graph.specs.declared.edge.Kind.TheVariants as kinds
 use Rattle.price_cert.specs.Laws.{ArePrices}
 use Rattle.price_cert.specs.Rows.{price_at, price_of, row_at}
-use Rattle.price_cert.specs.Rules.{AreCertified, adds_up, broken_rule, comes_first, costs, ends_at_target, first_failed, is_attained, is_first_or_dearer, is_named, is_next, is_same_kind, meets_bounds}
+use Rattle.price_cert.specs.Rules.{AreCertified, adds_up, broken_rule, comes_first, costs, ends_at_target, first_failed, is_attained, is_first_or_larger, is_named, is_next, is_same_kind, meets_bounds}
 use Rattle.price_cert.specs.Rules as rules
 use Rattle.price_cert.specs.declared.row.Row.{Row}
 use Rattle.price_cert.specs.declared.row.Row.TheVariants.{Nothing, End, Price}
@@ -169,7 +169,7 @@ module _ (irreflexive : BelowIsIrreflexive) (fulls : FullsArePermitted) (differs
       let equal : price ≡ edge.bytes + begins.rest = omega arith in
       let costing : costs rows price edge ≡ true =
       ap (λ (r : Option ℕ). adds_up r price edge.bytes) rest ∙ eq-eqb price (edge.bytes + begins.rest) equal in
-      let passed = All-contains (λ (e : Edge). is_first_or_dearer rows price kind to e ≡ true) (edges_from net from) edge (AllPass-from_list_all (is_first_or_dearer rows price kind to) (edges_from net from) kept.first) found.inside in
+      let passed = All-contains (λ (e : Edge). is_first_or_larger rows price kind to e ≡ true) (edges_from net from) edge (AllPass-from_list_all (is_first_or_larger rows price kind to) (edges_from net from) kept.first) found.inside in
       elim (or_cases (not (costs rows price edge)) (rules.yields edge kind to) passed) [
         | inl dearer ↦ absurd (false≢true (sym (ap not costing) ∙ dearer))
         | inr yielding ↦ yields-payload app other payload edge kind to matches to_is kind_is yielding

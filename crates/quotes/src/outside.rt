@@ -71,35 +71,36 @@ impl Visitor<'_> {
         blocked || (release.stone && self.is_below(release))
     }
 
-    // The sum by the full package of a release, if it is permitted and a chain goes on from there.
-    fn sum_into(&self, release: &Release, row: &Row, blocked: bool) -> Option<u64>
+    // The better way of the best one before and the full package of the next release: that of the smaller sum, and
+    // of equal ones the later. A package is only asked for permission if its sum is no larger.
+    fn next_best(
+        &self,
+        best: Option<Best>,
+        to: usize,
+        release: &Release,
+        row: &Row,
+        blocked: bool,
+    ) -> Option<Best>
         requires size { is_size release.now.size ≡ true }
         requires price { IfSome (price_of row.now) IsSmall }
-        ensures { result ≡ (if leads_to self.now.cohort.now self.now.rollback self.now.target self.now.version blocked release.now
-            then option_map (λ rest. release.now.size + rest) (price_of row.now) else None) }
+        ensures { (sums : ℕ → Option ℕ) →
+            sums to ≡ (if leads_to self.now.cohort.now self.now.rollback self.now.target self.now.version blocked release.now
+            then option_map (λ rest. release.now.size + rest) (price_of row.now) else None) →
+            IsBest sums to best → IsBest sums (to + 1) result }
     {
-        if !self.is_led_to(release, blocked) {
-            return None;
-        }
-        let rest = row.price()?;
-        Some(release.size + rest)
-    }
-}
-
-// The better of two ways: that of the smaller sum, and of equal ones the later.
-fn better_of(best: Option<Best>, to: usize, sum: Option<u64>) -> Option<Best>
-    ensures { (sums : ℕ → Option ℕ) → sums to ≡ sum → IsBest sums to best → IsBest sums (to + 1) result }
-{
-    match (best, sum) {
-        (best, None) => best,
-        (None, Some(sum)) => Some(Best { to, sum }),
-        (Some(best), Some(sum)) => {
-            if best.sum < sum {
-                Some(best)
-            } else {
-                Some(Best { to, sum })
+        let Some(rest) = row.price() else {
+            return best;
+        };
+        let sum = release.size + rest;
+        if let Some(known) = best {
+            if known.sum < sum {
+                return best;
             }
         }
+        if !self.is_led_to(release, blocked) {
+            return best;
+        }
+        Some(Best { to, sum })
     }
 }
 
@@ -118,8 +119,7 @@ pub(crate) fn find_best(releases: &[Release], rows: &[Row], visitor: &Visitor<'_
     let mut best = None;
     let mut blocked = false;
     for (to, release) in releases.iter().enumerate() {
-        let sum = visitor.sum_into(release, &rows[to], blocked);
-        best = better_of(best, to, sum);
+        best = visitor.next_best(best, to, release, &rows[to], blocked);
         blocked = visitor.is_blocked_by(release, blocked);
     }
     best

@@ -37,30 +37,30 @@ is_released releases None = true
 is_released releases (Some version) = has_release releases version
 
 -- a cohort: its name, its share, and that its targets are released
-abbrev pub is_good_cohort : List Release → Cohort → Bool
-is_good_cohort releases cohort =
+abbrev pub is_valid_cohort : List Release → Cohort → Bool
+is_valid_cohort releases cohort =
     is_cohort_name cohort.name
     && nat_le cohort.share max_share
     && is_released releases cohort.target
     && is_released releases cohort.held
 
 -- each name of an audience is that of a cohort, if there is an audience
-abbrev pub is_good_audience : List Cohort → Option (List (List ℕ)) → Bool
-is_good_audience cohorts None = true
-is_good_audience cohorts (Some names) = list_all (has_cohort cohorts) names
+abbrev pub is_valid_audience : List Cohort → Option (List (List ℕ)) → Bool
+is_valid_audience cohorts None = true
+is_valid_audience cohorts (Some names) = list_all (has_cohort cohorts) names
 
 -- a release: its spelling, its package's name, bytes and hash, and its audience
-abbrev pub is_good_release : List Cohort → Release → Bool
-is_good_release cohorts release =
+abbrev pub is_valid_release : List Cohort → Release → Bool
+is_valid_release cohorts release =
     spells release.spelled release.version
     && is_package_name release.name
     && is_size release.size
     && is_hash release.hash
-    && is_good_audience cohorts release.audience
+    && is_valid_audience cohorts release.audience
 
 -- a differential: upward between releases, its package's name, bytes and hash
-abbrev pub is_good_diff : List Release → Diff → Bool
-is_good_diff releases diff =
+abbrev pub is_valid_diff : List Release → Diff → Bool
+is_valid_diff releases diff =
     is_below diff.from diff.to
     && has_release releases diff.from
     && has_release releases diff.to
@@ -74,14 +74,14 @@ pub record IsValidApp (app : App) : Type 0 where
   pub some_cohort : 1 ≤ length app.cohorts
   pub few_cohorts : length app.cohorts ≤ max_cohorts
   pub cohorts_once : IsOnce is_cohort app.cohorts
-  pub cohorts_good : list_all (is_good_cohort app.releases) app.cohorts ≡ true
+  pub cohorts_valid : list_all (is_valid_cohort app.releases) app.cohorts ≡ true
   pub few_releases : length app.releases ≤ max_releases
   pub releases_ascend : ascend is_release_below app.releases ≡ true
   pub hashes_once : IsOnce has_hash app.releases
-  pub releases_good : list_all (is_good_release app.cohorts) app.releases ≡ true
+  pub releases_valid : list_all (is_valid_release app.cohorts) app.releases ≡ true
   pub few_diffs : length app.diffs ≤ max_diffs
   pub diffs_ascend : ascend is_diff_before app.diffs ≡ true
-  pub diffs_good : list_all (is_good_diff app.releases) app.diffs ≡ true
+  pub diffs_valid : list_all (is_valid_diff app.releases) app.diffs ≡ true
 
 -- a content
 pub record IsValid (apps : List App) : Type 0 where

@@ -1,7 +1,7 @@
 //! The forms of strings and numbers that edits are tested for.
 
-ghost use Rattle.std.specs.Prelude.{◌≡◌, ◌&&◌, ◌==◌, nat_le, slice_index};
-ghost use Rattle.std.specs.Char.{is_ascii_graphic};
+ghost use Rattle.std.specs.Prelude.{◌≡◌, ◌&&◌, ◌==◌, true, map, nat_le, slice_index};
+ghost use Rattle.std.specs.Char.{is_ascii_graphic, to_ascii_lowercase};
 ghost use Rattle.std.specs.List.{list_all};
 ghost use Rattle.records.specs.Forms.{has_length, hash_named, hash_of, is_app_id, is_cohort_byte, is_cohort_name, is_hash_digit, is_package_byte, is_package_name, is_size, same_id};
 
@@ -30,12 +30,26 @@ pub fn is_app_id(text: &str) -> bool
     has_length(text, 1, 256) && are_visible(text)
 }
 
+// Whether two strings have one length, and last bytes that are equal but for case. The identifiers of one vendor
+// begin alike, so most pairs differ here.
+fn ends_alike(left: &[u8], right: &[u8]) -> bool
+    ensures { map to_ascii_lowercase left.now ≡ map to_ascii_lowercase right.now → result ≡ true }
+{
+    if left.len() != right.len() {
+        return false;
+    }
+    match left.len().checked_sub(1) {
+        Some(last) => left[last].eq_ignore_ascii_case(&right[last]),
+        None => true,
+    }
+}
+
 // rule: Same app
 /// Whether two identifiers name one app.
 pub(crate) fn is_same_id(left: &str, right: &str) -> bool
     ensures { result ≡ same_id left.now right.now }
 {
-    left.eq_ignore_ascii_case(right)
+    ends_alike(left.as_bytes(), right.as_bytes()) && left.eq_ignore_ascii_case(right)
 }
 
 fn is_cohort_byte(byte: u8) -> bool

@@ -1,4 +1,4 @@
 pub mod Clients
-pub mod Moments
+pub mod Timestamps
 pub mod Plans
 pub mod Replies

@@ -23,7 +23,7 @@ use Rattle.payload_rules.specs.Places.{fingerprint_of}
 use Rattle.payload_rules.specs.declared.payload.Payload.{Payload}
 use Rattle.payload_rules.specs.declared.payload.Payload.TheVariants.{Full, Differ}
 use Rattle.replies.specs.Clients.{Client, client_of, cohort_of, cohort_text}
-use Rattle.replies.specs.Moments.{elapsed_days, elapsed_seconds}
+use Rattle.replies.specs.Timestamps.{elapsed_days, elapsed_seconds}
 use Rattle.replies.specs.declared.choices.Choice.{Choice}
 
 -- the codebase of the mirror at an index

@@ -3,11 +3,11 @@
 ghost use Rattle.std.specs.Prelude.{◌≡◌, ◌<◌, length, map, slice_get, Some, IfOk};
 ghost use Rattle.std.specs.List.{zip};
 ghost use Rattle.std.specs.Option.{option_copied};
-ghost use Rattle.omaha_json.specs.ReplyWriting.{reply_text};
+ghost use Rattle.omaha_json.specs.ReplyWriting.{reply_bytes};
 ghost use Rattle.replies.specs.Plans.{payloads_of, payload_in, IsPlan};
 ghost use Rattle.payload_rules.specs.Places.{fingerprint_of};
 ghost use Rattle.editions.specs.Editions.{content_of};
-ghost use Rattle.replies.specs.Moments.{elapsed_days, elapsed_seconds};
+ghost use Rattle.replies.specs.Timestamps.{elapsed_days, elapsed_seconds};
 ghost use Rattle.replies.specs.Replies.{app_reply, diff_of, diff_part, full_part, offer_of, release_by, reply_of, update_reply, with_check, AreOutcomes, IsOutcome};
 
 use crate::choices::{Choice, Plan};
@@ -252,7 +252,7 @@ pub fn render(
     requires planned { IsPlan (content_of edition.now) request.now plan.now }
     requires decided { AreOutcomes mirrors.now plan.now outcomes.now }
     ensures { IfOk result (λ bytes. bytes.items
-        ≡ reply_text
+        ≡ reply_bytes
         (reply_of (content_of edition.now) request.now (payloads_of plan.now)
         outcomes.now mirrors.now moment)) }
 {

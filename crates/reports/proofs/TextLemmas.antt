@@ -14,7 +14,7 @@ use Rattle.payload_rules.specs.declared.payload.TrackKey.{TrackKey}
 use Rattle.payload_graph.specs.Net.{Net, net_among, net_in, net_of}
 use Rattle.price_cert.specs.declared.row.Prices.{Prices}
 use Rattle.price_cert.specs.declared.row.Row.{Row}
-use Rattle.price_texts.specs.Texts.{text_among, text_of}
+use Rattle.price_texts.specs.Strings.{string_among, string_of}
 
 no_release : Release
 no_release =
@@ -47,16 +47,16 @@ module _ (apps : List App) (key : TrackKey) (rows : List Row) where
       (app : App) (cohort : Cohort) (target : Option ℕ) (net : Net) →
       ((index : ℕ) → target ≡ Some index → IsSome (slice_get app.releases index)) →
       option_map (net_of app key cohort) target ≡ Some net →
-      IsSome (option_map (λ (release : Release). text_of app cohort key release rows) (option_and_then (λ index. slice_get app.releases index) target))
+      IsSome (option_map (λ (release : Release). string_of app cohort key release rows) (option_and_then (λ index. slice_get app.releases index) target))
   by_target app cohort None net there found = cc
   by_target app cohort (Some index) net there found =
-      kept_some (λ (release : Release). text_of app cohort key release rows) (slice_get app.releases index) (there index refl)
+      kept_some (λ (release : Release). string_of app cohort key release rows) (slice_get app.releases index) (there index refl)
 
   by_cohort :
       (app : App) (cohort : Option Cohort) (net : Net) →
       option_and_then (λ (c : Cohort). option_map (net_of app key c) (lane_target app c key.lane)) cohort ≡ Some net →
       IsSome
-      (option_and_then (λ (track : App × Cohort). option_map (λ (release : Release). text_of track.0 track.1 key release rows)
+      (option_and_then (λ (track : App × Cohort). option_map (λ (release : Release). string_of track.0 track.1 key release rows)
       (option_and_then (λ index. slice_get track.0.releases index) (lane_target track.0 track.1 key.lane)))
       (option_map (λ (c : Cohort). (app, c)) cohort))
   by_cohort app None net found = cc
@@ -67,7 +67,7 @@ module _ (apps : List App) (key : TrackKey) (rows : List Row) where
       (found : Option App) (net : Net) →
       option_and_then (λ (app : App). net_in app key) found ≡ Some net →
       IsSome
-      (option_and_then (λ (track : App × Cohort). option_map (λ (release : Release). text_of track.0 track.1 key release rows)
+      (option_and_then (λ (track : App × Cohort). option_map (λ (release : Release). string_of track.0 track.1 key release rows)
       (option_and_then (λ index. slice_get track.0.releases index) (lane_target track.0 track.1 key.lane)))
       (option_and_then (λ (app : App). option_map (λ (c : Cohort). (app, c)) (slice_get app.cohorts key.cohort)) found))
   by_app None net found = cc
@@ -93,8 +93,8 @@ key-of_net apps key net found = key-app apps key [] (slice_get apps key.app) net
 
 pub text-there :
     (apps : List App) (key : TrackKey) (net : Net) (prices : Prices) →
-    net_among apps key ≡ Some net → prices.key ≡ net.key → IsSome (text_among apps prices)
+    net_among apps key ≡ Some net → prices.key ≡ net.key → IsSome (string_among apps prices)
 text-there apps key net prices found own =
-    subst (λ (k : TrackKey). IsSome (text_among apps (record { key = k; rows = prices.rows })))
+    subst (λ (k : TrackKey). IsSome (string_among apps (record { key = k; rows = prices.rows })))
     (sym (own ∙ key-of_net apps key net found))
     (by_app apps key prices.rows (slice_get apps key.app) net found)

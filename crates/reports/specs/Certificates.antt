@@ -10,9 +10,9 @@ use Rattle.payload_graph.specs.Net.{Net, net_among}
 use Rattle.price_cert.specs.Rules.{AreCertified, IsFirstWrong}
 use Rattle.price_cert.specs.declared.row.Prices.{Prices}
 use Rattle.price_cert.specs.declared.row.Row.{Row}
-use Rattle.price_texts.specs.Keys.{key_of_text}
-use Rattle.price_texts.specs.Reading.{prices_of_text}
-use Rattle.price_texts.specs.Texts.{spelled_at, text_among}
+use Rattle.price_texts.specs.Keys.{key_of_string}
+use Rattle.price_texts.specs.Reading.{prices_of_string}
+use Rattle.price_texts.specs.Strings.{spelled_at, string_among}
 use Rattle.price_texts.specs.declared.fault.Fault.{Fault}
 use Rattle.reports.specs.declared.fault.CertificateError.{CertificateError}
 use Rattle.reports.specs.declared.fault.CertificateError.TheVariants as error
@@ -50,7 +50,7 @@ prices_of net rows = record { key = net.key; rows = rows }
 pub record IsCertificateOf (apps : List App) (net : Net) (text : List ℕ) : Type 0 where
   pub rows : List Row
   pub certified : AreCertified net rows
-  pub written : text_among apps (prices_of net rows) ≡ Some text
+  pub written : string_among apps (prices_of net rows) ≡ Some text
 
 -- rule: Certificate of a named track
 -- the certificate of the track that the names choose; or there is no table of such a track; or out of memory
@@ -65,11 +65,11 @@ Certifies apps names (Err other) = ⊥
 -- its first wrong row, by the release's version, and the first rule which that breaks
 abbrev pub IsJudged : List App → Net → List ℕ → Result (Unit {0}) CertificateError → Type 0
 IsJudged apps net text (Ok done) =
-    (prices : Prices) × (prices_of_text apps net text ≡ Ok prices) × AreCertified net prices.rows
-IsJudged apps net text (Err (error.Line fault)) = prices_of_text apps net text ≡ Err fault
+    (prices : Prices) × (prices_of_string apps net text ≡ Ok prices) × AreCertified net prices.rows
+IsJudged apps net text (Err (error.Line fault)) = prices_of_string apps net text ≡ Err fault
 IsJudged apps net text (Err error.NoTrack) = ⊥
 IsJudged apps net text (Err (error.Wrong release rule)) =
-    (prices : Prices) × (row : ℕ) × (prices_of_text apps net text ≡ Ok prices)
+    (prices : Prices) × (row : ℕ) × (prices_of_string apps net text ≡ Ok prices)
     × IsFirstWrong net prices.rows (record { row = row; rule = rule })
     × (release ≡ spelled_at (releases_at apps net.key.app) row)
 IsJudged apps net text (Err error.Memory) = ⊤
@@ -87,4 +87,4 @@ VerifiesBy apps text (Err fault) found = found ≡ Err (error.Line fault)
 VerifiesBy apps text (Ok key) found = IsFoundOf apps text (table_net apps key) found
 
 abbrev pub Verifies : List App → List ℕ → Result (Unit {0}) CertificateError → Type 0
-Verifies apps text found = VerifiesBy apps text (key_of_text apps text) found
+Verifies apps text found = VerifiesBy apps text (key_of_string apps text) found

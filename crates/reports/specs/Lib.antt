@@ -1,3 +1,3 @@
 pub mod Certificates
-pub mod FaultTexts
+pub mod FaultStrings
 pub mod Summaries

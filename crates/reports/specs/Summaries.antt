@@ -20,20 +20,20 @@ abbrev pub count_tables : List App → ℕ
 count_tables apps = length (nets_of apps (keys_of apps))
 
 -- the numbers of an edition's items
-abbrev pub counts_text : Counts → List ℕ
-counts_text counts =
+abbrev pub counts_string : Counts → List ℕ
+counts_string counts =
     decimal counts.releases ++ codes " releases, " ++ decimal counts.diffs ++ codes " differentials, "
     ++ decimal counts.cohorts ++ codes " cohorts"
 
 -- the line of a summary
-abbrev pub summary_text : Totals → List ℕ
-summary_text totals =
+abbrev pub summary_string : Totals → List ℕ
+summary_string totals =
     codes "edition " ++ decimal totals.number ++ codes ": " ++ decimal totals.apps ++ codes " apps, "
-    ++ counts_text totals.counts ++ codes ", " ++ decimal totals.tables ++ codes " tables\n"
+    ++ counts_string totals.counts ++ codes ", " ++ decimal totals.tables ++ codes " tables\n"
 
 -- rule: Summary of an edition
 -- an edition's number of batches, and how many apps, releases, differentials, cohorts and tables it has
 abbrev pub summary_of : ℕ → List App → List ℕ
 summary_of number apps =
-    summary_text
+    summary_string
     (record { number = number; apps = length apps; counts = counts_of apps; tables = count_tables apps })

@@ -2,7 +2,7 @@
 
 ghost use Rattle.std.specs.Prelude.{◌≡◌, IfOk, length, string_bytes, Some};
 ghost use Rattle.editions.specs.Editions.{content_of};
-ghost use Rattle.reports.specs.Summaries.{counts_of, counts_text, summary_of, summary_text};
+ghost use Rattle.reports.specs.Summaries.{counts_of, counts_string, summary_of, summary_string};
 
 use catalogue::Catalogue;
 use editions::Edition;
@@ -18,7 +18,7 @@ struct Counts {
 }
 
 impl fmt::Display for Counts {
-    ghost output = { λ counts. Some (counts_text counts) };
+    ghost output = { λ counts. Some (counts_string counts) };
 
     fn fmt<W: fmt::Write>(&self, f: &mut fmt::Formatter<W>) -> fmt::Result {
         let releases = self.releases;
@@ -58,7 +58,7 @@ struct Totals {
 }
 
 impl fmt::Display for Totals {
-    ghost output = { λ totals. Some (summary_text totals) };
+    ghost output = { λ totals. Some (summary_string totals) };
 
     fn fmt<W: fmt::Write>(&self, f: &mut fmt::Formatter<W>) -> fmt::Result {
         let number = self.number;

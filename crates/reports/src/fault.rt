@@ -1,7 +1,7 @@
 //! Why there is no certificate, or why one is not valid.
 
 ghost use Rattle.std.specs.Prelude.{◌≡◌, Some};
-ghost use Rattle.reports.specs.FaultTexts.{error_text, rule_text};
+ghost use Rattle.reports.specs.FaultStrings.{error_string, rule_string};
 
 use price_cert::Rule;
 use price_texts::Fault;
@@ -26,7 +26,7 @@ pub enum CertificateError {
 
 // The name of a rule.
 fn rule_word(rule: Rule) -> &'static str
-    ensures { result.now ≡ rule_text rule }
+    ensures { result.now ≡ rule_string rule }
 {
     match rule {
         Rule::C1 => "C1",
@@ -38,7 +38,7 @@ fn rule_word(rule: Rule) -> &'static str
 
 // rule: Printed error of a certificate
 impl fmt::Display for CertificateError {
-    ghost output = { λ e. Some (error_text e) };
+    ghost output = { λ e. Some (error_string e) };
 
     fn fmt<W: fmt::Write>(&self, f: &mut fmt::Formatter<W>) -> fmt::Result {
         match self {

@@ -15,7 +15,7 @@ use Rattle.price_cert.specs.declared.row.Row.{Row}
 use Rattle.price_cert.specs.declared.row.Row.TheVariants.{Nothing, End, Price}
 use Rattle.solver.proofs.ListLemmas.{list_all-agree, list_any-agree}
 use Rattle.solver.proofs.SettledLemmas.{IsWithin-best}
-use Rattle.price_cert.specs.Best.{IsBest, is_behind, is_behind_by, names_one}
+use Rattle.price_cert.specs.Best.{IsBest, is_no_better, is_no_better_by, names_one}
 use Rattle.solver.specs.Settled.{AreSettled, AreWithin, IsWithin}
 
 -- a row that is written changes no other one
@@ -31,9 +31,9 @@ pub IsBest-write :
     IsBest rows edges best → IsBest (set rows from row) edges best
 IsBest-write rows from row edges apart best is = record {
   behind =
-      list_all-agree (is_behind (set rows from row) best) (is_behind rows best) edges
-      (All-weaker (λ (edge : Edge). edge.to ≡ from → ⊥) (λ (edge : Edge). is_behind (set rows from row) best edge ≡ is_behind rows best edge)
-      (λ edge other. ap (λ (rest : Option ℕ). is_behind_by rest best edge) (same edge.to other))
+      list_all-agree (is_no_better (set rows from row) best) (is_no_better rows best) edges
+      (All-weaker (λ (edge : Edge). edge.to ≡ from → ⊥) (λ (edge : Edge). is_no_better (set rows from row) best edge ≡ is_no_better rows best edge)
+      (λ edge other. ap (λ (rest : Option ℕ). is_no_better_by rest best edge) (same edge.to other))
       edges apart)
       ∙ is.behind;
   names = names best is.names;

@@ -1,5 +1,5 @@
 -- The errors of keys and of lists of tables, whose paths are one line. A reading of a table is
--- `Tells` a line if it reports one of each table whose place is one line.
+-- `FailsInOneLine` a line if it reports one of each table whose place is one line.
 use Rattle.std.proofs.Common.{◌≡◌, ℕ, ◌+◌, List, [], Bool, true, false, cond, Option, Some, None, Result, Ok, Err, codes, refl}
 use Rattle.std.specs.List.{list_any}
 use Rattle.std.specs.Option.{ok_or, option_map_or}
@@ -8,9 +8,9 @@ use Rattle.toml.specs.Data.{Data, Items, no_items, item, Members, no_members, me
 use Rattle.toml_tables.specs.Fields.{◌>>=◌, if_given, known, known_among, optional, required}
 use Rattle.toml_tables.specs.Laws.{IsOneLine}
 use Rattle.toml_tables.specs.Lists.{all_tables, each, each_from, element, optional_tables, required_tables, tables_of}
-use Rattle.toml_tables.specs.Paths.{bad_element, bad_key, indexed, path_of}
+use Rattle.toml_tables.specs.Paths.{invalid_element, invalid_key, indexed, path_of}
 use Rattle.toml_tables.specs.Tables.{PlacedList, PlacedTable, element_table, list_at}
-use Rattle.toml_tables.specs.Texts.{optional_texts, text_element, texts_from, texts_if_given, texts_of}
+use Rattle.toml_tables.specs.Strings.{optional_strings, string_element, strings_from, strings_if_given, strings_of}
 use Rattle.toml_tables.specs.declared.path.BadEntry.{BadEntry}
 use Rattle.toml_tables.proofs.LineLemmas.{IsOneLine-indexed}
 use Rattle.toml_tables.proofs.PathLemmas.{IsOneLine-element, IsOneLine-path_of}
@@ -64,17 +64,17 @@ HasLine-cond true one other of_one of_other = of_one
 HasLine-cond false one other of_one of_other = of_other
 
 -- the reading of each table whose place is one line
-abbrev pub Tells : {A : Type 0} → (PlacedTable → Result A BadEntry) → Type 0
-Tells reads = (table : PlacedTable) → IsOneLine table.place → HasLine (reads table)
+abbrev pub FailsInOneLine : {A : Type 0} → (PlacedTable → Result A BadEntry) → Type 0
+FailsInOneLine reads = (table : PlacedTable) → IsOneLine table.place → HasLine (reads table)
 
 HasLine-known_among : (keys : List (List ℕ)) (place : List ℕ) (members : Members)
     → IsOneLine place → HasLine (known_among keys place members)
 HasLine-known_among keys place no_members of_place = HasLine-ok tt
 HasLine-known_among keys place (member key value rest) of_place =
     HasLine-cond (list_any (bytes_eq key) keys)
-    (known_among keys place rest) (Err (bad_key place key))
+    (known_among keys place rest) (Err (invalid_key place key))
     (HasLine-known_among keys place rest of_place)
-    (HasLine-err _ (bad_key place key) (IsOneLine-path_of place key of_place))
+    (HasLine-err _ (invalid_key place key) (IsOneLine-path_of place key of_place))
 
 HasLine-if_given : {A : Type 0} (reads : Data → Option A) (bad : BadEntry) (given : Option Data)
     → IsOneLine bad.path → HasLine (if_given reads bad given)
@@ -89,7 +89,7 @@ pub needs : {A Y : Type 0} (reads : Data → Option A) (key : List ℕ) (table :
     → HasLine (required reads key table >>= step)
 needs reads key table step of_place of_step =
     HasLine-then (required reads key table) step
-    (HasLine-ok_or _ (bad_key table.place key) (IsOneLine-path_of table.place key of_place))
+    (HasLine-ok_or _ (invalid_key table.place key) (IsOneLine-path_of table.place key of_place))
     of_step
 
 pub takes : {A Y : Type 0} (reads : Data → Option A) (key : List ℕ) (table : PlacedTable)
@@ -97,7 +97,7 @@ pub takes : {A Y : Type 0} (reads : Data → Option A) (key : List ℕ) (table :
     → ((x : Option A) → HasLine (step x)) → HasLine (optional reads key table >>= step)
 takes reads key table step of_place of_step =
     HasLine-then (optional reads key table) step
-    (HasLine-if_given reads (bad_key table.place key) (get_member key table.members)
+    (HasLine-if_given reads (invalid_key table.place key) (get_member key table.members)
     (IsOneLine-path_of table.place key of_place))
     of_step
 
@@ -121,13 +121,13 @@ unfolding GivesOrLine
 GivesOrLine-element list index value of_list = by_table (as_table value)
   where
     by_table : (found : Option Members)
-        → GivesOrLine IsPlaced (ok_or found (bad_element list index) >>= λ entries.
+        → GivesOrLine IsPlaced (ok_or found (invalid_element list index) >>= λ entries.
         Ok (element_table list index entries))
     by_table (Some entries) = IsOneLine-element list index of_list
     by_table None = IsOneLine-indexed list index of_list
 
 pub each_element : {Y : Type 0} (list : List ℕ) (index : ℕ) (value : Data)
-    (step : PlacedTable → Result Y BadEntry) → IsOneLine list → Tells step
+    (step : PlacedTable → Result Y BadEntry) → IsOneLine list → FailsInOneLine step
     → HasLine (element list index value >>= step)
 each_element list index value step of_list of_step =
     HasLine-given IsPlaced (element list index value) step
@@ -154,7 +154,7 @@ GivesOrLine-tables_of key table value of_place = by_array (as_array value)
     by_all items (Err bad) of_all = of_all
 
     by_array : (found : Option Items)
-        → GivesOrLine IsListed (ok_or found (bad_key table.place key) >>= λ items.
+        → GivesOrLine IsListed (ok_or found (invalid_key table.place key) >>= λ items.
         (all_tables path 0 items >>= λ all_are_tables. Ok (list_at path items)))
     by_array None = IsOneLine-path_of table.place key of_place
     by_array (Some items) =
@@ -167,7 +167,7 @@ unfolding required_tables GivesOrLine
 GivesOrLine-required key table of_place = by_value (get_member key table.members)
   where
     by_value : (given : Option Data)
-        → GivesOrLine IsListed (ok_or given (bad_key table.place key) >>= tables_of key table)
+        → GivesOrLine IsListed (ok_or given (invalid_key table.place key) >>= tables_of key table)
     by_value None = IsOneLine-path_of table.place key of_place
     by_value (Some value) = GivesOrLine-tables_of key table value of_place
 
@@ -199,7 +199,7 @@ takes_list key table step of_place of_step =
     HasLine-given IsListed (optional_tables key table) step
     (GivesOrLine-optional key table of_place) of_step
 
-HasLine-each_from : {A : Type 0} (reads : PlacedTable → Result A BadEntry) → Tells reads
+HasLine-each_from : {A : Type 0} (reads : PlacedTable → Result A BadEntry) → FailsInOneLine reads
     → (list : List ℕ) → IsOneLine list
     → (index : ℕ) (items : Items) → HasLine (each_from reads list index items)
 HasLine-each_from reads of_reads list of_list index no_items = HasLine-ok []
@@ -210,40 +210,40 @@ HasLine-each_from reads of_reads list of_list index (item value values) =
     (HasLine-each_from reads of_reads list of_list (index + 1) values) (λ rest. HasLine-ok _)))
 
 pub reads_each : {A Y : Type 0} (reads : PlacedTable → Result A BadEntry) (list : PlacedList)
-    (step : List A → Result Y BadEntry) → Tells reads → IsOneLine list.path
+    (step : List A → Result Y BadEntry) → FailsInOneLine reads → IsOneLine list.path
     → ((xs : List A) → HasLine (step xs)) → HasLine (each reads list >>= step)
 reads_each reads list step of_reads of_list of_step =
     HasLine-then (each reads list) step
     (HasLine-each_from reads of_reads list.path of_list 0 list.items) of_step
 
-HasLine-texts_from : (list : List ℕ) (index : ℕ) (items : Items)
-    → IsOneLine list → HasLine (texts_from list index items)
-HasLine-texts_from list index no_items of_list = HasLine-ok []
-HasLine-texts_from list index (item value values) of_list =
-    HasLine-then (text_element list index value) _
-    (HasLine-ok_or (as_str value) (bad_element list index) (IsOneLine-indexed list index of_list)) (λ first.
-    HasLine-then (texts_from list (index + 1) values) _
-    (HasLine-texts_from list (index + 1) values of_list) (λ rest. HasLine-ok _))
+HasLine-strings_from : (list : List ℕ) (index : ℕ) (items : Items)
+    → IsOneLine list → HasLine (strings_from list index items)
+HasLine-strings_from list index no_items of_list = HasLine-ok []
+HasLine-strings_from list index (item value values) of_list =
+    HasLine-then (string_element list index value) _
+    (HasLine-ok_or (as_str value) (invalid_element list index) (IsOneLine-indexed list index of_list)) (λ first.
+    HasLine-then (strings_from list (index + 1) values) _
+    (HasLine-strings_from list (index + 1) values of_list) (λ rest. HasLine-ok _))
 
-HasLine-texts_of : (key : List ℕ) (table : PlacedTable) (value : Data)
-    → IsOneLine table.place → HasLine (texts_of key table value)
-unfolding texts_of
-HasLine-texts_of key table value of_place =
-    HasLine-then (ok_or (as_array value) (bad_key table.place key)) _
-    (HasLine-ok_or (as_array value) (bad_key table.place key) (IsOneLine-path_of table.place key of_place)) (λ items.
-    HasLine-texts_from (path_of table.place key) 0 items (IsOneLine-path_of table.place key of_place))
+HasLine-strings_of : (key : List ℕ) (table : PlacedTable) (value : Data)
+    → IsOneLine table.place → HasLine (strings_of key table value)
+unfolding strings_of
+HasLine-strings_of key table value of_place =
+    HasLine-then (ok_or (as_array value) (invalid_key table.place key)) _
+    (HasLine-ok_or (as_array value) (invalid_key table.place key) (IsOneLine-path_of table.place key of_place)) (λ items.
+    HasLine-strings_from (path_of table.place key) 0 items (IsOneLine-path_of table.place key of_place))
 
-HasLine-texts_if_given : (key : List ℕ) (table : PlacedTable) (given : Option Data)
-    → IsOneLine table.place → HasLine (texts_if_given key table given)
-HasLine-texts_if_given key table None of_place = HasLine-ok None
-HasLine-texts_if_given key table (Some value) of_place =
-    HasLine-then (texts_of key table value) _ (HasLine-texts_of key table value of_place) (λ texts. HasLine-ok _)
+HasLine-strings_if_given : (key : List ℕ) (table : PlacedTable) (given : Option Data)
+    → IsOneLine table.place → HasLine (strings_if_given key table given)
+HasLine-strings_if_given key table None of_place = HasLine-ok None
+HasLine-strings_if_given key table (Some value) of_place =
+    HasLine-then (strings_of key table value) _ (HasLine-strings_of key table value of_place) (λ strings. HasLine-ok _)
 
 -- the strings under a key
-pub takes_texts : {Y : Type 0} (key : List ℕ) (table : PlacedTable)
+pub takes_strings : {Y : Type 0} (key : List ℕ) (table : PlacedTable)
     (step : Option (List (List ℕ)) → Result Y BadEntry) → IsOneLine table.place
-    → ((texts : Option (List (List ℕ))) → HasLine (step texts))
-    → HasLine (optional_texts key table >>= step)
-takes_texts key table step of_place of_step =
-    HasLine-then (optional_texts key table) step
-    (HasLine-texts_if_given key table (get_member key table.members) of_place) of_step
+    → ((strings : Option (List (List ℕ))) → HasLine (step strings))
+    → HasLine (optional_strings key table >>= step)
+takes_strings key table step of_place of_step =
+    HasLine-then (optional_strings key table) step
+    (HasLine-strings_if_given key table (get_member key table.members) of_place) of_step

@@ -5,7 +5,7 @@ use Rattle.toml.specs.declared.value.Value.{Value}
 use Rattle.toml_tables.specs.Fields.{◌>>=◌}
 use Rattle.toml_tables.specs.Lists.{each_from, element}
 use Rattle.toml_tables.specs.Tables.{PlacedTable}
-use Rattle.toml_tables.specs.Texts.{text_element, texts_from}
+use Rattle.toml_tables.specs.Strings.{string_element, strings_from}
 use Rattle.toml_tables.specs.declared.path.BadEntry.{BadEntry}
 
 -- the reading of a list, of which the front was read before
@@ -33,10 +33,10 @@ each_from-next reads list front values i value table first within here is_table 
     (sym (with_front-cons front first _))
 
 -- the string at an index was read, and those after it follow
-pub texts_from-next : (list : List ℕ) (front : List (List ℕ)) (values : List Value) (i : ℕ)
+pub strings_from-next : (list : List ℕ) (front : List (List ℕ)) (values : List Value) (i : ℕ)
     (value : Value) (text : List ℕ)
-    → i < length values → value ≡ get_or values i value → text_element list i (view value) ≡ Ok text
-    → with_front (front ++ text ∷ []) (texts_from list (i + 1) (items_view (drop (i + 1) values)))
-    ≡ with_front front (texts_from list i (items_view (drop i values)))
-texts_from-next list front values i value text within here is_text =
-    rw (drop-cons values i value within, ← here, is_text, add-one) (sym (with_front-cons front text _))
+    → i < length values → value ≡ get_or values i value → string_element list i (view value) ≡ Ok text
+    → with_front (front ++ text ∷ []) (strings_from list (i + 1) (items_view (drop (i + 1) values)))
+    ≡ with_front front (strings_from list i (items_view (drop i values)))
+strings_from-next list front values i value text within here is_utf8 =
+    rw (drop-cons values i value within, ← here, is_utf8, add-one) (sym (with_front-cons front text _))

@@ -5,7 +5,7 @@ use Rattle.std.specs.List.{list_any}
 use Rattle.std.specs.Option.{ok_or}
 use Rattle.std.specs.Str.{bytes_eq}
 use Rattle.toml.specs.Data.{Data, Members, no_members, member, get_member, as_integer}
-use Rattle.toml_tables.specs.Paths.{bad_key}
+use Rattle.toml_tables.specs.Paths.{invalid_key}
 use Rattle.toml_tables.specs.Tables.{PlacedTable}
 use Rattle.toml_tables.specs.declared.path.BadEntry.{BadEntry}
 
@@ -19,7 +19,7 @@ Err fault >>= step = Err fault
 abbrev pub known_among : List (List ℕ) → List ℕ → Members → Result (Unit {0}) BadEntry
 known_among keys place no_members = Ok tt
 known_among keys place (member key value rest) =
-    if list_any (bytes_eq key) keys then known_among keys place rest else Err (bad_key place key)
+    if list_any (bytes_eq key) keys then known_among keys place rest else Err (invalid_key place key)
 
 abbrev pub known : List (List ℕ) → PlacedTable → Result (Unit {0}) BadEntry
 known keys table = known_among keys table.place table.members
@@ -36,7 +36,7 @@ as_natural value = option_and_then natural_of (as_integer value)
 abbrev pub required : {A : Type 0}
     → (Data → Option A) → List ℕ → PlacedTable → Result A BadEntry
 required reads key table =
-    ok_or (option_and_then reads (get_member key table.members)) (bad_key table.place key)
+    ok_or (option_and_then reads (get_member key table.members)) (invalid_key table.place key)
 
 -- a value of the type that is read, if there is a value
 abbrev pub if_given : {A : Type 0}
@@ -48,4 +48,4 @@ if_given reads bad (Some value) = ok_or (reads value) bad >>= λ read. Ok (Some 
 abbrev pub optional : {A : Type 0}
     → (Data → Option A) → List ℕ → PlacedTable → Result (Option A) BadEntry
 optional reads key table =
-    if_given reads (bad_key table.place key) (get_member key table.members)
+    if_given reads (invalid_key table.place key) (get_member key table.members)

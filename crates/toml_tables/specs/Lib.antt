@@ -4,4 +4,4 @@ pub mod Lists
 pub mod Paths
 pub mod Readers
 pub mod Tables
-pub mod Texts
+pub mod Strings

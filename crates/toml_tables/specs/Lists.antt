@@ -3,14 +3,14 @@ use Rattle.std.specs.Prelude.{ℕ, ◌+◌, List, [], ◌∷◌, Result, Ok}
 use Rattle.std.specs.Option.{ok_or, option_map_or}
 use Rattle.toml.specs.Data.{Data, Items, no_items, item, get_member, as_array, as_table}
 use Rattle.toml_tables.specs.Fields.{◌>>=◌}
-use Rattle.toml_tables.specs.Paths.{bad_element, bad_key, path_of}
+use Rattle.toml_tables.specs.Paths.{invalid_element, invalid_key, path_of}
 use Rattle.toml_tables.specs.Tables.{PlacedList, PlacedTable, element_table, list_at}
 use Rattle.toml_tables.specs.declared.path.BadEntry.{BadEntry}
 
 -- the table that is an element of the list at a path
 abbrev pub element : List ℕ → ℕ → Data → Result PlacedTable BadEntry
 element list index value =
-    ok_or (as_table value) (bad_element list index) >>= λ members.
+    ok_or (as_table value) (invalid_element list index) >>= λ members.
     Ok (element_table list index members)
 
 -- each element from that index on is a table; else the first that is none is the error
@@ -22,14 +22,14 @@ all_tables list index (item value rest) =
 -- the list that a value is, if it is one of tables
 unfoldable pub tables_of : List ℕ → PlacedTable → Data → Result PlacedList BadEntry
 tables_of key table value = do
-  items ← ok_or (as_array value) (bad_key table.place key)
+  items ← ok_or (as_array value) (invalid_key table.place key)
   all_are_tables ← all_tables (path_of table.place key) 0 items
   Ok (list_at (path_of table.place key) items)
 
 -- the list of tables under a key that must be there
 unfoldable pub required_tables : List ℕ → PlacedTable → Result PlacedList BadEntry
 required_tables key table = do
-  value ← ok_or (get_member key table.members) (bad_key table.place key)
+  value ← ok_or (get_member key table.members) (invalid_key table.place key)
   tables_of key table value
 
 -- the list of tables under a key, the empty one if the key is missing

@@ -29,8 +29,8 @@ abbrev pub path_of : List ℕ → List ℕ → List ℕ
 path_of place key = place ++ shown_key key
 
 -- the error of a key, and of an element of the list at a path
-abbrev pub bad_key : List ℕ → List ℕ → BadEntry
-bad_key place key = record { path = path_of place key }
+abbrev pub invalid_key : List ℕ → List ℕ → BadEntry
+invalid_key place key = record { path = path_of place key }
 
-abbrev pub bad_element : List ℕ → ℕ → BadEntry
-bad_element list index = record { path = indexed list index }
+abbrev pub invalid_element : List ℕ → ℕ → BadEntry
+invalid_element list index = record { path = indexed list index }

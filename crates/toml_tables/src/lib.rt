@@ -15,7 +15,7 @@ pub mod laws;
 mod list;
 mod path;
 mod reader;
-mod texts;
+mod strings;
 
 pub use crate::list::{TableKind, TableList};
 pub use crate::path::BadEntry;

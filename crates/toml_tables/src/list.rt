@@ -6,7 +6,7 @@ ghost use Rattle.toml.specs.View.{items_view, view};
 ghost use Rattle.toml_tables.specs.Lists.{all_tables, each, element};
 ghost use Rattle.toml_tables.specs.Readers.{listed, placed};
 
-use crate::path::{BadEntry, Place, bad_element};
+use crate::path::{BadEntry, Place, invalid_element};
 use crate::reader::TableReader;
 use std::alloc::Global;
 use toml::Value;
@@ -50,7 +50,7 @@ fn read_element<'t>(
             place: Place::Element(list, index),
             table,
         }),
-        None => Err(ReadError::Fault(bad_element(alloc, list, index)?)),
+        None => Err(ReadError::Fault(invalid_element(alloc, list, index)?)),
     }
 }
 

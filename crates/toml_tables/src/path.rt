@@ -3,7 +3,7 @@
 ghost use Rattle.std.specs.Prelude.{◌≡◌, IfOk, string_bytes};
 ghost use Rattle.std.specs.Char.{is_ascii_control};
 ghost use Rattle.std.specs.List.{list_any};
-ghost use Rattle.toml_tables.specs.Paths.{bad_element, bad_key, path_of, prefix};
+ghost use Rattle.toml_tables.specs.Paths.{invalid_element, invalid_key, path_of, prefix};
 
 use std::alloc::{AllocError, Global};
 use std::fmt;
@@ -75,16 +75,24 @@ pub(crate) fn write_path(alloc: Global, place: &Place<'_>, key: &str) -> Result<
 }
 
 /// Makes the error of a key of the table at a place.
-pub(crate) fn bad_key(alloc: Global, place: &Place<'_>, key: &str) -> Result<BadEntry, AllocError>
-    ensures { IfOk result (λ entry. entry ≡ bad_key (prefix place.now) key.now) }
+pub(crate) fn invalid_key(
+    alloc: Global,
+    place: &Place<'_>,
+    key: &str,
+) -> Result<BadEntry, AllocError>
+    ensures { IfOk result (λ entry. entry ≡ invalid_key (prefix place.now) key.now) }
 {
     let path = write_path(alloc, place, key)?;
     Ok(BadEntry { path })
 }
 
 /// Makes the error of an element of the list at a path.
-pub(crate) fn bad_element(alloc: Global, list: &str, index: usize) -> Result<BadEntry, AllocError>
-    ensures { IfOk result (λ entry. entry ≡ bad_element list.now index) }
+pub(crate) fn invalid_element(
+    alloc: Global,
+    list: &str,
+    index: usize,
+) -> Result<BadEntry, AllocError>
+    ensures { IfOk result (λ entry. entry ≡ invalid_element list.now index) }
 {
     let path = format!(in alloc; "{list}[{index}]")?;
     let path = Text::new(path);

@@ -8,12 +8,12 @@ ghost use Rattle.toml.specs.Data.{as_bool, as_str, get_member};
 ghost use Rattle.toml.specs.View.{table_view, view};
 ghost use Rattle.toml_tables.specs.Fields.{as_natural, known, optional, required};
 ghost use Rattle.toml_tables.specs.Lists.{optional_tables, required_tables, tables_of};
-ghost use Rattle.toml_tables.specs.Paths.{bad_key};
+ghost use Rattle.toml_tables.specs.Paths.{invalid_key};
 ghost use Rattle.toml_tables.specs.Readers.{listed, placed};
 ghost use Rattle.toml_tables.specs.Tables.{document};
 
 use crate::list::{TableList, check_tables};
-use crate::path::{BadEntry, Place, bad_key, write_path};
+use crate::path::{BadEntry, Place, invalid_key, write_path};
 use std::alloc::{AllocError, Global};
 use toml::{Table, Value};
 use values::{ReadError, Text};
@@ -67,10 +67,10 @@ impl<'t> TableReader<'t> {
     }
 
     /// Makes the error of a key, for a rule that its type does not say.
-    pub fn bad_entry(&self, key: &str) -> Result<BadEntry, AllocError>
-        ensures { IfOk result (λ entry. entry ≡ bad_key (placed self.now).place key.now) }
+    pub fn invalid_entry(&self, key: &str) -> Result<BadEntry, AllocError>
+        ensures { IfOk result (λ entry. entry ≡ invalid_key (placed self.now).place key.now) }
     {
-        bad_key(self.alloc, &self.place, key)
+        invalid_key(self.alloc, &self.place, key)
     }
 
     /// Returns `BadEntry` for the first key, in byte order, that is none of `keys`.
@@ -80,7 +80,7 @@ impl<'t> TableReader<'t> {
     {
         for (key, _) in self.table.iter() {
             if !has_key(keys, key.as_str()) {
-                return Err(ReadError::Fault(self.bad_entry(key.as_str())?));
+                return Err(ReadError::Fault(self.invalid_entry(key.as_str())?));
             }
         }
         Ok(())
@@ -104,12 +104,12 @@ impl<'t> TableReader<'t> {
     }
 
     /// Copies the string under a key.
-    pub fn text(&self, key: &str) -> Result<Text, ReadError<BadEntry>>
+    pub fn string(&self, key: &str) -> Result<Text, ReadError<BadEntry>>
         ensures { Reads (λ text. text) result (required as_str key.now (placed self.now)) }
     {
         match self.str(key) {
             Some(text) => Ok(Text::copy_of(self.alloc, text)?),
-            None => Err(ReadError::Fault(self.bad_entry(key)?)),
+            None => Err(ReadError::Fault(self.invalid_entry(key)?)),
         }
     }
 
@@ -119,7 +119,7 @@ impl<'t> TableReader<'t> {
     {
         match self.value(key).and_then(as_natural) {
             Some(number) => Ok(number),
-            None => Err(ReadError::Fault(self.bad_entry(key)?)),
+            None => Err(ReadError::Fault(self.invalid_entry(key)?)),
         }
     }
 
@@ -129,12 +129,12 @@ impl<'t> TableReader<'t> {
     {
         match self.value(key).and_then(Value::as_bool) {
             Some(flag) => Ok(flag),
-            None => Err(ReadError::Fault(self.bad_entry(key)?)),
+            None => Err(ReadError::Fault(self.invalid_entry(key)?)),
         }
     }
 
     /// Copies the string under a key, if there is one.
-    pub fn optional_text(&self, key: &str) -> Result<Option<Text>, ReadError<BadEntry>>
+    pub fn optional_string(&self, key: &str) -> Result<Option<Text>, ReadError<BadEntry>>
         ensures { Reads (λ text. text) result (optional as_str key.now (placed self.now)) }
     {
         let Some(value) = self.value(key) else {
@@ -142,7 +142,7 @@ impl<'t> TableReader<'t> {
         };
         match value.as_str() {
             Some(text) => Ok(Some(Text::copy_of(self.alloc, text)?)),
-            None => Err(ReadError::Fault(self.bad_entry(key)?)),
+            None => Err(ReadError::Fault(self.invalid_entry(key)?)),
         }
     }
 
@@ -155,7 +155,7 @@ impl<'t> TableReader<'t> {
         };
         match as_natural(value) {
             Some(number) => Ok(Some(number)),
-            None => Err(ReadError::Fault(self.bad_entry(key)?)),
+            None => Err(ReadError::Fault(self.invalid_entry(key)?)),
         }
     }
 
@@ -168,7 +168,7 @@ impl<'t> TableReader<'t> {
         };
         match value.as_bool() {
             Some(flag) => Ok(Some(flag)),
-            None => Err(ReadError::Fault(self.bad_entry(key)?)),
+            None => Err(ReadError::Fault(self.invalid_entry(key)?)),
         }
     }
 
@@ -178,7 +178,7 @@ impl<'t> TableReader<'t> {
             (tables_of key.now (placed self.now) (view value.now)) }
     {
         let Some(values) = value.as_array() else {
-            return Err(ReadError::Fault(self.bad_entry(key)?));
+            return Err(ReadError::Fault(self.invalid_entry(key)?));
         };
         let path = write_path(self.alloc, &self.place, key)?;
         check_tables(self.alloc, path.as_str(), values)?;
@@ -197,7 +197,7 @@ impl<'t> TableReader<'t> {
     {
         match self.value(key) {
             Some(value) => self.tables(key, value),
-            None => Err(ReadError::Fault(self.bad_entry(key)?)),
+            None => Err(ReadError::Fault(self.invalid_entry(key)?)),
         }
     }
 

@@ -13,7 +13,7 @@ use Rattle.omaha_json.specs.declared.reply.CheckReply.TheVariants as check
 use Rattle.omaha_json.specs.declared.reply.Offer.{Offer}
 use Rattle.omaha_json.specs.declared.reply.Part.{Part}
 use Rattle.client_texts.specs.declared.fault.ReplyFault.{ReplyFault}
-use Rattle.client_texts.specs.ReplyReading.{reply_of_text}
+use Rattle.client_texts.specs.ReplyReading.{reply_of_bytes}
 use Rattle.update_client.specs.Installed.{Installed}
 use Rattle.update_client.specs.declared.fault.Fault.{Fault}
 use Rattle.update_client.specs.declared.fault.Fault.TheVariants as fault
@@ -71,7 +71,7 @@ news_from app (Err refused) = Err fault.Reply
 -- rule: Reply that a client hears
 -- what a client of that app hears in the bytes of a reply
 abbrev pub heard : List ℕ → List ℕ → Result (Option Accepted) Fault
-heard app bytes = news_from app (reply_of_text bytes)
+heard app bytes = news_from app (reply_of_bytes bytes)
 
 -- the file to download: the differential if one is offered
 abbrev pub part_of : Offer → Part

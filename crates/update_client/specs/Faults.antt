@@ -5,12 +5,12 @@ use Rattle.update_client.specs.declared.fault.Fault.TheVariants as fault
 
 -- rule: Printed fault of a client
 -- the fault's code, a space and its name
-abbrev pub fault_text : Fault → List ℕ
-fault_text fault.Link = codes "U1 Link"
-fault_text fault.Reply = codes "U2 Reply"
-fault_text fault.BadLength = codes "U3 BadLength"
-fault_text fault.BadHash = codes "U4 BadHash"
-fault_text fault.Install = codes "U5 Install"
-fault_text fault.NoProgress = codes "U6 NoProgress"
-fault_text fault.TooManySteps = codes "U7 TooManySteps"
-fault_text fault.Busy = codes "U8 Busy"
+abbrev pub fault_string : Fault → List ℕ
+fault_string fault.Link = codes "U1 Link"
+fault_string fault.Reply = codes "U2 Reply"
+fault_string fault.BadLength = codes "U3 BadLength"
+fault_string fault.BadHash = codes "U4 BadHash"
+fault_string fault.Install = codes "U5 Install"
+fault_string fault.NoProgress = codes "U6 NoProgress"
+fault_string fault.TooManySteps = codes "U7 TooManySteps"
+fault_string fault.Busy = codes "U8 Busy"

@@ -2,8 +2,8 @@
 use Rattle.std.specs.Prelude.{◌≡◌, ◌+◌, ◌<◌, ◌≤◌, ◌⊎◌, ℕ, List, [], ◌∷◌, ◌++◌, length, map, Option, Some, None, Result, Ok, Err}
 use Rattle.values.specs.declared.read_error.ReadError.{ReadError}
 use Rattle.values.specs.declared.read_error.ReadError.TheVariants as errors
-use Rattle.omaha_json.specs.RequestReading.{request_of_text}
-use Rattle.client_texts.specs.RequestWriting.{request_text}
+use Rattle.omaha_json.specs.RequestReading.{request_of_bytes}
+use Rattle.client_texts.specs.RequestWriting.{request_bytes}
 use Rattle.update_client.specs.Installed.{Installed}
 use Rattle.update_client.specs.declared.fault.Fault.{Fault}
 use Rattle.update_client.specs.declared.fault.Fault.TheVariants as fault
@@ -29,11 +29,11 @@ pub record Turn : Type 0 where
 
 -- the request of a client, with the reply to it
 abbrev pub post_of : Installed → List ℕ → Post
-post_of client reply = (request_text (request_of client), reply)
+post_of client reply = (request_bytes (request_of client), reply)
 
 -- a server reads the request of a client as it is
 abbrev pub IsReadBack : Installed → Type 0
-IsReadBack client = request_of_text (request_text (request_of client)) ≡ Ok (request_of client)
+IsReadBack client = request_of_bytes (request_bytes (request_of client)) ≡ Ok (request_of client)
 
 -- the reply offers a client something else than it has
 abbrev pub IsOffered : Installed → List ℕ → Accepted → Type 0

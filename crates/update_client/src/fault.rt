@@ -26,9 +26,9 @@ pub enum Fault {
 // rule: Printed fault of a client
 impl fmt::Display for Fault {
     ghost use Rattle.std.specs.Prelude.{Some};
-    ghost use Rattle.update_client.specs.Faults.{fault_text};
+    ghost use Rattle.update_client.specs.Faults.{fault_string};
 
-    ghost output = { λ fault. Some (fault_text fault) };
+    ghost output = { λ fault. Some (fault_string fault) };
 
     fn fmt<W: fmt::Write>(&self, f: &mut fmt::Formatter<W>) -> fmt::Result {
         match self {

@@ -3,7 +3,7 @@
 ghost use Rattle.std.specs.Prelude.{◌≡◌, ◌<◌, ◌≤◌, [], length};
 
 /// A string and how often it comes: `abc` once, `a*9` nine times, `a*` without end.
-pub(crate) fn text_and_times(word: &str) -> (&str, u64) {
+pub(crate) fn body_and_times(word: &str) -> (&str, u64) {
     match word.split_once('*') {
         Some((text, times)) => (text, times.parse().unwrap_or(u64::MAX)),
         None => (word, 1),
@@ -22,7 +22,7 @@ pub(crate) struct Body<'a> {
 impl<'a> Body<'a> {
     /// The body of such a word, at most so many bytes a call.
     pub(crate) fn new(word: &'a str, piece: usize) -> Body<'a> {
-        let (text, copies) = text_and_times(word);
+        let (text, copies) = body_and_times(word);
         Body {
             left: b"",
             text: text.as_bytes(),

@@ -1,6 +1,6 @@
 // The replies of a server, each from a line.
 
-use crate::body::text_and_times;
+use crate::body::body_and_times;
 use sha2::{Digest, Sha256};
 use std::alloc::{AllocError, Global};
 
@@ -22,7 +22,7 @@ fn cut<'a>(text: &'a str, separator: char) -> (&'a str, &'a str) {
 
 // The members of a file of such a body: its name, its length and its SHA-256.
 fn file_members(alloc: Global, name: &str, word: &str, end: &str) -> Result<String, AllocError> {
-    let (text, times) = text_and_times(word);
+    let (text, times) = body_and_times(word);
     let mut hasher = Sha256::new();
     for _ in 0..times.min(1 << 20) {
         hasher.update(text.as_bytes());

@@ -8,7 +8,7 @@ use update_client::{Client, Fault, Walk};
 use values::{ReadError, Text};
 
 // A word, `-` for the empty string.
-fn text_of(alloc: Global, word: Option<&str>) -> Result<Text, AllocError> {
+fn string_of(alloc: Global, word: Option<&str>) -> Result<Text, AllocError> {
     match word {
         Some("-") => Text::copy_of(alloc, ""),
         Some(word) => Text::copy_of(alloc, word),
@@ -19,9 +19,9 @@ fn text_of(alloc: Global, word: Option<&str>) -> Result<Text, AllocError> {
 // A client of `demo`: `VERSION FP COHORT`, and `down` if it allows a downgrade.
 fn client_of(alloc: Global, line: &str) -> Result<Client, AllocError> {
     let mut words = line.split(' ');
-    let version = text_of(alloc, words.next())?;
-    let fp = text_of(alloc, words.next())?;
-    let cohort = text_of(alloc, words.next())?;
+    let version = string_of(alloc, words.next())?;
+    let fp = string_of(alloc, words.next())?;
+    let cohort = string_of(alloc, words.next())?;
     let rollback = words.next().is_some();
     let app = Text::copy_of(alloc, "demo")?;
     let hint = Text::copy_of(alloc, "")?;

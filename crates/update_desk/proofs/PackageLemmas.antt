@@ -7,7 +7,7 @@ use Rattle.std.proofs.lemmas.Slice.Eq.{bytes_eq-Decides}
 use Rattle.std.proofs.lemmas.Str.{IsUtf8-from_ascii}
 use Rattle.records.specs.Forms.{has_length, is_hash, is_package_byte, is_package_name, is_size}
 use Rattle.records.specs.Lookups.{declared_of, diff_package, full_package, packages_in, packages_of}
-use Rattle.records.specs.Validity.{IsValid, IsValidApp, is_good_audience, is_good_diff, is_good_release}
+use Rattle.records.specs.Validity.{IsValid, IsValidApp, is_valid_audience, is_valid_diff, is_valid_release}
 use Rattle.records.specs.declared.content.App.{App}
 use Rattle.records.specs.declared.content.Cohort.{Cohort}
 use Rattle.records.specs.declared.content.Declared.{Declared}
@@ -38,19 +38,19 @@ AreStrings-append : (xs ys : List (List ℕ × Declared)) → AreStrings xs → 
 AreStrings-append [] ys one two = two
 AreStrings-append (x ∷ xs) ys (here, one) two = (here, AreStrings-append xs ys one two)
 
-AreStrings-releases : (cohorts : List Cohort) (releases : List Release) → list_all (is_good_release cohorts) releases ≡ true → AreStrings (map full_package releases)
+AreStrings-releases : (cohorts : List Cohort) (releases : List Release) → list_all (is_valid_release cohorts) releases ≡ true → AreStrings (map full_package releases)
 AreStrings-releases cohorts [] good = tt
 AreStrings-releases cohorts (release ∷ releases) good =
-    let parts = and_parts (is_good_release cohorts release) (list_all (is_good_release cohorts) releases) good in
-    let sized = (and_parts _ (is_good_audience cohorts release.audience) parts.0).0 in
+    let parts = and_parts (is_valid_release cohorts release) (list_all (is_valid_release cohorts) releases) good in
+    let sized = (and_parts _ (is_valid_audience cohorts release.audience) parts.0).0 in
     let hashed = (and_parts _ (is_hash release.hash) sized).0 in
     let named = (and_parts _ (is_size release.size) hashed).0 in
     (IsUtf8-package_name release.name (and_parts _ (is_package_name release.name) named).1, AreStrings-releases cohorts releases parts.1)
 
-AreStrings-diffs : (releases : List Release) (diffs : List Diff) → list_all (is_good_diff releases) diffs ≡ true → AreStrings (map diff_package diffs)
+AreStrings-diffs : (releases : List Release) (diffs : List Diff) → list_all (is_valid_diff releases) diffs ≡ true → AreStrings (map diff_package diffs)
 AreStrings-diffs releases [] good = tt
 AreStrings-diffs releases (diff ∷ diffs) good =
-    let parts = and_parts (is_good_diff releases diff) (list_all (is_good_diff releases) diffs) good in
+    let parts = and_parts (is_valid_diff releases diff) (list_all (is_valid_diff releases) diffs) good in
     let hashed = (and_parts _ (is_hash diff.hash) parts.0).0 in
     let named = (and_parts _ (is_size diff.size) hashed).0 in
     (IsUtf8-package_name diff.name (and_parts _ (is_package_name diff.name) named).1, AreStrings-diffs releases diffs parts.1)
@@ -60,7 +60,7 @@ AreStrings-apps [] valid = tt
 AreStrings-apps (app ∷ apps) (here, valid) =
     AreStrings-append (packages_in app) (packages_of apps)
     (AreStrings-append (map full_package app.releases) (map diff_package app.diffs)
-    (AreStrings-releases app.cohorts app.releases here.releases_good) (AreStrings-diffs app.releases app.diffs here.diffs_good))
+    (AreStrings-releases app.cohorts app.releases here.releases_valid) (AreStrings-diffs app.releases app.diffs here.diffs_valid))
     (AreStrings-apps apps valid)
 
 false_unless : (b : Bool) → (b ≡ true → ⊥) → b ≡ false

@@ -1,8 +1,8 @@
 -- The reply to an input, by what the mirrors grant; this project's profile.
 use Rattle.std.specs.Prelude.{◌≡◌, ◌⊎◌, ℕ, List, Option, Result, Ok, Err}
 use Rattle.mirror_ledger.specs.Asks.{Ask}
-use Rattle.omaha_json.specs.ReplyWriting.{reply_text}
-use Rattle.omaha_json.specs.RequestReading.{request_of_text}
+use Rattle.omaha_json.specs.ReplyWriting.{reply_bytes}
+use Rattle.omaha_json.specs.RequestReading.{request_of_bytes}
 use Rattle.omaha_json.specs.declared.fault.RequestFault.{RequestFault}
 use Rattle.omaha_json.specs.declared.request.Request.{Request}
 use Rattle.records.specs.declared.content.App.{App}
@@ -26,7 +26,7 @@ pub record IsReply (stock : Stock) (request : Request) (moment : ℕ) (before af
   pub outcomes : List (Option ℕ)
   pub planned : IsPlan stock.content request plan
   pub asked : AsksFor stock.mirrors plan outcomes before after
-  pub written : text ≡ reply_text (reply_of stock.content request (payloads_of plan) outcomes stock.mirrors moment)
+  pub written : text ≡ reply_bytes (reply_of stock.content request (payloads_of plan) outcomes stock.mirrors moment)
 
 -- a first part of a plan for the request was asked for, or nothing
 abbrev pub HasBegun : Stock → Request → List Ask → List Ask → Type 0
@@ -39,9 +39,9 @@ HasBegun stock request before after =
 -- memory ran out
 abbrev pub Answers : Stock → List ℕ → ℕ → List Ask → List Ask → Result (List ℕ) (ReadError RequestFault) → Type 0
 Answers stock input moment before after (Ok text) =
-    (request : Request) × (request_of_text input ≡ Ok request) × IsReply stock request moment before after text
+    (request : Request) × (request_of_bytes input ≡ Ok request) × IsReply stock request moment before after text
 Answers stock input moment before after (Err (errors.Fault fault)) =
-    (request_of_text input ≡ Err fault) × (after ≡ before)
+    (request_of_bytes input ≡ Err fault) × (after ≡ before)
 Answers stock input moment before after (Err errors.Memory) =
     (after ≡ before)
-    ⊎ ((request : Request) × (request_of_text input ≡ Ok request) × HasBegun stock request before after)
+    ⊎ ((request : Request) × (request_of_bytes input ≡ Ok request) × HasBegun stock request before after)

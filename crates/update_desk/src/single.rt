@@ -3,7 +3,7 @@ ghost use Rattle.std.specs.Prelude.{codes};
 use crate::answering::answer;
 use crate::packages::find_package;
 use editions::Edition;
-use http_desks::{Answer, AnswerStatus, Declared, Desk, Off};
+use http_desks::{Answer, Declared, Desk, DeskStatus, Off};
 use mirror_ledger::Till;
 use std::sync::Wait;
 use values::ReadError;
@@ -50,11 +50,11 @@ impl<T: Till, R: Wait + AllocGlobal> Desk<R> for Single<T> {
     fn answer(&mut self, rt: &R, body: &[u8], moment: u64) -> Result<Answer, Off> {
         match answer(rt, rt.alloc(), &self.edition, &mut self.till, moment, body) {
             Ok(reply) => Ok(Answer {
-                status: AnswerStatus::Success,
+                status: DeskStatus::Success,
                 body: reply,
             }),
             Err(ReadError::Fault(_)) => Ok(Answer {
-                status: AnswerStatus::BadRequest,
+                status: DeskStatus::BadRequest,
                 body: Vec::new(rt.alloc()),
             }),
             Err(ReadError::Memory) => Err(Off::Memory),

@@ -50,7 +50,7 @@ impl Text {
     }
 
     /// Exposes to a caller's proof that the string is UTF-8; no run-time effect.
-    pub fn is_text(&self)
+    pub fn is_utf8(&self)
         ensures { IsUtf8 self.now }
     {
         let _ = self.text.as_str();

@@ -14,7 +14,7 @@ use Rattle.hex.proofs.HexLemmas.{decode_sized-encode_lower}
 use Rattle.version.specs.Versions.{lenient_version_of}
 use Rattle.values.proofs.OnceLemmas.{position-once}
 use Rattle.records.specs.Lookups.{has_hash}
-use Rattle.records.specs.Validity.{IsValidApp, is_good_release}
+use Rattle.records.specs.Validity.{IsValidApp, is_valid_release}
 use Rattle.records.specs.declared.content.App.{App}
 use Rattle.records.specs.declared.content.Cohort.{Cohort}
 use Rattle.records.specs.declared.content.Release.{Release}
@@ -35,7 +35,7 @@ record IsHash (hash : List ℕ) : Type 0 where
   bytes : IsBytes hash
 
 IsHash-good :
-    (cohorts : List Cohort) (release : Release) → is_good_release cohorts release ≡ true → IsHash release.hash
+    (cohorts : List Cohort) (release : Release) → is_valid_release cohorts release ≡ true → IsHash release.hash
 IsHash-good cohorts release good =
     let hash = and_parts _ _ (and_parts _ _ (and_parts _ _ good).0).1 in
     record { sized = eqb-true _ _ hash.0; bytes = IsBytes-small release.hash hash.1 }
@@ -64,7 +64,7 @@ has_hash-has_fingerprint given release is release_is =
 -- so the first one of that fingerprint is the first one of that hash
 position_or_len-has_fingerprint :
     (given : Release) → IsHash given.hash → (cohorts : List Cohort) (releases : List Release) →
-    list_all (is_good_release cohorts) releases ≡ true →
+    list_all (is_valid_release cohorts) releases ≡ true →
     position_or_len (has_hash given.hash) releases ≡ position_or_len (has_fingerprint (fingerprint_of given)) releases
 position_or_len-has_fingerprint given is cohorts [] good = refl
 position_or_len-has_fingerprint given is cohorts (release ∷ releases) good =
@@ -80,9 +80,9 @@ position-has_fingerprint :
     (app : App) (index : ℕ) (release : Release) → IsValidApp app → slice_get app.releases index ≡ Some release →
     position (has_fingerprint (fingerprint_of release)) app.releases ≡ Some index
 position-has_fingerprint app index release valid there =
-    let good = list_all-slice_get (is_good_release app.cohorts) app.releases index release valid.releases_good there in
+    let good = list_all-slice_get (is_valid_release app.cohorts) app.releases index release valid.releases_valid there in
     let agrees = position_or_len-has_fingerprint release (IsHash-good app.cohorts release good) app.cohorts app.releases
-    valid.releases_good in
+    valid.releases_valid in
     let own = λ (d : Release).
     ap (λ (r : Release). bytes_eq release.hash r.hash) (get_or_from_slice_get app.releases index release d there)
     ∙ (bytes_eq-Decides release.hash release.hash).1 refl in

@@ -22,7 +22,7 @@ use Rattle.replies.specs.Plans.{IsChosen, IsClientChoice, is_open, payload_in}
 use Rattle.replies.specs.Replies.{Decision, IsOutcome, app_reply, check_reply, codebase_at, diff_of, offer_of, release_by, state_of, update_reply, with_check}
 use Rattle.replies.specs.declared.choices.Choice.{Choice}
 use Rattle.walks.specs.Asks.{IsAskOf, IsGranted, ask_after, check_in, known_in, next_ask, offer_by, offer_in, offered_bytes, place_at}
-use Rattle.walks.specs.Statuses.{LeadsOn, Says}
+use Rattle.walks.specs.Statuses.{CanGoOn, Says}
 use Rattle.walks.proofs.ItemLemmas.{AllByRecursion-slice_get, Passes-option_map_or}
 use Rattle.walks.proofs.PermittedLemmas.{IsPermitted-permits, away-permits, diff-there}
 use Rattle.walks.proofs.TrackLemmas.{HasClient-client_of}
@@ -80,10 +80,10 @@ module _ (irreflexive : BelowIsIrreflexive) (transitive : BelowIsTransitive) (ap
       rw (wants, known) chosen
 
   -- what a payload that is chosen says of its client
-  pub LeadsOn-choice :
+  pub CanGoOn-choice :
       (ask : AppAsk) (choice : Choice) → IsAskOf apps session client ask →
-      IsClientChoice client ask (Some choice) → LeadsOn client ask
-  LeadsOn-choice ask choice asks chosen =
+      IsClientChoice client ask (Some choice) → CanGoOn client ask
+  CanGoOn-choice ask choice asks chosen =
       let app_valid = IsValidApp-client ask asks in
       let permitted = chosen.first.begins.permitted in
       let leads = (IsPermitted-permits client.app (key_of client) (place_at client ask) choice.payload permitted).leads in
@@ -102,20 +102,20 @@ module _ (irreflexive : BelowIsIrreflexive) (transitive : BelowIsTransitive) (ap
       (ask : AppAsk) (choice : Option Choice) (outcome : Option ℕ) → IsAskOf apps session client ask →
       IsClientChoice client ask choice → IsOutcome mirrors choice outcome →
       Says mirrors client ask outcome (update_reply mirrors client.app (payload_in choice, outcome))
-  unfolding LeadsOn-choice
+  unfolding CanGoOn-choice
   Says-update_reply ask None outcome asks chosen decided = chosen
   Says-update_reply ask (Some choice) outcome asks chosen decided =
-      let way = LeadsOn-choice ask choice asks chosen in
+      let way = CanGoOn-choice ask choice asks chosen in
       subst (λ (o : Option Release). Says mirrors client ask outcome
       (check_reply mirrors o (diff_of client.app choice.payload) outcome)) (sym way.there) (by_outcome outcome decided)
     where
       by_outcome :
           (o : Option ℕ) → IsOutcome mirrors (Some choice) o →
-          Says mirrors client ask o (check_reply mirrors (Some (LeadsOn-choice ask choice asks chosen).release)
+          Says mirrors client ask o (check_reply mirrors (Some (CanGoOn-choice ask choice asks chosen).release)
           (diff_of client.app choice.payload) o)
-      by_outcome None decided = (LeadsOn-choice ask choice asks chosen, refl)
+      by_outcome None decided = (CanGoOn-choice ask choice asks chosen, refl)
       by_outcome (Some mirror) decided =
-          let way = LeadsOn-choice ask choice asks chosen in
+          let way = CanGoOn-choice ask choice asks chosen in
           record {
             way = way;
             mirror = mirror;

@@ -9,7 +9,7 @@ use Rattle.std.proofs.lemmas.Slice.Eq.{bytes_eq-Decides}
 use Rattle.values.proofs.OnceLemmas.{position-once}
 use Rattle.records.specs.Forms.{is_cohort_name}
 use Rattle.records.specs.Lookups.{is_app, is_cohort}
-use Rattle.records.specs.Validity.{IsValidApp, is_good_cohort}
+use Rattle.records.specs.Validity.{IsValidApp, is_valid_cohort}
 use Rattle.records.specs.declared.content.App.{App}
 use Rattle.records.specs.declared.content.Cohort.{Cohort}
 use Rattle.omaha_json.specs.declared.request.AppAsk.{AppAsk}
@@ -97,8 +97,8 @@ module _ (printed_is : PrintedIsParsed) (parsed_is : ParsedIsPrinted) (app : App
 
   name-good : is_cohort_name name ≡ true
   name-good =
-      let good = list_all-slice_get (is_good_cohort app.releases) app.cohorts index (cohort_at app.cohorts index)
-      valid.cohorts_good cohort-there in
+      let good = list_all-slice_get (is_valid_cohort app.releases) app.cohorts index (cohort_at app.cohorts index)
+      valid.cohorts_valid cohort-there in
       (and_parts _ _ (and_parts _ _ (and_parts _ _ good).0).0).0
 
   text-parsed : parsed (printed name bucket) ≡ Some (name, bucket)

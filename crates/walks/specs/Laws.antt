@@ -21,7 +21,7 @@ use Rattle.replies.specs.Plans.{IsChosen, IsPlan, payload_in, payloads_of}
 use Rattle.replies.specs.Replies.{IsOutcome, app_reply, reply_of}
 use Rattle.replies.specs.declared.choices.Choice.{Choice}
 use Rattle.walks.specs.Asks.{IsAskOf, IsGranted, IsReplyTo, asking_alone, check_in, next_ask, offer_in, offered_bytes, place_at}
-use Rattle.walks.specs.Statuses.{LeadsOn, Says}
+use Rattle.walks.specs.Statuses.{CanGoOn, Says}
 use Rattle.walks.specs.Walks.{IsWalk, asks_of, last_ask, offers_of, sum_of}
 
 -- of a request that is replied to by a plan whose bytes were all granted, each app gets a reply to its
@@ -69,7 +69,7 @@ pub record IsStep (apps : List App) (session : List ℕ) (client : Client) (ask 
   pub asks : IsAskOf apps session client next
   pub offer : Offer
   pub made : offer_in reply ≡ Some offer
-  pub way : LeadsOn client ask
+  pub way : CanGoOn client ask
   pub bytes : offered_bytes offer ≡ bytes_of client.app way.payload
   pub moved : place_at client next ≡ At (destination_of client.app way.payload)
 

@@ -17,7 +17,7 @@ use Rattle.walks.specs.Asks.{offered_bytes, place_at}
 
 -- a client that isn't at its target can go on: there is the first payload of a chain of the least sum,
 -- and the release of the app that it leads to
-pub record LeadsOn (client : Client) (ask : AppAsk) : Type 0 where
+pub record CanGoOn (client : Client) (ask : AppAsk) : Type 0 where
   pub payload : Payload
   pub sum : ℕ
   pub release : Release
@@ -27,7 +27,7 @@ pub record LeadsOn (client : Client) (ask : AppAsk) : Type 0 where
 
 -- the offer of that payload, from the mirror that granted it
 pub record IsOffered (mirrors : List Mirror) (client : Client) (ask : AppAsk) (outcome : Option ℕ) (offer : Offer) : Type 0 where
-  pub way : LeadsOn client ask
+  pub way : CanGoOn client ask
   pub mirror : ℕ
   pub within : mirror < length mirrors
   pub granted : outcome ≡ Some mirror
@@ -41,6 +41,6 @@ abbrev pub Says : List Mirror → Client → AppAsk → Option ℕ → CheckRepl
 Says mirrors client ask outcome check.NoUpdate =
     IsAtTarget client.app (key_of client) (place_at client ask)
     ⊎ HasNoChain client.app (key_of client) (place_at client ask)
-Says mirrors client ask outcome check.Internal = LeadsOn client ask × (outcome ≡ None)
+Says mirrors client ask outcome check.Internal = CanGoOn client ask × (outcome ≡ None)
 Says mirrors client ask outcome (check.Offered offer) = IsOffered mirrors client ask outcome offer
 Says mirrors client ask outcome check.Other = ⊥

@@ -4,13 +4,13 @@ use Rattle.std.specs.Option.{is_none}
 use Rattle.std.proofs.lemmas.Bool.{or_parts}
 use Rattle.version.specs.Versions.{lenient_version_of}
 use Rattle.catalogue.proofs.AcceptedLemmas.{NoneHold-first_fault, Some-from_not_none, true-from_not}
-use Rattle.catalogue.proofs.GoodCohortLemmas.{GoodCohort-from_test, is_good_cohort-from_parts}
+use Rattle.catalogue.proofs.ValidCohortLemmas.{ValidCohort-from_test, is_valid_cohort-from_parts}
 use Rattle.catalogue.specs.Changes.{with_setting}
 use Rattle.catalogue.specs.Edits.CohortSettings.{is_unreleased, setting_of_set_target, tests_of_set_open, tests_of_set_rollback, tests_of_set_share, tests_of_set_target}
 use Rattle.catalogue.specs.Faults.{first_fault}
 use Rattle.records.specs.Limits.{max_share}
 use Rattle.records.specs.Lookups.{app_of, cohorts_of, has_cohort}
-use Rattle.records.specs.Validity.{is_good_cohort, is_released}
+use Rattle.records.specs.Validity.{is_valid_cohort, is_released}
 use Rattle.records.specs.declared.content.App.{App}
 use Rattle.records.specs.declared.content.Cohort.{Cohort}
 use Rattle.records.specs.declared.content.Release.{Release}
@@ -39,8 +39,8 @@ NamesCohort-from_tests apps id name known there =
 pub record TakesSetting (apps : List App) (id name : List ℕ) (new : CohortSetting) : Type 0 where
   pub names : NamesCohort apps id name
   pub keeps :
-      (cohort : Cohort) → is_good_cohort names.app.releases cohort ≡ true →
-      is_good_cohort names.app.releases (with_setting new cohort) ≡ true
+      (cohort : Cohort) → is_valid_cohort names.app.releases cohort ≡ true →
+      is_valid_cohort names.app.releases (with_setting new cohort) ≡ true
 
 is_released-from_not_unreleased :
     (releases : List Release) (text : Option (List ℕ)) →
@@ -62,8 +62,8 @@ TakesSetting-set_target apps e h =
     record {
       names = names;
       keeps = λ cohort good.
-          let before = GoodCohort-from_test releases cohort good in
-          is_good_cohort-from_parts releases (with_setting (setting_of_set_target e) cohort) (record {
+          let before = ValidCohort-from_test releases cohort good in
+          is_valid_cohort-from_parts releases (with_setting (setting_of_set_target e) cohort) (record {
             named = before.named;
             shared = before.shared;
             target = is_released-from_not_unreleased releases e.target released.0;
@@ -81,8 +81,8 @@ TakesSetting-set_share apps e h =
     record {
       names = names;
       keeps = λ cohort good.
-          let before = GoodCohort-from_test releases cohort good in
-          is_good_cohort-from_parts releases (with_setting (setting.Share e.share) cohort) (record {
+          let before = ValidCohort-from_test releases cohort good in
+          is_valid_cohort-from_parts releases (with_setting (setting.Share e.share) cohort) (record {
             named = before.named;
             shared = true-from_not _ tests.1.1.0;
             target = before.target;

@@ -3,12 +3,12 @@ use Rattle.std.proofs.Common.{◌≡◌, ℕ, true, false, not, List, Some, None
 use Rattle.std.specs.Option.{is_none}
 use Rattle.version.specs.Versions.{lenient_version_of}
 use Rattle.catalogue.proofs.AcceptedLemmas.{NoneHold-first_fault, Some-from_not_none, true-from_not}
-use Rattle.catalogue.proofs.GoodReleaseLemmas.{is_good_release-audience}
+use Rattle.catalogue.proofs.ValidReleaseLemmas.{is_valid_release-audience}
 use Rattle.catalogue.specs.Changes.{with_release_setting}
 use Rattle.catalogue.specs.Edits.ReleaseSettings.{tests_of_set_audience, tests_of_set_stone, tests_of_set_withdrawn}
 use Rattle.catalogue.specs.Faults.{first_fault}
 use Rattle.records.specs.Lookups.{app_of, has_release, releases_of}
-use Rattle.records.specs.Validity.{is_good_release}
+use Rattle.records.specs.Validity.{is_valid_release}
 use Rattle.records.specs.declared.content.App.{App}
 use Rattle.records.specs.declared.content.Release.{Release}
 use Rattle.catalogue.specs.declared.edits.release_settings.ReleaseSetting.{ReleaseSetting}
@@ -35,8 +35,8 @@ NamesRelease-from_tests apps id version known there =
 pub record TakesReleaseSetting (apps : List App) (id version : List ℕ) (new : ReleaseSetting) : Type 0 where
   pub names : NamesRelease apps id version
   pub keeps :
-      (release : Release) → is_good_release names.app.cohorts release ≡ true →
-      is_good_release names.app.cohorts (with_release_setting new release) ≡ true
+      (release : Release) → is_valid_release names.app.cohorts release ≡ true →
+      is_valid_release names.app.cohorts (with_release_setting new release) ≡ true
 
 pub TakesReleaseSetting-set_stone :
     (apps : List App) (e : SetStone) → first_fault (tests_of_set_stone apps e) ≡ None →
@@ -67,5 +67,5 @@ TakesReleaseSetting-set_audience apps e h =
     let found = names.found in
     record {
       names = names;
-      keeps = is_good_release-audience names.app.cohorts e.cohorts (true-from_not _ (rw found at tests.1.1.1.0));
+      keeps = is_valid_release-audience names.app.cohorts e.cohorts (true-from_not _ (rw found at tests.1.1.1.0));
     }

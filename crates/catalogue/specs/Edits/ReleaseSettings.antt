@@ -3,7 +3,7 @@
 use Rattle.std.specs.Prelude.{ℕ, not, Bool, List, [], ◌∷◌, is_none}
 use Rattle.version.specs.Versions.{version_of, lenient_version_of}
 use Rattle.records.specs.Lookups.{app_of, cohorts_of, has_release, releases_of}
-use Rattle.records.specs.Validity.{is_good_audience}
+use Rattle.records.specs.Validity.{is_valid_audience}
 use Rattle.records.specs.declared.content.App.{App}
 use Rattle.catalogue.specs.declared.edits.release_settings.SetAudience.{SetAudience}
 use Rattle.catalogue.specs.declared.edits.release_settings.SetStone.{SetStone}
@@ -30,6 +30,6 @@ tests_of_set_withdrawn apps e = tests_of_release_setting apps e.app e.version []
 abbrev pub tests_of_set_audience : List App → SetAudience → List (Bool × Fault)
 tests_of_set_audience apps e =
     tests_of_release_setting apps e.app e.version (
-    (not (is_good_audience (cohorts_of apps e.app) e.cohorts), fault.UnknownCohort)
+    (not (is_valid_audience (cohorts_of apps e.app) e.cohorts), fault.UnknownCohort)
     ∷ []
     )

@@ -8,7 +8,7 @@ ghost use Rattle.catalogue.specs.Changes.{with_release_setting};
 ghost use Rattle.catalogue.specs.Edits.ReleaseSettings.{tests_of_set_audience, tests_of_set_stone, tests_of_set_withdrawn};
 ghost use Rattle.catalogue.specs.Faults.{first_fault};
 ghost use Rattle.records.specs.Lookups.{has_cohort};
-ghost use Rattle.records.specs.Validity.{IsValid, is_good_audience};
+ghost use Rattle.records.specs.Validity.{IsValid, is_valid_audience};
 ghost use Rattle.catalogue.specs.declared.edits.release_settings.ReleaseSetting.TheVariants as setting;
 
 use crate::draft::{Draft, named_release, spelled_version};
@@ -104,7 +104,7 @@ fn are_cohorts(cohorts: &[Cohort], names: &[Text]) -> bool
 }
 
 fn is_audience(cohorts: &[Cohort], names: Option<&Items<Text>>) -> bool
-    ensures { result ≡ is_good_audience cohorts.now (option_copied names.entry) }
+    ensures { result ≡ is_valid_audience cohorts.now (option_copied names.entry) }
 {
     match names {
         None => true,

@@ -3,7 +3,7 @@ use Rattle.serde_json.specs.Data.{depth}
 use Rattle.serde_json.specs.Read.{max_depth}
 use Rattle.serde_json.specs.View.{view}
 use Rattle.serde_json.specs.Written.{has_float, compact_text}
-use Rattle.omaha_json.specs.RequestReading.{request_of_text}
+use Rattle.omaha_json.specs.RequestReading.{request_of_bytes}
 use Rattle.client_texts.specs.RequestWriting.{request_data}
 use Rattle.client_texts.proofs.ReplyLemmas.{json_of-read}
 use Rattle.client_texts.proofs.RequestLemmas.{has_float-request_data, depth-request_data, request_back}
@@ -17,7 +17,7 @@ returns-clause-text c =
     c.in_ok-text.ensures.text plain ∙ ap compact_text built
 
 pub returns-clause-reads_back : goal.returns-clause-reads_back
-unfolding request_of_text
+unfolding request_of_bytes
 returns-clause-reads_back c =
     let built : view c.in_ok-value.value ≡ request_data c.args.request.now = c.in_ok-value.ensures in
     let shallow : depth (view c.in_ok-value.value) ≤ max_depth =

@@ -42,12 +42,12 @@ returns-in-Ok-clause-asked g c = record {
       (rw head_bytes-lines at c.in-Err-send_reply.ensures.sends);
 }
 
-pub returns-in-Ok-refuse-clause-asked : goal.returns-in-Ok-refuse-clause-asked
-returns-in-Ok-refuse-clause-asked g c = record {
+pub returns-in-Ok-send_empty-clause-asked : goal.returns-in-Ok-send_empty-clause-asked
+returns-in-Ok-send_empty-clause-asked g c = record {
   used = Asked c.now-moment.result None;
   fits = c.now-moment.ensures;
   calls = (c.answer.new.self, c.in-Err.ensures.steps, refl);
-  writes = (refl, c.in-Ok-refuse.ensures.sends);
+  writes = (refl, c.in-Ok-send_empty.ensures.sends);
 }
 
 pub returns-clause-asked : goal.returns-clause-asked
@@ -55,5 +55,5 @@ returns-clause-asked g c = record {
   used = Asked c.now-moment.result None;
   fits = c.now-moment.ensures;
   calls = (c.answer.new.self, c.in-Err.ensures.steps, refl);
-  writes = c.in-Err-refuse.ensures.sends;
+  writes = c.in-Err-send_empty.ensures.sends;
 }

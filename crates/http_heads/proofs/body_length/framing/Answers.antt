@@ -5,7 +5,7 @@ use Rattle.std.proofs.lemmas.List.{take_all}
 use Rattle.httparse.specs.Spans.{header_bytes}
 use Rattle.http_heads.specs.Fields.{Pair, is_named, values_named}
 use Rattle.http_heads.specs.Framing.{framing_of, length_by}
-use Rattle.http_heads.specs.Lengths.{StandsFor}
+use Rattle.http_heads.specs.Lengths.{IsLengthOf}
 use Rattle.http_heads.specs.declared.status.Status.TheVariants as status
 use Rattle.http_heads.proofs.FieldLemmas.{list_any-here, list_any-more, values_named-more, values_named-same, length_by-kept}
 use Rattle.http_heads.proofs.body_length.framing.Goals.{then-is_named-2, else-is_named-2}
@@ -28,13 +28,13 @@ loop-field-preserved c = (
         let more = values_named-more (codes "content-length") (header_bytes c.args.buf.now) c.args.fields.now
         c.loop-field.field-index _ c.loop-field-test.true (sym c.is_named-in-loop-field.ensures ∙ w.if-is_named-2.true) in
         rw w.length-is
-        (subst (StandsFor w.then-length.result) (sym more)
+        (subst (IsLengthOf w.then-length.result) (sym more)
         (rw w.of.ensures at (w.then-length.ensures _ c.loop-field.invariant.1)))
         )
     | else-is_named-2 w ↦ (
         let same = values_named-same (codes "content-length") (header_bytes c.args.buf.now) c.args.fields.now
         c.loop-field.field-index _ c.loop-field-test.true (sym c.is_named-in-loop-field.ensures ∙ w.if-is_named-2.false) in
-        rw w.length-is (subst (StandsFor c.loop-field.length) (sym same) c.loop-field.invariant.1)
+        rw w.length-is (subst (IsLengthOf c.loop-field.length) (sym same) c.loop-field.invariant.1)
         )
   ],
 )

@@ -10,10 +10,10 @@ returns-clause-sends g c =
     c.as_bytes-5.result.now c.as_bytes-size.result.now c.as_bytes-6.result.now c.args.body.now
     (c.as_bytes.ensures.value ∙ c.line.ensures)
     (ap (λ (t : List ℕ). t ++ (c.as_bytes-3.result.now ++ c.as_bytes-4.result.now)) c.as_bytes-2.ensures.value
-    ∙ ap (λ (t : List ℕ). c.type_texts-kind.result.0.now ++ (t ++ c.as_bytes-4.result.now)) c.as_bytes-3.ensures.value
-    ∙ ap (λ (t : List ℕ). c.type_texts-kind.result.0.now ++ (c.type_texts-kind.result.1.now ++ t)) c.as_bytes-4.ensures.value
-    ∙ c.type_texts-kind.ensures)
-    (c.as_bytes-5.ensures.value ∙ c.allow_text.ensures)
+    ∙ ap (λ (t : List ℕ). c.type_fields-kind.result.0.now ++ (t ++ c.as_bytes-4.result.now)) c.as_bytes-3.ensures.value
+    ∙ ap (λ (t : List ℕ). c.type_fields-kind.result.0.now ++ (c.type_fields-kind.result.1.now ++ t)) c.as_bytes-4.ensures.value
+    ∙ c.type_fields-kind.ensures)
+    (c.as_bytes-5.ensures.value ∙ c.allow_field.ensures)
     (c.as_bytes-size.ensures.value ∙ c.format.ensures.text)
-    (c.as_bytes-6.ensures.value ∙ c.last_text.ensures))
+    (c.as_bytes-6.ensures.value ∙ c.last_field.ensures))
     c.send_parts.ensures.sends

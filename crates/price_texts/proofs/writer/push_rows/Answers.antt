@@ -1,6 +1,6 @@
 use Rattle.std.proofs.Common.{◌+◌, ◌++◌, drop, sym, ap, ◌∙◌}
 use Rattle.price_cert.specs.declared.row.Row.TheVariants.{Nothing}
-use Rattle.price_texts.specs.Texts.{ended, rows_from}
+use Rattle.price_texts.specs.Strings.{ended, rows_from}
 use Rattle.price_texts.proofs.WritingLemmas.{rows_from-end, rows_from-next}
 use Rattle.price_texts.proofs.writer.push_rows.Goals as goal
 

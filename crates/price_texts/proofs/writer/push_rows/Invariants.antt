@@ -1,6 +1,6 @@
 -- The lines so far and those that are left are the whole.
 use Rattle.std.proofs.Common.{◌≡◌, ◌++◌, drop}
-use Rattle.price_texts.specs.Texts.{rows_from}
+use Rattle.price_texts.specs.Strings.{rows_from}
 use Rattle.price_texts.proofs.writer.push_rows.Given as goal
 
 abbrev pub invariant-loop-index : goal.invariant-loop-index

@@ -7,11 +7,11 @@ use Rattle.histories.specs.Contents.{edits_of_content}
 use Rattle.profile_texts.proofs.OneTextLemmas.{IsDocumentText-once}
 use Rattle.profile_texts.proofs.PlainLemmas.{profile_plain}
 use Rattle.profile_texts.specs.Fields.{profile_table}
-use Rattle.profile_texts.specs.Profiles.{IsProfileText}
+use Rattle.profile_texts.specs.Profiles.{IsProfileFile}
 use Rattle.profile_texts.proofs.laws.writing.Goals as goal
 
 once : (apps : List App) (mirrors : List Mirror) (first second : List ℕ)
-    → IsProfileText apps mirrors first → IsProfileText apps mirrors second → first ≡ second
+    → IsProfileFile apps mirrors first → IsProfileFile apps mirrors second → first ≡ second
 once apps mirrors first second a b =
     IsDocumentText-once (profile_table apps mirrors) (profile_plain apps mirrors) first second a b
 
@@ -26,5 +26,5 @@ returns-clause-again c =
     let same_mirrors : named ≡ mirrors = ap (λ (p : List Edit × List Mirror). p.1) pairs in
     let accepted_too : ◌≡◌ {A = Result (List App) Refused} (Ok made) (Ok apps) = sym accepted ∙ rw same_edits is.made in
     let same : made ≡ apps = cc in
-    let rewritten_too : IsProfileText apps mirrors again = rw (same, same_mirrors) at rewritten in
+    let rewritten_too : IsProfileFile apps mirrors again = rw (same, same_mirrors) at rewritten in
     once apps mirrors again text rewritten_too written

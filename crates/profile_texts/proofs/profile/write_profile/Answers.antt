@@ -4,7 +4,7 @@ use Rattle.toml.specs.Data.{members_depth}
 use Rattle.toml.specs.Parse.{parse_document}
 use Rattle.toml.specs.View.{table_view}
 use Rattle.profile_texts.proofs.DepthLemmas.{profile_shallow}
-use Rattle.profile_texts.proofs.ReadBackLemmas.{profile_of_text-written}
+use Rattle.profile_texts.proofs.ReadBackLemmas.{profile_of_bytes-written}
 use Rattle.profile_texts.specs.Fields.{profile_table}
 use Rattle.profile_texts.proofs.profile.write_profile.Goals as goal
 
@@ -18,7 +18,7 @@ returns-in-Ok-clause-reads_back c =
     let parsed : parse_document (string_bytes c.in-Ok.text) ≡ Some (profile_table apps mirrors) =
     c.in-Ok.ensures.reads_back depth ∙ ap Some is in
     rw c.into_bytes.ensures.value (record {
-      read = profile_of_text-written (string_bytes c.in-Ok.text) apps mirrors (IsUtf8-string_bytes c.in-Ok.text) parsed
+      read = profile_of_bytes-written (string_bytes c.in-Ok.text) apps mirrors (IsUtf8-string_bytes c.in-Ok.text) parsed
           c.validity.ensures.apps_valid c.requires;
       made = c.contents.ensures apps c.validity.ensures;
     })

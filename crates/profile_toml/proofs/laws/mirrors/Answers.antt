@@ -1,5 +1,5 @@
-use Rattle.profile_toml.proofs.MirrorLemmas.{AreMirrors-profile_of_text}
+use Rattle.profile_toml.proofs.MirrorLemmas.{AreMirrors-profile_of_bytes}
 use Rattle.profile_toml.proofs.laws.mirrors.Goals as goal
 
 pub returns : goal.returns
-returns c = AreMirrors-profile_of_text
+returns c = AreMirrors-profile_of_bytes

@@ -1,4 +1,4 @@
-use Rattle.std.proofs.Common.{◌+◌, sym, ap, ◌∙◌, subst}
+use Rattle.std.proofs.Common.{◌+◌, sym, subst}
 use Rattle.quotes.proofs.OutsideLemmas.{HasLooked, HasLooked-next}
 use Rattle.quotes.specs.Outside.{sum_into}
 use Rattle.quotes.proofs.outside.find_best.Goals as goal
@@ -12,8 +12,8 @@ loop-to-preserved c =
     let looked =
     HasLooked-next c.order.ensures.irreflexive c.order.ensures.transitive releases c.requires.ascending
     visitor.cohort.now visitor.rollback visitor.target visitor.version rows
-    c.loop-to.to c.index-releases-to.result c.loop-to.best c.better_of-best.result c.loop-to.blocked
+    c.loop-to.to c.index-releases-to.result c.loop-to.best c.next_best-best.result c.loop-to.blocked
     c.loop-to-test.true c.index-releases-to.is c.loop-to.invariant
-    (λ is best. c.better_of-best.ensures sums (is ∙ sym c.sum_into-sum.ensures) best) in
-    subst (λ blocked. HasLooked releases visitor.cohort.now visitor.rollback visitor.target visitor.version rows (c.loop-to.to + 1) c.better_of-best.result blocked)
+    (c.next_best-best.ensures sums) in
+    subst (λ blocked. HasLooked releases visitor.cohort.now visitor.rollback visitor.target visitor.version rows (c.loop-to.to + 1) c.next_best-best.result blocked)
     (sym c.is_blocked_by-blocked.ensures) looked

@@ -1,7 +1,0 @@
--- The lines so far are those of the first findings.
-use Rattle.std.proofs.Common.{◌≡◌, string_bytes, take}
-use Rattle.package_reports.specs.Findings.{findings_text}
-use Rattle.package_reports.proofs.findings.findings_text.Given as goal
-
-abbrev pub invariant-loop-finding : goal.invariant-loop-finding
-invariant-loop-finding l = string_bytes l.text ≡ findings_text (take l.finding-index l.findings)

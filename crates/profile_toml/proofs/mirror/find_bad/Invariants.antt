@@ -1,7 +1,0 @@
-use Rattle.std.proofs.Common.{◌≡◌, [], take, drop}
-use Rattle.profile_toml.specs.Mirrors.{first_bad_after}
-use Rattle.profile_toml.proofs.mirror.find_bad.Given as goal
-
-abbrev pub invariant-loop-index : goal.invariant-loop-index
-invariant-loop-index l =
-    first_bad_after (take l.index l.mirrors) (drop l.index l.mirrors) ≡ first_bad_after [] l.mirrors
