@@ -311,12 +311,12 @@ def build(folder):
             if not (folder / "crates" / name).exists():
                 shutil.copytree(TOP / "crates" / name, folder / "crates" / name, symlinks=True)
         shutil.copy(TOP / "HANDLES", folder / "HANDLES")
-        lines = (TOP / "crates.txt").read_body().splitlines(keepends=True)
-        (folder / "crates.txt").write_body("".join(line for line in lines if line.split(":")[0] in CRATES) + LINE)
+        lines = (TOP / "crates.txt").read_text().splitlines(keepends=True)
+        (folder / "crates.txt").write_text("".join(line for line in lines if line.split(":")[0] in CRATES) + LINE)
         (folder / "crates/graph_times/src").mkdir(parents=True, exist_ok=True)
         (folder / "crates/graph_times/specs").mkdir(parents=True, exist_ok=True)
-        (folder / "crates/graph_times/specs/Lib.antt").write_body("")
-        (folder / "crates/graph_times/src/main.rt").write_body(PROGRAM)
+        (folder / "crates/graph_times/specs/Lib.antt").write_text("")
+        (folder / "crates/graph_times/src/main.rt").write_text(PROGRAM)
         subprocess.run(["rt", "run", "--jobs", "1"], cwd=folder / "crates/graph_times", input=b"", check=True)
     return program
 

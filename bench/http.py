@@ -128,11 +128,11 @@ def main():
     with contextlib.ExitStack() as stack:
         folder = pathlib.Path(stack.enter_context(tempfile.TemporaryDirectory()))
         os.chmod(folder, 0o755)
-        (folder / "profile.toml").write_body(PROFILE + make_packages(folder))
+        (folder / "profile.toml").write_text(PROFILE + make_packages(folder))
         body = json.dumps(ASK).encode()
         lua = json.dumps(body.decode())
         script = folder / "post.lua"
-        script.write_body(f'wrk.method = "POST"\nwrk.body = {lua}\nwrk.headers["Content-Type"] = "application/json"\n')
+        script.write_text(f'wrk.method = "POST"\nwrk.body = {lua}\nwrk.headers["Content-Type"] = "application/json"\n')
         port = free_port()
         words = ["--profile", "profile.toml", "--packages", "packages", "--listen", f"127.0.0.1:{port}"]
         server = subprocess.Popen([given.omaha, "serve", *words], cwd=folder, stdout=subprocess.PIPE)
@@ -141,11 +141,11 @@ def main():
         reply = ask_once(port, body)
         print(f"{'':8}{'checks/s':>16}{'1 KiB/s':>16}{'64 MiB, MB/s':>16}")
         measure("omaha", port, script, given.seconds)
-        status = pathlib.Path(f"/proc/{server.pid}/status").read_body()
+        status = pathlib.Path(f"/proc/{server.pid}/status").read_text()
         if shutil.which("nginx"):
             other = free_port()
             fixed = "x" * len(reply)
-            (folder / "nginx.conf").write_body(NGINX.format(folder=folder, port=other, path=PATH, reply=fixed))
+            (folder / "nginx.conf").write_text(NGINX.format(folder=folder, port=other, path=PATH, reply=fixed))
             beside = subprocess.Popen(["nginx", "-p", str(folder), "-c", str(folder / "nginx.conf")])
             stack.callback(beside.terminate)
             wait_for(other)

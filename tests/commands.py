@@ -31,8 +31,8 @@ def outputs_of(cases, files):
     """What the program prints for each case, by name; a case is its arguments."""
     with tempfile.TemporaryDirectory() as folder:
         for name, words in cases.items():
-            pathlib.Path(folder, name).write_body("")
-            pathlib.Path(folder, f"{name}.args").write_body("".join(f"{word}\n" for word in words))
+            pathlib.Path(folder, name).write_text("")
+            pathlib.Path(folder, f"{name}.args").write_text("".join(f"{word}\n" for word in words))
         data = [word for name, path in files.items() for word in ("--data", f"{name}={path}")]
         ran = subprocess.run(
             ["rt", "try", *data, "--cases", folder],
@@ -64,13 +64,13 @@ def main():
     cases |= {f"track-{index}": ["certify", *track] for index, track in enumerate(TRACKS)}
     found = outputs_of(cases, profiles)
     good = [compare(f"check {name}", found[f"check-{name}"], line) for name, line in SUMMARIES.items()]
-    kept = (EXAMPLES / "chains.prices").read_body()
+    kept = (EXAMPLES / "chains.prices").read_text()
     good.append(compare("certify chains.toml demo stable target no", found["track-3"], kept))
     with tempfile.TemporaryDirectory() as folder:
         files = dict(profiles)
         for index in range(len(TRACKS)):
             path = pathlib.Path(folder, f"{index}.prices")
-            path.write_body(found[f"track-{index}"].rstrip("\n") + "\n")
+            path.write_text(found[f"track-{index}"].rstrip("\n") + "\n")
             files[path.name] = path
         again = outputs_of(
             {f"verify-{index}": ["verify", track[0], f"{index}.prices"] for index, track in enumerate(TRACKS)},

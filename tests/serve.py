@@ -25,7 +25,7 @@ import urllib.request
 
 TOP = pathlib.Path(__file__).resolve().parent.parent
 EXAMPLES = TOP / "examples"
-PROFILE = (EXAMPLES / "mini.toml").read_body()
+PROFILE = (EXAMPLES / "mini.toml").read_text()
 PATH = "/service/update2/json"
 ASK = json.dumps({"request": {"protocol": "3.1", "app": [{"appid": "mini", "updatecheck": {}}]}}).encode()
 TIMEOUT = 2
@@ -48,7 +48,7 @@ class Server:
         if not self.packages.exists():
             shutil.copytree(EXAMPLES / "packages", self.packages)
         self.port = free_port()
-        (self.folder / "profile.toml").write_body(profile.replace("127.0.0.1:8080", f"127.0.0.1:{self.port}"))
+        (self.folder / "profile.toml").write_text(profile.replace("127.0.0.1:8080", f"127.0.0.1:{self.port}"))
         words = ["--profile", "profile.toml", "--packages", "packages", "--listen", f"127.0.0.1:{self.port}"]
         words += ["--timeout", str(TIMEOUT)]
         if sessions is not None:
@@ -316,7 +316,7 @@ def reports_an_address_in_use(program):
         taken.bind(("127.0.0.1", 0))
         taken.listen()
         address = f"127.0.0.1:{taken.getsockname()[1]}"
-        (pathlib.Path(folder) / "profile.toml").write_body(PROFILE)
+        (pathlib.Path(folder) / "profile.toml").write_text(PROFILE)
         ran = subprocess.run(
             [program, "serve", "--profile", "profile.toml", "--packages", folder, "--listen", address],
             cwd=folder,
@@ -376,7 +376,7 @@ def ask_for_the_log(server):
 def logs_each_reply(program):
     with tempfile.TemporaryDirectory() as folder:
         path = pathlib.Path(folder, "access.log")
-        path.write_body("kept\n")
+        path.write_text("kept\n")
         server = Server(program, folder, sessions=3, log="access.log")
         wanted = ask_for_the_log(server)
         expect("exit status", server.end()[1:], (b"", 0))

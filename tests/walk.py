@@ -15,7 +15,7 @@ import tempfile
 
 TOP = pathlib.Path(__file__).resolve().parent.parent
 EXAMPLES = TOP / "examples"
-PROFILE = (EXAMPLES / "mini.toml").read_body()
+PROFILE = (EXAMPLES / "mini.toml").read_text()
 failures = []
 
 
@@ -137,7 +137,7 @@ def found_in(program, profile, changes, client):
             else:
                 (packages / name).write_bytes(content)
         path = pathlib.Path(folder, "profile.toml")
-        path.write_body(profile.replace("127.0.0.1:8080", f"127.0.0.1:{port}"))
+        path.write_text(profile.replace("127.0.0.1:8080", f"127.0.0.1:{port}"))
         words = ["--profile", str(path), "--packages", str(packages), "--listen", f"127.0.0.1:{port}"]
         server = subprocess.Popen([program, "serve", *words], stdout=subprocess.PIPE, text=True)
         try:
