@@ -123,11 +123,12 @@ pub(crate) fn run_program<
     format!(in alloc; "{status} {written}{told}").ok()
 }
 
-/// Serves so many sessions of a site.
-pub(crate) fn serve<
+// Serves so many sessions of a site, with more arguments.
+fn serve_with<
     R: Net<Listener = TcpListener, Stream = TcpStream> + Clock + Files + Wait + AllocGlobal,
->(rt: &R, site: &Site, sessions: &str) -> Option<String> {
-    let words = [
+>(rt: &R, site: &Site, sessions: &str, more: &[&str]) -> Option<String> {
+    let mut words = Vec::new(rt.alloc());
+    let first = [
         "serve",
         "--profile",
         site.profile.as_str(),
@@ -140,27 +141,21 @@ pub(crate) fn serve<
         "--timeout",
         "20",
     ];
-    run_program(rt, &words)
+    words.extend_from_slice(&first).ok()?;
+    words.extend_from_slice(more).ok()?;
+    run_program(rt, words.as_slice())
+}
+
+/// Serves so many sessions of a site.
+pub(crate) fn serve<
+    R: Net<Listener = TcpListener, Stream = TcpStream> + Clock + Files + Wait + AllocGlobal,
+>(rt: &R, site: &Site, sessions: &str) -> Option<String> {
+    serve_with(rt, site, sessions, &[])
 }
 
 /// The same with a log.
 pub(crate) fn serve_logged<
     R: Net<Listener = TcpListener, Stream = TcpStream> + Clock + Files + Wait + AllocGlobal,
 >(rt: &R, site: &Site, sessions: &str, log: &str) -> Option<String> {
-    let words = [
-        "serve",
-        "--profile",
-        site.profile.as_str(),
-        "--packages",
-        site.folder.as_str(),
-        "--listen",
-        site.host.as_str(),
-        "--sessions",
-        sessions,
-        "--timeout",
-        "20",
-        "--log",
-        log,
-    ];
-    run_program(rt, &words)
+    serve_with(rt, site, sessions, &["--log", log])
 }
