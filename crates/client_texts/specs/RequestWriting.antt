@@ -1,13 +1,18 @@
 -- Which bytes a request has: the Omaha protocol 3.1, JSON form, with the members that this project's
 -- server reads. Members are in byte order of their names.
 use Rattle.std.specs.Prelude.{ℕ, ◌==◌, ◌<◌, ◌≤◌, List, map, replicate, length, Option, Some, None, option_map, All, Bool, if◌then◌else◌, codes}
-use Rattle.serde_json.specs.Data.{Data, boolean, string, array, object, no_items, item, no_members, member}
+use Rattle.serde_json.specs.Data.{Data, boolean, string, array, object, no_items, item, Members, no_members, member, put}
 use Rattle.serde_json.specs.View.{items_of}
 use Rattle.serde_json.specs.Written.{compact_text}
 use Rattle.omaha_json.specs.declared.request.Request.{Request}
 use Rattle.omaha_json.specs.declared.request.AppAsk.{AppAsk}
 use Rattle.omaha_json.specs.declared.request.Check.{Check}
 use Rattle.omaha_json.specs.ReplyWriting.{optional_member}
+
+-- the members, with the value at that name if there is one
+abbrev pub with_some : List ℕ → Option Data → Members → Members
+with_some name None members = members
+with_some name (Some value) members = put name value members
 
 -- a list of so many empty objects
 abbrev pub blanks : ℕ → Data

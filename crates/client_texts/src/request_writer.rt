@@ -3,9 +3,8 @@
 ghost use Rattle.std.specs.Prelude.{◌≡◌, IfOk, OnOk, option_map};
 ghost use Rattle.serde_json.specs.Data.{string, put as with_member};
 ghost use Rattle.serde_json.specs.View.{view, members_view};
-ghost use Rattle.omaha_json.specs.ReplyWriting.{with_some};
 ghost use Rattle.omaha_json.specs.RequestReading.{request_of_bytes};
-ghost use Rattle.client_texts.specs.RequestWriting.{IsWritable, blanks, events_data, ping_data, check_data, packages_data, ask_data, asks_data, request_data, request_bytes};
+ghost use Rattle.client_texts.specs.RequestWriting.{IsWritable, blanks, events_data, ping_data, check_data, packages_data, ask_data, asks_data, request_data, request_bytes, with_some};
 
 use omaha_json::{AppAsk, Check, Request};
 use serde_json::{Map, Value, json, put};

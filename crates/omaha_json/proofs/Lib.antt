@@ -1,2 +1,3 @@
 mod ReplyLemmas
 mod RequestLemmas
+mod SendingLemmas

@@ -1,5 +1,11 @@
--- No reply has a float: so its bytes are the compact form of its tree.
-use Rattle.std.proofs.Common.{◌≡◌, ℕ, zero, suc, eqb, List, [], ◌∷◌, map, Bool, true, false, cond, Option, Some, None, option_map, unwrap_or, codes, refl}
+-- No reply has a float: so its bytes are the compact form of its tree. The digits of a hash are UTF-8.
+use Rattle.std.proofs.Common.{◌≡◌, ℕ, zero, suc, eqb, List, [], ◌∷◌, map, Bool, true, false, cond, Option, Some, None, option_map, unwrap_or, codes, refl, ◌&&◌, nat_lt, arith}
+use Rattle.std.specs.Str.{IsAscii, IsUtf8}
+use Rattle.std.proofs.lemmas.Bool.{and_parts}
+use Rattle.std.proofs.lemmas.Str.{IsUtf8-from_ascii}
+use Rattle.std.proofs.lemmas.Str.Ascii.{IsAscii-cons, IsAscii-nil}
+use Rattle.hex.specs.Hex.{encode_lower, lower_digits}
+use Rattle.hex.proofs.HexLemmas.{IsAscii-encode_with}
 use Rattle.serde_json.specs.Data.{Data, string, Members, no_members, member}
 use Rattle.serde_json.specs.View.{items_of}
 use Rattle.serde_json.specs.Written.{has_float, items_have_float, members_have_float}
@@ -84,3 +90,18 @@ items_have_float-app_data (app ∷ apps) =
 pub has_float-reply_data : (reply : Reply) → has_float (reply_data reply) ≡ false
 unfolding reply_data
 has_float-reply_data reply = rw (items_have_float-app_data reply.apps) refl
+
+abbrev are_low : List ℕ → Bool
+are_low [] = true
+are_low (byte ∷ bytes) = nat_lt byte 128 && are_low bytes
+
+IsAscii-from_low : (bytes : List ℕ) → are_low bytes ≡ true → IsAscii bytes
+IsAscii-from_low [] low = IsAscii-nil
+IsAscii-from_low (byte ∷ bytes) low =
+    let both = and_parts (nat_lt byte 128) (are_low bytes) low in
+    IsAscii-cons byte bytes (grind (arith, both.0)) (IsAscii-from_low bytes both.1)
+
+pub IsUtf8-encode_lower : (bytes : List ℕ) → IsUtf8 (encode_lower bytes)
+IsUtf8-encode_lower bytes =
+    IsUtf8-from_ascii (encode_lower bytes)
+    (IsAscii-encode_with lower_digits bytes (IsAscii-from_low lower_digits refl))

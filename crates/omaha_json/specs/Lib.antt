@@ -4,3 +4,4 @@ pub mod ReplyExamples
 pub mod ReplyWriting
 pub mod RequestExamples
 pub mod RequestReading
+pub mod Sending

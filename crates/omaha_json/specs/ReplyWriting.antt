@@ -2,7 +2,7 @@
 -- browser from running it as a script. Members are in byte order of their names.
 use Rattle.std.specs.Prelude.{ℕ, ◌==◌, List, [], ◌∷◌, ◌++◌, map, replicate, Option, Some, None, option_map, All, ⊤, Bool, if◌then◌else◌, codes}
 use Rattle.hex.specs.Hex.{encode_lower}
-use Rattle.serde_json.specs.Data.{Data, null, number, unsigned, string, array, object, Items, no_items, item, Members, no_members, member, put}
+use Rattle.serde_json.specs.Data.{Data, null, number, unsigned, string, array, object, Items, no_items, item, Members, no_members, member}
 use Rattle.serde_json.specs.View.{items_of}
 use Rattle.serde_json.specs.Written.{compact_text}
 use Rattle.omaha_json.specs.declared.reply.Reply.{Reply}
@@ -24,11 +24,6 @@ abbrev pub optional_member : List ℕ → Option Data → Members → Members
 optional_member name None rest = rest
 optional_member name (Some value) rest = member name value rest
 
--- the members, with the value at that name if there is one
-abbrev pub with_some : List ℕ → Option Data → Members → Members
-with_some name None members = members
-with_some name (Some value) members = put name value members
-
 -- a file's SHA-256 in lower-case hexadecimal digits
 abbrev pub hash_data : Part → Data
 hash_data part = string (encode_lower part.hash)
@@ -41,18 +36,22 @@ name_data part = string part.name
 abbrev pub size_data : Part → Data
 size_data part = number (unsigned part.size)
 
+-- the members of a package: the full one, and beside it the differential's hash, name and size
+abbrev pub package_members : List ℕ → Part → Option Part → Members
+package_members fp full diff =
+    member (codes "fp") (string fp)
+    (member (codes "hash_sha256") (hash_data full)
+    (optional_member (codes "hashdiff_sha256") (option_map hash_data diff)
+    (member (codes "name") (name_data full)
+    (optional_member (codes "namediff") (option_map name_data diff)
+    (member (codes "size") (size_data full)
+    (optional_member (codes "sizediff") (option_map size_data diff)
+    no_members))))))
+
 -- rule: Offer
--- the package: the full one, and beside it the differential's hash, name and size
+-- the package
 abbrev pub package_data : Offer → Data
-package_data offer = object
-    (member (codes "fp") (string offer.fp)
-    (member (codes "hash_sha256") (hash_data offer.full)
-    (optional_member (codes "hashdiff_sha256") (option_map hash_data offer.diff)
-    (member (codes "name") (name_data offer.full)
-    (optional_member (codes "namediff") (option_map name_data offer.diff)
-    (member (codes "size") (size_data offer.full)
-    (optional_member (codes "sizediff") (option_map size_data offer.diff)
-    no_members)))))))
+package_data offer = object (package_members offer.fp offer.full offer.diff)
 
 -- the list of one package
 abbrev pub packages_data : Offer → Data
@@ -76,12 +75,12 @@ diff_addresses None = no_items
 diff_addresses (Some diff) = item (address_data (codes "codebasediff") diff) no_items
 
 -- the address of the full package, and then that of the differential
-abbrev pub addresses : Offer → Items
-addresses offer = item (address_data (codes "codebase") offer.full) (diff_addresses offer.diff)
+abbrev pub addresses : Part → Option Part → Items
+addresses full diff = item (address_data (codes "codebase") full) (diff_addresses diff)
 
 -- the list of addresses
 abbrev pub urls_data : Offer → Data
-urls_data offer = object (member (codes "url") (array (addresses offer)) no_members)
+urls_data offer = object (member (codes "url") (array (addresses offer.full offer.diff)) no_members)
 
 -- an offer
 abbrev pub offer_data : Offer → Data
@@ -114,17 +113,21 @@ ping_data asked = if asked then Some (status_data (codes "ok")) else None
 abbrev pub update_data : Option CheckReply → Option Data
 update_data check = option_map check_data check
 
--- a known app
-abbrev pub known_data : List ℕ → KnownApp → Data
-known_data appid app = object
-    (member (codes "appid") (string appid)
+-- the members of a known app
+abbrev pub known_members : List ℕ → KnownApp → Members
+known_members appid app =
+    member (codes "appid") (string appid)
     (member (codes "cohort") (string app.cohort)
     (member (codes "cohortname") (string app.name)
     (optional_member (codes "event") (events_data app.events)
     (optional_member (codes "ping") (ping_data app.ping)
     (member (codes "status") (string (codes "ok"))
     (optional_member (codes "updatecheck") (update_data app.check)
-    no_members)))))))
+    no_members))))))
+
+-- a known app
+abbrev pub known_data : List ℕ → KnownApp → Data
+known_data appid app = object (known_members appid app)
 
 -- an unknown app
 abbrev pub unknown_data : List ℕ → Data
@@ -154,13 +157,17 @@ daystart_data reply = object
     (member (codes "elapsed_seconds") (number (unsigned reply.seconds))
     no_members))
 
--- a reply as a JSON value
-unfoldable pub reply_data : Reply → Data
-reply_data reply = object (member (codes "response") (object
+-- the replies, the time and the protocol's version
+abbrev pub response_data : Reply → Data
+response_data reply = object
     (member (codes "app") (apps_data reply.apps)
     (member (codes "daystart") (daystart_data reply)
     (member (codes "protocol") (string (codes "3.1"))
-    no_members)))) no_members)
+    no_members)))
+
+-- a reply as a JSON value
+unfoldable pub reply_data : Reply → Data
+reply_data reply = object (member (codes "response") (response_data reply) no_members)
 
 -- `)]}'` and a line feed
 abbrev pub script_guard : List ℕ

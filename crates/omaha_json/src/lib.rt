@@ -2,8 +2,9 @@
 //!
 //! A `Request` is what a client asks, a `Reply` what the server replies; both are plain records,
 //! which contracts compare by content. `specs/RequestReading.antt` says which record the bytes of a
-//! request have, or their first fault, and `specs/ReplyWriting.antt` which bytes a reply has.
-//! `laws` has whole requests and replies with their records.
+//! request have, or their first fault, and `specs/ReplyWriting.antt` which bytes a reply has. A
+//! reply is written by serde, and needs no tree of JSON values. `laws` has whole requests and
+//! replies with their records.
 //!
 //! It does not decide the reply to a request: `editions` does. It does not write requests or read
 //! replies.
@@ -12,10 +13,12 @@
 
 mod fault;
 pub mod laws;
+mod offer_writer;
 mod reply;
 mod reply_writer;
 mod request;
 mod request_reader;
+mod sending;
 
 pub use crate::fault::RequestFault;
 pub use crate::reply::{AppReply, AppState, CheckReply, KnownApp, Offer, Part, Reply};
