@@ -1,2 +1,3 @@
 pub mod BucketLemmas
 pub mod CohortTextLemmas
+mod TrackLemmas

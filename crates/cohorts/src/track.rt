@@ -1,8 +1,10 @@
 // Tracks, and how a client is assigned to one.
 
-ghost use Rattle.std.specs.Prelude.{◌≡◌, ◌≤◌, ◌<◌, length, IfSome, position};
+ghost use Rattle.std.specs.Prelude.{◌≡◌, ◌≤◌, ◌<◌, length, IfSome, option_map, position};
+ghost use Rattle.std.specs.Option.{option_map_or};
 ghost use Rattle.records.specs.Lookups.{cohorts_at};
-ghost use Rattle.cohorts.specs.Tracks.{asks_rollback, bucket_of, cohort_of, hinted_cohort, lane_of, sent_cohort, target_of, track_of};
+ghost use Rattle.cohorts.specs.Tracks.{asks_rollback, cohort_of, hinted_cohort, lane_of, sent_cohort, session_bucket, target_of, track_in, track_of};
+ghost use Rattle.cohorts.specs.CohortTexts.{parsed};
 
 use crate::cohort_text::CohortText;
 use crate::laws;
@@ -44,36 +46,50 @@ fn find_hinted(cohorts: &[Cohort], hint: &str) -> Option<usize>
         .position(|cohort| cohort.hintable && hint == cohort.name.as_str())
 }
 
-fn find_sent(catalogue: &Catalogue, app: usize, text: &str) -> Option<usize>
-    requires { app < length catalogue.now }
-    ensures sent { result ≡ sent_cohort (cohorts_at catalogue.now app) text.now }
+// The cohort that a client's cohort text names; `named` is what it says.
+fn find_sent(
+    catalogue: &Catalogue,
+    app: usize,
+    ask: &AppAsk,
+    named: Option<(&str, u16)>,
+) -> Option<usize>
+    requires app { app < length catalogue.now }
+    requires named { option_map (λ named. (named.0.now, named.1)) named ≡ parsed ask.now.cohort }
+    ensures sent { result ≡ sent_cohort (cohorts_at catalogue.now app) ask.now.cohort }
     ensures within { IfSome result (λ index. index < length (cohorts_at catalogue.now app)) }
 {
-    let (name, _) = CohortText::parse(text)?;
+    let (name, _) = named?;
     catalogue.find_cohort(app, name)
 }
 
 // The index of the cohort that serves a client.
 // rule: Cohort of a client
-fn find_serving(catalogue: &Catalogue, app: usize, ask: &AppAsk) -> usize
-    requires { app < length catalogue.now }
+fn find_serving(
+    catalogue: &Catalogue,
+    app: usize,
+    ask: &AppAsk,
+    named: Option<(&str, u16)>,
+) -> usize
+    requires app { app < length catalogue.now }
+    requires named { option_map (λ named. (named.0.now, named.1)) named ≡ parsed ask.now.cohort }
     ensures cohort { result ≡ cohort_of (cohorts_at catalogue.now app) ask.now }
     ensures within { result < length (cohorts_at catalogue.now app) }
 {
     catalogue.validity();
     let hinted = find_hinted(catalogue.cohorts(app), ask.hint.as_str());
-    let sent = find_sent(catalogue, app, ask.cohort.as_str());
+    let sent = find_sent(catalogue, app, ask, named);
     hinted.or(sent).unwrap_or(0)
 }
 
+// The bucket that a cohort text names, else the session's.
 // rule: Bucket of a client
-fn choose_bucket(ask: &AppAsk, session: &mut Session<'_>) -> u16
-    ensures bucket { result ≡ bucket_of ask.now session.old }
+fn choose_bucket(named: Option<(&str, u16)>, session: &mut Session<'_>) -> u16
+    requires { IfSome named (λ named. named.1 < 1000) }
+    ensures bucket { result ≡ option_map_or (λ named. named.1) named.entry (session_bucket session.old) }
     ensures same { session.new ≡ session.old }
     ensures small { result < 1000 }
 {
-    laws::cohort_texts();
-    match CohortText::parse(ask.cohort.as_str()) {
+    match named {
         Some((_, bucket)) => bucket,
         None => session.bucket(),
     }
@@ -110,12 +126,26 @@ fn allows_rollback(ask: &AppAsk) -> bool
     }
 }
 
+// The track of a bucket in the cohort at an index.
+// rule: Rollback of a track
+fn track_in(cohort: &Cohort, index: usize, bucket: u16, ask: &AppAsk) -> Track
+    ensures { result ≡ track_in cohort.now index bucket ask.now }
+{
+    let lane = choose_lane(cohort, bucket);
+    Track {
+        cohort: index,
+        bucket,
+        lane,
+        rollback: cohort.rollback && allows_rollback(ask),
+        target: target_in(cohort, lane),
+    }
+}
+
 impl<'a> Session<'a> {
     /// Returns the track of one of the session's clients, in the app at an index.
     ///
     /// The index is in range. The session is hashed if the client needs its bucket and no client
     /// before did; see `assign`.
-    // rule: Rollback of a track
     pub fn assign(&mut self, catalogue: &Catalogue, app: usize, ask: &AppAsk) -> Track
         requires { app < length catalogue.now }
         ensures track { result ≡ track_of (cohorts_at catalogue.now app) ask.now self.old }
@@ -123,17 +153,12 @@ impl<'a> Session<'a> {
         ensures cohort { result.cohort < length (cohorts_at catalogue.now app) }
         ensures bucket { result.bucket < 1000 }
     {
-        let index = find_serving(catalogue, app, ask);
+        laws::cohort_texts();
+        let named = CohortText::parse(ask.cohort.as_str());
+        let index = find_serving(catalogue, app, ask, named);
         let cohort = &catalogue.cohorts(app)[index];
-        let bucket = choose_bucket(ask, self);
-        let lane = choose_lane(cohort, bucket);
-        Track {
-            cohort: index,
-            bucket,
-            lane,
-            rollback: cohort.rollback && allows_rollback(ask),
-            target: target_in(cohort, lane),
-        }
+        let bucket = choose_bucket(named, self);
+        track_in(cohort, index, bucket, ask)
     }
 }
 
