@@ -57,6 +57,8 @@ impl Visitor<'_> {
     }
 
     // Whether the full package of a release is permitted, given whether a stone is between.
+    // Seldom asked: out of line, it leaves the pass over all releases small.
+    #[inline(never)]
     fn is_led_to(&self, release: &Release, blocked: bool) -> bool
         ensures { result ≡ leads_to self.now.cohort.now self.now.rollback self.now.target self.now.version blocked release.now }
     {
@@ -107,6 +109,7 @@ impl Visitor<'_> {
 /// Finds the best release that a client may be led to by its full package.
 ///
 /// There is a row for each release. It goes through all releases once.
+#[inline(never)]
 pub(crate) fn find_best(releases: &[Release], rows: &[Row], visitor: &Visitor<'_>) -> Option<Best>
     requires sized { length rows.now ≡ length releases.now }
     requires ascending { ascend is_release_below releases.now ≡ true }

@@ -43,8 +43,9 @@ fn seconds_of_day(moment: u64) -> u64
 fn print_fingerprint(alloc: Global, release: &Release) -> Result<Text, AllocError>
     ensures { IfOk result (λ fp. fp ≡ fingerprint_of release.now) }
 {
-    let mut text = String::from_str(alloc, "1.")?;
     let digits = hex::encode(alloc, release.hash)?;
+    let mut text = String::with_capacity(alloc, 2 + digits.len())?;
+    text.push_str("1.")?;
     text.push_str(digits.as_str())?;
     Ok(Text::new(text))
 }
