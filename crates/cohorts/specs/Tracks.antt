@@ -21,10 +21,13 @@ is_hinted hint cohort = cohort.hintable && is_cohort hint cohort
 abbrev pub hinted_cohort : List Cohort → List ℕ → Option ℕ
 hinted_cohort cohorts hint = position (is_hinted hint) cohorts
 
--- the cohort that a sent cohort text names, open or not
+-- the cohort of the name that a cohort text says, beside a bucket, open or not
+abbrev pub named_cohort : List Cohort → Option (List ℕ × ℕ) → Option ℕ
+named_cohort cohorts named = option_and_then (λ named. position (is_cohort named.0) cohorts) named
+
+-- the cohort that a sent cohort text names
 abbrev pub sent_cohort : List Cohort → List ℕ → Option ℕ
-sent_cohort cohorts text =
-    option_and_then (λ named. position (is_cohort named.0) cohorts) (parsed text)
+sent_cohort cohorts text = named_cohort cohorts (parsed text)
 
 -- rule: Cohort of a client
 -- a client's cohort: the one that its hint names, else the one that its cohort text names, else the

@@ -1,4 +1,4 @@
-ghost use Rattle.std.specs.Prelude.{◌≡◌, ◌<◌, IfSome};
+ghost use Rattle.std.specs.Prelude.{◌≡◌, ◌<◌};
 ghost use Rattle.cohorts.specs.Tracks.{session_bucket};
 
 use sha2::{Digest, Sha256};
@@ -36,22 +36,11 @@ fn hash_session(session: &str) -> u16
 }
 
 impl<'a> Session<'a> {
-    /// Makes a session whose bucket is not known yet; it does not hash the string.
+    /// Makes a session; it does not hash the string.
     pub fn new(text: &'a str) -> Session<'a>
         ensures { result ≡ text.now }
     {
         Session { text, bucket: None }
-    }
-
-    /// Makes a session whose bucket is known.
-    pub fn with_bucket(text: &'a str, bucket: u16) -> Session<'a>
-        requires { bucket ≡ session_bucket text.now }
-        ensures { result ≡ text.now }
-    {
-        Session {
-            text,
-            bucket: Some(bucket),
-        }
     }
 
     /// Borrows the string.
@@ -59,13 +48,6 @@ impl<'a> Session<'a> {
         ensures { result.now ≡ self.now }
     {
         self.text
-    }
-
-    /// Returns the bucket if a client needed it, without hashing the string.
-    pub fn known_bucket(&self) -> Option<u16>
-        ensures { IfSome result (λ bucket. bucket ≡ session_bucket self.now) }
-    {
-        self.bucket
     }
 
     /// Returns the bucket, 0 to 999, and hashes the string if it was not known.

@@ -3,7 +3,7 @@
 ghost use Rattle.std.specs.Prelude.{◌≡◌, ◌≤◌, ◌<◌, length, IfSome, option_map, position};
 ghost use Rattle.std.specs.Option.{option_map_or};
 ghost use Rattle.records.specs.Lookups.{cohorts_at};
-ghost use Rattle.cohorts.specs.Tracks.{asks_rollback, cohort_of, hinted_cohort, lane_of, sent_cohort, session_bucket, target_of, track_in, track_of};
+ghost use Rattle.cohorts.specs.Tracks.{asks_rollback, cohort_of, hinted_cohort, lane_of, named_cohort, session_bucket, target_of, track_in, track_of};
 ghost use Rattle.cohorts.specs.CohortTexts.{parsed};
 
 use crate::cohort_text::CohortText;
@@ -46,16 +46,11 @@ fn find_hinted(cohorts: &[Cohort], hint: &str) -> Option<usize>
         .position(|cohort| cohort.hintable && hint == cohort.name.as_str())
 }
 
-// The cohort that a client's cohort text names; `named` is what it says.
-fn find_sent(
-    catalogue: &Catalogue,
-    app: usize,
-    ask: &AppAsk,
-    named: Option<(&str, u16)>,
-) -> Option<usize>
-    requires app { app < length catalogue.now }
-    requires named { option_map (λ named. (named.0.now, named.1)) named ≡ parsed ask.now.cohort }
-    ensures sent { result ≡ sent_cohort (cohorts_at catalogue.now app) ask.now.cohort }
+// The cohort that a cohort text names; `named` is what it says.
+fn find_named(catalogue: &Catalogue, app: usize, named: Option<(&str, u16)>) -> Option<usize>
+    requires { app < length catalogue.now }
+    ensures named { result
+        ≡ named_cohort (cohorts_at catalogue.now app) (option_map (λ named. (named.0.now, named.1)) named.entry) }
     ensures within { IfSome result (λ index. index < length (cohorts_at catalogue.now app)) }
 {
     let (name, _) = named?;
@@ -77,7 +72,7 @@ fn find_serving(
 {
     catalogue.validity();
     let hinted = find_hinted(catalogue.cohorts(app), ask.hint.as_str());
-    let sent = find_sent(catalogue, app, ask, named);
+    let sent = find_named(catalogue, app, named);
     hinted.or(sent).unwrap_or(0)
 }
 
