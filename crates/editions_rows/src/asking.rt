@@ -42,10 +42,10 @@ fn outcomes(
     granted: Option<usize>,
 ) -> Result<Vec<Option<usize>>, AllocError>
     requires { IfSome granted (λ mirror. mirror < length mirrors.now) }
-    ensures { IfOk result (λ outcomes. AreOutcomes mirrors.now plan.now outcomes.items) }
+    ensures { IfOk result (λ outcomes. AreOutcomes mirrors.now plan.now.choices outcomes.items) }
 {
     let mut outcomes = Vec::new(alloc);
-    for choice in plan.choices() {
+    for choice in plan.choices.as_slice() {
         outcomes.push(outcome(*choice, mirrors, granted))?;
     }
     Ok(outcomes)

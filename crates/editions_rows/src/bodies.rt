@@ -99,7 +99,7 @@ fn shown(alloc: Global, choice: Option<Choice>) -> Result<String, AllocError> {
 pub(crate) fn planned(alloc: Global, edition: &Edition, request: &Request) -> Result<String, Fail> {
     let plan = plan(alloc, edition, request)?;
     let mut text = String::new(alloc);
-    for choice in plan.choices() {
+    for choice in plan.choices.as_slice() {
         text.push_str(shown(alloc, *choice)?.as_str())?;
     }
     Ok(text)

@@ -1,5 +1,3 @@
-mod ClientLemmas
-mod KeyLemmas
 mod LoopLemmas
 mod PlanLemmas
 mod ReplyLemmas

@@ -1,5 +1,5 @@
 -- What may be chosen for an app of a request.
-use Rattle.std.proofs.Common.{◌≡◌, ℕ, ◌⊎◌, inr, List, [], ◌∷◌, Option, None, Some, true, refl, sym, ap, ◌∙◌, subst}
+use Rattle.std.proofs.Common.{◌≡◌, ℕ, inr, List, [], ◌∷◌, Option, None, Some, refl, sym, ap, ◌∙◌, subst}
 use Rattle.std.specs.List.{slice_get}
 use Rattle.std.specs.Option.{option_and_then, option_map, IfSome}
 use Rattle.records.specs.Lookups.{releases_at}
@@ -13,20 +13,17 @@ use Rattle.payload_rules.specs.declared.payload.Payload.{Payload}
 use Rattle.payload_rules.specs.declared.payload.TrackKey.{TrackKey}
 use Rattle.payload_rules.specs.declared.place.Place.{Place}
 use Rattle.payload_rules.specs.declared.place.Place.TheVariants.{At}
-use Rattle.payload_graph.specs.Net.{Net, net_among, net_in, net_of}
+use Rattle.payload_graph.specs.Net.{net_among, net_in, net_of}
 use Rattle.quotes.specs.Quotes.{IsQuote, IsQuoteAmong}
 use Rattle.quotes.specs.declared.quote.Quote.TheVariants.{Next}
-use Rattle.replies.specs.Clients.{Client, client_of, key_of}
-use Rattle.replies.proofs.ClientLemmas.{releases_at-there}
-use Rattle.replies.specs.Plans.{IsChoice, IsChoiceAmong, IsChosen, IsClientChoice, wants_update}
+use Rattle.replies.specs.Clients.{Client, key_of}
+use Rattle.replies.specs.Plans.{IsChoice, IsChoiceAmong, IsClientChoice}
 use Rattle.replies.specs.declared.choices.Choice.{Choice}
 
--- for the client of a known app that wants an update, what is chosen at its place
-pub IsChosen-known :
-    (apps : List App) (session : List ℕ) (ask : AppAsk) (client : Client) (choice : Option Choice) →
-    wants_update ask ≡ true → client_of apps session ask ≡ Some client →
-    IsClientChoice client ask choice → IsChosen apps session ask choice
-IsChosen-known apps session ask client choice wants known chosen = rw (wants, known) chosen
+-- the releases at an app's index are the app's
+releases_at-there : (apps : List App) (index : ℕ) (app : App)
+    → slice_get apps index ≡ Some app → releases_at apps index ≡ app.releases
+releases_at-there apps index app there = rw there refl
 
 -- what holds among the apps holds of the key's app
 pub IsChoice-among :

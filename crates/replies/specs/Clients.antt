@@ -1,14 +1,15 @@
 -- Who asks in a request: for each of its apps that the catalogue has, a client on its track; this
 -- project's profile.
-use Rattle.std.specs.Prelude.{ℕ, List, Option, option_and_then, option_map, position, slice_get}
-use Rattle.records.specs.Lookups.{is_app}
+use Rattle.std.specs.Prelude.{◌≡◌, ℕ, ◌<◌, IfSome, List, length, Option, option_and_then, option_map, position, slice_get}
+use Rattle.records.specs.Lookups.{cohorts_at, is_app}
 use Rattle.records.specs.declared.content.App.{App}
 use Rattle.records.specs.declared.content.Cohort.{Cohort}
 use Rattle.cohorts.specs.CohortTexts.{printed}
-use Rattle.cohorts.specs.Tracks.{cohort_at, track_of}
+use Rattle.cohorts.specs.Tracks.{cohort_at, target_of, track_of}
 use Rattle.cohorts.specs.declared.track.Track.{Track}
 use Rattle.omaha_json.specs.declared.request.AppAsk.{AppAsk}
 use Rattle.payload_rules.specs.declared.payload.TrackKey.{TrackKey}
+use Rattle.replies.specs.declared.client.Assignment.{Assignment}
 
 -- a client of an app, on its track
 pub record Client : Type 0 where
@@ -27,6 +28,33 @@ client_at apps session ask index =
 abbrev pub client_of : List App → List ℕ → AppAsk → Option Client
 client_of apps session ask =
     option_and_then (client_at apps session ask) (position (is_app ask.appid) apps)
+
+-- the track of an assignment in an app of these cohorts
+abbrev pub track_by : List Cohort → Assignment → Track
+track_by cohorts assignment =
+    record {
+      cohort = assignment.key.cohort;
+      bucket = assignment.bucket;
+      lane = assignment.key.lane;
+      rollback = assignment.key.rollback;
+      target = target_of (cohort_at cohorts assignment.key.cohort) assignment.key.lane;
+    }
+
+-- the client of an assignment, none if there is no such app
+abbrev pub client_in : List App → Assignment → Option Client
+client_in apps assignment =
+    option_map (λ app. record { index = assignment.key.app; app = app; track = track_by app.cohorts assignment })
+    (slice_get apps assignment.key.app)
+
+-- an assignment is to a cohort that its app has
+abbrev pub IsInCohort : List App → Option Assignment → Type 0
+IsInCohort apps assigned =
+    IfSome assigned (λ assignment. assignment.key.cohort < length (cohorts_at apps assignment.key.app))
+
+-- the client of a session that asks for an app is assigned to its track; none if the app is unknown
+pub record IsAssigned (apps : List App) (session : List ℕ) (ask : AppAsk) (assigned : Option Assignment) : Type 0 where
+  pub client : option_and_then (client_in apps) assigned ≡ client_of apps session ask
+  pub cohort : IsInCohort apps assigned
 
 -- rule: Key of a client
 -- the key of a client's track

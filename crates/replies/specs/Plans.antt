@@ -1,5 +1,5 @@
 -- What is chosen for each app of a request; this project's profile.
-use Rattle.std.specs.Prelude.{◌≡◌, ℕ, ◌==◌, ◌&&◌, ◌⊎◌, not, Bool, false, if◌then◌else◌, List, [], length, map, IfSome, MatchOption, Option, Some, None, option_map, slice_get}
+use Rattle.std.specs.Prelude.{◌≡◌, ℕ, ◌==◌, ◌&&◌, ◌⊎◌, not, Bool, false, if◌then◌else◌, List, length, map, IfSome, MatchOption, Option, Some, None, option_map, slice_get}
 use Rattle.std.specs.List.{AllZip}
 use Rattle.std.specs.Option.{option_map_or}
 use Rattle.records.specs.declared.content.App.{App}
@@ -13,8 +13,9 @@ use Rattle.payload_rules.specs.declared.payload.TrackKey.{TrackKey}
 use Rattle.payload_rules.specs.declared.place.Place.{Place}
 use Rattle.quotes.specs.Quotes.{IsFirst}
 use Rattle.quotes.specs.Sums.{HasNoChain}
-use Rattle.replies.specs.Clients.{Client, client_of, key_of}
+use Rattle.replies.specs.Clients.{Client, IsAssigned, client_of, key_of}
 use Rattle.replies.specs.declared.choices.Choice.{Choice}
+use Rattle.replies.specs.declared.choices.Plan.{Plan}
 
 -- an update check that isn't disabled and asks for no version of its own
 abbrev pub is_open : Check → Bool
@@ -58,9 +59,14 @@ abbrev pub IsChosen : List App → List ℕ → AppAsk → Option Choice → Typ
 IsChosen apps session ask choice =
     MatchOption (client_to_update apps session ask) (choice ≡ None) (λ client. IsClientChoice client ask choice)
 
--- a plan: what is chosen for each app of the request, in its order
+-- what is chosen for each app of a request, in its order
 abbrev pub IsPlan : List App → Request → List (Option Choice) → Type 0
 IsPlan apps request plan = AllZip (IsChosen apps request.session) request.apps plan
+
+-- the plan of a request: the client of each of its apps, and what is chosen for it
+pub record IsPlanOf (apps : List App) (request : Request) (plan : Plan) : Type 0 where
+  pub assigned : AllZip (IsAssigned apps request.session) request.apps plan.clients
+  pub chosen : IsPlan apps request plan.choices
 
 -- the payload that was chosen, if any
 abbrev pub payload_in : Option Choice → Option Payload

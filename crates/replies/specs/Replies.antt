@@ -100,13 +100,14 @@ abbrev pub state_of : List Mirror → Option Client → AppAsk → Decision → 
 state_of mirrors None ask decision = state.Unknown
 state_of mirrors (Some client) ask decision = state.Known (known_app mirrors client ask decision)
 
--- the reply to one app of a session's request, under the client's spelling of its identifier
+-- the reply to one app by its client, under the client's spelling of its identifier
+abbrev pub client_reply : List Mirror → Option Client → AppAsk × Decision → AppReply
+client_reply mirrors client asked =
+    record { appid = asked.0.appid; state = state_of mirrors client asked.0 asked.1 }
+
+-- the reply to one app of a session's request
 abbrev pub app_reply : List App → List ℕ → List Mirror → AppAsk × Decision → AppReply
-app_reply apps session mirrors asked =
-    record {
-      appid = asked.0.appid;
-      state = state_of mirrors (client_of apps session asked.0) asked.0 asked.1;
-    }
+app_reply apps session mirrors asked = client_reply mirrors (client_of apps session asked.0) asked
 
 -- rule: Reply
 -- the reply to a request: one for each of its apps, in its order, repeated ones too

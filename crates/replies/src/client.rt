@@ -1,12 +1,45 @@
 //! Who asks for an app of a request.
 
-ghost use Rattle.std.specs.Prelude.{◌≡◌, ◌<◌, IfSome, Some, length, option_map, slice_get};
-ghost use Rattle.replies.specs.Clients.{client_of, cohort_of, key_of};
+ghost use Rattle.std.specs.Prelude.{◌≡◌, ◌<◌, Some, length, slice_get};
+ghost use Rattle.replies.specs.Clients.{IsAssigned, IsInCohort, client_in, cohort_of, key_of};
 
 use catalogue::{App, Catalogue, Cohort};
-use cohorts::{Session, Track};
+use cohorts::{Session, Track, target_in};
 use omaha_json::AppAsk;
 use payload_rules::TrackKey;
+
+/// What a plan keeps of a client: the key of the track that it is assigned to, and its bucket.
+#[derive(Clone, Copy, Debug, PartialEq, Eq)]
+pub struct Assignment {
+    /// The key of the client's track.
+    pub key: TrackKey,
+    /// The client's bucket, 0 to 999.
+    pub bucket: u16,
+}
+
+// rule: Client of an app
+/// Finds the app that is asked for, and assigns its client to a track.
+pub(crate) fn assign(
+    catalogue: &Catalogue,
+    session: &mut Session<'_>,
+    ask: &AppAsk,
+) -> Option<Assignment>
+    ensures assigned { IsAssigned catalogue.now session.old ask.now result }
+    ensures same { session.new ≡ session.old }
+{
+    let app = catalogue.app(ask.appid.as_str())?;
+    let track = session.assign(catalogue, app, ask);
+    let key = TrackKey {
+        app,
+        cohort: track.cohort,
+        lane: track.lane,
+        rollback: track.rollback,
+    };
+    Some(Assignment {
+        key,
+        bucket: track.bucket,
+    })
+}
 
 /// A client of an app: who asks for an app of a request.
 #[derive(Drop)]
@@ -19,28 +52,36 @@ pub(crate) struct Client<'a> {
     pub(crate) track: Track,
 }
 
-// rule: Client of an app
-/// Finds the app that is asked for, and its client's track, which is in a cohort of the app.
-pub(crate) fn find_client<'a>(
-    catalogue: &'a Catalogue,
-    session: &mut Session<'_>,
-    ask: &AppAsk,
-) -> Option<Client<'a>>
-    ensures found { option_map (λ client. record { index = client.index; app = client.app.now; track = client.track }) result
-        ≡ client_of catalogue.now session.old ask.now }
-    ensures app { IfSome result (λ client.
-        slice_get catalogue.now client.index ≡ Some client.app.now) }
-    ensures cohort { IfSome result (λ client.
-        client.track.cohort < length client.app.now.cohorts) }
-    ensures same { session.new ≡ session.old }
-{
-    let index = catalogue.app(ask.appid.as_str())?;
-    let track = session.assign(catalogue, index, ask);
-    let app = &catalogue.apps()[index];
-    Some(Client { index, app, track })
-}
-
 impl<'a> Client<'a> {
+    /// Makes the client of an assignment in the catalogue.
+    pub(crate) fn new(catalogue: &'a Catalogue, assignment: &Assignment) -> Client<'a>
+        requires { IsInCohort catalogue.now (Some assignment.now) }
+        ensures client { client_in catalogue.now assignment.now
+            ≡ Some (record { index = result.index; app = result.app.now; track = result.track }) }
+        ensures app { slice_get catalogue.now result.index ≡ Some result.app.now }
+        ensures cohort { result.track.cohort < length result.app.now.cohorts }
+    {
+        let TrackKey {
+            app: index,
+            cohort,
+            lane,
+            rollback,
+        } = assignment.key;
+        let app = &catalogue.apps()[index];
+        let target = target_in(&app.cohorts.as_slice()[cohort], lane);
+        Client {
+            index,
+            app,
+            track: Track {
+                cohort,
+                bucket: assignment.bucket,
+                lane,
+                rollback,
+                target,
+            },
+        }
+    }
+
     // rule: Key of a client
     /// Returns the key of the client's track.
     pub(crate) fn key(&self) -> TrackKey

@@ -1,7 +1,7 @@
 //! Replies to requests, from an edition.
 //!
-//! `plan` chooses a payload for each app of a request: the first one of a chain of the least sum. `render`
-//! writes the reply by the plan and what the mirrors granted. Read `specs/Clients.antt` for who asks,
+//! `plan` assigns the client of each app of a request and chooses a payload for it: the first one of a
+//! chain of the least sum. `render` writes the reply by the plan and what the mirrors granted. Read `specs/Clients.antt` for who asks,
 //! `specs/Plans.antt` for what is chosen and `specs/Replies.antt` for the reply.
 //!
 //! It grants no bytes: crates above do. A client's track is that of `cohorts`, what is permitted on it that
@@ -15,5 +15,6 @@ mod planning;
 mod rendering;
 
 pub use crate::choices::{Choice, Plan};
+pub use crate::client::Assignment;
 pub use crate::planning::plan;
 pub use crate::rendering::render;

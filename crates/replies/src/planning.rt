@@ -6,11 +6,11 @@ ghost use Rattle.payload_rules.specs.Chains.{bytes_of};
 ghost use Rattle.payload_rules.specs.Places.{IsWithin};
 ghost use Rattle.payload_graph.specs.Net.{net_among};
 ghost use Rattle.editions.specs.Editions.{content_of};
-ghost use Rattle.replies.specs.Clients.{key_of};
-ghost use Rattle.replies.specs.Plans.{is_open, wants_update, IsChoiceAmong, IsChosen, IsClientChoice, IsPlan};
+ghost use Rattle.replies.specs.Clients.{IsAssigned, key_of};
+ghost use Rattle.replies.specs.Plans.{is_open, wants_update, IsChoiceAmong, IsChosen, IsClientChoice, IsPlanOf};
 
 use crate::choices::{Choice, Plan};
-use crate::client::{Client, find_client};
+use crate::client::{Assignment, Client, assign};
 use catalogue::{App, Catalogue};
 use cohorts::Session;
 use editions::Edition;
@@ -98,35 +98,45 @@ fn choose_for(
     }
 }
 
+// The client of an app that is asked for, and what is chosen for it.
 // rule: Chosen payload
-fn choose(edition: &Edition, session: &mut Session<'_>, ask: &AppAsk) -> Option<Choice>
-    ensures chosen { IsChosen (content_of edition.now) session.old ask.now result }
+fn plan_app(
+    edition: &Edition,
+    session: &mut Session<'_>,
+    ask: &AppAsk,
+) -> (Option<Assignment>, Option<Choice>)
+    ensures assigned { IsAssigned (content_of edition.now) session.old ask.now result.0 }
+    ensures chosen { IsChosen (content_of edition.now) session.old ask.now result.1 }
     ensures same { session.new ≡ session.old }
 {
-    if !has_open_check(ask) {
-        return None;
-    }
     let catalogue = edition.catalogue();
-    let Some(client) = find_client(catalogue, session, ask) else {
-        return None;
+    let Some(assignment) = assign(catalogue, session, ask) else {
+        return (None, None);
     };
+    if !has_open_check(ask) {
+        return (Some(assignment), None);
+    }
+    let client = Client::new(catalogue, &assignment);
     let table = edition.table(&client.key());
-    choose_for(catalogue, &client, ask, table)
+    let choice = choose_for(catalogue, &client, ask, table);
+    (Some(assignment), choice)
 }
 
-/// Chooses for each app of a request what its client is offered.
+/// Assigns the client of each app of a request to its track, and chooses what it is offered.
 ///
 /// For an app that the catalogue has and that wants an update this is the first payload of a chain of
 /// permitted payloads to the target of the client's track that has the least sum of bytes; of all such
 /// payloads the one that leads highest, and of two of these the differential. It is nothing at the target
 /// and if no chain leads there, for example if the track has no target.
 pub fn plan(alloc: Global, edition: &Edition, request: &Request) -> Result<Plan, AllocError>
-    ensures { IfOk result (λ plan. IsPlan (content_of edition.now) request.now plan) }
+    ensures { IfOk result (λ plan. IsPlanOf (content_of edition.now) request.now plan) }
 {
+    let asks = request.apps.as_slice();
     let mut session = Session::new(request.session.as_str());
-    let mut choices = Vec::with_capacity(alloc, request.apps.len())?;
-    for ask in request.apps.as_slice() {
-        choices.push(choose(edition, &mut session, ask))?;
+    let mut plan = Plan::with_capacity(alloc, asks.len())?;
+    for ask in asks {
+        let (client, choice) = plan_app(edition, &mut session, ask);
+        plan.push(client, choice)?;
     }
-    Plan::new(alloc, choices, &session)
+    Ok(plan)
 }

@@ -2,18 +2,19 @@
 
 ghost use Rattle.std.specs.Prelude.{◌≡◌, ◌<◌, length, map, slice_get, Some, IfOk};
 ghost use Rattle.std.specs.List.{zip};
-ghost use Rattle.std.specs.Option.{option_copied};
+ghost use Rattle.std.specs.Option.{option_and_then, option_copied};
 ghost use Rattle.omaha_json.specs.ReplyWriting.{reply_bytes};
-ghost use Rattle.replies.specs.Plans.{payloads_of, payload_in, IsPlan};
+ghost use Rattle.replies.specs.Clients.{IsInCohort, client_in};
+ghost use Rattle.replies.specs.Plans.{payloads_of, payload_in, IsPlanOf};
 ghost use Rattle.payload_rules.specs.Places.{fingerprint_of};
 ghost use Rattle.editions.specs.Editions.{content_of};
 ghost use Rattle.replies.specs.Timestamps.{elapsed_days, elapsed_seconds};
-ghost use Rattle.replies.specs.Replies.{app_reply, diff_of, diff_part, full_part, offer_of, release_by, reply_of, update_reply, with_check, AreOutcomes, IsOutcome};
+ghost use Rattle.replies.specs.Replies.{app_reply, client_reply, diff_of, diff_part, full_part, offer_of, release_by, reply_of, update_reply, with_check, AreOutcomes, IsOutcome};
 
 use crate::choices::{Choice, Plan};
-use crate::client::{Client, find_client};
+use crate::client::{Assignment, Client};
 use catalogue::{App, Catalogue, Diff, Mirror, Release};
-use cohorts::{CohortText, Session};
+use cohorts::CohortText;
 use editions::Edition;
 use omaha_json::{
     AppAsk, AppReply, AppState, CheckReply, KnownApp, Offer, Part, Reply, Request, write_reply,
@@ -179,27 +180,30 @@ fn reply_to_client(
     })
 }
 
+// The reply to an app that is asked for, by its client.
 fn reply_to_app(
     alloc: Global,
     catalogue: &Catalogue,
-    session: &mut Session<'_>,
     mirrors: &[Mirror],
     ask: &AppAsk,
+    assignment: Option<Assignment>,
     choice: Option<Choice>,
     outcome: Option<usize>,
 ) -> Result<AppReply, AllocError>
-    requires { IsOutcome mirrors.now choice outcome }
-    ensures reply { IfOk result (λ reply. reply
-        ≡ app_reply catalogue.now session.old mirrors.now (ask.now, (payload_in choice, outcome))) }
-    ensures same { session.new ≡ session.old }
+    requires assigned { IsInCohort catalogue.now assignment }
+    requires decided { IsOutcome mirrors.now choice outcome }
+    ensures { IfOk result (λ reply. reply
+        ≡ client_reply mirrors.now (option_and_then (client_in catalogue.now) assignment)
+        (ask.now, (payload_in choice, outcome))) }
 {
     let appid = ask.appid.clone()?;
-    let Some(client) = find_client(catalogue, session, ask) else {
+    let Some(assignment) = assignment else {
         return Ok(AppReply {
             appid,
             state: AppState::Unknown,
         });
     };
+    let client = Client::new(catalogue, &assignment);
     let check = match &ask.check {
         Some(_) => Some(reply_to_check(alloc, catalogue, mirrors, &client, choice, outcome)?),
         None => None,
@@ -214,22 +218,24 @@ fn reply_to_app(
 fn reply_to_apps(
     alloc: Global,
     catalogue: &Catalogue,
-    session: &mut Session<'_>,
     mirrors: &[Mirror],
-    asks: &[AppAsk],
-    plan: &[Option<Choice>],
+    request: &Request,
+    plan: &Plan,
     outcomes: &[Option<usize>],
 ) -> Result<Vec<AppReply>, AllocError>
-    requires planned { length plan.now ≡ length asks.now }
-    requires decided { AreOutcomes mirrors.now plan.now outcomes.now }
+    requires planned { IsPlanOf catalogue.now request.now plan.now }
+    requires decided { AreOutcomes mirrors.now plan.now.choices outcomes.now }
     ensures { IfOk result (λ replies. replies.items
-        ≡ map (app_reply catalogue.now session.old mirrors.now)
-        (zip asks.now (zip (payloads_of plan.now) outcomes.now))) }
+        ≡ map (app_reply catalogue.now request.now.session mirrors.now)
+        (zip request.now.apps (zip (payloads_of plan.now.choices) outcomes.now))) }
 {
+    let asks = request.apps.as_slice();
+    let clients = plan.clients.as_slice();
+    let choices = plan.choices.as_slice();
     let mut replies = Vec::with_capacity(alloc, asks.len())?;
     for (index, ask) in asks.iter().enumerate() {
-        let (choice, outcome) = (plan[index], outcomes[index]);
-        let reply = reply_to_app(alloc, catalogue, session, mirrors, ask, choice, outcome)?;
+        let (client, choice, outcome) = (clients[index], choices[index], outcomes[index]);
+        let reply = reply_to_app(alloc, catalogue, mirrors, ask, client, choice, outcome)?;
         replies.push(reply)?;
     }
     Ok(replies)
@@ -250,26 +256,14 @@ pub fn render(
     mirrors: &[Mirror],
     moment: u64,
 ) -> Result<Vec<u8>, AllocError>
-    requires planned { IsPlan (content_of edition.now) request.now plan.now }
-    requires decided { AreOutcomes mirrors.now plan.now outcomes.now }
+    requires planned { IsPlanOf (content_of edition.now) request.now plan.now }
+    requires decided { AreOutcomes mirrors.now plan.now.choices outcomes.now }
     ensures { IfOk result (λ bytes. bytes.items
         ≡ reply_bytes
-        (reply_of (content_of edition.now) request.now (payloads_of plan.now)
+        (reply_of (content_of edition.now) request.now (payloads_of plan.now.choices)
         outcomes.now mirrors.now moment)) }
 {
-    let catalogue = edition.catalogue();
-    let mut session = plan.session_of(request.session.as_str());
-    let asks = request.apps.as_slice();
-    let choices = plan.choices();
-    let apps = reply_to_apps(
-        alloc,
-        catalogue,
-        &mut session,
-        mirrors,
-        asks,
-        choices,
-        outcomes,
-    )?;
+    let apps = reply_to_apps(alloc, edition.catalogue(), mirrors, request, plan, outcomes)?;
     write_reply(
         alloc,
         &Reply {

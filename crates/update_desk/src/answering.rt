@@ -36,7 +36,7 @@ fn reply_to<T: Till, R: Wait>(
     let Ok(plan) = plan(alloc, edition, request) else {
         return Err(AllocError);
     };
-    let Ok(outcomes) = ask_each(rt, alloc, till, plan.choices()) else {
+    let Ok(outcomes) = ask_each(rt, alloc, till, plan.choices.as_slice()) else {
         return Err(AllocError);
     };
     render(

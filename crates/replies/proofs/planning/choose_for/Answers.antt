@@ -1,4 +1,3 @@
-use Rattle.std.proofs.Common.{arith}
 use Rattle.std.proofs.lemmas.Option.{slice_get_within}
 use Rattle.replies.specs.Clients.{Client}
 use Rattle.replies.proofs.PlanLemmas.{IsClientChoice-among, IsClientChoice-no_graph}
