@@ -3,9 +3,9 @@
 
 A rule has one plain name. A comment `-- rule: NAME` is above the definition that states it, in a
 file of `specs/`; `// rule: NAME` above each function that keeps it; and a line `# rule: NAME` in each
-must-fail edit that breaks it. Every rule needs exactly one definition, a function and an edit, and a
-heading in `docs/DEFINITIONS.md` that names the definition's file and crate; the few that no edit
-of one line can break are listed below with the reason.
+edit that breaks it, in the crate's `must-fail/` or in `mutants/CRATE/`. Every rule needs exactly one
+definition, a function and an edit, and a heading in `docs/DEFINITIONS.md` that names the definition's
+file and crate; the few that no edit of one line can break are listed below with the reason.
 
 `tests/rules.py` checks the marks; `tests/rules.py --table` prints the table "Where a rule lives":
 the rule, its definition, its functions, its edits and the files of their proofs.
@@ -17,6 +17,7 @@ import sys
 
 TOP = os.path.dirname(os.path.dirname(os.path.abspath(__file__)))
 CRATES = os.path.join(TOP, "crates")
+MUTANTS = os.path.join(TOP, "mutants")
 
 # Rules that no edit shows, and why.
 NO_EDIT = {
@@ -39,10 +40,20 @@ FUNCTION = re.compile(r"^\s*(?:pub(?:\([a-z]+\))? )?(?:const )?fn (\w+)|^\s*impl
 
 
 def files(crate, folder, suffix):
-    for path, _, names in os.walk(os.path.join(CRATES, crate, folder)):
+    yield from files_below(os.path.join(CRATES, crate, folder), suffix)
+
+
+def files_below(folder, suffix):
+    for path, _, names in os.walk(folder):
         for name in sorted(names):
             if name.endswith(suffix):
                 yield os.path.join(path, name)
+
+
+def edits_of(crate):
+    """The edits of a crate: those that the gate tries, then those that `make mutants` tries."""
+    yield from files(crate, "must-fail", ".edit")
+    yield from files_below(os.path.join(MUTANTS, crate), ".edit")
 
 
 def marks(path, item):
@@ -96,7 +107,7 @@ def main():
                 entry = rules.setdefault(rule, ([], [], [], []))
                 entry[1].append(f"{crate}: {name}")
                 entry[3].append(proof_of(crate, name))
-        for path in files(crate, "must-fail", ".edit"):
+        for path in edits_of(crate):
             for rule, _ in marks(path, None):
                 edit = os.path.basename(path)[:-5]
                 rules.setdefault(rule, ([], [], [], []))[2].append(edit)
