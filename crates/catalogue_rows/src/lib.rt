@@ -2,6 +2,8 @@
 //! they make.
 //!
 //! Edits are lines of strings, a line an edit. It has tests alone, so that `catalogue` itself is proved once.
+//!
+//! Rows of strings that spell versions, and of versions in order; it holds tests alone.
 
 #![tactic(auto)]
 
@@ -19,3 +21,5 @@ mod mirrors;
 mod rejections;
 #[cfg(test)]
 mod shown;
+#[cfg(test)]
+mod version_tests;
