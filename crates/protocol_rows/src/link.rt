@@ -4,7 +4,7 @@ ghost use Rattle.std.specs.Prelude.{◌≡◌, [], length};
 
 use crate::body::Body;
 use crate::countdown::Countdown;
-use crate::replies::Replies;
+use crate::update_client_replies::Replies;
 use std::alloc::Global;
 use traces::Trace;
 use update_client::{Failed, Link};
