@@ -3,15 +3,29 @@
 //!
 //! It has tests alone, so that `payload_rules`, `payload_graph`, `solver` and `par_tables` are proved once. Edits are lines of a
 //! string, and payloads are words.
+//!
+//! Worked rows of certificates: tables that read back as they were written, and wrong lines.
+//!
+//! It has tests alone, so that `price_texts` is proved once.
 
 #![tactic(auto)]
 
 #[cfg(test)]
+mod certificates;
+#[cfg(test)]
+mod demo;
+#[cfg(test)]
 mod graphs;
+#[cfg(test)]
+mod keys;
+#[cfg(test)]
+mod largest;
 #[cfg(test)]
 mod lines;
 #[cfg(test)]
 mod offers;
+#[cfg(test)]
+mod outcomes;
 #[cfg(test)]
 mod places;
 #[cfg(test)]
@@ -24,3 +38,5 @@ mod slow;
 mod tables;
 #[cfg(test)]
 mod words;
+#[cfg(test)]
+mod wrong_lines;
