@@ -1,6 +1,6 @@
 -- The names of the four ledgers: those of the blanks, with the mirrors' budgets.
 use Rattle.mirror_ledger.specs.Named.{budget_at}
-use Rattle.update_desk_rows.proofs.opened.serve_sent.Given as goal
+use Rattle.server_rows.proofs.opened.serve_sent.Given as goal
 
 abbrev pub ghosts-serve_with-A-Ledger : goal.ghosts-serve_with-A-Ledger
 ghosts-serve_with-A-Ledger g a = record { name = a.blanks.first.name; parts = a.blanks.first.parts }

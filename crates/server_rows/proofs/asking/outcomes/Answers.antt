@@ -2,7 +2,7 @@ use Rattle.std.proofs.Common.{None, get_or, take}
 use Rattle.std.proofs.lemmas.List.{take_more}
 use Rattle.std.proofs.lemmas.Slice.Zip.{all_zipped_more}
 use Rattle.replies.specs.Replies.{IsOutcome}
-use Rattle.editions_rows.proofs.asking.outcomes.Goals as goal
+use Rattle.server_rows.proofs.asking.outcomes.Goals as goal
 
 pub loop-choice-preserved : goal.loop-choice-preserved
 loop-choice-preserved c =

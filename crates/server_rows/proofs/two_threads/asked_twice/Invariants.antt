@@ -1,6 +1,6 @@
 -- The names of the four ledgers: those of the blanks, with the mirrors' budgets.
 use Rattle.mirror_ledger.specs.Named.{budget_at}
-use Rattle.mirror_ledger_rows.proofs.two_threads.asked_twice.Given as goal
+use Rattle.server_rows.proofs.two_threads.asked_twice.Given as goal
 
 abbrev pub ghosts-run_twice-A-Ledger : goal.ghosts-run_twice-A-Ledger
 ghosts-run_twice-A-Ledger g a = record { name = a.blanks.first.name; parts = a.blanks.first.parts }
