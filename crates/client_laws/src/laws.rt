@@ -18,7 +18,7 @@ pub fn served_walks<L: Link>(link: &L)
     ensures least { ServedWalksAreLeast (L.received link.now) (L.ended link.now) }
 {
     let _link = link;
-    client_texts::laws::replies_are_read_back();
+    omaha_json_client::laws::replies_are_read_back();
     walks::laws::replies();
     walks::laws::walk();
     histories::validity();

@@ -2,7 +2,7 @@
 
 ghost use Rattle.std.specs.Prelude.{◌≡◌, codes, IfOk};
 ghost use Rattle.clap.specs.Words.{FailsBy, app_of, found_of, kind_of, rows_of};
-ghost use Rattle.client_texts.specs.RequestWriting.{IsAppid};
+ghost use Rattle.omaha_json_client.specs.RequestWriting.{IsAppid};
 ghost use Rattle.omaha_arguments.specs.WalkArguments.{faults_of_walk, is_appid, walk_app, walk_in};
 
 use crate::command::Walk;

@@ -1,7 +1,7 @@
 // The command `walk`.
 
 ghost use Rattle.std.specs.Prelude.{◌≡◌, IfOk};
-ghost use Rattle.client_texts.specs.RequestWriting.{IsAppid};
+ghost use Rattle.omaha_json_client.specs.RequestWriting.{IsAppid};
 ghost use Rattle.omaha_cli.specs.Walking.{IsWalked, WalksOn, client_of, end_of};
 ghost use Rattle.streams.specs.Streams.{Known};
 

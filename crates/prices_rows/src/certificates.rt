@@ -7,7 +7,7 @@ use crate::demo::{catalogue_of_demo, key_of};
 use crate::outcomes::outcome_of;
 use catalogue::Catalogue;
 use payload_graph::Graph;
-use price_texts::{read_prices, write_prices};
+use price_certificates::{read_prices, write_prices};
 use std::alloc::Global;
 use std::test::Fail;
 

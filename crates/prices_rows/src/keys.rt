@@ -5,7 +5,7 @@ use crate::demo::catalogue_of_demo;
 use crate::wrong_lines::with_line;
 use cohorts::Lane;
 use payload_rules::TrackKey;
-use price_texts::{Fault, read_key};
+use price_certificates::{Fault, read_key};
 use std::alloc::{AllocError, Global};
 use std::test::Fail;
 

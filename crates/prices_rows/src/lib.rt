@@ -6,7 +6,7 @@
 //!
 //! Worked rows of certificates: tables that read back as they were written, and wrong lines.
 //!
-//! It has tests alone, so that `price_texts` is proved once.
+//! It has tests alone, so that `price_certificates` is proved once.
 
 #![tactic(auto)]
 

@@ -7,7 +7,7 @@ use crate::demo::{catalogue_of_demo, catalogue_with_a_tie, key_of};
 use catalogue::Catalogue;
 use payload_graph::Graph;
 use price_cert::{Prices, Rule, check};
-use price_texts::{Fault, read_prices};
+use price_certificates::{Fault, read_prices};
 use std::alloc::{AllocError, Global};
 use std::test::Fail;
 use values::ReadError;

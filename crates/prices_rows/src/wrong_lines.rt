@@ -2,7 +2,7 @@
 
 use crate::certificates::STABLE;
 use crate::outcomes::{outcome_of, outcome_with_a_tie};
-use price_texts::Fault;
+use price_certificates::Fault;
 use std::alloc::{AllocError, Global};
 use std::test::Fail;
 

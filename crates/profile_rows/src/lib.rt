@@ -6,7 +6,7 @@
 //!
 //! Rows of written profiles: each catalogue's profile, worked out by hand.
 //!
-//! It has tests alone, so that `profile_texts` is proved once.
+//! It has tests alone, so that `profile_writer` is proved once.
 
 #![tactic(auto)]
 

@@ -1,8 +1,8 @@
 // A profile that is read, applied and written.
 
 use catalogue::Catalogue;
-use profile_texts::write_profile;
 use profile_toml::read_profile;
+use profile_writer::write_profile;
 use std::alloc::Global;
 use std::test::Fail;
 

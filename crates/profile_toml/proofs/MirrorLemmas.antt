@@ -7,8 +7,8 @@ use Rattle.std.proofs.lemmas.Slice.Eq.{bytes_eq-Decides}
 use Rattle.records.specs.Mirrors.{is_mirror}
 use Rattle.catalogue.specs.declared.edit.Edit.{Edit}
 use Rattle.records.specs.declared.mirror.Mirror.{Mirror}
-use Rattle.toml_tables.specs.Fields.{◌>>=◌}
-use Rattle.toml_tables.specs.Tables.{document}
+use Rattle.profile_tables.specs.Fields.{◌>>=◌}
+use Rattle.profile_tables.specs.Tables.{document}
 use Rattle.profile_toml.specs.Apps.{edits_of}
 use Rattle.profile_toml.specs.Documents.{check_schema, document_of, entries}
 use Rattle.profile_toml.specs.Laws.{AreMirrors}

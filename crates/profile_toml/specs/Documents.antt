@@ -4,9 +4,9 @@ use Rattle.std.specs.Prelude.{ℕ, ◌==◌, List, if◌then◌else◌, Option, 
 use Rattle.std.specs.Str.{is_utf8}
 use Rattle.toml.specs.Data.{Members}
 use Rattle.toml.specs.Parse.{parse_document}
-use Rattle.toml_tables.specs.Fields.{as_natural, required}
-use Rattle.toml_tables.specs.Tables.{PlacedTable}
-use Rattle.toml_tables.specs.declared.path.BadEntry.{BadEntry}
+use Rattle.profile_tables.specs.Fields.{as_natural, required}
+use Rattle.profile_tables.specs.Tables.{PlacedTable}
+use Rattle.profile_tables.specs.declared.path.BadEntry.{BadEntry}
 use Rattle.profile_toml.specs.declared.fault.ProfileFault.{ProfileFault}
 use Rattle.profile_toml.specs.declared.fault.ProfileFault.TheVariants as fault
 

@@ -4,8 +4,8 @@ use Rattle.std.specs.Prelude.{ℕ, List, Result, Ok}
 use Rattle.std.specs.Option.{ok_or}
 use Rattle.catalogue.specs.declared.edit.Edit.{Edit}
 use Rattle.records.specs.declared.mirror.Mirror.{Mirror}
-use Rattle.toml_tables.specs.Fields.{◌>>=◌}
-use Rattle.toml_tables.specs.Tables.{document}
+use Rattle.profile_tables.specs.Fields.{◌>>=◌}
+use Rattle.profile_tables.specs.Tables.{document}
 use Rattle.profile_toml.specs.Apps.{edits_of}
 use Rattle.profile_toml.specs.Documents.{check_schema, document_of, entries}
 use Rattle.profile_toml.specs.Mirrors.{valid_mirrors}

@@ -19,11 +19,11 @@ use Rattle.catalogue.specs.declared.edits.release_settings.SetWithdrawn.{SetWith
 use Rattle.catalogue.specs.declared.edits.releases.AddRelease.{AddRelease}
 use Rattle.catalogue.specs.declared.edit.Edit.{Edit}
 use Rattle.catalogue.specs.declared.edit.Edit.TheVariants as edit
-use Rattle.toml_tables.specs.Fields.{◌>>=◌, as_natural, known, optional, required}
-use Rattle.toml_tables.specs.Paths.{invalid_key}
-use Rattle.toml_tables.specs.Tables.{PlacedTable}
-use Rattle.toml_tables.specs.Strings.{optional_strings}
-use Rattle.toml_tables.specs.declared.path.BadEntry.{BadEntry}
+use Rattle.profile_tables.specs.Fields.{◌>>=◌, as_natural, known, optional, required}
+use Rattle.profile_tables.specs.Paths.{invalid_key}
+use Rattle.profile_tables.specs.Tables.{PlacedTable}
+use Rattle.profile_tables.specs.Strings.{optional_strings}
+use Rattle.profile_tables.specs.declared.path.BadEntry.{BadEntry}
 use Rattle.profile_toml.specs.Diffs.{diff_added_to, diff_in}
 use Rattle.profile_toml.specs.Releases.{added_to, package_in}
 use Rattle.profile_toml.specs.declared.script_edit.Verb.{Verb}

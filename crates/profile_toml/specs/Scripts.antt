@@ -2,10 +2,10 @@
 -- entry; this project's profile, schema 1.
 use Rattle.std.specs.Prelude.{ℕ, nat_le, List, [], ◌∷◌, length, codes, if◌then◌else◌, Result, Ok, Err}
 use Rattle.catalogue.specs.declared.edit.Edit.{Edit}
-use Rattle.toml_tables.specs.Fields.{◌>>=◌, as_natural, known, required}
-use Rattle.toml_tables.specs.Lists.{each, optional_tables}
-use Rattle.toml_tables.specs.Tables.{PlacedTable}
-use Rattle.toml_tables.specs.declared.path.BadEntry.{BadEntry}
+use Rattle.profile_tables.specs.Fields.{◌>>=◌, as_natural, known, required}
+use Rattle.profile_tables.specs.Lists.{each, optional_tables}
+use Rattle.profile_tables.specs.Tables.{PlacedTable}
+use Rattle.profile_tables.specs.declared.path.BadEntry.{BadEntry}
 use Rattle.profile_toml.specs.ScriptEdits.{edit_of}
 use Rattle.profile_toml.specs.declared.fault.ProfileFault.{ProfileFault}
 use Rattle.profile_toml.specs.declared.fault.ProfileFault.TheVariants.{TooManyEdits}

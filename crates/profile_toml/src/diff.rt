@@ -2,12 +2,12 @@
 
 ghost use Rattle.std.specs.Prelude.{◌≡◌, ◌++◌, OnOk};
 ghost use Rattle.values.specs.Reading.{Reads};
-ghost use Rattle.toml_tables.specs.Readers.{placed};
+ghost use Rattle.profile_tables.specs.Readers.{placed};
 ghost use Rattle.profile_toml.specs.Diffs.{diff_added_to, diff_edits, diff_in, diff_of};
 
 use catalogue::{AddDiff, Edit};
+use profile_tables::{BadEntry, TableKind, TableReader};
 use std::alloc::AllocError;
-use toml_tables::{BadEntry, TableKind, TableReader};
 use values::{Items, ReadError, Text};
 
 /// A table `diff`.

@@ -3,14 +3,14 @@
 ghost use Rattle.std.specs.Option.{ok_or};
 ghost use Rattle.values.specs.Reading.{Reads};
 ghost use Rattle.toml.specs.View.{table_view};
-ghost use Rattle.toml_tables.specs.Readers.{placed};
+ghost use Rattle.profile_tables.specs.Readers.{placed};
 ghost use Rattle.profile_toml.specs.Documents.{check_schema, document_of};
 ghost use Rattle.profile_toml.specs.declared.fault.ProfileFault.TheVariants.{NotToml};
 
 use crate::fault::ProfileFault;
+use profile_tables::TableReader;
 use std::alloc::Global;
 use toml::Table;
-use toml_tables::TableReader;
 use values::ReadError;
 
 // rule: TOML of a profile

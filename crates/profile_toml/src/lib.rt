@@ -7,7 +7,7 @@
 //! for a profile's edits in their order, `specs/ScriptEdits.antt` for the edits of a script, and `laws`
 //! for what holds of every profile.
 //!
-//! The keys of a table and their paths are read by `toml_tables`. This crate does not apply a batch
+//! The keys of a table and their paths are read by `profile_tables`. This crate does not apply a batch
 //! and does not check what an edit says: that is `catalogue`. It does not write profiles.
 
 #![tactic(auto)]

@@ -1,7 +1,7 @@
 //! Profiles.
 
 ghost use Rattle.values.specs.Reading.{Reads};
-ghost use Rattle.toml_tables.specs.Readers.{placed};
+ghost use Rattle.profile_tables.specs.Readers.{placed};
 ghost use Rattle.profile_toml.specs.Documents.{entries};
 ghost use Rattle.profile_toml.specs.Profiles.{profile_of};
 ghost use Rattle.profile_toml.specs.Reading.{profile_of_bytes};
@@ -11,8 +11,8 @@ use crate::document::{check_schema, parse};
 use crate::fault::ProfileFault;
 use crate::mirror::{MirrorTable, check_mirrors};
 use catalogue::{Batch, Mirror};
+use profile_tables::{BadEntry, TableReader};
 use std::alloc::Global;
-use toml_tables::{BadEntry, TableReader};
 use values::{Items, ReadError};
 
 /// What a profile's tables say.

@@ -2,12 +2,12 @@
 
 ghost use Rattle.std.specs.Prelude.{◌≡◌, ◌++◌, OnOk};
 ghost use Rattle.values.specs.Reading.{Reads};
-ghost use Rattle.toml_tables.specs.Readers.{placed};
+ghost use Rattle.profile_tables.specs.Readers.{placed};
 ghost use Rattle.profile_toml.specs.Releases.{added_to, audience_edits, package_in, release_edits, release_of, stone_edits, withdrawn_edits};
 
 use catalogue::{AddRelease, Edit, SetAudience, SetStone, SetWithdrawn};
+use profile_tables::{BadEntry, TableKind, TableReader};
 use std::alloc::AllocError;
-use toml_tables::{BadEntry, TableKind, TableReader};
 use values::{Items, ReadError, Text};
 
 /// What is said of a release's version and its full package.

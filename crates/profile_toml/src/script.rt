@@ -1,7 +1,7 @@
 //! Scripts.
 
 ghost use Rattle.values.specs.Reading.{Reads};
-ghost use Rattle.toml_tables.specs.Readers.{placed};
+ghost use Rattle.profile_tables.specs.Readers.{placed};
 ghost use Rattle.profile_toml.specs.Documents.{entries};
 ghost use Rattle.profile_toml.specs.Reading.{script_of_bytes};
 ghost use Rattle.profile_toml.specs.Scripts.{few_edits, script_of};
@@ -10,8 +10,8 @@ use crate::document::{check_schema, parse};
 use crate::fault::ProfileFault;
 use crate::script_edit::EditTable;
 use catalogue::{Batch, Edit};
+use profile_tables::{BadEntry, TableReader};
 use std::alloc::Global;
-use toml_tables::{BadEntry, TableReader};
 use values::{Items, ReadError};
 
 const MAX_EDITS: usize = 4096;

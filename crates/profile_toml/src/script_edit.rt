@@ -2,7 +2,7 @@
 
 ghost use Rattle.std.specs.Prelude.{◌≡◌};
 ghost use Rattle.values.specs.Reading.{Reads};
-ghost use Rattle.toml_tables.specs.Readers.{placed};
+ghost use Rattle.profile_tables.specs.Readers.{placed};
 ghost use Rattle.profile_toml.specs.ScriptEdits.{app_added, audience_set, cohort_added, diff_added, edit_in, edit_of, open_set, release_added, rollback_set, share_set, stone_set, target_set, verb_named, verb_of, withdrawn_set};
 
 use crate::diff::{diff_added_to, read_diff_package};
@@ -11,7 +11,7 @@ use catalogue::{
     AddApp, AddCohort, AddDiff, AddRelease, Edit, SetAudience, SetOpen, SetRollback, SetShare,
     SetStone, SetTarget, SetWithdrawn,
 };
-use toml_tables::{BadEntry, TableKind, TableReader};
+use profile_tables::{BadEntry, TableKind, TableReader};
 use values::ReadError;
 
 /// A kind of edit, which a script names by `do`.

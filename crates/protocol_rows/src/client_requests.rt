@@ -1,7 +1,7 @@
 ghost use Rattle.std.specs.Prelude.{◌≡◌, ◌<◌, ◌≤◌, length, IfOk};
 
-use client_texts::write_request;
 use omaha_json::{AppAsk, Check, Request};
+use omaha_json_client::write_request;
 use std::alloc::{AllocError, Global};
 use std::test::Fail;
 use values::{Items, Text};

@@ -1,5 +1,5 @@
-use client_texts::read_reply;
 use omaha_json::{AppReply, AppState, CheckReply, KnownApp, Offer, Part, Reply};
+use omaha_json_client::read_reply;
 use std::alloc::{AllocError, Global};
 use std::test::Fail;
 use values::ReadError;

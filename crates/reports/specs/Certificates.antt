@@ -10,10 +10,10 @@ use Rattle.payload_graph.specs.Net.{Net, net_among}
 use Rattle.price_cert.specs.Rules.{AreCertified, IsFirstWrong}
 use Rattle.price_cert.specs.declared.row.Prices.{Prices}
 use Rattle.price_cert.specs.declared.row.Row.{Row}
-use Rattle.price_texts.specs.Keys.{key_of_string}
-use Rattle.price_texts.specs.Reading.{prices_of_string}
-use Rattle.price_texts.specs.Strings.{spelled_at, string_among}
-use Rattle.price_texts.specs.declared.fault.Fault.{Fault}
+use Rattle.price_certificates.specs.Keys.{key_of_string}
+use Rattle.price_certificates.specs.Reading.{prices_of_string}
+use Rattle.price_certificates.specs.Strings.{spelled_at, string_among}
+use Rattle.price_certificates.specs.declared.fault.Fault.{Fault}
 use Rattle.reports.specs.declared.fault.CertificateError.{CertificateError}
 use Rattle.reports.specs.declared.fault.CertificateError.TheVariants as error
 use Rattle.reports.specs.declared.names.TrackNames.{TrackNames}

@@ -2,7 +2,7 @@
 use Rattle.std.specs.Prelude.{ℕ, List, ◌∷◌, ◌++◌, codes, decimal}
 use Rattle.price_cert.specs.declared.rules.Rule.{Rule}
 use Rattle.price_cert.specs.declared.rules.Rule.TheVariants as rule
-use Rattle.price_texts.specs.declared.fault.Fault.TheVariants as fault
+use Rattle.price_certificates.specs.declared.fault.Fault.TheVariants as fault
 use Rattle.reports.specs.declared.fault.CertificateError.{CertificateError}
 use Rattle.reports.specs.declared.fault.CertificateError.TheVariants as error
 

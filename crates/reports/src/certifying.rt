@@ -12,7 +12,7 @@ use catalogue::Catalogue;
 use editions::Edition;
 use payload_rules::TrackKey;
 use price_cert::Certified;
-use price_texts::write_prices;
+use price_certificates::write_prices;
 use std::alloc::{AllocError, Global};
 
 // The certificate of a key's table.

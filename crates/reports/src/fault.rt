@@ -4,7 +4,7 @@ ghost use Rattle.std.specs.Prelude.{◌≡◌, Some};
 ghost use Rattle.reports.specs.FaultStrings.{error_string, rule_string};
 
 use price_cert::Rule;
-use price_texts::Fault;
+use price_certificates::Fault;
 use std::alloc::AllocError;
 use std::error::Error;
 use std::fmt;

@@ -3,7 +3,7 @@
 ghost use Rattle.std.specs.Prelude.{◌≡◌, ◌<◌, IfErr, IfOk, Ok, Err, length};
 ghost use Rattle.records.specs.Lookups.{releases_at};
 ghost use Rattle.payload_graph.specs.Net.{net_among};
-ghost use Rattle.price_texts.specs.Strings.{spelled_at};
+ghost use Rattle.price_certificates.specs.Strings.{spelled_at};
 ghost use Rattle.editions.specs.Editions.{content_of};
 ghost use Rattle.reports.specs.Certificates.{IsJudged, Verifies};
 
@@ -13,7 +13,7 @@ use catalogue::Catalogue;
 use editions::Edition;
 use payload_graph::Graph;
 use price_cert::check;
-use price_texts::{read_key, read_prices};
+use price_certificates::{read_key, read_prices};
 use std::alloc::{AllocError, Global};
 use values::{ReadError, Text};
 

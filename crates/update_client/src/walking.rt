@@ -11,8 +11,8 @@ use crate::hearing::{Accepted, hear, offered_part};
 use crate::installer::{Installer, Step};
 use crate::installing::install;
 use crate::link::Link;
-use client_texts::write_request;
 use omaha_json::Offer;
+use omaha_json_client::write_request;
 use std::alloc::{AllocError, Global};
 use values::{ReadError, Text};
 

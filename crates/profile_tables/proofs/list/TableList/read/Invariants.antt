@@ -1,0 +1,12 @@
+use Rattle.std.proofs.Common.{◌≡◌, drop}
+use Rattle.toml.specs.View.{items_view}
+use Rattle.profile_tables.specs.Lists.{each, each_from}
+use Rattle.profile_tables.specs.Readers.{listed}
+use Rattle.profile_tables.proofs.ListLemmas.{with_front}
+use Rattle.profile_tables.proofs.list.TableList.read.Given as goal
+
+abbrev pub invariant-loop-index : goal.invariant-loop-index
+invariant-loop-index g l =
+    with_front l.records
+    (each_from g.K.TableKind.reads l.self.path l.index (items_view (drop l.index l.self.values.now)))
+    ≡ each g.K.TableKind.reads (listed l.self)

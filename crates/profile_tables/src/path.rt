@@ -1,0 +1,100 @@
+//! The paths of keys, which are written only for an error.
+
+ghost use Rattle.std.specs.Prelude.{◌≡◌, IfOk, string_bytes};
+ghost use Rattle.std.specs.Char.{is_ascii_control};
+ghost use Rattle.std.specs.List.{list_any};
+ghost use Rattle.profile_tables.specs.Paths.{invalid_element, invalid_key, path_of, prefix};
+
+use std::alloc::{AllocError, Global};
+use std::fmt;
+use values::Text;
+
+/// The entry of a document that is invalid.
+#[derive(Debug, Drop)]
+pub struct BadEntry {
+    /// Its path, as `app[0].release[2].size`: one line.
+    pub path: Text,
+}
+
+/// Where a table is: the document itself, or an element of the list at a path.
+#[derive(Clone, Copy)]
+pub(crate) enum Place<'p> {
+    Top,
+    Element(&'p str, usize),
+}
+
+/// Writes what comes before the table's keys in their paths.
+impl fmt::Display for Place<'_> {
+    ghost use Rattle.std.specs.Prelude.{Some};
+    ghost use Rattle.profile_tables.specs.Paths.{prefix};
+
+    ghost output = { λ place. Some (prefix place) };
+
+    fn fmt<W: fmt::Write>(&self, f: &mut fmt::Formatter<W>) -> fmt::Result {
+        match self {
+            Place::Top => Ok(()),
+            Place::Element(list, index) => write!(f, "{list}[{index}]."),
+        }
+    }
+}
+
+#[derive(Clone, Copy)]
+struct ShownKey<'k> {
+    key: &'k str,
+}
+
+impl fmt::Display for ShownKey<'_> {
+    ghost use Rattle.std.specs.Prelude.{Some};
+    ghost use Rattle.profile_tables.specs.Paths.{shown_key};
+
+    ghost output = { λ shown. Some (shown_key shown.key.now) };
+
+    fn fmt<W: fmt::Write>(&self, f: &mut fmt::Formatter<W>) -> fmt::Result {
+        if has_control(self.key) {
+            toml_writer::write_key(f, self.key)
+        } else {
+            f.write_str(self.key)
+        }
+    }
+}
+
+fn has_control(key: &str) -> bool
+    ensures { result ≡ list_any is_ascii_control key.now }
+{
+    key.as_bytes().iter().any(|byte| byte.is_ascii_control())
+}
+
+// rule: Path of a key
+/// Writes the path of a key of the table at a place.
+pub(crate) fn write_path(alloc: Global, place: &Place<'_>, key: &str) -> Result<Text, AllocError>
+    ensures { IfOk result (λ path. path ≡ path_of (prefix place.now) key.now) }
+{
+    let key = ShownKey { key };
+    let path = format!(in alloc; "{place}{key}")?;
+    Ok(Text::new(path))
+}
+
+/// Makes the error of a key of the table at a place.
+pub(crate) fn invalid_key(
+    alloc: Global,
+    place: &Place<'_>,
+    key: &str,
+) -> Result<BadEntry, AllocError>
+    ensures { IfOk result (λ entry. entry ≡ invalid_key (prefix place.now) key.now) }
+{
+    let path = write_path(alloc, place, key)?;
+    Ok(BadEntry { path })
+}
+
+/// Makes the error of an element of the list at a path.
+pub(crate) fn invalid_element(
+    alloc: Global,
+    list: &str,
+    index: usize,
+) -> Result<BadEntry, AllocError>
+    ensures { IfOk result (λ entry. entry ≡ invalid_element list.now index) }
+{
+    let path = format!(in alloc; "{list}[{index}]")?;
+    let path = Text::new(path);
+    Ok(BadEntry { path })
+}
