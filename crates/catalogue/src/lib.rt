@@ -5,7 +5,7 @@
 //! `specs/Batches.antt` for the meaning of a batch, `specs/Edits.antt` for the faults of each edit in
 //! their order and the change that it makes, and `specs/Changes.antt` for the kinds of change. The
 //! records and what is true of every catalogue are in `records`, the laws of whole histories in
-//! `histories`.
+//! `catalogue_laws`.
 //!
 //! It does not decide which release a client is offered, nor read profiles: crates above do.
 

@@ -15,8 +15,8 @@ use Rattle.records.specs.declared.mirror.Mirror.{Mirror}
 use Rattle.cohorts.specs.CohortTexts.{printed}
 use Rattle.replies.specs.Clients.{Client, cohort_of}
 use Rattle.replies.specs.Replies.{Decision, known_app, state_of}
-use Rattle.walks.specs.Asks.{ask_after, next_ask, offer_by, offer_in, offered_bytes}
-use Rattle.walks.specs.Asks as asks
+use Rattle.theorems.specs.Asks.{ask_after, next_ask, offer_by, offer_in, offered_bytes}
+use Rattle.theorems.specs.Asks as asks
 use Rattle.update_client.specs.Clients.{cohort_after, known_in, news_in, news_of, only_known, part_of}
 use Rattle.update_client.specs.declared.hearing.Accepted.{Accepted}
 

@@ -10,12 +10,12 @@ use Rattle.omaha_json_client.specs.Soundness.{IsSound}
 use Rattle.payload_rules.specs.Chains.{IsAtTarget}
 use Rattle.quotes.specs.Sums.{IsLeast}
 use Rattle.editions.specs.Editions.{content_of}
-use Rattle.histories.specs.Histories.{HistoriesAreValid}
-use Rattle.walks.proofs.HistoryLemmas.{IsValid-content}
+use Rattle.catalogue_laws.specs.Histories.{HistoriesAreValid}
+use Rattle.theorems.proofs.HistoryLemmas.{IsValid-content}
 use Rattle.replies.specs.Clients.{key_of}
-use Rattle.walks.specs.Asks.{IsAskOf, place_at}
-use Rattle.walks.specs.Laws as law
-use Rattle.walks.specs.Walks.{sum_of}
+use Rattle.theorems.specs.Asks.{IsAskOf, place_at}
+use Rattle.theorems.specs.Laws as law
+use Rattle.theorems.specs.Walks.{sum_of}
 use Rattle.update_client.specs.Clients.{ask_of}
 use Rattle.update_client.specs.Walks.{Post, post_of, posts_of}
 use Rattle.client_laws.specs.Laws.{ServedWalksAreLeast, ServedWalksAreWalks}

@@ -20,9 +20,9 @@ use Rattle.omaha_json_client.specs.Soundness.{IsSound}
 use Rattle.replies.specs.Plans.{payload_in, payloads_of}
 use Rattle.replies.specs.Clients.{client_of}
 use Rattle.replies.specs.Replies.{reply_of}
-use Rattle.walks.specs.Asks.{IsReplyTo, ask_after, next_ask, offer_in, offered_bytes}
-use Rattle.walks.specs.Laws.{AsksGetReplies}
-use Rattle.walks.specs.Walks.{IsWalk, last_ask, offers_of, sum_of}
+use Rattle.theorems.specs.Asks.{IsReplyTo, ask_after, next_ask, offer_in, offered_bytes}
+use Rattle.theorems.specs.Laws.{AsksGetReplies}
+use Rattle.theorems.specs.Walks.{IsWalk, last_ask, offers_of, sum_of}
 use Rattle.update_client.specs.Clients.{ask_of, client_after, cohort_after, heard, news_from, news_of, only_known, part_of, request_of}
 use Rattle.update_client.specs.Installed.{Installed}
 use Rattle.update_client.specs.Walks.{Follows, IsReadBack, Post, Turn, bytes_of, post_of, posts_of}

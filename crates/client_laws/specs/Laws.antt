@@ -5,15 +5,15 @@ use Rattle.records.specs.Mirrors.{is_mirror}
 use Rattle.records.specs.Validity.{IsValid}
 use Rattle.records.specs.declared.content.App.{App}
 use Rattle.records.specs.declared.mirror.Mirror.{Mirror}
-use Rattle.histories.specs.Histories.{History}
+use Rattle.catalogue_laws.specs.Histories.{History}
 use Rattle.omaha_json.specs.declared.reply.AppReply.{AppReply}
 use Rattle.payload_rules.specs.Chains.{IsAtTarget, IsChain}
 use Rattle.payload_rules.specs.declared.payload.Payload.{Payload}
 use Rattle.quotes.specs.Sums.{HasNoChain, IsLeast}
 use Rattle.editions.specs.Editions.{content_of}
 use Rattle.replies.specs.Clients.{Client, client_of, key_of}
-use Rattle.walks.specs.Asks.{place_at}
-use Rattle.walks.specs.Walks.{IsWalk, last_ask, offers_of, sum_of}
+use Rattle.theorems.specs.Asks.{place_at}
+use Rattle.theorems.specs.Walks.{IsWalk, last_ask, offers_of, sum_of}
 use Rattle.update_client.specs.Clients.{ask_of}
 use Rattle.update_client.specs.Installed.{Installed}
 use Rattle.update_client.specs.Walks.{Commit, Post, Walks}

@@ -11,7 +11,7 @@ use Rattle.update_client.specs.Walks.{Post}
 use Rattle.replies.specs.Plans.{IsPlan, payloads_of}
 use Rattle.replies.specs.Replies.{reply_of}
 use Rattle.replies.specs.declared.choices.Choice.{Choice}
-use Rattle.walks.specs.Asks.{IsGranted}
+use Rattle.theorems.specs.Asks.{IsGranted}
 
 -- the bytes are the reply to a request by a plan, whose bytes mirrors granted, at some time
 pub record IsPlannedReply (apps : List App) (mirrors : List Mirror) (request : Request) (bytes : List ℕ) : Type 0 where

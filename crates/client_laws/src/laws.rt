@@ -19,7 +19,7 @@ pub fn served_walks<L: Link>(link: &L)
 {
     let _link = link;
     omaha_json_client::laws::replies_are_read_back();
-    walks::laws::replies();
-    walks::laws::walk();
-    histories::validity();
+    theorems::laws::replies();
+    theorems::laws::walk();
+    catalogue_laws::validity();
 }

@@ -1,6 +1,6 @@
 ghost use Rattle.std.specs.Prelude.{◌≡◌, ◌≤◌, [], ◌∷◌, ◌++◌, IfOk, length, map, option_map};
 ghost use Rattle.std.specs.Arc.{arc_value};
-ghost use Rattle.histories.specs.Histories.{LeadsTo};
+ghost use Rattle.catalogue_laws.specs.Histories.{LeadsTo};
 ghost use Rattle.par_tables.specs.Tables.{AreTables};
 ghost use Rattle.payload_graph.specs.Net.{net_among};
 ghost use Rattle.editions.specs.Editions.{content_of, most_batches, Continues, IsTrackKey};
@@ -31,7 +31,7 @@ pub struct Edition {
 impl Model for Edition {
     ghost use Rattle.std.specs.Prelude.{map};
     ghost use Rattle.std.specs.Arc.{arc_value};
-    ghost use Rattle.histories.specs.Histories.{History};
+    ghost use Rattle.catalogue_laws.specs.Histories.{History};
 
     ghost Value = { History };
 
@@ -119,7 +119,7 @@ impl Edition {
     pub fn next(&self, batch: Batch) -> Result<Edition, NextError>
         ensures { Continues self.now batch result }
     {
-        histories::growth();
+        catalogue_laws::growth();
         let catalogue = self.catalogue.applied(&batch)?;
         if self.batches.len() >= MAX_BATCHES {
             return Err(NextError::HistoryFull);

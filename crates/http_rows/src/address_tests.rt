@@ -1,4 +1,4 @@
-use http_replies::parse_address;
+use http_client_heads::parse_address;
 use std::alloc::{AllocError, Global};
 use std::test::Fail;
 

@@ -1,5 +1,5 @@
 use crate::server::serve_once;
-use http_links::HttpLink;
+use http_client::HttpLink;
 use std::alloc::Global;
 use std::net::{Net, TcpListener, TcpStream};
 use std::str;

@@ -15,7 +15,7 @@
 //!
 //! Rows of posts and downloads over the loopback, from a server that sends what a row says, and of addresses.
 //!
-//! It has tests alone, so that `http_links` is proved once.
+//! It has tests alone, so that `http_client` is proved once.
 //!
 //! Rows of the access log: what is shown to it, and the lines that it writes.
 //!

@@ -1,7 +1,7 @@
 ghost use Rattle.std.specs.Prelude.{◌<◌};
 
 use crate::server::serve_once;
-use http_links::HttpLink;
+use http_client::HttpLink;
 use std::alloc::Global;
 use std::net::{Net, TcpListener, TcpStream};
 use std::test::Fail;

@@ -2,8 +2,8 @@
 use Rattle.omaha_json.specs.declared.fault.RequestFault.{RequestFault}
 use Rattle.omaha_service.specs.declared.fault.ServiceFault.{ServiceFault}
 use Rattle.omaha_service.specs.declared.fault.ServiceFault.TheVariants as service
-use Rattle.omaha_walk.specs.declared.error.WalkError.{WalkError}
-use Rattle.omaha_walk.specs.declared.error.WalkError.TheVariants as walk
+use Rattle.omaha_client.specs.declared.error.WalkError.{WalkError}
+use Rattle.omaha_client.specs.declared.error.WalkError.TheVariants as walk
 use Rattle.package_reports.specs.declared.paths.PathError.{PathError}
 use Rattle.package_reports.specs.declared.paths.PathError.TheVariants as paths
 use Rattle.reports.specs.declared.fault.CertificateError.{CertificateError}

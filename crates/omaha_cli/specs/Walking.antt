@@ -2,8 +2,8 @@
 use Rattle.std.specs.Prelude.{◌≡◌, ◌⊎◌, [], Result, Ok, Err}
 use Rattle.streams.specs.Streams.{Known}
 use Rattle.omaha_arguments.specs.declared.command.Walk.{Walk}
-use Rattle.omaha_walk.specs.Walking.{IsWalkOver}
-use Rattle.omaha_walk.specs.declared.error.WalkError.{WalkError}
+use Rattle.omaha_client.specs.Walking.{IsWalkOver}
+use Rattle.omaha_client.specs.declared.error.WalkError.{WalkError}
 use Rattle.update_client.specs.Installed.{Installed}
 use Rattle.omaha_cli.specs.Rejections.{failure_of_walk}
 use Rattle.omaha_cli.specs.Streams.{Streams}

@@ -9,7 +9,7 @@
 //!
 //! `serve` is served by `omaha_server`: read `specs/Serving.antt`. `check` with a folder of packages and `describe`
 //! print what `package_reports` finds: read `specs/Comparing.antt` and `specs/Describing.antt`. `walk` is walked by
-//! `omaha_walk`: read `specs/Walking.antt`.
+//! `omaha_client`: read `specs/Walking.antt`.
 
 #![tactic(auto)]
 
@@ -31,7 +31,7 @@ pub use crate::reporting::report_on;
 pub use crate::running::{Ending, Status, run};
 pub use crate::unreadable::report_unreadable;
 pub use omaha_arguments::{Command, Comparison, Once, Question, Report, Serve, Walk};
+pub use omaha_client::Connector;
 pub use omaha_server::{Host, Place, ServerError};
 pub use omaha_service::{Service, ServiceFault, answer, builtin_service, read_service};
-pub use omaha_walk::Connector;
 pub use package_reports::Folders;

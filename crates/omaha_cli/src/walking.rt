@@ -7,7 +7,7 @@ ghost use Rattle.streams.specs.Streams.{Known};
 
 use crate::failure::Failure;
 use omaha_arguments::Walk;
-use omaha_walk::{Connector, WalkError};
+use omaha_client::{Connector, WalkError};
 use std::alloc::{AllocError, Global};
 use streams::WriteWhole;
 use update_client::Client;

@@ -3,7 +3,7 @@
 -- lower-case digits.
 use Rattle.std.specs.Prelude.{ℕ, ◌==◌, List, [], ◌∷◌, codes, map, if◌then◌else◌, Option, None, Some, option_map}
 use Rattle.hex.specs.Hex.{encode_lower}
-use Rattle.histories.specs.Contents.{default_name, spelling_of}
+use Rattle.catalogue_laws.specs.Contents.{default_name, spelling_of}
 use Rattle.records.specs.Limits.{max_share}
 use Rattle.records.specs.declared.content.App.{App}
 use Rattle.records.specs.declared.content.Cohort.{Cohort}

@@ -1,0 +1,7 @@
+use Rattle.std.proofs.Common.{refl}
+use Rattle.hex.proofs.OnLiterals.{hex_on_literals}
+use Rattle.catalogue_laws.proofs.small_content.Goals as goal
+
+pub returns : goal.returns
+unfolding hex_on_literals
+returns c = refl

@@ -1,7 +1,0 @@
-use Rattle.std.proofs.Common.{refl}
-use Rattle.hex.proofs.OnLiterals.{hex_on_literals}
-use Rattle.histories.proofs.small_content.Goals as goal
-
-pub returns : goal.returns
-unfolding hex_on_literals
-returns c = refl

@@ -1,0 +1,156 @@
+ghost use Rattle.std.specs.Prelude.{◌≡◌, ◌<◌, ◌≤◌, length, IfOk};
+ghost use Rattle.http_client.specs.Bodies.{left_of};
+
+use crate::body::Body;
+use crate::fault::LinkFault;
+use crate::opening::open_over;
+use crate::posting::post_over;
+use http_client_heads::{Address, parse_address};
+use http_devices::{Reading, Writing};
+use http_wire::Failed;
+use std::alloc::Global;
+use std::io;
+use std::marker::Brand;
+use std::net::{Net, TcpListener, TcpStream, ToSocketAddrs};
+use std::sync::ledger::{Blank, Ledger};
+use std::time::Duration;
+
+// Connects, and limits the time of each read and each write.
+fn connect_limited<R: Net<Listener = TcpListener, Stream = TcpStream>, A: ToSocketAddrs>(
+    rt: &R,
+    address: A,
+    seconds: u64,
+) -> io::Result<TcpStream> {
+    let stream = TcpStream::connect(rt, address)?;
+    let limit = Duration::from_secs(seconds);
+    stream.set_read_timeout(Some(limit))?;
+    stream.set_write_timeout(Some(limit))?;
+    stream.set_nodelay(true)?;
+    Ok(stream)
+}
+
+// What is posted, and where.
+#[derive(Clone, Copy, Drop)]
+struct Post<'a> {
+    host: &'a str,
+    path: &'a str,
+    body: &'a [u8],
+}
+
+// Posts over a connection.
+fn post_on<A: Ledger, B: Ledger>(
+    alloc: Global,
+    stream: &TcpStream,
+    reads: Blank,
+    writes: Blank,
+    post: &Post<'_>,
+) -> Result<Vec<u8>, LinkFault>
+    requires read_name { reads.name ≡ A.name }
+    requires read_parts { reads.parts ≡ A.parts }
+    requires some_reads { 0 < reads.parts }
+    requires write_name { writes.name ≡ B.name }
+    requires write_parts { writes.parts ≡ B.parts }
+    requires some_writes { 0 < writes.parts }
+{
+    let mut source = Reading::<&TcpStream, A>::new(stream, reads);
+    let mut sink = Writing::<&TcpStream, B>::new(stream, writes);
+    post_over(
+        alloc,
+        &mut source,
+        &mut sink,
+        post.host,
+        post.path,
+        post.body,
+    )
+}
+
+// Opens a download over a connection.
+fn open_on<A: Ledger, B: Ledger>(
+    alloc: Global,
+    stream: &TcpStream,
+    reads: Blank,
+    writes: Blank,
+    address: &Address<'_>,
+) -> Result<Body, LinkFault>
+    requires read_name { reads.name ≡ A.name }
+    requires read_parts { reads.parts ≡ A.parts }
+    requires some_reads { 0 < reads.parts }
+    requires write_name { writes.name ≡ B.name }
+    requires write_parts { writes.parts ≡ B.parts }
+    requires some_writes { 0 < writes.parts }
+{
+    let mut source = Reading::<&TcpStream, A>::new(stream, reads);
+    let mut sink = Writing::<&TcpStream, B>::new(stream, writes);
+    open_over(alloc, &mut source, &mut sink, address)
+}
+
+// Reads some bytes of a download over its connection.
+fn read_on<A: Ledger>(
+    stream: &TcpStream,
+    reads: Blank,
+    body: &mut Body,
+    into: &mut [u8],
+) -> Result<usize, Failed>
+    requires name { reads.name ≡ A.name }
+    requires parts { reads.parts ≡ A.parts }
+    requires some { 0 < reads.parts }
+    ensures bound { IfOk result (λ count. count ≤ length into.new) }
+    ensures end { IfOk result (λ count. 0 < length into.new → count ≡ 0 → left_of body.new ≡ 0) }
+{
+    let mut source = Reading::<&TcpStream, A>::new(stream, reads);
+    body.read(&mut source, into)
+}
+
+// Posts over a connection, with ledgers of its own.
+fn post_once(alloc: Global, stream: &TcpStream, post: &Post<'_>) -> Result<Vec<u8>, LinkFault> {
+    let (reads, writes) = (Blank::new(1), Blank::new(1));
+    post_on::<Brand, Brand>(alloc, stream, reads, writes, post)
+}
+
+/// Posts a body of JSON to a path of a host, over a connection of its own.
+pub(crate) fn post_to<R: Net<Listener = TcpListener, Stream = TcpStream>>(
+    alloc: Global,
+    rt: &R,
+    host: &str,
+    seconds: u64,
+    path: &str,
+    body: &[u8],
+) -> Result<Vec<u8>, LinkFault> {
+    match connect_limited(rt, host, seconds) {
+        Ok(stream) => post_once(alloc, &stream, &Post { host, path, body }),
+        Err(_) => Err(LinkFault::Connect),
+    }
+}
+
+/// Opens the download at an address, over a connection of its own.
+pub(crate) fn open_at<R: Net<Listener = TcpListener, Stream = TcpStream>>(
+    alloc: Global,
+    rt: &R,
+    address: &str,
+    seconds: u64,
+) -> Result<(TcpStream, Body), LinkFault> {
+    let Some(address) = parse_address(address) else {
+        return Err(LinkFault::Address);
+    };
+    let Ok(stream) = connect_limited(rt, (address.host, address.port), seconds) else {
+        return Err(LinkFault::Connect);
+    };
+    let (reads, writes) = (Blank::new(1), Blank::new(1));
+    match open_on::<Brand, Brand>(alloc, &stream, reads, writes, &address) {
+        Ok(body) => Ok((stream, body)),
+        Err(fault) => Err(fault),
+    }
+}
+
+/// Reads some bytes of a download over its connection, as `Body::read` does.
+pub(crate) fn read_from(
+    stream: &TcpStream,
+    body: &mut Body,
+    into: &mut [u8],
+) -> Result<usize, Failed>
+    ensures bound { IfOk result (λ count. count ≤ length into.new) }
+    ensures end { IfOk result (λ count. 0 < length into.new → count ≡ 0 → left_of body.new ≡ 0) }
+{
+    let reads = Blank::new(1);
+    read_on::<Brand>(stream, reads, body, into)
+}

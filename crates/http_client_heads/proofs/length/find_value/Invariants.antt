@@ -1,0 +1,12 @@
+use Rattle.std.proofs.Common.{◌≡◌, length, map, All}
+use Rattle.httparse.specs.Spans.{IsHeaderWithin, header_bytes}
+use Rattle.http_heads.specs.Fields.{values_named}
+use Rattle.http_client_heads.proofs.length.find_value.Given as goal
+
+abbrev pub invariant-loop-fields : goal.invariant-loop-fields
+invariant-loop-fields l =
+    All (IsHeaderWithin (length l.buf)) l.fields
+    × (values_named l.name (map (header_bytes l.buf) l.fn.fields) ≡ values_named l.name (map (header_bytes l.buf) l.fields))
+
+abbrev pub decreases-loop-fields : goal.decreases-loop-fields
+decreases-loop-fields l = length l.fields

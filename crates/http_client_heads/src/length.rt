@@ -1,0 +1,84 @@
+ghost use Rattle.std.specs.Prelude.{◌≡◌, ◌∷◌, [], length, map, All, MatchOption};
+ghost use Rattle.httparse.specs.Spans.{IsHeaderWithin, header_bytes};
+ghost use Rattle.http_heads.specs.Fields.{is_named, values_named};
+ghost use Rattle.http_client_heads.specs.Lengths.{body_length, length_in};
+
+use crate::fault::ReplyFault;
+use httparse::spans::HeaderSpan;
+
+// The first length that is too long: 2^64.
+const TOO_LONG: u128 = 18_446_744_073_709_551_616;
+
+// Whether a field has this name, in any case.
+fn is_named(buf: &[u8], field: &HeaderSpan, name: &[u8]) -> bool
+    requires { IsHeaderWithin (length buf.now) field.now }
+    ensures { result ≡ is_named name.now (header_bytes buf.now field.now) }
+{
+    field.name.of(buf).eq_ignore_ascii_case(name)
+}
+
+// The value of the first field with this name, and the fields after it.
+fn find_value<'a>(
+    buf: &'a [u8],
+    mut fields: &'a [HeaderSpan],
+    name: &[u8],
+) -> Option<(&'a [u8], &'a [HeaderSpan])>
+    requires { All (IsHeaderWithin (length buf.now)) fields.now }
+    ensures within { MatchOption result (Unit {0}) (λ found. All (IsHeaderWithin (length buf.now)) found.1.now) }
+    ensures values { MatchOption result (values_named name.now (map (header_bytes buf.now) fields.now) ≡ [])
+        (λ found. values_named name.now (map (header_bytes buf.now) fields.now)
+        ≡ found.0.now ∷ values_named name.now (map (header_bytes buf.now) found.1.now)) }
+{
+    while let [field, rest @ ..] = fields {
+        fields = rest;
+        if is_named(buf, field, name) {
+            return Some((field.value.of(buf), fields));
+        }
+    }
+    None
+}
+
+/// Returns the number that decimal digits write, if it is below 2^64.
+pub(crate) fn read_length(value: &[u8]) -> Result<u64, ReplyFault>
+    ensures { result ≡ length_in value.now }
+{
+    if value.is_empty() {
+        return Err(ReplyFault::BadLength);
+    }
+    let mut number: u128 = 0;
+    for byte in value {
+        if !byte.is_ascii_digit() {
+            return Err(ReplyFault::BadLength);
+        }
+        number = (number * 10 + u128::from(*byte - b'0')).min(TOO_LONG);
+    }
+    if number >= TOO_LONG {
+        return Err(ReplyFault::BadLength);
+    }
+    Ok(number as u64)
+}
+
+// rule: Length of a reply
+/// Returns how many bytes follow the head of a reply, or why the reply is rejected.
+///
+/// `fields` are places in `buf`. In this order: a status other than 200, so redirects as well; a
+/// `Transfer-Encoding`; no `Content-Length`, or two; one that isn't a decimal number below 2^64.
+#[tactic(auto, unfolding(crate::specs::Lengths::body_length))]
+pub fn body_length(code: u16, buf: &[u8], fields: &[HeaderSpan]) -> Result<u64, ReplyFault>
+    requires { All (IsHeaderWithin (length buf.now)) fields.now }
+    ensures { result ≡ body_length code (map (header_bytes buf.now) fields.now) }
+{
+    if code != 200 {
+        return Err(ReplyFault::Status);
+    }
+    if find_value(buf, fields, b"transfer-encoding").is_some() {
+        return Err(ReplyFault::TransferCoding);
+    }
+    let Some((value, rest)) = find_value(buf, fields, b"content-length") else {
+        return Err(ReplyFault::NoLength);
+    };
+    if find_value(buf, rest, b"content-length").is_some() {
+        return Err(ReplyFault::TwoLengths);
+    }
+    read_length(value)
+}

@@ -1,0 +1,49 @@
+ghost use Rattle.std.specs.Prelude.{◌≡◌};
+ghost use Rattle.http_client_heads.specs.Starts.{StartFound};
+
+use crate::fault::ReplyFault;
+use crate::length::body_length;
+use httparse::spans::{EMPTY_HEADER_SPAN, parse_response};
+use httparse::{Error, Status};
+
+/// The most bytes that the head of a reply may have.
+pub const MAX_HEAD: usize = 16384;
+
+/// The most fields that the head of a reply may have.
+pub const MAX_FIELDS: usize = 100;
+
+/// A reply's head at the front of bytes.
+#[derive(Clone, Copy, Debug, Drop, PartialEq, Eq)]
+pub struct Start {
+    /// The length of the head in bytes.
+    pub head: usize,
+    /// The length of the body that follows, in bytes.
+    pub body: u64,
+}
+
+// rule: Head of a reply that is read
+/// Finds the head of a reply at the front of the bytes, and how long its body is.
+///
+/// Returns `None` if there are less than `MAX_HEAD` bytes, and more can make them a head. Errors are those
+/// of `body_length` after a whole head, and before it: bytes that can't become a head, `MAX_HEAD` bytes or
+/// more without a whole head, more than `MAX_FIELDS` fields.
+pub fn read_start(bytes: &[u8]) -> Result<Option<Start>, ReplyFault>
+    ensures { StartFound bytes.now result }
+{
+    let mut fields = [EMPTY_HEADER_SPAN; MAX_FIELDS];
+    match parse_response(bytes, &mut fields) {
+        Ok(Status::Complete(spans)) => {
+            match body_length(spans.code, bytes, &fields[..spans.headers]) {
+                Ok(body) => Ok(Some(Start {
+                    head: spans.len,
+                    body,
+                })),
+                Err(fault) => Err(fault),
+            }
+        }
+        Ok(Status::Partial) if bytes.len() < MAX_HEAD => Ok(None),
+        Ok(Status::Partial) => Err(ReplyFault::NoHead),
+        Err(Error::TooManyHeaders) => Err(ReplyFault::ManyFields),
+        Err(_) => Err(ReplyFault::NoHead),
+    }
+}

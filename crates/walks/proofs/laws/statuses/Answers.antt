@@ -1,5 +1,0 @@
-use Rattle.walks.proofs.LawLemmas.{statuses_say}
-use Rattle.walks.proofs.laws.statuses.Goals as goal
-
-pub returns : goal.returns
-returns c = statuses_say c.order.ensures.irreflexive c.order.ensures.transitive c.validity.ensures
