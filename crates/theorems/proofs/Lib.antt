@@ -3,6 +3,7 @@ mod ChainLemmas
 mod ChoiceLemmas
 mod EndLemmas
 mod FollowLemmas
+mod HeardLemmas
 pub mod HistoryLemmas
 mod ItemLemmas
 mod LawLemmas
@@ -14,7 +15,11 @@ mod PlaceLemmas
 mod RankLemmas
 mod ReplyLemmas
 mod RequestLemmas
+mod ServedLawLemmas
+mod ServedLemmas
+mod SoundLemmas
 mod StepLemmas
+mod StringLemmas
 mod TrackLemmas
 mod WalkLemmas
 mod YieldLemmas

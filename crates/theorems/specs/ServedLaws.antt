@@ -18,7 +18,7 @@ use Rattle.update_client.specs.Clients.{ask_of}
 use Rattle.update_client.specs.Installed.{Installed}
 use Rattle.update_client.specs.Walks.{Commit, Post, Walks}
 use Rattle.update_client.specs.declared.walking.Walk.{Walk}
-use Rattle.client_laws.specs.Served.{IsServedPost}
+use Rattle.theorems.specs.Served.{IsServedPost}
 
 -- a client went from one state to another by replies that are a walk: it made as many steps as there are
 -- offers, and their bytes

@@ -26,9 +26,9 @@ use Rattle.theorems.specs.Walks.{IsWalk, last_ask, offers_of, sum_of}
 use Rattle.update_client.specs.Clients.{ask_of, client_after, cohort_after, heard, news_from, news_of, only_known, part_of, request_of}
 use Rattle.update_client.specs.Installed.{Installed}
 use Rattle.update_client.specs.Walks.{Follows, IsReadBack, Post, Turn, bytes_of, post_of, posts_of}
-use Rattle.client_laws.specs.Served.{IsServedPost}
-use Rattle.client_laws.proofs.SoundLemmas.{IsSound-reply_of}
-use Rattle.client_laws.proofs.HeardLemmas.{cohort_after-known, known_from, next-no_update, next-offered, none_heard, offer_heard, offer_in-known, offered_bytes-size}
+use Rattle.theorems.specs.Served.{IsServedPost}
+use Rattle.theorems.proofs.SoundLemmas.{IsSound-reply_of}
+use Rattle.theorems.proofs.HeardLemmas.{cohort_after-known, known_from, next-no_update, next-offered, none_heard, offer_heard, offer_in-known, offered_bytes-size}
 
 alone : {A B : Type 0} (R : A → B → Type 0) (x : A) (ys : List B) → AllZip R (x ∷ []) ys
     → (y : B) × (ys ≡ y ∷ []) × R x y

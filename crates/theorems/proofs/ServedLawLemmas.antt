@@ -18,9 +18,9 @@ use Rattle.theorems.specs.Laws as law
 use Rattle.theorems.specs.Walks.{sum_of}
 use Rattle.update_client.specs.Clients.{ask_of}
 use Rattle.update_client.specs.Walks.{Post, post_of, posts_of}
-use Rattle.client_laws.specs.Laws.{ServedWalksAreLeast, ServedWalksAreWalks}
-use Rattle.client_laws.specs.Served.{IsServedPost}
-use Rattle.client_laws.proofs.ServedLemmas.{served_walk}
+use Rattle.theorems.specs.ServedLaws.{ServedWalksAreLeast, ServedWalksAreWalks}
+use Rattle.theorems.specs.Served.{IsServedPost}
+use Rattle.theorems.proofs.ServedLemmas.{served_walk}
 
 module _ (read_back : (reply : Reply) → IsSound reply → reply_of_bytes (reply_bytes reply) ≡ Ok reply)
     (each : law.AsksGetReplies) (received : List ℕ) (ended : Type 0) where

@@ -34,7 +34,7 @@ use Rattle.payload_rules.specs.declared.payload.Payload.{Payload}
 use Rattle.payload_rules.specs.declared.payload.Payload.TheVariants.{Full, Differ}
 use Rattle.replies.specs.Clients.{Client, client_at, client_of, cohort_of}
 use Rattle.replies.specs.Replies.{Decision, app_reply, check_reply, codebase_at, diff_of, diff_part, full_part, offer_of, release_by, reply_of, state_of, update_reply}
-use Rattle.client_laws.proofs.StringLemmas.{IsUtf8-codebase, IsUtf8-cohort_name, IsUtf8-cohort_text, IsUtf8-fingerprint, IsUtf8-package_name, IsUtf8-version}
+use Rattle.theorems.proofs.StringLemmas.{IsUtf8-codebase, IsUtf8-cohort_name, IsUtf8-cohort_text, IsUtf8-fingerprint, IsUtf8-package_name, IsUtf8-version}
 
 -- what is found in a list, if anything is, passes a test that all of the list passes
 abbrev Passes : {X : Type 0} → (X → Bool) → Option X → Type 0

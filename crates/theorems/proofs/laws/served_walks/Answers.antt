@@ -1,5 +1,5 @@
-use Rattle.client_laws.proofs.LawLemmas.{walks_are_least, walks_are_served}
-use Rattle.client_laws.proofs.laws.served_walks.Goals as goal
+use Rattle.theorems.proofs.ServedLawLemmas.{walks_are_least, walks_are_served}
+use Rattle.theorems.proofs.laws.served_walks.Goals as goal
 
 pub returns-clause-served : goal.returns-clause-served
 returns-clause-served g c =

@@ -1,5 +1,0 @@
-mod HeardLemmas
-mod LawLemmas
-mod ServedLemmas
-mod SoundLemmas
-mod StringLemmas
