@@ -6,12 +6,12 @@ use Rattle.streams.specs.Streams.{Known}
 use Rattle.streams.specs.Writing.{Breaks}
 use Rattle.omaha_json.specs.RequestReading.{request_of_bytes}
 use Rattle.omaha_json.specs.declared.fault.RequestFault.{RequestFault}
-use Rattle.omaha_service.specs.Answering.{Answers}
-use Rattle.omaha_service.specs.Builtin.{builtin_service}
-use Rattle.omaha_service.specs.Services.{service_of_bytes}
-use Rattle.omaha_service.specs.declared.fault.ServiceFault.{ServiceFault}
-use Rattle.omaha_service.specs.declared.fault.ServiceFault.TheVariants as service
-use Rattle.omaha_service.specs.declared.service.Service.{Service}
+use Rattle.omaha_server.specs.Answering.{Answers}
+use Rattle.omaha_server.specs.Builtin.{builtin_service}
+use Rattle.omaha_server.specs.Services.{service_of_bytes}
+use Rattle.omaha_server.specs.declared.fault.ServiceFault.{ServiceFault}
+use Rattle.omaha_server.specs.declared.fault.ServiceFault.TheVariants as service
+use Rattle.omaha_server.specs.declared.service.Service.{Service}
 use Rattle.omaha_cli.specs.Streams.{Streams}
 use Rattle.omaha_arguments.specs.declared.command.Once.{Once}
 use Rattle.omaha_cli.specs.declared.failure.Failure.{Failure}

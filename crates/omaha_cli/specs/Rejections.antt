@@ -1,7 +1,7 @@
 -- A reader's error as a failure of the program.
 use Rattle.omaha_json.specs.declared.fault.RequestFault.{RequestFault}
-use Rattle.omaha_service.specs.declared.fault.ServiceFault.{ServiceFault}
-use Rattle.omaha_service.specs.declared.fault.ServiceFault.TheVariants as service
+use Rattle.omaha_server.specs.declared.fault.ServiceFault.{ServiceFault}
+use Rattle.omaha_server.specs.declared.fault.ServiceFault.TheVariants as service
 use Rattle.omaha_client.specs.declared.error.WalkError.{WalkError}
 use Rattle.omaha_client.specs.declared.error.WalkError.TheVariants as walk
 use Rattle.package_reports.specs.declared.paths.PathError.{PathError}

@@ -5,7 +5,7 @@ use Rattle.streams.specs.Reading.{IsWhole}
 use Rattle.streams.specs.Writing.{Breaks}
 use Rattle.records.specs.declared.content.App.{App}
 use Rattle.editions.specs.Editions.{content_of}
-use Rattle.omaha_service.specs.declared.service.Service.{Service}
+use Rattle.omaha_server.specs.declared.service.Service.{Service}
 use Rattle.reports.specs.Certificates.{Certifies, Verifies}
 use Rattle.reports.specs.Summaries.{summary_of}
 use Rattle.reports.specs.declared.fault.CertificateError.{CertificateError}

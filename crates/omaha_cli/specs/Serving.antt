@@ -5,8 +5,8 @@ use Rattle.omaha_arguments.specs.declared.command.Serve.{Serve}
 use Rattle.omaha_server.specs.Serving.{IsLogged, Serves}
 use Rattle.omaha_server.specs.declared.error.ServerError.{ServerError}
 use Rattle.omaha_server.specs.declared.error.ServerError.TheVariants as server
-use Rattle.omaha_service.specs.Answering.{stock_of}
-use Rattle.omaha_service.specs.declared.service.Service.{Service}
+use Rattle.omaha_server.specs.Answering.{stock_of}
+use Rattle.omaha_server.specs.declared.service.Service.{Service}
 use Rattle.update_desk.specs.Answering.{Stock}
 use Rattle.omaha_cli.specs.Once.{Files, IsServed}
 use Rattle.omaha_cli.specs.Streams.{Streams}

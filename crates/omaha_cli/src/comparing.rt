@@ -11,7 +11,7 @@ ghost use Rattle.streams.specs.Streams.{Known};
 use crate::failure::Failure;
 use crate::once::open_profile;
 use omaha_arguments::Comparison;
-use omaha_service::Service;
+use omaha_server::Service;
 use package_reports::{Finding, Folders, findings_string};
 use reports::summary;
 use std::alloc::{AllocError, Global};

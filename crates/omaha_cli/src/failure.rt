@@ -4,7 +4,7 @@ ghost use Rattle.omaha_cli.specs.Failures.{failure_string};
 use catalogue::Refused;
 use omaha_client::WalkError;
 use omaha_json::RequestFault;
-use omaha_service::ServiceFault;
+use omaha_server::ServiceFault;
 use package_reports::{DescribeError, PathError};
 use profile_toml::ProfileFault;
 use reports::CertificateError;

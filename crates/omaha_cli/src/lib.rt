@@ -3,7 +3,7 @@
 //! `run` carries out the command that `omaha_arguments` reads, reports how it ended and returns the exit
 //! status: read `specs/Running.antt`. The command `once` is `respond`, which reads a profile from its file
 //! and a request from a reader, and writes a reply: read `specs/Once.antt`. What it replies from and what it
-//! writes are made by `omaha_service`. The commands `check`, `certify` and `verify` are `report_on`: read
+//! writes are made by `omaha_server`. The commands `check`, `certify` and `verify` are `report_on`: read
 //! `specs/Reports.antt`. What they print is made by `reports`. `explain` prints what `explanations` says of
 //! a code.
 //!
@@ -32,6 +32,7 @@ pub use crate::running::{Ending, Status, run};
 pub use crate::unreadable::report_unreadable;
 pub use omaha_arguments::{Command, Comparison, Once, Question, Report, Serve, Walk};
 pub use omaha_client::Connector;
-pub use omaha_server::{Host, Place, ServerError};
-pub use omaha_service::{Service, ServiceFault, answer, builtin_service, read_service};
+pub use omaha_server::{
+    Host, Place, ServerError, Service, ServiceFault, answer, builtin_service, read_service,
+};
 pub use package_reports::Folders;

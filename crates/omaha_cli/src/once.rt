@@ -6,7 +6,7 @@ ghost use Rattle.omaha_cli.specs.Streams.{Streams};
 
 use crate::failure::Failure;
 use omaha_arguments::Once;
-use omaha_service::{Service, answer, builtin_service, read_service};
+use omaha_server::{Service, answer, builtin_service, read_service};
 use std::sync::Wait;
 use streams::{Disk, ReadFailure, ReadWhole, WriteWhole};
 use values::Text;

@@ -9,7 +9,7 @@ use crate::failure::Failure;
 use crate::once::{MAX_PROFILE, open_profile};
 use crate::printing::print;
 use omaha_arguments::{Question, Report};
-use omaha_service::Service;
+use omaha_server::Service;
 use reports::{certify, summary, verify};
 use streams::{Disk, ReadFailure, WriteWhole};
 use values::Text;

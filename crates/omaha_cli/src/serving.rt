@@ -2,14 +2,13 @@
 
 ghost use Rattle.std.specs.Prelude.{◌≡◌, IfOk};
 ghost use Rattle.omaha_cli.specs.Serving.{EndsAs, IsHosted, IsUnopened, ServesOn};
-ghost use Rattle.omaha_service.specs.Answering.{stock_of};
+ghost use Rattle.omaha_server.specs.Answering.{stock_of};
 ghost use Rattle.streams.specs.Streams.{Known};
 
 use crate::failure::Failure;
 use crate::once::open_profile;
 use omaha_arguments::Serve;
-use omaha_server::{Host, Place, ServerError};
-use omaha_service::Service;
+use omaha_server::{Host, Place, ServerError, Service};
 use std::alloc::AllocError;
 use streams::{Disk, WriteWhole};
 use values::Text;

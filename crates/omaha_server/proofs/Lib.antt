@@ -1,2 +1,4 @@
 mod AlongLemmas
+pub mod AnswerLemmas
+mod BuiltinLemmas
 mod TotalLemmas

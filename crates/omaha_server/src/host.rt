@@ -1,11 +1,11 @@
 // What can serve.
 
 ghost use Rattle.omaha_server.specs.Serving.{IsLogged, Serves};
-ghost use Rattle.omaha_service.specs.Answering.{stock_of};
+ghost use Rattle.omaha_server.specs.Answering.{stock_of};
 
 use crate::error::ServerError;
+use crate::service::Service;
 use crate::serving::{Place, serve};
-use omaha_service::Service;
 use std::net::{Net, TcpListener, TcpStream};
 use std::rt::Files;
 use std::sync::Wait;

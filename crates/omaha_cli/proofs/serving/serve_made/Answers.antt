@@ -1,6 +1,6 @@
 use Rattle.std.proofs.Common.{ℕ, List, Option, inl, subst}
 use Rattle.omaha_server.specs.Serving.{IsLogged, Serves}
-use Rattle.omaha_service.specs.Answering.{stock_of}
+use Rattle.omaha_server.specs.Answering.{stock_of}
 use Rattle.omaha_cli.proofs.serving.serve_made.Goals as goal
 
 pub returns : goal.returns

@@ -1,7 +1,7 @@
 use Rattle.std.proofs.Common.{◌≡◌, ◌∙◌, Some}
 use Rattle.std.proofs.lemmas.List.Elements.{All-pop}
 use Rattle.mirror_ledger.specs.Asks.{AreUnused}
-use Rattle.omaha_service.proofs.AnswerLemmas.{AreTallied-unused, are_bounded-mirrors}
+use Rattle.omaha_server.proofs.AnswerLemmas.{AreTallied-unused, are_bounded-mirrors}
 use Rattle.editions.specs.Editions.{content_of}
 use Rattle.omaha_server.proofs.TotalLemmas.{AreTotals-of}
 use Rattle.omaha_server.proofs.serving.serve_over.Goals as goal

@@ -1,0 +1,24 @@
+-- What the program replies to an input: the reply to the request that it is, from a catalogue at a
+-- time, over mirrors that granted nothing before; or its first fault. This project's profile.
+use Rattle.std.specs.Prelude.{ℕ, List, [], Result, Ok, Err}
+use Rattle.editions.specs.Editions.{content_of}
+use Rattle.mirror_ledger.specs.Asks.{Ask}
+use Rattle.omaha_json.specs.RequestReading.{request_of_bytes}
+use Rattle.omaha_json.specs.declared.fault.RequestFault.{RequestFault}
+use Rattle.update_desk.specs.Answering.{Answers as IsAnswered, Stock}
+use Rattle.update_desk.specs.Asking.{AreGranted}
+use Rattle.values.specs.Reading.{Explains}
+use Rattle.values.specs.declared.read_error.ReadError.{ReadError}
+use Rattle.omaha_server.specs.declared.service.Service.{Service}
+
+-- what a service offers: its edition's content, at its mirrors
+abbrev pub stock_of : Service → Stock
+stock_of service = record { content = content_of service.edition; mirrors = service.mirrors }
+
+-- rule: Reply of the program
+-- the reply to the request that the input is, by what the mirrors grant: the first with room each time,
+-- beginning with nothing; or the input's first fault, or out of memory
+abbrev pub Answers : Service → ℕ → List ℕ → Result (List ℕ) (ReadError RequestFault) → Type 0
+Answers service moment input (Ok reply) =
+    (asks : List Ask) × IsAnswered (stock_of service) input moment [] asks (Ok reply) × AreGranted service.mirrors [] asks
+Answers service moment input (Err error) = Explains error (request_of_bytes input)

@@ -1,4 +1,0 @@
-pub mod Answering
-pub mod Builtin
-pub mod FaultStrings
-pub mod Services
