@@ -5,7 +5,7 @@ use Rattle.omaha_arguments.specs.Commands.{faults_of}
 use Rattle.omaha_arguments.specs.Errors.{IsWhy}
 use Rattle.omaha_arguments.specs.declared.error.ArgumentError.{ArgumentError}
 use Rattle.omaha_arguments.specs.declared.error.ArgumentError.TheVariants as argument
-use Rattle.package_reports.specs.Storages.{Storage}
+use Rattle.package_files.specs.Storages.{Storage}
 use Rattle.omaha_cli.specs.Once.{Files}
 use Rattle.omaha_cli.specs.Running.{Ends, EndsBy, code_of, status_of}
 use Rattle.omaha_cli.specs.declared.running.Ending.{Ending}

@@ -7,8 +7,8 @@ use Rattle.editions.specs.Editions.{content_of}
 use Rattle.omaha_server.specs.declared.service.Service.{Service}
 use Rattle.package_files.specs.Findings.{AreFindings}
 use Rattle.package_files.specs.declared.finding.Finding.{Finding}
-use Rattle.package_reports.specs.Findings.{findings_string}
-use Rattle.package_reports.specs.Storages.{Storage}
+use Rattle.package_files.specs.FindingLines.{findings_string}
+use Rattle.package_files.specs.Storages.{Storage}
 use Rattle.records.specs.Lookups.{packages_of}
 use Rattle.reports.specs.Summaries.{summary_of}
 use Rattle.omaha_arguments.specs.declared.command.Comparison.{Comparison}

@@ -1,8 +1,8 @@
 -- What the command `describe` prints; this project's profile.
 use Rattle.std.specs.Prelude.{◌≡◌, ⊤, ℕ, List, Result, Ok, Err}
-use Rattle.package_reports.specs.Paths.{AreDescribed, IsUndescribed}
-use Rattle.package_reports.specs.Storages.{Storage}
-use Rattle.package_reports.specs.declared.paths.PathError.{PathError}
+use Rattle.package_files.specs.Paths.{AreDescribed, IsUndescribed}
+use Rattle.package_files.specs.Storages.{Storage}
+use Rattle.package_files.specs.declared.paths.PathError.{PathError}
 use Rattle.omaha_cli.specs.Rejections.{failure_of_path}
 use Rattle.omaha_cli.specs.Reports.{Prints}
 use Rattle.omaha_cli.specs.Streams.{Streams}

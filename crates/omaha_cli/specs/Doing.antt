@@ -1,6 +1,6 @@
 -- What a command does; this project's profile.
 use Rattle.std.specs.Prelude.{Result}
-use Rattle.package_reports.specs.Storages.{Storage}
+use Rattle.package_files.specs.Storages.{Storage}
 use Rattle.omaha_cli.specs.Comparing.{Compares}
 use Rattle.omaha_cli.specs.Describing.{PrintsDescriptions}
 use Rattle.omaha_cli.specs.Explaining.{Explains}

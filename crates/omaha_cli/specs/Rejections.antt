@@ -4,8 +4,8 @@ use Rattle.omaha_server.specs.declared.fault.ServiceFault.{ServiceFault}
 use Rattle.omaha_server.specs.declared.fault.ServiceFault.TheVariants as service
 use Rattle.omaha_client.specs.declared.error.WalkError.{WalkError}
 use Rattle.omaha_client.specs.declared.error.WalkError.TheVariants as walk
-use Rattle.package_reports.specs.declared.paths.PathError.{PathError}
-use Rattle.package_reports.specs.declared.paths.PathError.TheVariants as paths
+use Rattle.package_files.specs.declared.paths.PathError.{PathError}
+use Rattle.package_files.specs.declared.paths.PathError.TheVariants as paths
 use Rattle.reports.specs.declared.fault.CertificateError.{CertificateError}
 use Rattle.reports.specs.declared.fault.CertificateError.TheVariants as certificate
 use Rattle.streams.specs.declared.reading.ReadFailure.{ReadFailure}

@@ -7,7 +7,7 @@ use Rattle.omaha_arguments.specs.Commands.{command_of, faults_of}
 use Rattle.omaha_arguments.specs.Errors.{AsksToShow, HasMistake}
 use Rattle.omaha_arguments.specs.declared.error.ArgumentError.{ArgumentError}
 use Rattle.omaha_arguments.specs.declared.error.ArgumentError.TheVariants as argument
-use Rattle.package_reports.specs.Storages.{Storage}
+use Rattle.package_files.specs.Storages.{Storage}
 use Rattle.omaha_cli.specs.Doing.{Does}
 use Rattle.omaha_cli.specs.Failures.{failure_string}
 use Rattle.omaha_cli.specs.Once.{Files}

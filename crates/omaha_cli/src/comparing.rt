@@ -12,7 +12,7 @@ use crate::failure::Failure;
 use crate::once::open_profile;
 use omaha_arguments::Comparison;
 use omaha_server::Service;
-use package_reports::{Finding, Folders, findings_string};
+use package_files::{Finding, Folders, findings_string};
 use reports::summary;
 use std::alloc::{AllocError, Global};
 use streams::{Disk, WriteWhole};

@@ -6,7 +6,7 @@ ghost use Rattle.streams.specs.Streams.{Known};
 
 use crate::failure::Failure;
 use crate::printing::print;
-use package_reports::{Folders, describe_paths};
+use package_files::{Folders, describe_paths};
 use std::alloc::Global;
 use streams::WriteWhole;
 use values::Text;

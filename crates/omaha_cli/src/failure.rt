@@ -5,7 +5,7 @@ use catalogue::Refused;
 use omaha_client::WalkError;
 use omaha_json::RequestFault;
 use omaha_server::ServiceFault;
-use package_reports::{DescribeError, PathError};
+use package_files::{DescribeError, PathError};
 use profile_toml::ProfileFault;
 use reports::CertificateError;
 use shown_strings::Shown;

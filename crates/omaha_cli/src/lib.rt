@@ -8,7 +8,7 @@
 //! a code.
 //!
 //! `serve` is served by `omaha_server`: read `specs/Serving.antt`. `check` with a folder of packages and `describe`
-//! print what `package_reports` finds: read `specs/Comparing.antt` and `specs/Describing.antt`. `walk` is walked by
+//! print what `package_files` finds: read `specs/Comparing.antt` and `specs/Describing.antt`. `walk` is walked by
 //! `omaha_client`: read `specs/Walking.antt`.
 
 #![tactic(auto)]
@@ -35,4 +35,4 @@ pub use omaha_client::Connector;
 pub use omaha_server::{
     Host, Place, ServerError, Service, ServiceFault, answer, builtin_service, read_service,
 };
-pub use package_reports::Folders;
+pub use package_files::Folders;

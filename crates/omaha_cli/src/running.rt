@@ -16,7 +16,7 @@ use crate::walking::walk_on;
 use omaha_arguments::{ArgumentError, Command, read_arguments};
 use omaha_client::Connector;
 use omaha_server::Host;
-use package_reports::Folders;
+use package_files::Folders;
 use std::alloc::Global;
 use std::sync::Wait;
 use streams::{Disk, ReadWhole, WriteWhole, offer};

@@ -6,7 +6,7 @@ use catalogue::Fault;
 use explanations::{explain, list};
 use omaha_cli::Failure;
 use omaha_json::RequestFault;
-use package_reports::DescribeError;
+use package_files::DescribeError;
 use profile_toml::ProfileFault;
 use reports::CertificateError;
 use std::alloc::Global;

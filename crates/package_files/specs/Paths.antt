@@ -4,9 +4,9 @@ use Rattle.std.specs.Path.{path_file_name, path_parent}
 use Rattle.package_files.specs.Descriptions.{Describes}
 use Rattle.package_files.specs.declared.describing.DescribeError.{DescribeError}
 use Rattle.package_files.specs.declared.describing.DescribeError.TheVariants as error
-use Rattle.package_reports.specs.Storages.{Storage}
-use Rattle.package_reports.specs.declared.paths.PathError.{PathError}
-use Rattle.package_reports.specs.declared.paths.PathError.TheVariants as why
+use Rattle.package_files.specs.Storages.{Storage}
+use Rattle.package_files.specs.declared.paths.PathError.{PathError}
+use Rattle.package_files.specs.declared.paths.PathError.TheVariants as why
 
 -- the folder, `.` in place of an empty one
 abbrev pub folder_or_here : List ℕ → List ℕ

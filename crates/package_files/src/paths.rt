@@ -1,10 +1,10 @@
 // What a profile says of files, each named by its path.
 
 ghost use Rattle.std.specs.Prelude.{◌≡◌, Err, IfErr, IfOk, Ok, string_bytes};
-ghost use Rattle.package_reports.specs.Paths.{AreDescribed, IsDescribed, IsErrorAt, IsUndescribed, folder_of, name_of};
+ghost use Rattle.package_files.specs.Paths.{AreDescribed, IsDescribed, IsErrorAt, IsUndescribed, folder_of, name_of};
 
+use crate::describing::DescribeError;
 use crate::folders::Folders;
-use package_files::DescribeError;
 use std::alloc::{AllocError, Global};
 use std::path::Path;
 use values::Text;
@@ -20,7 +20,7 @@ pub enum PathError {
 
 impl From<AllocError> for PathError {
     ghost use Rattle.std.specs.Prelude.{◌≡◌};
-    ghost use Rattle.package_reports.specs.declared.paths.PathError.TheVariants.{Memory};
+    ghost use Rattle.package_files.specs.declared.paths.PathError.TheVariants.{Memory};
 
     ghost from_gives = { λ _ error. error ≡ Memory };
 

@@ -1,7 +1,7 @@
 use Rattle.std.proofs.Common.{◌++◌, ◌∙◌, ℕ, List, Ok, Err, ap, string_bytes, subst}
-use Rattle.package_reports.proofs.ReportLemmas.{AreDescribed-item, IsUndescribed-item}
-use Rattle.package_reports.specs.Paths.{IsDescribed}
-use Rattle.package_reports.proofs.paths.describe_paths.Goals as goal
+use Rattle.package_files.proofs.ReportLemmas.{AreDescribed-item, IsUndescribed-item}
+use Rattle.package_files.specs.Paths.{IsDescribed}
+use Rattle.package_files.proofs.paths.describe_paths.Goals as goal
 
 pub returns-in-Err-clause-err : goal.returns-in-Err-clause-err
 returns-in-Err-clause-err g c =

@@ -5,8 +5,10 @@ ghost use Rattle.package_files.specs.Descriptions.{Describes};
 ghost use Rattle.package_files.specs.Findings.{AreFindings};
 ghost use Rattle.records.specs.Lookups.{packages_of};
 
+use crate::comparing::compare;
+use crate::describing::{DescribeError, describe};
+use crate::finding::Finding;
 use http_devices::Folder;
-use package_files::{DescribeError, Finding, compare, describe};
 use records::App;
 use std::alloc::{AllocError, Global};
 use std::rt::Files;
@@ -14,7 +16,7 @@ use values::Items;
 
 /// What has folders of packages: a runtime with files, or a test's stand-in for one.
 pub trait Folders {
-    ghost use Rattle.package_reports.specs.Storages.{Storage};
+    ghost use Rattle.package_files.specs.Storages.{Storage};
 
     // what may be known of the files of each folder
     ghost storage: { Self → Storage };

@@ -1,9 +1,9 @@
 // The lines of findings.
 
 ghost use Rattle.std.specs.Prelude.{◌≡◌, IfOk, string_bytes};
-ghost use Rattle.package_reports.specs.Findings.{finding_line, findings_string};
+ghost use Rattle.package_files.specs.FindingLines.{finding_line, findings_string};
 
-use package_files::Finding;
+use crate::finding::Finding;
 use std::alloc::{AllocError, Global};
 
 // The line of a finding.

@@ -3,10 +3,10 @@ use Rattle.std.proofs.Common.{◌≡◌, ◌<◌, ◌+◌, ℕ, List, [], ◌∷
 use Rattle.std.proofs.lemmas.List.{append-nil, append_assoc, take_more}
 use Rattle.std.specs.Prelude.{Ok, Err}
 use Rattle.package_files.specs.declared.describing.DescribeError.{DescribeError}
-use Rattle.package_reports.specs.Paths.{AreDescribed, IsDescribed, IsErrorAt, IsUndescribed, StopsAt}
-use Rattle.package_reports.specs.Storages.{Storage}
-use Rattle.package_reports.specs.declared.paths.PathError.{PathError}
-use Rattle.package_reports.specs.declared.paths.PathError.TheVariants as why
+use Rattle.package_files.specs.Paths.{AreDescribed, IsDescribed, IsErrorAt, IsUndescribed, StopsAt}
+use Rattle.package_files.specs.Storages.{Storage}
+use Rattle.package_files.specs.declared.paths.PathError.{PathError}
+use Rattle.package_files.specs.declared.paths.PathError.TheVariants as why
 
 -- one more file is described
 AreDescribed-more :
