@@ -5,7 +5,7 @@ use Rattle.omaha_json.specs.Faults.{fault_string}
 use Rattle.package_files.specs.Descriptions.{error_string as reason_text}
 use Rattle.profile_toml.specs.FaultStrings.{fault_string as profile_fault_text}
 use Rattle.reports.specs.FaultStrings.{error_string}
-use Rattle.shown_strings.specs.Strings.{shown_string}
+use Rattle.streams.specs.Strings.{shown_string}
 use Rattle.update_client.specs.Faults.{fault_string as walk_fault_text}
 use Rattle.omaha_cli.specs.declared.failure.Failure.{Failure}
 use Rattle.omaha_cli.specs.declared.failure.Failure.TheVariants as failure

@@ -8,11 +8,10 @@ use omaha_server::ServiceFault;
 use package_files::{DescribeError, PathError};
 use profile_toml::ProfileFault;
 use reports::CertificateError;
-use shown_strings::Shown;
 use std::alloc::AllocError;
 use std::error::Error;
 use std::fmt;
-use streams::ReadFailure;
+use streams::{ReadFailure, Shown};
 use update_client::Fault;
 use values::{ReadError, Text};
 

@@ -1,6 +1,6 @@
 -- The lines that a walk prints; this project's profile.
 use Rattle.std.specs.Prelude.{ℕ, ◌+◌, Bool, List, [], ◌∷◌, ◌++◌, codes, decimal, length, map, if◌then◌else◌}
-use Rattle.shown_strings.specs.Strings.{shown_string}
+use Rattle.streams.specs.Strings.{shown_string}
 use Rattle.update_client.specs.Clients.{step_of}
 use Rattle.update_client.specs.Walks.{Turn, bytes_of}
 use Rattle.update_client.specs.declared.installer.Step.{Step}

@@ -3,8 +3,8 @@
 ghost use Rattle.std.specs.Prelude.{Some};
 ghost use Rattle.omaha_client.specs.Lines.{done_line, step_line};
 
-use shown_strings::Shown;
 use std::fmt;
+use streams::Shown;
 use update_client::Step;
 
 /// The line of a step: its number, what kind of file, the version and how many bytes.

@@ -1,3 +1,4 @@
 pub mod Reading
 pub mod Streams
+pub mod Strings
 pub mod Writing

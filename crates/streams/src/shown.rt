@@ -1,5 +1,5 @@
 ghost use Rattle.std.specs.Prelude.{◌≡◌, Some};
-ghost use Rattle.shown_strings.specs.Strings.{begins_control, has_control, shown_string};
+ghost use Rattle.streams.specs.Strings.{begins_control, has_control, shown_string};
 
 use percent_encoding::{CONTROLS, percent_encode};
 use std::fmt;
