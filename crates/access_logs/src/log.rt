@@ -2,7 +2,7 @@ use crate::entry::Entry;
 use crate::lines::line_of;
 use crate::message::{asker_of, first_line, replied_in};
 use http_desks::Clock;
-use http_watches::Watch;
+use http_wire::Watch;
 use std::alloc::{AllocError, Global};
 use std::cell::RefCell;
 use std::io::Write;

@@ -6,7 +6,7 @@ use crate::door::Door;
 use crate::serving::serve_connections;
 use http_desks::{Clock, Desk};
 use http_packages::Packages;
-use http_watches::Watch;
+use http_wire::Watch;
 use std::marker::Brand;
 use std::net::{Net, TcpListener, TcpStream};
 use std::sync::ledger::{Blank, Ledger};

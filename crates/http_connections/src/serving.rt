@@ -6,7 +6,7 @@ use crate::door::Door;
 use crate::visiting::visit;
 use http_desks::{Clock, Desk};
 use http_packages::Packages;
-use http_watches::Watch;
+use http_wire::Watch;
 use std::marker::Brand;
 use std::sync::ledger::{Blank, Ledger};
 use std::time::Duration;

@@ -5,7 +5,7 @@ use http_desks::{Clock, Desk};
 use http_devices::{Reading, Writing};
 use http_packages::Packages;
 use http_sessions::{Fault, Served, serve};
-use http_watches::{Watch, WatchedSink, WatchedSource};
+use http_wire::{Watch, WatchedSink, WatchedSource};
 use std::net::TcpStream;
 use std::sync::ledger::{Blank, Ledger};
 

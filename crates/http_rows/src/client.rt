@@ -4,7 +4,7 @@ ghost use Rattle.std.specs.Prelude.{◌≡◌, ◌<◌};
 
 use crate::counter::{Counter, Nothing, Stopped};
 use http_connections::{Door, serve_connections};
-use http_watches::Unwatched;
+use http_wire::Unwatched;
 use std::io;
 use std::io::{Read, Write};
 use std::marker::Brand;

@@ -1,6 +1,6 @@
 use crate::counter::{Counter, Nothing, Stopped};
 use http_connections::serve_clients;
-use http_watches::Unwatched;
+use http_wire::Unwatched;
 use std::net::TcpListener;
 use std::str;
 use std::test::Fail;

@@ -1,7 +1,7 @@
 use crate::desks::{Echo, Files, Stopped};
 use crate::devices::{Kept, Pieces};
 use http_sessions::{End, Fault, Served, serve};
-use http_watches::Unwatched;
+use http_wire::Unwatched;
 use std::alloc::AllocError;
 use std::test::Fail;
 

@@ -1,6 +1,6 @@
 use crate::writers::{Full, Stopped};
 use access_logs::AccessLog;
-use http_watches::Watch;
+use http_wire::Watch;
 use std::test::Fail;
 
 // Shows a log a script, a row for each call: `>` and what was read, `<` and what was written, `+` and what waits of

@@ -7,8 +7,7 @@ use crate::ends::{Fault, Served};
 use crate::session::{Session, Turn};
 use http_desks::{Clock, Desk};
 use http_packages::Packages;
-use http_watches::Watch;
-use http_wire::{Sink, Source};
+use http_wire::{Sink, Source, Watch};
 
 // Advances a session message by message until it ends.
 fn run<R, S: Source, W: Sink, D: Desk<R>, P: Packages, C: Clock, V: Watch>(

@@ -7,6 +7,13 @@
 //! `specs/Bodies.antt` and `specs/Sending.antt`.
 //!
 //! Nothing here takes memory but `Window::new`. It does not say what is read or written.
+//!
+//! Who looks on while a server serves: a `Watch` is shown the connections and their bytes, and changes none.
+//!
+//! A `WatchedSource` and a `WatchedSink` are the source and the sink that they wrap, byte for byte; they show a
+//! watch what passes. `Unwatched` looks at nothing.
+//!
+//! It doesn't know what the bytes mean, nor what becomes of them.
 
 #![tactic(auto)]
 
@@ -15,6 +22,9 @@ mod device;
 mod head;
 mod reply;
 mod sending;
+mod sink;
+mod source;
+mod watch;
 mod window;
 
 pub use crate::body::read_body;
@@ -22,4 +32,7 @@ pub use crate::device::{Failed, Sink, Source};
 pub use crate::head::{Head, MAX_FIELDS, read_head};
 pub use crate::reply::send_reply;
 pub use crate::sending::send;
+pub use crate::sink::WatchedSink;
+pub use crate::source::WatchedSource;
+pub use crate::watch::{Unwatched, Watch};
 pub use crate::window::{MAX_HEAD, Window};

@@ -16,7 +16,7 @@ use access_logs::AccessLog;
 use editions::Edition;
 use http_connections::{ServeError, serve_clients};
 use http_devices::{Folder, SystemClock};
-use http_watches::{Unwatched, Watch};
+use http_wire::{Unwatched, Watch};
 use mirror_ledger::{Blanks, Books, BudgetName, Hand, Shares, close, open_books};
 use std::alloc::AllocError;
 use std::marker::Brand;

@@ -7,7 +7,7 @@ use crate::connection::{Letters, Received, Sent, Stopped};
 use crate::demo::{edition_of_demo, mirrors_of};
 use editions::Edition;
 use http_sessions::{End, Fault, Served, serve};
-use http_watches::Unwatched;
+use http_wire::Unwatched;
 use mirror_ledger::{Blanks, Books, BudgetName, Hand, Shares, close, open_books};
 use records::Mirror;
 use std::alloc::{AllocError, Global};

@@ -1,8 +1,8 @@
 ghost use Rattle.std.specs.Prelude.{◌≡◌, ◌≤◌, ◌<◌, ◌+◌, length, IfOk, is_ok, if◌then◌else◌};
 ghost use Rattle.std.specs.Io.KnownBytes.{WriteAppends};
 
+use crate::device::{Failed, Sink};
 use crate::watch::Watch;
-use http_wire::{Failed, Sink};
 
 /// A sink whose bytes a watch is shown.
 #[derive(Drop)]

@@ -1,8 +1,8 @@
 ghost use Rattle.std.specs.Prelude.{◌≡◌, ◌≤◌, ◌+◌, length, IfOk, is_ok, if◌then◌else◌};
 ghost use Rattle.std.specs.Io.KnownBytes.{ReadConsumes};
 
+use crate::device::{Failed, Source};
 use crate::watch::Watch;
-use http_wire::{Failed, Source};
 
 /// A source whose bytes a watch is shown.
 #[derive(Drop)]
