@@ -1,6 +1,6 @@
 -- The connections of a listener, one after the other; this project's profile.
 use Rattle.std.specs.Prelude.{◌≡◌, ◌+◌, ◌-◌, ◌^◌, ◌⊎◌, ℕ, List, [], ◌∷◌, Option, None, Some, Result}
-use Rattle.http_packages.specs.Downloads.{Reads}
+use Rattle.http_desks.specs.Downloads.{Reads}
 use Rattle.http_desks.specs.Calls.{Call}
 use Rattle.http_desks.specs.Uses.{IsUse}
 use Rattle.http_sessions.specs.Sessions.{Serves, SessionEnds, wrote}

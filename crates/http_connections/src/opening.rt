@@ -4,8 +4,7 @@ ghost use Rattle.http_connections.specs.Opening.{IsReady};
 
 use crate::door::Door;
 use crate::serving::serve_connections;
-use http_desks::{Clock, Desk};
-use http_packages::Packages;
+use http_desks::{Clock, Desk, Packages};
 use http_wire::Watch;
 use std::marker::Brand;
 use std::net::{Net, TcpListener, TcpStream};

@@ -4,8 +4,7 @@ ghost use Rattle.http_connections.specs.Connections.{IsSession, IsVisited, Visit
 use crate::closing::close;
 use crate::door::Door;
 use crate::visiting::visit;
-use http_desks::{Clock, Desk};
-use http_packages::Packages;
+use http_desks::{Clock, Desk, Packages};
 use http_wire::Watch;
 use std::marker::Brand;
 use std::sync::ledger::{Blank, Ledger};

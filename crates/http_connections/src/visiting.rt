@@ -1,9 +1,8 @@
 ghost use Rattle.std.specs.Prelude.{◌≡◌, ◌<◌};
 ghost use Rattle.http_connections.specs.Connections.{IsSession};
 
-use http_desks::{Clock, Desk};
+use http_desks::{Clock, Desk, Packages};
 use http_devices::{Reading, Writing};
-use http_packages::Packages;
 use http_sessions::{Fault, Served, serve};
 use http_wire::{Watch, WatchedSink, WatchedSource};
 use std::net::TcpStream;

@@ -1,1 +1,2 @@
+mod DownloadLemmas
 pub mod ReplyLemmas

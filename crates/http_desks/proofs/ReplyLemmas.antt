@@ -8,7 +8,7 @@ use Rattle.http_heads.specs.Replies.{head_bytes}
 use Rattle.http_heads.specs.declared.reply.ReplyHead.{ReplyHead}
 use Rattle.http_heads.specs.declared.status.Status.{Status}
 use Rattle.http_heads.specs.declared.status.Status.TheVariants as status
-use Rattle.http_packages.specs.Downloads.{Downloads, Reads, download, joined_blocks}
+use Rattle.http_desks.specs.Downloads.{Downloads, Reads, download, joined_blocks}
 use Rattle.http_wire.specs.Sending.{AppendsPart}
 use Rattle.http_wire.specs.declared.device.Failed.{Failed}
 use Rattle.http_wire.proofs.KnownLemmas.{Appends-then, AppendsPart-then}

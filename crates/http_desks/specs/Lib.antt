@@ -1,3 +1,4 @@
 pub mod Calls
-pub mod Uses
+pub mod Downloads
 pub mod Replies
+pub mod Uses

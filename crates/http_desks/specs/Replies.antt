@@ -6,7 +6,7 @@ use Rattle.http_heads.specs.declared.reply.Allow.{Allow}
 use Rattle.http_heads.specs.declared.reply.Allow.TheVariants as allow
 use Rattle.http_heads.specs.declared.status.Status.{Status}
 use Rattle.http_heads.specs.declared.status.Status.TheVariants as status
-use Rattle.http_packages.specs.Downloads.{Reads, agrees, download, joined_blocks}
+use Rattle.http_desks.specs.Downloads.{Reads, agrees, download, joined_blocks}
 use Rattle.http_wire.specs.Sending.{AppendsPart}
 use Rattle.http_wire.specs.declared.device.Failed.{Failed}
 use Rattle.http_desks.specs.declared.answering.Handled.{Handled}

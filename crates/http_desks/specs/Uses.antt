@@ -1,7 +1,7 @@
 -- What becomes of a whole message; this project's profile.
 use Rattle.std.specs.Prelude.{◌≡◌, ◌≢◌, ◌≤◌, ℕ, List, [], ◌∷◌, length, Option, None, Some, if◌then◌else◌, bytes_eq, codes}
 use Rattle.http_heads.specs.Targets.{package_in, path_in}
-use Rattle.http_packages.specs.Downloads.{IsRead, Reads, ReadsFrom, full_blocks}
+use Rattle.http_desks.specs.Downloads.{IsRead, Reads, ReadsFrom, full_blocks}
 use Rattle.http_desks.specs.declared.desk.DeskStatus.{DeskStatus}
 use Rattle.http_desks.specs.declared.desk.Declared.{Declared}
 use Rattle.http_desks.specs.declared.method.Method.{Method}

@@ -8,8 +8,8 @@ use crate::desk::Desk;
 use crate::empty::send_empty;
 use crate::fetching::fetch;
 use crate::method::Method;
+use crate::package::Packages;
 use http_heads::{Allow, ReplyHead, Status, package_name, path_of};
-use http_packages::Packages;
 use http_wire::{Failed, Sink, send_reply};
 
 /// How a reply came out.

@@ -3,8 +3,9 @@ ghost use Rattle.http_desks.specs.Replies.{Fetches};
 
 use crate::answering::Handled;
 use crate::desk::Declared;
+use crate::download::send_package;
+use crate::package::Packages;
 use http_heads::{ReplyHead, Status};
-use http_packages::{Packages, send_package};
 use http_wire::{Failed, Sink, send_reply};
 
 // rule: Reply to a message

@@ -6,18 +6,31 @@
 //!
 //! Nothing here takes memory but a desk's reply. It does not read, and does not know where a message
 //! begins or ends.
+//!
+//! Packages, sent block by block.
+//!
+//! `Packages` reads the files that clients download. `send_package` writes one, 65536 bytes at a
+//! time, under a running SHA-256, and holds the last block back until the digest agrees: a file
+//! that was changed is never sent whole. Read `specs/Downloads.antt`.
+//!
+//! Nothing here takes memory. It does not write a reply's head, and does not know which packages a
+//! catalogue has.
 
 #![tactic(auto)]
 
 mod answering;
 mod clock;
 mod desk;
+mod download;
 mod empty;
 mod fetching;
 mod method;
+mod package;
 
 pub use crate::answering::{Handled, Request, answer};
 pub use crate::clock::Clock;
 pub use crate::desk::{Answer, Declared, Desk, DeskStatus, Off};
+pub use crate::download::{BLOCK, send_package};
 pub use crate::empty::send_empty;
 pub use crate::method::Method;
+pub use crate::package::Packages;

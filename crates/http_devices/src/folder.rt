@@ -3,7 +3,7 @@ ghost use Rattle.http_devices.specs.Files.{ReadsAt};
 ghost use Rattle.http_devices.specs.Names.{is_file_name};
 
 use crate::name::file_name;
-use http_packages::Packages;
+use http_desks::Packages;
 use http_wire::Failed;
 use std::alloc::{AllocError, Global};
 use std::cell::RefCell;

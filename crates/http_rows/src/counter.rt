@@ -2,8 +2,7 @@
 
 ghost use Rattle.std.specs.Prelude.{codes};
 
-use http_desks::{Answer, Clock, Declared, Desk, DeskStatus, Off};
-use http_packages::Packages;
+use http_desks::{Answer, Clock, Declared, Desk, DeskStatus, Off, Packages};
 use http_wire::Failed;
 
 /// Replies with how often it was asked before, a letter a call.

@@ -3,8 +3,7 @@
 ghost use Rattle.std.specs.Prelude.{codes};
 ghost use Rattle.http_desks.specs.Calls.{Call};
 
-use http_desks::{Answer, Clock, Declared, Desk, DeskStatus, Off};
-use http_packages::Packages;
+use http_desks::{Answer, Clock, Declared, Desk, DeskStatus, Off, Packages};
 use http_wire::Failed;
 
 /// The SHA-256 of `abc`, as FIPS 180 has it.

@@ -1,5 +1,5 @@
+use http_desks::Packages;
 use http_devices::Folder;
-use http_packages::Packages;
 use std::alloc::{AllocError, Global};
 use std::rt::Files;
 use std::test::Fail;

@@ -1,7 +1,7 @@
 ghost use Rattle.std.specs.Prelude.{◌≡◌, length};
 
 use crate::devices::Kept;
-use http_packages::{Packages, send_package};
+use http_desks::{Packages, send_package};
 use http_wire::Failed;
 use std::alloc::{AllocError, Global};
 use std::test::Fail;

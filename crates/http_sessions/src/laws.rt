@@ -3,8 +3,7 @@
 ghost use Rattle.http_desks.specs.Uses.{IsUse};
 ghost use Rattle.http_sessions.specs.Laws.{AreAlike, AreJoined, IsOneCut};
 
-use http_desks::{Clock, Desk};
-use http_packages::Packages;
+use http_desks::{Clock, Desk, Packages};
 
 /// Joined parts of a session are a session, so it may be advanced turn by turn.
 pub fn parts<R, D: Desk<R>, P: Packages, C: Clock>(desk: &D, packages: &P, clock: &C)

@@ -5,8 +5,7 @@ ghost use Rattle.http_sessions.specs.Sessions.{IsMemory, Serves, SessionEnds, fa
 use crate::buffers::Buffers;
 use crate::ends::{Fault, Served};
 use crate::session::{Session, Turn};
-use http_desks::{Clock, Desk};
-use http_packages::Packages;
+use http_desks::{Clock, Desk, Packages};
 use http_wire::{Sink, Source, Watch};
 
 // Advances a session message by message until it ends.

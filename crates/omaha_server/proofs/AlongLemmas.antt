@@ -4,7 +4,7 @@ use Rattle.std.specs.Result.{OnOk}
 use Rattle.http_connections.specs.Connections.{IsSession, Unaccepted, Visit, Visited, Visits, limit_of}
 use Rattle.http_desks.specs.Calls.{Call, Leads}
 use Rattle.http_desks.specs.Uses.{IsUse}
-use Rattle.http_packages.specs.Downloads.{Reads}
+use Rattle.http_desks.specs.Downloads.{Reads}
 use Rattle.http_sessions.specs.Sessions.{Serves}
 use Rattle.http_sessions.specs.declared.ends.Fault.{Fault}
 use Rattle.http_sessions.specs.declared.ends.Served.{Served}

@@ -7,7 +7,7 @@ use Rattle.http_connections.specs.declared.opening.ServeError.{ServeError}
 use Rattle.http_connections.specs.declared.opening.ServeError.TheVariants as serving
 use Rattle.http_desks.specs.Calls.{Call}
 use Rattle.http_devices.specs.Names.{is_file_name}
-use Rattle.http_packages.specs.Downloads.{Reads}
+use Rattle.http_desks.specs.Downloads.{Reads}
 use Rattle.mirror_ledger.specs.Asks.{Ask, granted_at}
 use Rattle.mirror_ledger.specs.Named.{budget_at, totals_of}
 use Rattle.records.specs.declared.mirror.Mirror.{Mirror}

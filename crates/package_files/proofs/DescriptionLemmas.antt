@@ -1,6 +1,6 @@
 -- What was measured of a file, under the name that a caller gave.
 use Rattle.std.proofs.Common.{◌≡◌, ℕ, List, Option, Some, subst}
-use Rattle.http_packages.specs.Downloads.{Reads}
+use Rattle.http_desks.specs.Downloads.{Reads}
 use Rattle.package_files.specs.Findings.{Sizes}
 use Rattle.package_files.specs.Hashing.{IsHashed}
 

@@ -2,7 +2,7 @@
 use Rattle.std.proofs.Common.{◌≡◌, ℕ, ◌+◌, ◌<◌, List, [], ◌∷◌, ◌++◌, get_or, length, map, take, Option, refl, sym, ap, ◌∙◌, subst}
 use Rattle.std.proofs.lemmas.Grind.{flat_map-append}
 use Rattle.std.proofs.lemmas.List.{append-nil, append_assoc, map_more, take_more}
-use Rattle.http_packages.specs.Downloads.{Reads}
+use Rattle.http_desks.specs.Downloads.{Reads}
 use Rattle.records.specs.Lookups.{packages_in, packages_of}
 use Rattle.records.specs.declared.content.App.{App}
 use Rattle.records.specs.declared.content.Declared.{Declared}

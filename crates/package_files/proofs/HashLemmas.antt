@@ -2,7 +2,7 @@
 use Rattle.std.proofs.Common.{◌≡◌, ℕ, ◌+◌, ◌-◌, ◌*◌, ◌/◌, ◌≤◌, List, take, [], ◌∷◌, ◌++◌, length, Option, Some, subst, ap, ◌∙◌, arith}
 use Rattle.std.proofs.lemmas.List.{append-nil, length-take-le}
 use Rattle.std.proofs.lemmas.Grind.{flat_map-append}
-use Rattle.http_packages.specs.Downloads.{Reads, ReadsFrom, full_blocks, joined_blocks}
+use Rattle.http_desks.specs.Downloads.{Reads, ReadsFrom, full_blocks, joined_blocks}
 
 pub ReadsFrom-push :
     (reads : Reads) (index : ℕ) (blocks : List (List ℕ)) (block : List ℕ) →

@@ -1,7 +1,7 @@
 -- What a profile says of a file; this project's profile.
 use Rattle.std.specs.Prelude.{◌≡◌, ⊤, ℕ, true, false, List, ◌++◌, codes, decimal, None, Some, Result, Ok, Err}
 use Rattle.hex.specs.Hex.{encode_lower}
-use Rattle.http_packages.specs.Downloads.{Reads}
+use Rattle.http_desks.specs.Downloads.{Reads}
 use Rattle.records.specs.Forms.{is_package_name}
 use Rattle.package_files.specs.Findings.{Sizes}
 use Rattle.package_files.specs.Hashing.{IsHashed}

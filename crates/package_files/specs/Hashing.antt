@@ -1,7 +1,7 @@
 -- The SHA-256 of a file that is read block by block; this project's profile.
 use Rattle.std.specs.Prelude.{◌≡◌, ℕ, List, ◌++◌, Option, option_map}
 use Rattle.sha2.specs.Sha256.{sha256}
-use Rattle.http_packages.specs.Downloads.{IsRead, Reads, joined_blocks}
+use Rattle.http_desks.specs.Downloads.{IsRead, Reads, joined_blocks}
 
 -- the SHA-256 of blocks and the last one, if that was read
 abbrev pub hash_of_blocks : List (List ℕ) → Option (List ℕ) → Option (List ℕ)

@@ -1,6 +1,6 @@
 -- What is known of files in folders; this project's profile.
 use Rattle.std.specs.Prelude.{ℕ, List}
-use Rattle.http_packages.specs.Downloads.{Reads}
+use Rattle.http_desks.specs.Downloads.{Reads}
 use Rattle.package_files.specs.Findings.{Sizes}
 
 -- what the size of a file may be, and what may be read of it, by the path of its folder and its name

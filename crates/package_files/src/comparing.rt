@@ -6,7 +6,7 @@ ghost use Rattle.package_files.specs.Findings.{Adds, AreFindings, IsFound};
 
 use crate::finding::{Finding, Mismatch};
 use crate::hashing::hash_package;
-use http_packages::{BLOCK, Packages};
+use http_desks::{BLOCK, Packages};
 use records::{App, Declared, Diff, Release};
 use std::alloc::{AllocError, Global};
 use values::{Items, Text};

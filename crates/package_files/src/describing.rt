@@ -5,7 +5,7 @@ ghost use Rattle.hex.specs.Hex.{encode_lower};
 ghost use Rattle.package_files.specs.Descriptions.{Describes, description_string};
 
 use crate::hashing::hash_package;
-use http_packages::{BLOCK, Packages};
+use http_desks::{BLOCK, Packages};
 use records::form::is_package_name;
 use std::alloc::{AllocError, Global};
 use std::error::Error;

@@ -1,11 +1,11 @@
 //! The SHA-256 of a package, read block by block.
 
 ghost use Rattle.std.specs.Prelude.{◌≡◌, ◌*◌, List, ℕ, length};
-ghost use Rattle.http_packages.specs.Downloads.{ReadsFrom, joined_blocks};
+ghost use Rattle.http_desks.specs.Downloads.{ReadsFrom, joined_blocks};
 ghost use Rattle.package_files.specs.Hashing.{IsHashed};
 ghost use Rattle.sha2.specs.Hashers.{Holds256};
 
-use http_packages::{BLOCK, Packages};
+use http_desks::{BLOCK, Packages};
 use sha2::{Digest, Sha256};
 
 // rule: Hash of a file

@@ -1,7 +1,7 @@
 // A catalogue of two apps, whose packages are repeated letters `a`.
 
 use catalogue::Catalogue;
-use http_packages::Packages;
+use http_desks::Packages;
 use package_files::compare;
 use profile_toml::read_profile;
 use std::alloc::{AllocError, Global};

@@ -2,8 +2,7 @@
 
 ghost use Rattle.std.specs.Prelude.{None};
 
-use http_desks::Clock;
-use http_packages::Packages;
+use http_desks::{Clock, Packages};
 use http_wire::{Failed, Sink, Source};
 
 /// Gives what the peer sent.

@@ -1,6 +1,6 @@
 // Packages in memory, as a row says: files of one letter each.
 
-use http_packages::Packages;
+use http_desks::Packages;
 use http_wire::Failed;
 
 /// The files of a row, with a space between two. `a.bin=a10` has ten letters `a`; of `a.bin=a10!4` no read

@@ -1,6 +1,6 @@
 use Rattle.std.proofs.Common.{◌≡◌, ◌+◌, ◌*◌, ◌++◌, [], ◌∷◌, ℕ, length, Some, sym, subst, ap, ◌∙◌, arith, length-append}
 use Rattle.sha2.specs.Hashers.{Holds256}
-use Rattle.http_packages.specs.Downloads.{joined_blocks}
+use Rattle.http_desks.specs.Downloads.{joined_blocks}
 use Rattle.package_files.proofs.HashLemmas.{ReadsFrom-push, joined_blocks-push, reads-as}
 use Rattle.package_files.proofs.hashing.hash_package.Goals as goal
 

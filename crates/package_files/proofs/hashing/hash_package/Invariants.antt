@@ -1,6 +1,6 @@
 use Rattle.std.proofs.Common.{◌≡◌, List, ℕ, length}
 use Rattle.sha2.specs.Hashers.{Holds256}
-use Rattle.http_packages.specs.Downloads.{ReadsFrom, joined_blocks}
+use Rattle.http_desks.specs.Downloads.{ReadsFrom, joined_blocks}
 use Rattle.package_files.proofs.hashing.hash_package.Given as goal
 
 abbrev pub invariant-loop-index : goal.invariant-loop-index

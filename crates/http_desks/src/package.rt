@@ -1,5 +1,5 @@
 ghost use Rattle.std.specs.Prelude.{ℕ, List, Option, length};
-ghost use Rattle.http_packages.specs.Downloads.{bytes_read};
+ghost use Rattle.http_desks.specs.Downloads.{bytes_read};
 
 use http_wire::Failed;
 

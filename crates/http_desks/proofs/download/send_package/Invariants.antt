@@ -1,8 +1,8 @@
 use Rattle.std.proofs.Common.{◌≡◌, List, ℕ, length}
 use Rattle.std.specs.Io.KnownBytes.{Appends}
 use Rattle.sha2.specs.Hashers.{Holds256}
-use Rattle.http_packages.specs.Downloads.{ReadsFrom, joined_blocks}
-use Rattle.http_packages.proofs.download.send_package.Given as goal
+use Rattle.http_desks.specs.Downloads.{ReadsFrom, joined_blocks}
+use Rattle.http_desks.proofs.download.send_package.Given as goal
 
 abbrev pub invariant-loop-index : goal.invariant-loop-index
 invariant-loop-index g l =

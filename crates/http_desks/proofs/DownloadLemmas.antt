@@ -7,7 +7,7 @@ use Rattle.std.specs.Io.KnownBytes.{Appends}
 use Rattle.sha2.specs.Sha256.{sha256}
 use Rattle.http_wire.specs.Sending.{AppendsPart}
 use Rattle.http_wire.proofs.KnownLemmas.{AppendsPart-then}
-use Rattle.http_packages.specs.Downloads.{Reads, ReadsFrom, full_blocks, joined_blocks, download}
+use Rattle.http_desks.specs.Downloads.{Reads, ReadsFrom, full_blocks, joined_blocks, download}
 
 pub ReadsFrom-more :
     (reads : Reads) (index : ℕ) (blocks : List (List ℕ)) (block : List ℕ) →

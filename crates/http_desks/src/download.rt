@@ -1,7 +1,7 @@
 ghost use Rattle.std.specs.Prelude.{◌≡◌, ◌+◌, ◌-◌, ◌*◌, ◌≤◌, ◌++◌, List, ℕ, length, bytes_eq, Some, is_ok, if◌then◌else◌};
 ghost use Rattle.sha2.specs.Hashers.{Holds256};
 ghost use Rattle.sha2.specs.Sha256.{sha256};
-ghost use Rattle.http_packages.specs.Downloads.{Downloads, ReadsFrom, full_blocks, joined_blocks};
+ghost use Rattle.http_desks.specs.Downloads.{Downloads, ReadsFrom, full_blocks, joined_blocks};
 ghost use Rattle.http_wire.specs.Sending.{Sends};
 
 use crate::package::Packages;

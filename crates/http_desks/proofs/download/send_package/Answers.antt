@@ -2,9 +2,9 @@ use Rattle.std.proofs.Common.{◌≡◌, ◌+◌, ◌*◌, ◌/◌, ◌++◌, []
 use Rattle.std.specs.Io.KnownBytes.{Appends}
 use Rattle.sha2.specs.Hashers.{Holds256}
 use Rattle.http_wire.proofs.KnownLemmas.{Appends-then}
-use Rattle.http_packages.specs.Downloads.{full_blocks, joined_blocks}
-use Rattle.http_packages.proofs.DownloadLemmas.{ReadsFrom-more, joined_blocks-more, AppendsPart-more, AppendsPart-last, download-agrees, read-same, last-fits}
-use Rattle.http_packages.proofs.download.send_package.Goals as goal
+use Rattle.http_desks.specs.Downloads.{full_blocks, joined_blocks}
+use Rattle.http_desks.proofs.DownloadLemmas.{ReadsFrom-more, joined_blocks-more, AppendsPart-more, AppendsPart-last, download-agrees, read-same, last-fits}
+use Rattle.http_desks.proofs.download.send_package.Goals as goal
 
 pub returns-in-Err-send-clause-downloads : goal.returns-in-Err-send-clause-downloads
 returns-in-Err-send-clause-downloads g c =
