@@ -28,8 +28,8 @@ import sys
 import tempfile
 
 TOP = pathlib.Path(__file__).resolve().parent.parent
-CRATES = ["values", "version", "records", "omaha_json", "catalogue", "cohorts", "payload_rules", "payload_graph", "price_cert", "solver", "par_tables"]
-LINE = "graph_times: par_tables solver price_cert payload_graph payload_rules catalogue cohorts values\n"
+CRATES = ["values", "version", "records", "omaha_json", "catalogue", "cohorts", "payload_graph", "price_cert", "solver", "par_tables"]
+LINE = "graph_times: par_tables solver price_cert payload_graph catalogue cohorts values\n"
 PROGRAM = r"""//! Makes the graph or the table of a track again and again.
 
 #![tactic(auto)]
@@ -42,7 +42,7 @@ use catalogue::{
 use cohorts::Lane;
 use par_tables::{TrackTables, tables};
 use payload_graph::{Differentials, Graph};
-use payload_rules::TrackKey;
+use payload_graph::TrackKey;
 use solver::solve;
 use std::alloc::{AllocError, Global};
 use std::io;

@@ -6,7 +6,7 @@ use Rattle.catalogue_laws.specs.Histories.{History, LeadsTo}
 use Rattle.records.specs.declared.content.App.{App}
 use Rattle.catalogue.specs.declared.edit.Edit.{Edit}
 use Rattle.catalogue.specs.declared.fault.Refused.{Refused}
-use Rattle.payload_rules.specs.declared.payload.TrackKey.{TrackKey}
+use Rattle.payload_graph.specs.declared.payload.TrackKey.{TrackKey}
 use Rattle.payload_graph.specs.Net.{net_among}
 use Rattle.price_cert.specs.Tables.{Certificate}
 use Rattle.par_tables.specs.Tables.{AreTables}

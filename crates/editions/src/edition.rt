@@ -8,7 +8,7 @@ ghost use Rattle.editions.specs.Editions.{content_of, most_batches, Continues, I
 use crate::fault::NextError;
 use catalogue::{Batch, Catalogue};
 use par_tables::{TrackTables, tables};
-use payload_rules::TrackKey;
+use payload_graph::TrackKey;
 use price_cert::Certified;
 use std::alloc::{AllocError, Global};
 use std::marker::Model;

@@ -10,8 +10,8 @@ use Rattle.records.specs.declared.content.App.{App}
 use Rattle.records.specs.declared.content.Cohort.{Cohort}
 use Rattle.cohorts.specs.declared.track.Lane.{Lane}
 use Rattle.cohorts.specs.declared.track.Lane.TheVariants.{Target, Held}
-use Rattle.payload_rules.specs.Chains.{lane_target}
-use Rattle.payload_rules.specs.declared.payload.TrackKey.{TrackKey}
+use Rattle.payload_graph.specs.Chains.{lane_target}
+use Rattle.payload_graph.specs.declared.payload.TrackKey.{TrackKey}
 use Rattle.payload_graph.specs.Net.{Net, net_among, net_in, net_of}
 use Rattle.price_cert.specs.Tables.{Certificate}
 use Rattle.par_tables.proofs.PlaceLemmas.{found_net, net_among-key, nets_of-cons}

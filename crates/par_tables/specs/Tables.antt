@@ -1,7 +1,7 @@
 -- The tables of a catalogue: one for each track that has a target.
 use Rattle.std.specs.Prelude.{◌≡◌, List, ◌++◌, All, Any, Some, filter_map, map}
 use Rattle.records.specs.declared.content.App.{App}
-use Rattle.payload_rules.specs.declared.payload.TrackKey.{TrackKey}
+use Rattle.payload_graph.specs.declared.payload.TrackKey.{TrackKey}
 use Rattle.payload_graph.specs.Net.{Net, net_among}
 use Rattle.price_cert.specs.Laws.{IsGraph}
 use Rattle.price_cert.specs.Rules.{AreCertified}

@@ -5,7 +5,7 @@ use Rattle.records.specs.declared.content.App.{App}
 use Rattle.records.specs.declared.content.Cohort.{Cohort}
 use Rattle.cohorts.specs.declared.track.Lane.{Lane}
 use Rattle.cohorts.specs.declared.track.Lane.TheVariants.{Target, Held}
-use Rattle.payload_rules.specs.declared.payload.TrackKey.{TrackKey}
+use Rattle.payload_graph.specs.declared.payload.TrackKey.{TrackKey}
 
 -- each item's list, made with its index, joined
 abbrev pub joined_from : {A B : Type 0} → (ℕ → A → List B) → ℕ → List A → List B

@@ -8,8 +8,7 @@ ghost use Rattle.par_tables.specs.Tracks.{cohort_keys};
 
 use crate::keys::cohort_keys;
 use catalogue::{Catalogue, Cohort};
-use payload_graph::{Differentials, Graph};
-use payload_rules::TrackKey;
+use payload_graph::{Differentials, Graph, TrackKey};
 use price_cert::Certified;
 use solver::solve;
 use std::alloc::{AllocError, Global};

@@ -5,7 +5,7 @@ ghost use Rattle.par_tables.specs.Tracks.{cohort_keys, lane_keys};
 
 use catalogue::Cohort;
 use cohorts::Lane;
-use payload_rules::TrackKey;
+use payload_graph::TrackKey;
 use std::alloc::{AllocError, Global};
 
 fn push_lane(

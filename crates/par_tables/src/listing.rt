@@ -6,7 +6,7 @@ ghost use Rattle.par_tables.specs.Tables.{AreTables};
 
 use crate::draft::{Draft, push_app};
 use catalogue::Catalogue;
-use payload_rules::TrackKey;
+use payload_graph::TrackKey;
 use price_cert::Certified;
 use std::alloc::{AllocError, Global};
 use std::marker::Model;

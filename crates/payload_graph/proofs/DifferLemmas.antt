@@ -12,9 +12,9 @@ use Rattle.records.specs.declared.content.App.{App}
 use Rattle.records.specs.declared.content.Cohort.{Cohort}
 use Rattle.records.specs.declared.content.Diff.{Diff}
 use Rattle.records.specs.declared.content.Release.{Release}
-use Rattle.payload_rules.specs.Chains.{index_of}
-use Rattle.payload_rules.specs.Permitted.{is_offered, leads_up, permits_differ}
-use Rattle.payload_rules.specs.declared.payload.TrackKey.{TrackKey}
+use Rattle.payload_graph.specs.Chains.{index_of}
+use Rattle.payload_graph.specs.Permitted.{is_offered, leads_up, permits_differ}
+use Rattle.payload_graph.specs.declared.payload.TrackKey.{TrackKey}
 use Rattle.payload_graph.proofs.DoorLemmas.{get_or-doors_of}
 use Rattle.payload_graph.proofs.IndexLemmas.{IsIndex, IsIndex-released, find-index_of, index_of-below, released_one}
 use Rattle.payload_graph.proofs.OrderLemmas.{list_all-get_or}

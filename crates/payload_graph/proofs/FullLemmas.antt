@@ -8,10 +8,10 @@ use Rattle.version.specs.Versions.{is_below}
 use Rattle.records.specs.declared.content.App.{App}
 use Rattle.records.specs.declared.content.Cohort.{Cohort}
 use Rattle.records.specs.declared.content.Release.{Release}
-use Rattle.payload_rules.specs.Permitted.{is_offered, leads_down, leads_up, permits, permits_full, rolls_back}
-use Rattle.payload_rules.specs.declared.payload.Payload.TheVariants.{Full}
-use Rattle.payload_rules.specs.declared.payload.TrackKey.{TrackKey}
-use Rattle.payload_rules.specs.declared.place.Place.TheVariants.{At}
+use Rattle.payload_graph.specs.Permitted.{is_offered, leads_down, leads_up, permits, permits_full, rolls_back}
+use Rattle.payload_graph.specs.declared.payload.Payload.TheVariants.{Full}
+use Rattle.payload_graph.specs.declared.payload.TrackKey.{TrackKey}
+use Rattle.payload_graph.specs.declared.place.Place.TheVariants.{At}
 use Rattle.payload_graph.proofs.DoorLemmas.{get_or-doors_of, length-doors_of}
 use Rattle.payload_graph.proofs.NearerLemmas.{window-above, window-below}
 use Rattle.payload_graph.proofs.OrderLemmas.{below_at, not_below_at}

@@ -11,7 +11,7 @@ use Rattle.records.specs.Lookups.{has_release, is_release}
 use Rattle.values.specs.Ordered.{ascend}
 use Rattle.records.specs.Validity.{is_release_below}
 use Rattle.records.specs.declared.content.Release.{Release}
-use Rattle.payload_rules.specs.Chains.{index_of}
+use Rattle.payload_graph.specs.Chains.{index_of}
 use Rattle.payload_graph.proofs.OrderLemmas.{not_below_at}
 
 -- the search goes on past a release of another version

@@ -1,6 +1,7 @@
 mod DifferLemmas
 mod DoorLemmas
 mod EnterLemmas
+mod FingerprintLemmas
 mod FlatLemmas
 mod FullLemmas
 mod IncomingLemmas

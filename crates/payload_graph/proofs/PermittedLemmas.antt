@@ -13,11 +13,11 @@ use Rattle.records.specs.declared.content.App.{App}
 use Rattle.records.specs.declared.content.Cohort.{Cohort}
 use Rattle.records.specs.declared.content.Diff.{Diff}
 use Rattle.records.specs.declared.content.Release.{Release}
-use Rattle.payload_rules.specs.Chains.{index_of}
-use Rattle.payload_rules.specs.Permitted.{permits, permits_differ, starts_at}
-use Rattle.payload_rules.specs.declared.payload.Payload.TheVariants.{Differ}
-use Rattle.payload_rules.specs.declared.payload.TrackKey.{TrackKey}
-use Rattle.payload_rules.specs.declared.place.Place.TheVariants.{At}
+use Rattle.payload_graph.specs.Chains.{index_of}
+use Rattle.payload_graph.specs.Permitted.{permits, permits_differ, starts_at}
+use Rattle.payload_graph.specs.declared.payload.Payload.TheVariants.{Differ}
+use Rattle.payload_graph.specs.declared.payload.TrackKey.{TrackKey}
+use Rattle.payload_graph.specs.declared.place.Place.TheVariants.{At}
 use Rattle.payload_graph.proofs.DifferLemmas.{filter-map_agree}
 use Rattle.payload_graph.proofs.IndexLemmas.{IsIndex-released}
 use Rattle.payload_graph.proofs.OrderLemmas.{below_at, list_all-get_or}

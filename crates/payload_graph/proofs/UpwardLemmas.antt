@@ -8,7 +8,7 @@ use Rattle.values.specs.Ordered.{ascend}
 use Rattle.records.specs.Validity.{is_release_below}
 use Rattle.records.specs.declared.content.Cohort.{Cohort}
 use Rattle.records.specs.declared.content.Release.{Release}
-use Rattle.payload_rules.specs.Permitted.{is_stone_between, jumps_stone, leads_up}
+use Rattle.payload_graph.specs.Permitted.{is_stone_between, jumps_stone, leads_up}
 use Rattle.payload_graph.proofs.DoorLemmas.{get_or-doors_of, length-doors_of}
 use Rattle.payload_graph.proofs.OrderLemmas.{below_at, not_below_at}
 use Rattle.payload_graph.proofs.RangeLemmas.{AgreeBetween, list_any-between, take-between}

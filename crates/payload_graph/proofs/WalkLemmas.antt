@@ -13,7 +13,7 @@ use Rattle.values.specs.Ordered.{ascend}
 use Rattle.records.specs.Validity.{is_diff_before, is_valid_diff, is_release_below}
 use Rattle.records.specs.declared.content.Diff.{Diff}
 use Rattle.records.specs.declared.content.Release.{Release}
-use Rattle.payload_rules.specs.Chains.{index_of}
+use Rattle.payload_graph.specs.Chains.{index_of}
 use Rattle.payload_graph.proofs.IndexLemmas.{index_of-below}
 use Rattle.payload_graph.proofs.OrderLemmas.{ascend-get_or, list_all-get_or}
 use Rattle.payload_graph.specs.Net.{edge_of}

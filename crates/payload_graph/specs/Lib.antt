@@ -1,4 +1,8 @@
+pub mod Chains
 pub mod Edges
+pub mod Examples
 pub mod Laws
 pub mod Net
+pub mod Permitted
+pub mod Places
 pub mod Soundness

@@ -8,9 +8,9 @@ use Rattle.records.specs.declared.content.App.{App}
 use Rattle.records.specs.declared.content.Cohort.{Cohort}
 use Rattle.records.specs.declared.content.Diff.{Diff}
 use Rattle.records.specs.declared.content.Release.{Release}
-use Rattle.payload_rules.specs.Chains.{index_of, lane_target}
-use Rattle.payload_rules.specs.Permitted.{is_offered, permits_differ, rolls_back}
-use Rattle.payload_rules.specs.declared.payload.TrackKey.{TrackKey}
+use Rattle.payload_graph.specs.Chains.{index_of, lane_target}
+use Rattle.payload_graph.specs.Permitted.{is_offered, permits_differ, rolls_back}
+use Rattle.payload_graph.specs.declared.payload.TrackKey.{TrackKey}
 use Rattle.payload_graph.specs.declared.door.Door.{Door}
 use Rattle.payload_graph.specs.declared.edge.Edge.{Edge}
 use Rattle.payload_graph.specs.declared.edge.Kind.TheVariants as kind

@@ -5,7 +5,7 @@ ghost use Rattle.std.specs.List.{filter, list_all, AllWithin};
 ghost use Rattle.std.specs.List.Sorted.{IsNonDecreasingBy};
 ghost use Rattle.values.specs.Ordered.{ascend};
 ghost use Rattle.records.specs.Validity.{is_diff_before, is_valid_diff, is_release_below};
-ghost use Rattle.payload_rules.specs.Chains.{index_of};
+ghost use Rattle.payload_graph.specs.Chains.{index_of};
 ghost use Rattle.payload_graph.specs.Net.{edge_of, leaves};
 ghost use Rattle.payload_graph.specs.declared.edge.Edge.{Edge};
 ghost use Rattle.payload_graph.specs.Soundness.{is_reached, AreReaches, AreResolved};

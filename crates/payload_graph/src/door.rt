@@ -3,8 +3,8 @@
 ghost use Rattle.std.specs.Prelude.{◌≡◌, IfOk};
 ghost use Rattle.payload_graph.specs.Net.{door_of, doors_of};
 
+use crate::permitted::is_offered;
 use catalogue::{Cohort, Release};
-use payload_rules::is_offered;
 use std::alloc::{AllocError, Global};
 
 /// A release as a destination of a cohort's clients.

@@ -11,9 +11,10 @@ use crate::edge::Edge;
 use crate::edges::{Edges, Fulls};
 use crate::incoming::EdgesInto;
 use crate::origin::{origins_above, origins_below};
+use crate::payload::TrackKey;
+use crate::permitted::rolls_back;
 use crate::reach::{doors_above, reaches_of};
 use catalogue::{Cohort, Release};
-use payload_rules::{TrackKey, rolls_back};
 use std::alloc::{AllocError, Global};
 use std::marker::Model;
 

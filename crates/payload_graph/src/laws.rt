@@ -1,6 +1,7 @@
 //! What holds of all graphs, each law as a clause of a function.
 
 ghost use Rattle.payload_graph.specs.Laws.{DiffersArePermitted, EdgesAreSized, EdgesFromAreOfGraph, EdgesIntoAreEdgesFrom, EdgesLeadNearer, FullsArePermitted, FullsLeadNearer, TargetsLeaveNothing, WindowsGrowDown, WindowsGrowUp};
+ghost use Rattle.payload_graph.specs.Examples.{ExampleIsWorked};
 
 /// States that the full packages of a window are the permitted ones, each once, in order.
 pub fn fulls()
@@ -38,4 +39,9 @@ pub fn sized()
 pub fn incoming()
     ensures from { EdgesFromAreOfGraph }
     ensures into { EdgesIntoAreEdgesFrom }
+{}
+
+/// States what is permitted on the tracks of a small app that is worked by hand.
+pub fn example()
+    ensures { ExampleIsWorked }
 {}

@@ -6,7 +6,18 @@
 //! `specs/Net.antt` for the graph, and `laws` for what holds of all graphs: a window's full packages
 //! are the permitted ones, and each payload leads nearer the target, so that there is no cycle.
 //!
-//! It does not decide which payload is permitted, which `payload_rules` does, nor does it know prices.
+//! It does not decide which payload is permitted, which `payload_graph` does, nor does it know prices.
+//!
+//! The rules of payloads: who may be offered what.
+//!
+//! A `Place` is where a client is among the releases of an app, found by `place_of`. A `Payload`
+//! is a full package or a differential, a `TrackKey` names the clients that are served alike, and
+//! `permits` tests whether a payload may be offered on a track at a place. Read
+//! `specs/Permitted.antt` for the rule, line by line, `specs/Places.antt` for places,
+//! `specs/Chains.antt` for the chains of permitted payloads that lead to a target, and
+//! `specs/Examples.antt` for a catalogue that is worked by hand.
+//!
+//! It does not list the payloads of a track, nor choose among them: crates above do.
 
 #![tactic(auto)]
 
@@ -14,10 +25,14 @@ mod differential;
 mod door;
 mod edge;
 mod edges;
+mod fingerprint;
 mod graph;
 mod incoming;
 pub mod laws;
 mod origin;
+mod payload;
+mod permitted;
+mod place;
 mod reach;
 mod track;
 
@@ -26,4 +41,7 @@ pub use crate::edge::{Edge, Kind};
 pub use crate::edges::{Edges, Fulls};
 pub use crate::graph::Graph;
 pub use crate::incoming::EdgesInto;
+pub use crate::payload::{Payload, TrackKey};
+pub use crate::permitted::{is_offered, permits, rolls_back};
+pub use crate::place::{Place, place_of};
 pub use crate::track::Differentials;

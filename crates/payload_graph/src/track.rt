@@ -1,16 +1,16 @@
 //! The graph of a track of a catalogue.
 
 ghost use Rattle.std.specs.Prelude.{◌≡◌, ◌<◌, IfOk, IfSome, length};
-ghost use Rattle.payload_rules.specs.Chains.{lane_target};
+ghost use Rattle.payload_graph.specs.Chains.{lane_target};
 ghost use Rattle.payload_graph.specs.Net.{net_among, resolved_at};
 ghost use Rattle.payload_graph.specs.Soundness.{net_in_cohort, net_in_app, AreBounded, AreResolved};
 
 use crate::differential::resolve;
 use crate::edge::Edge;
 use crate::graph::Graph;
+use crate::payload::TrackKey;
 use catalogue::{App, Catalogue, Cohort};
 use cohorts::{Lane, target_in};
-use payload_rules::TrackKey;
 use std::alloc::{AllocError, Global};
 use std::marker::Model;
 

@@ -2,7 +2,7 @@
 use Rattle.std.specs.Prelude.{◌≡◌, true, false, List, [], ◌∷◌, map, Option, None, Some}
 use Rattle.std.specs.List.{range_with_len}
 use Rattle.cohorts.specs.declared.track.Lane.TheVariants as lane
-use Rattle.payload_rules.specs.Examples.{beta, demo, key_of, stable}
+use Rattle.payload_graph.specs.Examples.{beta, demo, key_of, stable}
 use Rattle.payload_graph.specs.Net.{Net, net_of}
 use Rattle.payload_graph.specs.declared.edge.Kind.TheVariants.{Full, Differ}
 use Rattle.price_cert.specs.Rules.{broken_at}

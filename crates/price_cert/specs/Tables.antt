@@ -1,6 +1,6 @@
 -- Certified tables, as contracts see them.
 use Rattle.std.specs.Prelude.{◌≡◌, List}
-use Rattle.payload_rules.specs.declared.payload.TrackKey.{TrackKey}
+use Rattle.payload_graph.specs.declared.payload.TrackKey.{TrackKey}
 use Rattle.payload_graph.specs.Net.{Net}
 use Rattle.price_cert.specs.Laws.{IsGraph}
 use Rattle.price_cert.specs.Rules.{AreCertified}

@@ -10,8 +10,7 @@ use crate::kept::Kept;
 use crate::passing::passes;
 use crate::row::{Prices, Row, row_at};
 use crate::rules::{Wrong, first_wrong};
-use payload_graph::Graph;
-use payload_rules::TrackKey;
+use payload_graph::{Graph, TrackKey};
 use std::alloc::AllocError;
 use std::marker::Model;
 

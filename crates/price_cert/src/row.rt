@@ -3,8 +3,7 @@
 ghost use Rattle.std.specs.Prelude.{◌≡◌};
 ghost use Rattle.price_cert.specs.Rows.{price_of, row_at};
 
-use payload_graph::Kind;
-use payload_rules::TrackKey;
+use payload_graph::{Kind, TrackKey};
 use values::Items;
 
 /// What a table states of a release.

@@ -4,7 +4,7 @@ use Rattle.std.proofs.lemmas.List.{drop_all}
 use Rattle.records.specs.declared.content.App.{App}
 use Rattle.records.specs.declared.content.Cohort.{Cohort}
 use Rattle.records.specs.declared.content.Release.{Release}
-use Rattle.payload_rules.specs.declared.payload.TrackKey.{TrackKey}
+use Rattle.payload_graph.specs.declared.payload.TrackKey.{TrackKey}
 use Rattle.price_cert.specs.declared.row.Row.{Row}
 use Rattle.price_certificates.specs.Headings.{heading_line}
 use Rattle.price_certificates.specs.Strings.{ended, headings_string, row_line, rows_from}

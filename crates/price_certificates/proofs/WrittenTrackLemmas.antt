@@ -14,8 +14,8 @@ use Rattle.records.specs.declared.content.App.{App}
 use Rattle.records.specs.declared.content.Cohort.{Cohort}
 use Rattle.records.specs.declared.content.Release.{Release}
 use Rattle.cohorts.specs.Tracks.{target_of}
-use Rattle.payload_rules.specs.Chains.{lane_target}
-use Rattle.payload_rules.specs.declared.payload.TrackKey.{TrackKey}
+use Rattle.payload_graph.specs.Chains.{lane_target}
+use Rattle.payload_graph.specs.declared.payload.TrackKey.{TrackKey}
 use Rattle.payload_graph.specs.Net.{Net, net_among, net_in, net_of}
 use Rattle.price_cert.specs.declared.row.Row.{Row}
 use Rattle.price_certificates.specs.Laws.{IsStatable, WrittenIsRead}

@@ -9,7 +9,7 @@ use Rattle.records.specs.declared.content.Cohort.{Cohort}
 use Rattle.records.specs.declared.content.Release.{Release}
 use Rattle.cohorts.specs.declared.track.Lane.{Lane}
 use Rattle.cohorts.specs.declared.track.Lane.TheVariants as lane
-use Rattle.payload_rules.specs.declared.payload.TrackKey.{TrackKey}
+use Rattle.payload_graph.specs.declared.payload.TrackKey.{TrackKey}
 use Rattle.price_certificates.specs.Forms.{count_bound, first_of, is_either, is_version, number_below, rest_of}
 use Rattle.price_certificates.specs.declared.heading.Heading.{Heading}
 use Rattle.price_certificates.specs.declared.heading.Heading.TheVariants as heading

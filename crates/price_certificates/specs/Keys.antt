@@ -5,7 +5,7 @@ use Rattle.records.specs.Lookups.{cohorts_at, is_cohort}
 use Rattle.records.specs.declared.content.App.{App}
 use Rattle.cohorts.specs.declared.track.Lane.{Lane}
 use Rattle.cohorts.specs.declared.track.Lane.TheVariants as lane
-use Rattle.payload_rules.specs.declared.payload.TrackKey.{TrackKey}
+use Rattle.payload_graph.specs.declared.payload.TrackKey.{TrackKey}
 use Rattle.price_certificates.specs.Forms.{rest_of}
 use Rattle.price_certificates.specs.Headings.{is_heading}
 use Rattle.price_certificates.specs.Reading.{line_split, on_line}

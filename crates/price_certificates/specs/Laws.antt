@@ -5,7 +5,7 @@ use Rattle.records.specs.Validity.{IsValid}
 use Rattle.records.specs.declared.content.App.{App}
 use Rattle.records.specs.declared.content.Cohort.{Cohort}
 use Rattle.records.specs.declared.content.Release.{Release}
-use Rattle.payload_rules.specs.declared.payload.TrackKey.{TrackKey}
+use Rattle.payload_graph.specs.declared.payload.TrackKey.{TrackKey}
 use Rattle.payload_graph.specs.Net.{Net, net_among}
 use Rattle.price_cert.specs.declared.row.Prices.{Prices}
 use Rattle.price_cert.specs.declared.row.Row.{Row}

@@ -6,8 +6,8 @@ use Rattle.records.specs.declared.content.App.{App}
 use Rattle.records.specs.declared.content.Cohort.{Cohort}
 use Rattle.records.specs.declared.content.Release.{Release}
 use Rattle.cohorts.specs.declared.track.Lane.{Lane}
-use Rattle.payload_rules.specs.Chains.{lane_target}
-use Rattle.payload_rules.specs.declared.payload.TrackKey.{TrackKey}
+use Rattle.payload_graph.specs.Chains.{lane_target}
+use Rattle.payload_graph.specs.declared.payload.TrackKey.{TrackKey}
 use Rattle.payload_graph.specs.declared.edge.Kind.{Kind}
 use Rattle.payload_graph.specs.declared.edge.Kind.TheVariants as kind
 use Rattle.price_cert.specs.declared.row.Prices.{Prices}

@@ -8,7 +8,7 @@ use crate::heading::{Heading, value_in};
 use crate::lines::split_line;
 use catalogue::Catalogue;
 use cohorts::Lane;
-use payload_rules::TrackKey;
+use payload_graph::TrackKey;
 
 fn value_of(heading: Heading, n: usize, text: &[u8]) -> Result<(&str, &[u8]), Fault>
     ensures { IsRead (λ parts. (parts.0.now, parts.1.now)) result (value_of heading n text.now) }

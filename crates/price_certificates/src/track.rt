@@ -5,7 +5,7 @@ ghost use Rattle.price_certificates.specs.Strings.{target_at, track_at};
 
 use catalogue::{App, Catalogue, Cohort, Release};
 use cohorts::{Lane, target_in};
-use payload_rules::TrackKey;
+use payload_graph::TrackKey;
 
 /// The app and the cohort of a key, if they are there.
 pub(crate) fn find_track<'a>(

@@ -7,8 +7,7 @@ ghost use Rattle.price_certificates.specs.Strings.{ended, entry_string, headings
 use crate::heading::{HEADINGS, line_of};
 use crate::track::{find_target, find_track};
 use catalogue::{App, Catalogue, Cohort, Release};
-use payload_graph::Kind;
-use payload_rules::TrackKey;
+use payload_graph::{Kind, TrackKey};
 use price_cert::{Prices, Row};
 use std::alloc::{AllocError, Global};
 use values::Text;

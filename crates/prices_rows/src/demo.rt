@@ -2,7 +2,7 @@
 
 use catalogue::{AddDiff, Batch, Catalogue, Edit, SetRollback, SetStone};
 use cohorts::Lane;
-use payload_rules::TrackKey;
+use payload_graph::TrackKey;
 use profile_toml::read_profile;
 use std::alloc::{AllocError, Global};
 use std::test::Fail;

@@ -4,7 +4,7 @@ use crate::certificates::{BETA, HELD};
 use crate::demo::catalogue_of_demo;
 use crate::wrong_lines::with_line;
 use cohorts::Lane;
-use payload_rules::TrackKey;
+use payload_graph::TrackKey;
 use price_certificates::{Fault, read_key};
 use std::alloc::{AllocError, Global};
 use std::test::Fail;

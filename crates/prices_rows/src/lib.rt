@@ -1,7 +1,7 @@
 //! Worked rows of payloads: what is permitted on the tracks of small catalogues, their graphs and tables of
 //! prices.
 //!
-//! It has tests alone, so that `payload_rules`, `payload_graph`, `solver` and `par_tables` are proved once. Edits are lines of a
+//! It has tests alone, so that `payload_graph`, `solver` and `par_tables` are proved once. Edits are lines of a
 //! string, and payloads are words.
 //!
 //! Worked rows of certificates: tables that read back as they were written, and wrong lines.

@@ -2,15 +2,14 @@
 
 ghost use Rattle.std.specs.Prelude.{◌<◌, IfSome, length};
 ghost use Rattle.records.specs.Lookups.{releases_at};
-ghost use Rattle.payload_rules.specs.Places.{IsWithin};
+ghost use Rattle.payload_graph.specs.Places.{IsWithin};
 
 use crate::graphs::{DEMO, key_of};
 use crate::lines::catalogue_of;
 use crate::tables::{push_table, stone_lines};
 use catalogue::Catalogue;
 use par_tables::tables;
-use payload_graph::Graph;
-use payload_rules::{Payload, Place, TrackKey};
+use payload_graph::{Graph, Payload, Place, TrackKey};
 use quotes::{Quote, quote_from};
 use solver::solve;
 use std::alloc::{AllocError, Global};

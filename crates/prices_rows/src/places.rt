@@ -3,7 +3,7 @@
 use crate::lines::catalogue_of;
 use catalogue::Catalogue;
 use cohorts::Lane;
-use payload_rules::{Payload, Place, TrackKey, permits, place_of};
+use payload_graph::{Payload, Place, TrackKey, permits, place_of};
 use std::alloc::{AllocError, Global};
 use std::test::Fail;
 

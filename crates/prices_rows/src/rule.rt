@@ -2,8 +2,7 @@
 
 use crate::words::push_word;
 use catalogue::{App, Catalogue};
-use payload_graph::{Edge, Kind};
-use payload_rules::{Payload, Place, TrackKey, permits};
+use payload_graph::{Edge, Kind, Payload, Place, TrackKey, permits};
 use std::alloc::{AllocError, Global};
 
 fn edge_of(from: usize, to: usize, kind: Kind, bytes: u64) -> Edge {

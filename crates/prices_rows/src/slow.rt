@@ -4,8 +4,7 @@ use crate::rule::permitted;
 use crate::tables::push_price;
 use catalogue::{App, Catalogue};
 use cohorts::target_in;
-use payload_graph::{Edge, Kind};
-use payload_rules::TrackKey;
+use payload_graph::{Edge, Kind, TrackKey};
 use std::alloc::{AllocError, Global};
 
 // A list of payloads, each from where the one before it leads, by its first one, its end and its sum.

@@ -10,8 +10,8 @@ use Rattle.records.specs.Validity.{IsValid, IsValidApp}
 use Rattle.records.specs.declared.content.App.{App}
 use Rattle.records.specs.declared.content.Diff.{Diff}
 use Rattle.records.specs.declared.content.Release.{Release}
-use Rattle.payload_rules.specs.declared.payload.TrackKey.{TrackKey}
-use Rattle.payload_rules.specs.declared.place.Place.TheVariants.{At}
+use Rattle.payload_graph.specs.declared.payload.TrackKey.{TrackKey}
+use Rattle.payload_graph.specs.declared.place.Place.TheVariants.{At}
 use Rattle.payload_graph.specs.Laws.{DiffersArePermitted, FullsArePermitted}
 use Rattle.payload_graph.specs.Net.{Net, net_among, net_in}
 use Rattle.price_cert.specs.Laws.{ArePrices}

@@ -14,8 +14,8 @@ use Rattle.records.specs.Lookups.{is_diff, is_release}
 use Rattle.records.specs.Validity.{is_diff_before}
 use Rattle.records.specs.declared.content.Diff.{Diff}
 use Rattle.records.specs.declared.content.Release.{Release}
-use Rattle.payload_rules.specs.Chains.{index_of}
-use Rattle.payload_rules.specs.declared.payload.Payload.TheVariants.{Differ}
+use Rattle.payload_graph.specs.Chains.{index_of}
+use Rattle.payload_graph.specs.declared.payload.Payload.TheVariants.{Differ}
 use Rattle.payload_graph.specs.declared.edge.Kind.TheVariants as kind
 use Rattle.quotes.specs.Quotes.{payload_named}
 

@@ -12,7 +12,7 @@ use Rattle.values.specs.Ordered.{ascend}
 use Rattle.records.specs.Validity.{is_release_below}
 use Rattle.records.specs.declared.content.Cohort.{Cohort}
 use Rattle.records.specs.declared.content.Release.{Release}
-use Rattle.payload_rules.specs.Permitted.{is_offered, is_stone_between, jumps_stone, leads_down, permits_full}
+use Rattle.payload_graph.specs.Permitted.{is_offered, is_stone_between, jumps_stone, leads_down, permits_full}
 use Rattle.price_cert.specs.declared.row.Row.{Row}
 use Rattle.quotes.specs.Outside.{IsBest, is_blocked, is_stone_above, leads_to, sum_if, sum_into}
 use Rattle.quotes.specs.declared.outside.Best.{Best}

@@ -12,14 +12,14 @@ use Rattle.records.specs.declared.content.App.{App}
 use Rattle.records.specs.declared.content.Cohort.{Cohort}
 use Rattle.records.specs.declared.content.Diff.{Diff}
 use Rattle.records.specs.declared.content.Release.{Release}
-use Rattle.payload_rules.specs.Chains.{bytes_of, destination_of, index_of}
-use Rattle.payload_rules.specs.Permitted.{end_of, is_offered, leads_up, permits, permits_differ, permits_from, permits_full, permits_in, rolls_back, starts_at}
-use Rattle.payload_rules.specs.Places.{version_at}
-use Rattle.payload_rules.specs.declared.payload.Payload.{Payload}
-use Rattle.payload_rules.specs.declared.payload.Payload.TheVariants.{Full, Differ}
-use Rattle.payload_rules.specs.declared.payload.TrackKey.{TrackKey}
-use Rattle.payload_rules.specs.declared.place.Place.{Place}
-use Rattle.payload_rules.specs.declared.place.Place.TheVariants.{At}
+use Rattle.payload_graph.specs.Chains.{bytes_of, destination_of, index_of}
+use Rattle.payload_graph.specs.Permitted.{end_of, is_offered, leads_up, permits, permits_differ, permits_from, permits_full, permits_in, rolls_back, starts_at}
+use Rattle.payload_graph.specs.Places.{version_at}
+use Rattle.payload_graph.specs.declared.payload.Payload.{Payload}
+use Rattle.payload_graph.specs.declared.payload.Payload.TheVariants.{Full, Differ}
+use Rattle.payload_graph.specs.declared.payload.TrackKey.{TrackKey}
+use Rattle.payload_graph.specs.declared.place.Place.{Place}
+use Rattle.payload_graph.specs.declared.place.Place.TheVariants.{At}
 use Rattle.payload_graph.specs.Laws.{DiffersArePermitted, FullsArePermitted, IsTrack}
 use Rattle.payload_graph.specs.Net.{Net, differs_of, door_of, doors_of, edge_of, edges_from, full, fulls, leaves, net_of, window}
 use Rattle.payload_graph.specs.declared.door.Door.{Door}

@@ -11,10 +11,10 @@ use Rattle.records.specs.Validity.{IsValidApp}
 use Rattle.records.specs.declared.content.App.{App}
 use Rattle.records.specs.declared.content.Cohort.{Cohort}
 use Rattle.records.specs.declared.content.Release.{Release}
-use Rattle.payload_rules.specs.Chains.{IsAtTarget, destination_of, lane_target}
-use Rattle.payload_rules.specs.declared.payload.Payload.{Payload}
-use Rattle.payload_rules.specs.declared.payload.TrackKey.{TrackKey}
-use Rattle.payload_rules.specs.declared.place.Place.TheVariants.{At}
+use Rattle.payload_graph.specs.Chains.{IsAtTarget, destination_of, lane_target}
+use Rattle.payload_graph.specs.declared.payload.Payload.{Payload}
+use Rattle.payload_graph.specs.declared.payload.TrackKey.{TrackKey}
+use Rattle.payload_graph.specs.declared.place.Place.TheVariants.{At}
 use Rattle.payload_graph.specs.Laws.{DiffersArePermitted, FullsArePermitted, IsTrack}
 use Rattle.payload_graph.specs.Net.{Net, edges_from, net_in, net_of}
 use Rattle.payload_graph.specs.declared.edge.Edge.{Edge}

@@ -14,8 +14,8 @@ use Rattle.records.specs.declared.content.App.{App}
 use Rattle.records.specs.declared.content.Cohort.{Cohort}
 use Rattle.records.specs.declared.content.Release.{Release}
 use Rattle.cohorts.specs.Tracks.{target_of}
-use Rattle.payload_rules.specs.Chains.{lane_target}
-use Rattle.payload_rules.specs.declared.payload.TrackKey.{TrackKey}
+use Rattle.payload_graph.specs.Chains.{lane_target}
+use Rattle.payload_graph.specs.declared.payload.TrackKey.{TrackKey}
 use Rattle.payload_graph.specs.Laws.{IsTrack}
 use Rattle.payload_graph.specs.Net.{Net, door_of, net_in, net_of}
 

@@ -9,13 +9,13 @@ use Rattle.records.specs.declared.content.App.{App}
 use Rattle.records.specs.declared.content.Cohort.{Cohort}
 use Rattle.records.specs.declared.content.Diff.{Diff}
 use Rattle.records.specs.declared.content.Release.{Release}
-use Rattle.payload_rules.specs.Chains.{IsAtTarget, IsChain, bytes_of, destination_of, sum_of, target_index}
-use Rattle.payload_rules.specs.Permitted.{permits, permits_differ, permits_from, permits_full, rolls_back}
-use Rattle.payload_rules.specs.declared.payload.Payload.{Payload}
-use Rattle.payload_rules.specs.declared.payload.Payload.TheVariants.{Full, Differ}
-use Rattle.payload_rules.specs.declared.payload.TrackKey.{TrackKey}
-use Rattle.payload_rules.specs.declared.place.Place.{Place}
-use Rattle.payload_rules.specs.declared.place.Place.TheVariants.{At, Outside}
+use Rattle.payload_graph.specs.Chains.{IsAtTarget, IsChain, bytes_of, destination_of, sum_of, target_index}
+use Rattle.payload_graph.specs.Permitted.{permits, permits_differ, permits_from, permits_full, rolls_back}
+use Rattle.payload_graph.specs.declared.payload.Payload.{Payload}
+use Rattle.payload_graph.specs.declared.payload.Payload.TheVariants.{Full, Differ}
+use Rattle.payload_graph.specs.declared.payload.TrackKey.{TrackKey}
+use Rattle.payload_graph.specs.declared.place.Place.{Place}
+use Rattle.payload_graph.specs.declared.place.Place.TheVariants.{At, Outside}
 use Rattle.payload_graph.specs.Laws.{IsTrack}
 use Rattle.price_cert.specs.Rows.{price_at}
 use Rattle.price_cert.specs.declared.row.Row.{Row}

@@ -6,8 +6,8 @@ use Rattle.std.specs.Option.{option_map_or}
 use Rattle.version.specs.Versions.{is_below}
 use Rattle.records.specs.declared.content.Cohort.{Cohort}
 use Rattle.records.specs.declared.content.Release.{Release}
-use Rattle.payload_rules.specs.Permitted.{is_offered, leads_down, permits_full}
-use Rattle.payload_rules.specs.declared.payload.Payload.TheVariants.{Full}
+use Rattle.payload_graph.specs.Permitted.{is_offered, leads_down, permits_full}
+use Rattle.payload_graph.specs.declared.payload.Payload.TheVariants.{Full}
 use Rattle.price_cert.specs.Laws.{IsSmall}
 use Rattle.price_cert.specs.Rows.{price_at}
 use Rattle.price_cert.specs.declared.row.Row.{Row}

@@ -5,13 +5,13 @@ use Rattle.records.specs.Lookups.{is_diff}
 use Rattle.records.specs.declared.content.App.{App}
 use Rattle.records.specs.declared.content.Diff.{Diff}
 use Rattle.records.specs.declared.content.Release.{Release}
-use Rattle.payload_rules.specs.Chains.{IsAtTarget, bytes_of, destination_of}
-use Rattle.payload_rules.specs.Permitted.{permits}
-use Rattle.payload_rules.specs.declared.payload.Payload.{Payload}
-use Rattle.payload_rules.specs.declared.payload.Payload.TheVariants.{Full, Differ}
-use Rattle.payload_rules.specs.declared.payload.TrackKey.{TrackKey}
-use Rattle.payload_rules.specs.declared.place.Place.{Place}
-use Rattle.payload_rules.specs.declared.place.Place.TheVariants.{At}
+use Rattle.payload_graph.specs.Chains.{IsAtTarget, bytes_of, destination_of}
+use Rattle.payload_graph.specs.Permitted.{permits}
+use Rattle.payload_graph.specs.declared.payload.Payload.{Payload}
+use Rattle.payload_graph.specs.declared.payload.Payload.TheVariants.{Full, Differ}
+use Rattle.payload_graph.specs.declared.payload.TrackKey.{TrackKey}
+use Rattle.payload_graph.specs.declared.place.Place.{Place}
+use Rattle.payload_graph.specs.declared.place.Place.TheVariants.{At}
 use Rattle.payload_graph.specs.declared.edge.Kind.{Kind}
 use Rattle.payload_graph.specs.declared.edge.Kind.TheVariants as kind
 use Rattle.price_cert.specs.Rules.{is_same_kind}

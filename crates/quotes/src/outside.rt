@@ -5,13 +5,13 @@ ghost use Rattle.values.specs.Ordered.{ascend};
 ghost use Rattle.version.specs.Versions.{is_below};
 ghost use Rattle.records.specs.Forms.{is_size};
 ghost use Rattle.records.specs.Validity.{is_release_below};
-ghost use Rattle.payload_rules.specs.Permitted.{leads_down};
+ghost use Rattle.payload_graph.specs.Permitted.{leads_down};
 ghost use Rattle.price_cert.specs.Laws.{IsSmall};
 ghost use Rattle.price_cert.specs.Rows.{price_of};
 ghost use Rattle.quotes.specs.Outside.{is_stone_above, leads_to, rises_to, sum_into, AreSmall, IsBest};
 
 use catalogue::{Cohort, Release};
-use payload_rules::is_offered;
+use payload_graph::is_offered;
 use price_cert::Row;
 use version::Version;
 

@@ -3,17 +3,16 @@
 ghost use Rattle.std.specs.Prelude.{◌≡◌, ◌<◌, IfSome, Some, length, option_and_then, option_map, slice_get};
 ghost use Rattle.records.specs.Lookups.{cohorts_at, diffs_at, releases_at};
 ghost use Rattle.cohorts.specs.Tracks.{target_of};
-ghost use Rattle.payload_rules.specs.Permitted.{rolls_back};
-ghost use Rattle.payload_rules.specs.Places.{IsWithin};
-ghost use Rattle.payload_rules.specs.declared.place.Place.TheVariants.{At, Outside};
+ghost use Rattle.payload_graph.specs.Permitted.{rolls_back};
+ghost use Rattle.payload_graph.specs.Places.{IsWithin};
+ghost use Rattle.payload_graph.specs.declared.place.Place.TheVariants.{At, Outside};
 ghost use Rattle.payload_graph.specs.Net.{net_among};
 ghost use Rattle.quotes.specs.Outside.{best_quote};
 ghost use Rattle.quotes.specs.Quotes.{payload_named, row_quote, IsQuoteAmong};
 
 use crate::outside::{Best, Visitor, find_best};
 use catalogue::Catalogue;
-use payload_graph::Kind;
-use payload_rules::{Payload, Place, TrackKey, rolls_back};
+use payload_graph::{Kind, Payload, Place, TrackKey, rolls_back};
 use price_cert::{Certified, Row};
 use version::Version;
 

@@ -7,12 +7,12 @@ use Rattle.records.specs.declared.content.App.{App}
 use Rattle.records.specs.declared.content.Cohort.{Cohort}
 use Rattle.records.specs.declared.content.Release.{Release}
 use Rattle.omaha_json.specs.declared.request.AppAsk.{AppAsk}
-use Rattle.payload_rules.specs.Chains.{IsChain, bytes_of, destination_of, lane_target, target_index}
-use Rattle.payload_rules.specs.Places.{place_of}
-use Rattle.payload_rules.specs.declared.payload.Payload.{Payload}
-use Rattle.payload_rules.specs.declared.payload.TrackKey.{TrackKey}
-use Rattle.payload_rules.specs.declared.place.Place.{Place}
-use Rattle.payload_rules.specs.declared.place.Place.TheVariants.{At}
+use Rattle.payload_graph.specs.Chains.{IsChain, bytes_of, destination_of, lane_target, target_index}
+use Rattle.payload_graph.specs.Places.{place_of}
+use Rattle.payload_graph.specs.declared.payload.Payload.{Payload}
+use Rattle.payload_graph.specs.declared.payload.TrackKey.{TrackKey}
+use Rattle.payload_graph.specs.declared.place.Place.{Place}
+use Rattle.payload_graph.specs.declared.place.Place.TheVariants.{At}
 use Rattle.payload_graph.specs.Net.{net_among, net_in, net_of}
 use Rattle.quotes.specs.Quotes.{IsQuote, IsQuoteAmong}
 use Rattle.quotes.specs.declared.quote.Quote.TheVariants.{Next}

@@ -8,7 +8,7 @@ use Rattle.cohorts.specs.CohortTexts.{printed}
 use Rattle.cohorts.specs.Tracks.{cohort_at, target_of, track_of}
 use Rattle.cohorts.specs.declared.track.Track.{Track}
 use Rattle.omaha_json.specs.declared.request.AppAsk.{AppAsk}
-use Rattle.payload_rules.specs.declared.payload.TrackKey.{TrackKey}
+use Rattle.payload_graph.specs.declared.payload.TrackKey.{TrackKey}
 use Rattle.replies.specs.declared.client.Assignment.{Assignment}
 
 -- a client of an app, on its track

@@ -6,11 +6,11 @@ use Rattle.records.specs.declared.content.App.{App}
 use Rattle.omaha_json.specs.declared.request.AppAsk.{AppAsk}
 use Rattle.omaha_json.specs.declared.request.Check.{Check}
 use Rattle.omaha_json.specs.declared.request.Request.{Request}
-use Rattle.payload_rules.specs.Chains.{IsAtTarget, bytes_of}
-use Rattle.payload_rules.specs.Places.{place_of}
-use Rattle.payload_rules.specs.declared.payload.Payload.{Payload}
-use Rattle.payload_rules.specs.declared.payload.TrackKey.{TrackKey}
-use Rattle.payload_rules.specs.declared.place.Place.{Place}
+use Rattle.payload_graph.specs.Chains.{IsAtTarget, bytes_of}
+use Rattle.payload_graph.specs.Places.{place_of}
+use Rattle.payload_graph.specs.declared.payload.Payload.{Payload}
+use Rattle.payload_graph.specs.declared.payload.TrackKey.{TrackKey}
+use Rattle.payload_graph.specs.declared.place.Place.{Place}
 use Rattle.quotes.specs.Quotes.{IsFirst}
 use Rattle.quotes.specs.Sums.{HasNoChain}
 use Rattle.replies.specs.Clients.{Client, IsAssigned, client_of, key_of}

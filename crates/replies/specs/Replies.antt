@@ -18,10 +18,10 @@ use Rattle.omaha_json.specs.declared.reply.Part.{Part}
 use Rattle.omaha_json.specs.declared.reply.Reply.{Reply}
 use Rattle.omaha_json.specs.declared.request.AppAsk.{AppAsk}
 use Rattle.omaha_json.specs.declared.request.Request.{Request}
-use Rattle.payload_rules.specs.Chains.{destination_of}
-use Rattle.payload_rules.specs.Places.{fingerprint_of}
-use Rattle.payload_rules.specs.declared.payload.Payload.{Payload}
-use Rattle.payload_rules.specs.declared.payload.Payload.TheVariants.{Full, Differ}
+use Rattle.payload_graph.specs.Chains.{destination_of}
+use Rattle.payload_graph.specs.Places.{fingerprint_of}
+use Rattle.payload_graph.specs.declared.payload.Payload.{Payload}
+use Rattle.payload_graph.specs.declared.payload.Payload.TheVariants.{Full, Differ}
 use Rattle.replies.specs.Clients.{Client, client_of, cohort_of, cohort_text}
 use Rattle.replies.specs.Timestamps.{elapsed_days, elapsed_seconds}
 use Rattle.replies.specs.declared.choices.Choice.{Choice}

@@ -3,7 +3,7 @@
 ghost use Rattle.std.specs.Prelude.{◌≡◌, ◌++◌, ◌∷◌, [], IfOk};
 
 use crate::client::Assignment;
-use payload_rules::Payload;
+use payload_graph::Payload;
 use std::alloc::{AllocError, Global};
 use values::Items;
 

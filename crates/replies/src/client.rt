@@ -6,7 +6,7 @@ ghost use Rattle.replies.specs.Clients.{IsAssigned, IsInCohort, client_in, cohor
 use catalogue::{App, Catalogue, Cohort};
 use cohorts::{Session, Track, target_in};
 use omaha_json::AppAsk;
-use payload_rules::TrackKey;
+use payload_graph::TrackKey;
 
 /// What a plan keeps of a client: the key of the track that it is assigned to, and its bucket.
 #[derive(Clone, Copy, Debug, PartialEq, Eq)]

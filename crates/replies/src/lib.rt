@@ -5,7 +5,7 @@
 //! `specs/Plans.antt` for what is chosen and `specs/Replies.antt` for the reply.
 //!
 //! It grants no bytes: crates above do. A client's track is that of `cohorts`, what is permitted on it that
-//! of `payload_rules`, and a reply's bytes those of `omaha_json`.
+//! of `payload_graph`, and a reply's bytes those of `omaha_json`.
 
 #![tactic(auto)]
 

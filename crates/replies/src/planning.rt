@@ -2,8 +2,8 @@
 
 ghost use Rattle.std.specs.Prelude.{◌≡◌, ◌<◌, IfOk, Some, length, option_map, slice_get};
 ghost use Rattle.records.specs.Lookups.{diffs_at, releases_at};
-ghost use Rattle.payload_rules.specs.Chains.{bytes_of};
-ghost use Rattle.payload_rules.specs.Places.{IsWithin};
+ghost use Rattle.payload_graph.specs.Chains.{bytes_of};
+ghost use Rattle.payload_graph.specs.Places.{IsWithin};
 ghost use Rattle.payload_graph.specs.Net.{net_among};
 ghost use Rattle.editions.specs.Editions.{content_of};
 ghost use Rattle.replies.specs.Clients.{IsAssigned, key_of};
@@ -15,7 +15,7 @@ use catalogue::{App, Catalogue};
 use cohorts::Session;
 use editions::Edition;
 use omaha_json::{AppAsk, Check, Request};
-use payload_rules::{Payload, Place, TrackKey, place_of};
+use payload_graph::{Payload, Place, TrackKey, place_of};
 use price_cert::Certified;
 use quotes::{Quote, quote_from};
 use std::alloc::{AllocError, Global};

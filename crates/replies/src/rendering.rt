@@ -6,7 +6,7 @@ ghost use Rattle.std.specs.Option.{option_and_then, option_copied};
 ghost use Rattle.omaha_json.specs.ReplyWriting.{reply_bytes};
 ghost use Rattle.replies.specs.Clients.{IsInCohort, client_in};
 ghost use Rattle.replies.specs.Plans.{payloads_of, payload_in, IsPlanOf};
-ghost use Rattle.payload_rules.specs.Places.{fingerprint_of};
+ghost use Rattle.payload_graph.specs.Places.{fingerprint_of};
 ghost use Rattle.editions.specs.Editions.{content_of};
 ghost use Rattle.replies.specs.Timestamps.{elapsed_days, elapsed_seconds};
 ghost use Rattle.replies.specs.Replies.{app_reply, client_reply, diff_of, diff_part, full_part, offer_of, release_by, reply_of, update_reply, with_check, AreOutcomes, IsOutcome};
@@ -19,7 +19,7 @@ use editions::Edition;
 use omaha_json::{
     AppAsk, AppReply, AppState, CheckReply, KnownApp, Offer, Part, Reply, Request, write_reply,
 };
-use payload_rules::Payload;
+use payload_graph::Payload;
 use std::alloc::{AllocError, Global};
 use values::{Items, Text};
 

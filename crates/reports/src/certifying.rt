@@ -10,7 +10,7 @@ use crate::names::{TrackNames, key_named};
 use crate::tables::table_of;
 use catalogue::Catalogue;
 use editions::Edition;
-use payload_rules::TrackKey;
+use payload_graph::TrackKey;
 use price_cert::Certified;
 use price_certificates::write_prices;
 use std::alloc::{AllocError, Global};

@@ -5,7 +5,7 @@ ghost use Rattle.reports.specs.Certificates.{key_named};
 
 use catalogue::Catalogue;
 use cohorts::Lane;
-use payload_rules::TrackKey;
+use payload_graph::TrackKey;
 use values::Text;
 
 /// The names of a track.

@@ -6,7 +6,7 @@ ghost use Rattle.reports.specs.Certificates.{allows_downgrades, table_net};
 
 use catalogue::Catalogue;
 use editions::Edition;
-use payload_rules::TrackKey;
+use payload_graph::TrackKey;
 use price_cert::Certified;
 
 fn allows_downgrades(catalogue: &Catalogue, key: &TrackKey) -> bool

@@ -2,7 +2,7 @@ use crate::asking::{body, replies_with, reply, request};
 use crate::batches::small;
 use editions::Edition;
 use omaha_json::{Request, read_request};
-use payload_rules::Payload;
+use payload_graph::Payload;
 use replies::{Choice, plan};
 use std::alloc::{AllocError, Global};
 use std::test::Fail;

@@ -3,12 +3,12 @@
 use Rattle.std.proofs.Common.{◌≡◌, ℕ, zero, suc, ◌+◌, ◌<◌, ◌⊎◌, inl, inr, Bool, true, false, Option, None, Some, refl, sym, ap, ◌∙◌, subst, arith}
 use Rattle.std.proofs.lemmas.Bool.{cases_eq, false≢true}
 use Rattle.records.specs.declared.content.App.{App}
-use Rattle.payload_rules.specs.Chains.{bytes_of, destination_of}
-use Rattle.payload_rules.specs.Permitted.{permits}
-use Rattle.payload_rules.specs.declared.payload.Payload.{Payload}
-use Rattle.payload_rules.specs.declared.payload.TrackKey.{TrackKey}
-use Rattle.payload_rules.specs.declared.place.Place.{Place}
-use Rattle.payload_rules.specs.declared.place.Place.TheVariants.{At}
+use Rattle.payload_graph.specs.Chains.{bytes_of, destination_of}
+use Rattle.payload_graph.specs.Permitted.{permits}
+use Rattle.payload_graph.specs.declared.payload.Payload.{Payload}
+use Rattle.payload_graph.specs.declared.payload.TrackKey.{TrackKey}
+use Rattle.payload_graph.specs.declared.place.Place.{Place}
+use Rattle.payload_graph.specs.declared.place.Place.TheVariants.{At}
 use Rattle.quotes.specs.Quotes.{Begins}
 use Rattle.quotes.specs.Sums.{IsPriceOf}
 use Rattle.theorems.proofs.ChainLemmas.{IsLeast-one}

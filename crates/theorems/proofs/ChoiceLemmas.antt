@@ -7,12 +7,12 @@ use Rattle.version.specs.Laws.{BelowIsIrreflexive, BelowIsTransitive}
 use Rattle.values.specs.Ordered.{ascend}
 use Rattle.records.specs.Validity.{is_release_below}
 use Rattle.records.specs.declared.content.App.{App}
-use Rattle.payload_rules.specs.Chains.{IsAtTarget, IsChain, bytes_of, destination_of, sum_of, target_index}
-use Rattle.payload_rules.specs.Permitted.{permits}
-use Rattle.payload_rules.specs.declared.payload.Payload.{Payload}
-use Rattle.payload_rules.specs.declared.payload.TrackKey.{TrackKey}
-use Rattle.payload_rules.specs.declared.place.Place.{Place}
-use Rattle.payload_rules.specs.declared.place.Place.TheVariants.{At, Outside}
+use Rattle.payload_graph.specs.Chains.{IsAtTarget, IsChain, bytes_of, destination_of, sum_of, target_index}
+use Rattle.payload_graph.specs.Permitted.{permits}
+use Rattle.payload_graph.specs.declared.payload.Payload.{Payload}
+use Rattle.payload_graph.specs.declared.payload.TrackKey.{TrackKey}
+use Rattle.payload_graph.specs.declared.place.Place.{Place}
+use Rattle.payload_graph.specs.declared.place.Place.TheVariants.{At, Outside}
 use Rattle.quotes.specs.Quotes.{Begins, IsFirst}
 use Rattle.quotes.specs.Sums.{IsPriceOf}
 use Rattle.replies.specs.Plans.{IsChoice}

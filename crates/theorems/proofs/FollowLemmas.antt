@@ -8,9 +8,9 @@ use Rattle.records.specs.declared.mirror.Mirror.{Mirror}
 use Rattle.omaha_json.specs.declared.reply.AppReply.{AppReply}
 use Rattle.omaha_json.specs.declared.reply.Offer.{Offer}
 use Rattle.omaha_json.specs.declared.request.AppAsk.{AppAsk}
-use Rattle.payload_rules.specs.Chains.{IsAtTarget, destination_of}
-use Rattle.payload_rules.specs.declared.place.Place.{Place}
-use Rattle.payload_rules.specs.declared.place.Place.TheVariants.{At}
+use Rattle.payload_graph.specs.Chains.{IsAtTarget, destination_of}
+use Rattle.payload_graph.specs.declared.place.Place.{Place}
+use Rattle.payload_graph.specs.declared.place.Place.TheVariants.{At}
 use Rattle.quotes.specs.Sums.{IsLeast}
 use Rattle.replies.specs.Clients.{Client, key_of}
 use Rattle.theorems.specs.Asks.{IsAskOf, offered_bytes, place_at}

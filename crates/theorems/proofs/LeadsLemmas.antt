@@ -10,13 +10,13 @@ use Rattle.records.specs.declared.content.App.{App}
 use Rattle.records.specs.declared.content.Cohort.{Cohort}
 use Rattle.records.specs.declared.content.Diff.{Diff}
 use Rattle.records.specs.declared.content.Release.{Release}
-use Rattle.payload_rules.specs.Chains.{destination_of, index_of}
-use Rattle.payload_rules.specs.Permitted.{end_of, is_offered, jumps_stone, leads_down, leads_up, permits_differ, permits_from, permits_full, starts_at}
-use Rattle.payload_rules.specs.Places.{version_at}
-use Rattle.payload_rules.specs.declared.payload.Payload.{Payload}
-use Rattle.payload_rules.specs.declared.payload.Payload.TheVariants.{Full, Differ}
-use Rattle.payload_rules.specs.declared.place.Place.{Place}
-use Rattle.payload_rules.specs.declared.place.Place.TheVariants.{At, Outside}
+use Rattle.payload_graph.specs.Chains.{destination_of, index_of}
+use Rattle.payload_graph.specs.Permitted.{end_of, is_offered, jumps_stone, leads_down, leads_up, permits_differ, permits_from, permits_full, starts_at}
+use Rattle.payload_graph.specs.Places.{version_at}
+use Rattle.payload_graph.specs.declared.payload.Payload.{Payload}
+use Rattle.payload_graph.specs.declared.payload.Payload.TheVariants.{Full, Differ}
+use Rattle.payload_graph.specs.declared.place.Place.{Place}
+use Rattle.payload_graph.specs.declared.place.Place.TheVariants.{At, Outside}
 use Rattle.theorems.proofs.ItemLemmas.{Passes-option_map_or, find-position}
 
 -- a way leads up, not above the target, or down from above it

@@ -13,14 +13,14 @@ use Rattle.records.specs.declared.content.Cohort.{Cohort}
 use Rattle.records.specs.declared.content.Diff.{Diff}
 use Rattle.records.specs.declared.content.Release.{Release}
 use Rattle.cohorts.specs.Tracks.{target_of}
-use Rattle.payload_rules.specs.Chains.{IsAtTarget, destination_of, index_of, lane_target, target_index}
-use Rattle.payload_rules.specs.Permitted.{permits, permits_from, permits_in, rolls_back}
-use Rattle.payload_rules.specs.Places.{version_at}
-use Rattle.payload_rules.specs.declared.payload.Payload.{Payload}
-use Rattle.payload_rules.specs.declared.payload.Payload.TheVariants.{Differ}
-use Rattle.payload_rules.specs.declared.payload.TrackKey.{TrackKey}
-use Rattle.payload_rules.specs.declared.place.Place.{Place}
-use Rattle.payload_rules.specs.declared.place.Place.TheVariants.{At}
+use Rattle.payload_graph.specs.Chains.{IsAtTarget, destination_of, index_of, lane_target, target_index}
+use Rattle.payload_graph.specs.Permitted.{permits, permits_from, permits_in, rolls_back}
+use Rattle.payload_graph.specs.Places.{version_at}
+use Rattle.payload_graph.specs.declared.payload.Payload.{Payload}
+use Rattle.payload_graph.specs.declared.payload.Payload.TheVariants.{Differ}
+use Rattle.payload_graph.specs.declared.payload.TrackKey.{TrackKey}
+use Rattle.payload_graph.specs.declared.place.Place.{Place}
+use Rattle.payload_graph.specs.declared.place.Place.TheVariants.{At}
 use Rattle.payload_graph.specs.Soundness.{LeadsNearer}
 use Rattle.theorems.proofs.ItemLemmas.{Passes, Passes-option_map_or, position-Passes}
 use Rattle.theorems.proofs.LeadsLemmas.{IsWay, Leads, Leads-from}

@@ -18,8 +18,8 @@ use Rattle.records.specs.Validity.{IsValidApp, is_valid_release}
 use Rattle.records.specs.declared.content.App.{App}
 use Rattle.records.specs.declared.content.Cohort.{Cohort}
 use Rattle.records.specs.declared.content.Release.{Release}
-use Rattle.payload_rules.specs.Places.{fingerprint_of, fingerprint_with, has_fingerprint, place_of}
-use Rattle.payload_rules.specs.declared.place.Place.TheVariants.{At, Outside}
+use Rattle.payload_graph.specs.Places.{fingerprint_of, fingerprint_with, has_fingerprint, place_of}
+use Rattle.payload_graph.specs.declared.place.Place.TheVariants.{At, Outside}
 use Rattle.theorems.proofs.ItemLemmas.{list_all-slice_get}
 
 IsBytes-small : (bytes : List ℕ) → list_all (λ byte. leb byte 255) bytes ≡ true → IsBytes bytes

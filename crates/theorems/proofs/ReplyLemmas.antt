@@ -14,9 +14,9 @@ use Rattle.omaha_json.specs.declared.reply.CheckReply.{CheckReply}
 use Rattle.omaha_json.specs.declared.reply.KnownApp.{KnownApp}
 use Rattle.omaha_json.specs.declared.request.AppAsk.{AppAsk}
 use Rattle.omaha_json.specs.declared.request.Check.{Check}
-use Rattle.payload_rules.specs.Chains.{bytes_of}
-use Rattle.payload_rules.specs.declared.payload.Payload.{Payload}
-use Rattle.payload_rules.specs.declared.payload.Payload.TheVariants.{Full, Differ}
+use Rattle.payload_graph.specs.Chains.{bytes_of}
+use Rattle.payload_graph.specs.declared.payload.Payload.{Payload}
+use Rattle.payload_graph.specs.declared.payload.Payload.TheVariants.{Full, Differ}
 use Rattle.replies.specs.Clients.{Client, key_of}
 use Rattle.replies.specs.Plans.{IsChosen, IsClientChoice, is_open, payload_in}
 use Rattle.replies.specs.Replies.{Decision, IsOutcome, app_reply, check_reply, codebase_at, diff_of, offer_of, release_by, state_of, update_reply, with_check}

@@ -7,7 +7,7 @@ use Rattle.omaha_json.specs.declared.reply.Offer.{Offer}
 use Rattle.omaha_json.specs.ReplyWriting.{reply_bytes}
 use Rattle.omaha_json_client.specs.ReplyReading.{reply_of_bytes}
 use Rattle.omaha_json_client.specs.Soundness.{IsSound}
-use Rattle.payload_rules.specs.Chains.{IsAtTarget}
+use Rattle.payload_graph.specs.Chains.{IsAtTarget}
 use Rattle.quotes.specs.Sums.{IsLeast}
 use Rattle.editions.specs.Editions.{content_of}
 use Rattle.catalogue_laws.specs.Histories.{HistoriesAreValid}

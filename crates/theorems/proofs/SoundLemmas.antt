@@ -29,9 +29,9 @@ use Rattle.omaha_json_client.specs.Soundness.{IsApp, IsCheck, IsDiff, IsHash, Is
 use Rattle.omaha_json.specs.declared.request.AppAsk.{AppAsk}
 use Rattle.omaha_json.specs.declared.request.Check.{Check}
 use Rattle.omaha_json.specs.declared.request.Request.{Request}
-use Rattle.payload_rules.specs.Chains.{destination_of}
-use Rattle.payload_rules.specs.declared.payload.Payload.{Payload}
-use Rattle.payload_rules.specs.declared.payload.Payload.TheVariants.{Full, Differ}
+use Rattle.payload_graph.specs.Chains.{destination_of}
+use Rattle.payload_graph.specs.declared.payload.Payload.{Payload}
+use Rattle.payload_graph.specs.declared.payload.Payload.TheVariants.{Full, Differ}
 use Rattle.replies.specs.Clients.{Client, client_at, client_of, cohort_of}
 use Rattle.replies.specs.Replies.{Decision, app_reply, check_reply, codebase_at, diff_of, diff_part, full_part, offer_of, release_by, reply_of, state_of, update_reply}
 use Rattle.theorems.proofs.StringLemmas.{IsUtf8-codebase, IsUtf8-cohort_name, IsUtf8-cohort_text, IsUtf8-fingerprint, IsUtf8-package_name, IsUtf8-version}

@@ -8,10 +8,10 @@ use Rattle.records.specs.declared.mirror.Mirror.{Mirror}
 use Rattle.cohorts.specs.Laws.{ParsedIsPrinted, PrintedIsParsed}
 use Rattle.omaha_json.specs.declared.reply.AppReply.{AppReply}
 use Rattle.omaha_json.specs.declared.request.AppAsk.{AppAsk}
-use Rattle.payload_rules.specs.Chains.{destination_of, target_index}
-use Rattle.payload_rules.specs.Permitted.{permits}
-use Rattle.payload_rules.specs.declared.place.Place.{Place}
-use Rattle.payload_rules.specs.declared.place.Place.TheVariants.{At}
+use Rattle.payload_graph.specs.Chains.{destination_of, target_index}
+use Rattle.payload_graph.specs.Permitted.{permits}
+use Rattle.payload_graph.specs.declared.place.Place.{Place}
+use Rattle.payload_graph.specs.declared.place.Place.TheVariants.{At}
 use Rattle.replies.specs.Clients.{Client, key_of}
 use Rattle.theorems.specs.Asks.{IsAskOf, IsReplyTo, place_at}
 use Rattle.theorems.specs.Walks.{IsWalk, offers_of}

@@ -13,8 +13,8 @@ use Rattle.omaha_json.specs.declared.reply.KnownApp.{KnownApp}
 use Rattle.omaha_json.specs.declared.reply.Offer.{Offer}
 use Rattle.omaha_json.specs.declared.request.AppAsk.{AppAsk}
 use Rattle.omaha_json.specs.declared.request.Request.{Request}
-use Rattle.payload_rules.specs.Places.{place_of}
-use Rattle.payload_rules.specs.declared.place.Place.{Place}
+use Rattle.payload_graph.specs.Places.{place_of}
+use Rattle.payload_graph.specs.declared.place.Place.{Place}
 use Rattle.replies.specs.Clients.{Client, client_of}
 use Rattle.replies.specs.Plans.{IsChosen, payload_in, wants_update}
 use Rattle.replies.specs.Replies.{app_reply}

@@ -7,8 +7,8 @@ use Rattle.records.specs.declared.content.App.{App}
 use Rattle.records.specs.declared.mirror.Mirror.{Mirror}
 use Rattle.catalogue_laws.specs.Histories.{History}
 use Rattle.omaha_json.specs.declared.reply.AppReply.{AppReply}
-use Rattle.payload_rules.specs.Chains.{IsAtTarget, IsChain}
-use Rattle.payload_rules.specs.declared.payload.Payload.{Payload}
+use Rattle.payload_graph.specs.Chains.{IsAtTarget, IsChain}
+use Rattle.payload_graph.specs.declared.payload.Payload.{Payload}
 use Rattle.quotes.specs.Sums.{HasNoChain, IsLeast}
 use Rattle.editions.specs.Editions.{content_of}
 use Rattle.replies.specs.Clients.{Client, client_of, key_of}

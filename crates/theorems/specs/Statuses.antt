@@ -7,8 +7,8 @@ use Rattle.omaha_json.specs.declared.reply.CheckReply.{CheckReply}
 use Rattle.omaha_json.specs.declared.reply.CheckReply.TheVariants as check
 use Rattle.omaha_json.specs.declared.reply.Offer.{Offer}
 use Rattle.omaha_json.specs.declared.request.AppAsk.{AppAsk}
-use Rattle.payload_rules.specs.Chains.{IsAtTarget, bytes_of}
-use Rattle.payload_rules.specs.declared.payload.Payload.{Payload}
+use Rattle.payload_graph.specs.Chains.{IsAtTarget, bytes_of}
+use Rattle.payload_graph.specs.declared.payload.Payload.{Payload}
 use Rattle.quotes.specs.Quotes.{IsFirst}
 use Rattle.quotes.specs.Sums.{HasNoChain}
 use Rattle.replies.specs.Clients.{Client, key_of}

@@ -2,7 +2,7 @@ use Rattle.std.proofs.Common.{◌<◌, false, List, length, sym, ap, ◌∙◌, 
 use Rattle.std.specs.List.{All}
 use Rattle.std.proofs.lemmas.List.{take_all}
 use Rattle.cohorts.specs.declared.track.Lane.TheVariants as lane
-use Rattle.payload_rules.specs.declared.payload.TrackKey.{TrackKey}
+use Rattle.payload_graph.specs.declared.payload.TrackKey.{TrackKey}
 use Rattle.payload_graph.specs.Net.{resolved_at}
 use Rattle.par_tables.proofs.KeyLemmas.{All-cohort_keys, IsOfCohort}
 use Rattle.par_tables.proofs.ListingLemmas.{Adds-more}

@@ -1,5 +1,5 @@
 use Rattle.std.proofs.Common.{◌-◌, ◌≤◌, length}
-use Rattle.payload_rules.specs.Chains.{index_of}
+use Rattle.payload_graph.specs.Chains.{index_of}
 use Rattle.payload_graph.proofs.differential.seek.Given as goal
 
 abbrev pub invariant-loop-index : goal.invariant-loop-index

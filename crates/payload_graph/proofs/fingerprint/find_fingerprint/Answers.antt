@@ -1,7 +1,7 @@
 use Rattle.std.proofs.Common.{sym, ◌∙◌}
 use Rattle.records.specs.Lookups.{releases_at}
-use Rattle.payload_rules.proofs.FingerprintLemmas.{position-has_hash, position-no_fingerprint}
-use Rattle.payload_rules.proofs.fingerprint.find_fingerprint.Goals as goal
+use Rattle.payload_graph.proofs.FingerprintLemmas.{position-has_hash, position-no_fingerprint}
+use Rattle.payload_graph.proofs.fingerprint.find_fingerprint.Goals as goal
 
 pub returns-in_err-hash : goal.returns-in_err-hash
 returns-in_err-hash c =

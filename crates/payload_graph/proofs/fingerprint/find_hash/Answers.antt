@@ -1,8 +1,8 @@
 use Rattle.std.proofs.Common.{sym, rules}
 use Rattle.values.proofs.OnceLemmas.{position-once}
 use Rattle.records.specs.Lookups.{has_hash, releases_at}
-use Rattle.payload_rules.proofs.FingerprintLemmas.{hashes_at-once}
-use Rattle.payload_rules.proofs.fingerprint.find_hash.Goals as goal
+use Rattle.payload_graph.proofs.FingerprintLemmas.{hashes_at-once}
+use Rattle.payload_graph.proofs.fingerprint.find_hash.Goals as goal
 
 pub returns-then-eq : goal.returns-then-eq
 returns-then-eq c =

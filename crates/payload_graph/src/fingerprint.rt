@@ -3,7 +3,7 @@
 ghost use Rattle.std.specs.Prelude.{◌≡◌, ◌<◌, length, position};
 ghost use Rattle.hex.specs.Hex.{encode_lower};
 ghost use Rattle.records.specs.Lookups.{has_hash, releases_at};
-ghost use Rattle.payload_rules.specs.Places.{has_fingerprint, IsHashOf};
+ghost use Rattle.payload_graph.specs.Places.{has_fingerprint, IsHashOf};
 
 use catalogue::Catalogue;
 use hex::FromHex;

@@ -3,8 +3,8 @@ use Rattle.std.specs.Str.{bytes_eq}
 use Rattle.std.proofs.lemmas.Bool.{not-true}
 use Rattle.std.proofs.lemmas.Bool.Decides.{Decides-eqb}
 use Rattle.std.proofs.lemmas.Slice.Eq.{strip_prefix_is}
-use Rattle.payload_rules.proofs.FingerprintLemmas.{IsHashOf-otherwise, IsHashOf-undecoded}
-use Rattle.payload_rules.proofs.fingerprint.parse_fingerprint.Goals as goal
+use Rattle.payload_graph.proofs.FingerprintLemmas.{IsHashOf-otherwise, IsHashOf-undecoded}
+use Rattle.payload_graph.proofs.fingerprint.parse_fingerprint.Goals as goal
 
 pub returns-in_err-hash : goal.returns-in_err-hash
 returns-in_err-hash c =

@@ -1,6 +1,6 @@
 ghost use Rattle.std.specs.Prelude.{◌≡◌, ◌<◌, length};
 ghost use Rattle.records.specs.Lookups.{releases_at};
-ghost use Rattle.payload_rules.specs.Places.{place_of, version_at, IsWithin};
+ghost use Rattle.payload_graph.specs.Places.{place_of, version_at, IsWithin};
 
 use crate::fingerprint::find_fingerprint;
 use catalogue::{Catalogue, Release};

@@ -19,7 +19,7 @@ use Rattle.records.specs.Validity.{IsValid, IsValidApp, is_valid_release}
 use Rattle.records.specs.declared.content.App.{App}
 use Rattle.records.specs.declared.content.Cohort.{Cohort}
 use Rattle.records.specs.declared.content.Release.{Release}
-use Rattle.payload_rules.specs.Places.{fingerprint_with, has_fingerprint, IsHashOf}
+use Rattle.payload_graph.specs.Places.{fingerprint_with, has_fingerprint, IsHashOf}
 
 -- a digit of the table is one number
 digit-injective : (digit other : ℕ) → digit < 16

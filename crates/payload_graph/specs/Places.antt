@@ -6,8 +6,8 @@ use Rattle.std.specs.Str.{bytes_eq}
 use Rattle.hex.specs.Hex.{encode_lower, IsBytes}
 use Rattle.version.specs.Versions.{lenient_version_of}
 use Rattle.records.specs.declared.content.Release.{Release}
-use Rattle.payload_rules.specs.declared.place.Place.{Place}
-use Rattle.payload_rules.specs.declared.place.Place.TheVariants.{At, Outside}
+use Rattle.payload_graph.specs.declared.place.Place.{Place}
+use Rattle.payload_graph.specs.declared.place.Place.TheVariants.{At, Outside}
 
 -- the fingerprint of a hash: `1.` and the hash in lower-case hexadecimal digits
 abbrev pub fingerprint_with : List ℕ → List ℕ

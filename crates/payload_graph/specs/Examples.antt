@@ -7,13 +7,13 @@ use Rattle.records.specs.declared.content.Diff.{Diff}
 use Rattle.records.specs.declared.content.Release.{Release}
 use Rattle.cohorts.specs.declared.track.Lane.{Lane}
 use Rattle.cohorts.specs.declared.track.Lane.TheVariants as lane
-use Rattle.payload_rules.specs.Chains.{IsChain, sum_of}
-use Rattle.payload_rules.specs.Permitted.{permits}
-use Rattle.payload_rules.specs.declared.payload.Payload.{Payload}
-use Rattle.payload_rules.specs.declared.payload.Payload.TheVariants.{Full, Differ}
-use Rattle.payload_rules.specs.declared.payload.TrackKey.{TrackKey}
-use Rattle.payload_rules.specs.declared.place.Place.{Place}
-use Rattle.payload_rules.specs.declared.place.Place.TheVariants.{At, Outside}
+use Rattle.payload_graph.specs.Chains.{IsChain, sum_of}
+use Rattle.payload_graph.specs.Permitted.{permits}
+use Rattle.payload_graph.specs.declared.payload.Payload.{Payload}
+use Rattle.payload_graph.specs.declared.payload.Payload.TheVariants.{Full, Differ}
+use Rattle.payload_graph.specs.declared.payload.TrackKey.{TrackKey}
+use Rattle.payload_graph.specs.declared.place.Place.{Place}
+use Rattle.payload_graph.specs.declared.place.Place.TheVariants.{At, Outside}
 
 -- version `number`.0
 abbrev pub major : ℕ → List ℕ

@@ -4,7 +4,7 @@ ghost use Rattle.std.specs.Prelude.{◌≡◌};
 ghost use Rattle.std.specs.List.{list_any};
 ghost use Rattle.std.specs.Option.{option_copied};
 ghost use Rattle.std.specs.Str.{bytes_eq};
-ghost use Rattle.payload_rules.specs.Permitted.{end_of, is_offered, is_open_to, is_stone_between, jumps_stone, leads_down, leads_up, permits, permits_among, permits_differ, permits_from, permits_full, permits_in, rolls_back, starts_at};
+ghost use Rattle.payload_graph.specs.Permitted.{end_of, is_offered, is_open_to, is_stone_between, jumps_stone, leads_down, leads_up, permits, permits_among, permits_differ, permits_from, permits_full, permits_in, rolls_back, starts_at};
 
 use crate::payload::{Payload, TrackKey};
 use crate::place::{Place, version_at};

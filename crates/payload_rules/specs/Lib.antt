@@ -1,4 +1,0 @@
-pub mod Chains
-pub mod Examples
-pub mod Permitted
-pub mod Places
