@@ -6,8 +6,7 @@ use crate::body::Body;
 use crate::connecting::{open_at, post_to, read_from};
 use std::alloc::Global;
 use std::net::{Net, TcpListener, TcpStream};
-use traces::Trace;
-use update_client::{Failed, Link};
+use update_client::{Failed, Link, Trace};
 
 /// The path that update checks are posted to.
 pub const UPDATE_PATH: &str = "/service/update2/json";

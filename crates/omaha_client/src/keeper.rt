@@ -3,8 +3,7 @@
 ghost use Rattle.std.specs.Prelude.{◌≡◌, []};
 
 use std::alloc::AllocError;
-use traces::Trace;
-use update_client::{Failed, Installer, Step};
+use update_client::{Failed, Installer, Step, Trace};
 
 /// An installer that keeps nothing: the client has hashed what it is given.
 #[derive(Drop)]

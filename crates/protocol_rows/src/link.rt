@@ -6,8 +6,7 @@ use crate::body::Body;
 use crate::countdown::Countdown;
 use crate::update_client_replies::Replies;
 use std::alloc::Global;
-use traces::Trace;
-use update_client::{Failed, Link};
+use update_client::{Failed, Link, Trace};
 
 /// What a link has carried, for contracts.
 #[derive(Drop)]

@@ -2,4 +2,5 @@ pub mod Clients
 pub mod Faults
 pub mod Installed
 pub mod Installing
+pub mod Traces
 pub mod Walks

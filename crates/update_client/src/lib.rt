@@ -7,6 +7,14 @@
 //! `specs/Clients.antt` and `specs/Walks.antt`.
 //!
 //! It opens no socket and writes no file: its caller's `Link` and `Installer` do.
+//!
+//! Lists of what has happened, which only contracts see.
+//!
+//! A `Trace` records each entry for contracts alone: it keeps none of them, takes no memory and has no
+//! limit. What carries bytes from outside, as a link, says with it what it has carried. Read
+//! `specs/Traces.antt`.
+//!
+//! It gives nothing back when it runs: what a program reads again, it keeps elsewhere.
 
 #![tactic(auto)]
 
@@ -16,6 +24,7 @@ mod hearing;
 mod installer;
 mod installing;
 mod link;
+mod trace;
 mod walking;
 
 pub use crate::client::Client;
@@ -24,4 +33,5 @@ pub use crate::hearing::Accepted;
 pub use crate::installer::{Installer, Step};
 pub use crate::installing::install;
 pub use crate::link::{Failed, Link};
+pub use crate::trace::Trace;
 pub use crate::walking::{MAX_STEPS, Walk};
