@@ -1,9 +1,7 @@
-//! Worked rows of the catalogue: batches, the errors that they are rejected with, and the contents that
-//! they make.
+//! Worked rows of the catalogue and of versions: batches, the errors that they are rejected with, and the
+//! contents that they make; strings that spell versions, and versions in order.
 //!
 //! Edits are lines of strings, a line an edit. It has tests alone, so that `catalogue` itself is proved once.
-//!
-//! Rows of strings that spell versions, and of versions in order; it holds tests alone.
 
 #![tactic(auto)]
 

@@ -4,17 +4,12 @@
 //! function `answer` finds what a message's target names, asks the desk or sends the package, and
 //! writes the reply. Read `specs/Calls.antt`, `specs/Uses.antt` and `specs/Replies.antt`.
 //!
-//! Nothing here takes memory but a desk's reply. It does not read, and does not know where a message
-//! begins or ends.
-//!
-//! Packages, sent block by block.
-//!
 //! `Packages` reads the files that clients download. `send_package` writes one, 65536 bytes at a
 //! time, under a running SHA-256, and holds the last block back until the digest agrees: a file
 //! that was changed is never sent whole. Read `specs/Downloads.antt`.
 //!
-//! Nothing here takes memory. It does not write a reply's head, and does not know which packages a
-//! catalogue has.
+//! Nothing here takes memory but a desk's reply. It does not read, and does not know where a message
+//! begins or ends, nor which packages a catalogue has.
 
 #![tactic(auto)]
 

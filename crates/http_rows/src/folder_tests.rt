@@ -107,7 +107,7 @@ fn reads_the_file_that_it_opened(rt: HostRuntime) -> Result<(), Fail> {
 #[test]
 fn opens_the_files_of_its_folder(rt: HostRuntime) -> Result<(), Fail> {
     let alloc = rt.alloc();
-    let path = make_folder(&rt, "http_devices_rows")?;
+    let path = make_folder(&rt, "http_rows")?;
     let folder = Folder::new(alloc, &rt, path.as_str());
     for row in ROWS.lines() {
         let (name, others) = row.split_once('|').ok_or("no bar")?;

@@ -1,25 +1,7 @@
-//! Rows of heads, bodies, replies, packages and sessions, over devices in memory that give and take
-//! pieces.
+//! Rows of HTTP: heads, bodies, replies, packages and sessions over devices in memory that give and take
+//! pieces; the devices of a server; connections, posts and downloads over the loopback; and the access log.
 //!
 //! It has tests alone, so that the crates of HTTP are proved once.
-//!
-//! Rows of the devices of a server: readers and writers that are interrupted and fail, a folder of
-//! packages, and the clock.
-//!
-//! It has tests alone, so that `http_devices` is proved once.
-//!
-//! Rows of connections over the loopback: what a client sends and gets, how many are served, and what a silent
-//! client costs.
-//!
-//! It has tests alone, so that `http_connections` is proved once.
-//!
-//! Rows of posts and downloads over the loopback, from a server that sends what a row says, and of addresses.
-//!
-//! It has tests alone, so that `http_client` is proved once.
-//!
-//! Rows of the access log: what is shown to it, and the lines that it writes.
-//!
-//! It has tests alone.
 
 #![tactic(auto)]
 

@@ -6,14 +6,11 @@
 //! head and body, in one write if they fit a block. Read `specs/Devices.antt`, `specs/Heads.antt`,
 //! `specs/Bodies.antt` and `specs/Sending.antt`.
 //!
+//! A `Watch` is shown the connections and their bytes, and changes none. A `WatchedSource` and a
+//! `WatchedSink` are the source and the sink that they wrap, byte for byte; they show a watch what passes.
+//! `Unwatched` looks at nothing.
+//!
 //! Nothing here takes memory but `Window::new`. It does not say what is read or written.
-//!
-//! Who looks on while a server serves: a `Watch` is shown the connections and their bytes, and changes none.
-//!
-//! A `WatchedSource` and a `WatchedSink` are the source and the sink that they wrap, byte for byte; they show a
-//! watch what passes. `Unwatched` looks at nothing.
-//!
-//! It doesn't know what the bytes mean, nor what becomes of them.
 
 #![tactic(auto)]
 

@@ -1,20 +1,15 @@
 //! The server of a service: its update checks and its packages, over HTTP.
 //!
-//! `serve` opens books of the mirrors' budgets, listens, serves connections one after the other, and prints
-//! each mirror's total at the end. Read `specs/Serving.antt`.
-//!
-//! Where a log is asked for, `access_logs` writes a line for each reply.
-//!
-//! It starts no thread, publishes nothing, and knows no command line.
-//!
-//! What requests are replied to from, and the reply to one.
-//!
 //! A `Service` is an edition with its mirrors. `read_service` makes one of a profile's bytes: read
 //! `specs/Services.antt`; `builtin_service` makes that of the catalogue in `specs/Builtin.antt`.
-//! `answer` turns the bytes of a request into those of the reply, over books of the mirrors' budgets: read
-//! `specs/Answering.antt`.
+//! `answer` turns the bytes of one request into those of the reply, over books of the mirrors' budgets:
+//! read `specs/Answering.antt`.
 //!
-//! All are functions over values. It opens no file, reads no stream and knows no command line.
+//! `serve` opens books of the mirrors' budgets, listens, serves connections one after the other, and prints
+//! each mirror's total at the end. Read `specs/Serving.antt`. If a log is asked for, `access_logs` writes a
+//! line for each reply.
+//!
+//! It starts no thread, publishes nothing, and knows no command line.
 
 #![tactic(auto)]
 

@@ -2,18 +2,15 @@
 //!
 //! `compare` returns a finding for each declared package whose file is missing, has another size or another
 //! SHA-256, or couldn't be read. `describe` writes what a profile says of a file: its name, its size and
-//! its SHA-256. Both read any `Packages`, such as a folder, in blocks of 65536 bytes. Read
-//! `specs/Hashing.antt`, `specs/Findings.antt` and `specs/Descriptions.antt`.
+//! its SHA-256. Both read any `Packages` in blocks of 65536 bytes. Read `specs/Hashing.antt`,
+//! `specs/Findings.antt` and `specs/Descriptions.antt`.
 //!
-//! It opens no file itself, and doesn't look for files that the catalogue doesn't declare.
+//! `Folders` opens folders of packages. `describe_paths` describes files that are named by their paths, and
+//! `findings_string` writes findings, a line each. Read `specs/Storages.antt`, then `specs/Paths.antt` and
+//! `specs/FindingLines.antt`.
 //!
-//! What is reported of the files of packages that lie in folders.
-//!
-//! `describe_paths` writes what a profile says of files, each named by its path; `findings_string` writes what
-//! `compare_in` of `Folders` finds of declared packages, a line each. Read `specs/Storages.antt`, then
-//! `specs/Paths.antt` and `specs/FindingLines.antt`.
-//!
-//! It reads files alone: it opens no profile and prints nothing.
+//! It reads files alone: it opens no profile, prints nothing, and doesn't look for files that the catalogue
+//! doesn't declare.
 
 #![tactic(auto)]
 

@@ -1,4 +1,4 @@
-//! What holds of all graphs, each law as a clause of a function.
+//! What holds of the rules and of all graphs, each law as a clause of a function.
 
 ghost use Rattle.payload_graph.specs.Laws.{DiffersArePermitted, EdgesAreSized, EdgesFromAreOfGraph, EdgesIntoAreEdgesFrom, EdgesLeadNearer, FullsArePermitted, FullsLeadNearer, TargetsLeaveNothing, WindowsGrowDown, WindowsGrowUp};
 ghost use Rattle.payload_graph.specs.Examples.{ExampleIsWorked};

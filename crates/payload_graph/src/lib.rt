@@ -1,14 +1,4 @@
-//! The graph of a track: the payloads that are permitted between the releases of its app.
-//!
-//! A `Graph` is seen as a `Net`: its key, its target, and the payloads by the release that they leave.
-//! `edges_from` gives those of a release as `Edge`s, and `edges_into` those that lead to one. Full
-//! packages are not listed: each release has a window of others, a slice of `Door`s. Read
-//! `specs/Net.antt` for the graph, and `laws` for what holds of all graphs: a window's full packages
-//! are the permitted ones, and each payload leads nearer the target, so that there is no cycle.
-//!
-//! It does not decide which payload is permitted, which `payload_graph` does, nor does it know prices.
-//!
-//! The rules of payloads: who may be offered what.
+//! The rules of payloads, who may be offered what, and the graph of a track, which has all of them.
 //!
 //! A `Place` is where a client is among the releases of an app, found by `place_of`. A `Payload`
 //! is a full package or a differential, a `TrackKey` names the clients that are served alike, and
@@ -17,7 +7,13 @@
 //! `specs/Chains.antt` for the chains of permitted payloads that lead to a target, and
 //! `specs/Examples.antt` for a catalogue that is worked by hand.
 //!
-//! It does not list the payloads of a track, nor choose among them: crates above do.
+//! A `Graph` is seen as a `Net`: its key, its target, and the payloads by the release that they leave.
+//! `edges_from` gives those of a release as `Edge`s, and `edges_into` those that lead to one. Full
+//! packages are not listed: each release has a window of others, a slice of `Door`s. Read
+//! `specs/Net.antt` for the graph, and `laws` for what holds of all graphs: a window's full packages
+//! are the permitted ones, and each payload leads nearer the target, so that there is no cycle.
+//!
+//! It knows no prices, and doesn't choose among payloads: crates above do.
 
 #![tactic(auto)]
 

@@ -1,12 +1,8 @@
-//! Worked rows of payloads: what is permitted on the tracks of small catalogues, their graphs and tables of
-//! prices.
+//! Worked rows of payloads: what is permitted on the tracks of small catalogues, their graphs, tables of
+//! prices and certificates, also with wrong lines.
 //!
-//! It has tests alone, so that `payload_graph`, `solver` and `par_tables` are proved once. Edits are lines of a
+//! It has tests alone, so that the crates of payloads and prices are proved once. Edits are lines of a
 //! string, and payloads are words.
-//!
-//! Worked rows of certificates: tables that read back as they were written, and wrong lines.
-//!
-//! It has tests alone, so that `price_certificates` is proved once.
 
 #![tactic(auto)]
 

@@ -1,12 +1,8 @@
-//! Rows of profiles and scripts whose edits and faults were worked out by hand.
+//! Rows of profiles and scripts whose edits and faults were worked out by hand, and of written profiles.
 //!
 //! `profiles` has rows of profiles and `scripts` of scripts, hostile ones too; `limits` has rows at
-//! the catalogue's limits, with what the catalogue reports of them. `shown` says how a row is
-//! written. It holds tests alone.
-//!
-//! Rows of written profiles: each catalogue's profile, worked out by hand.
-//!
-//! It has tests alone, so that `profile_writer` is proved once.
+//! the catalogue's limits, with what the catalogue reports of them. `rewriting` has each catalogue's
+//! written profile. `shown` says how a row is written. It holds tests alone.
 
 #![tactic(auto)]
 

@@ -1,16 +1,9 @@
-//! Rows of requests and replies whose bytes and records were worked out by hand.
+//! Rows of requests and replies whose bytes and records were worked out by hand, of a server and of a client.
 //!
-//! `requests` has the bytes of requests, hostile ones too, and `bodies` records of replies. The laws
-//! of `omaha_json` have further rows. It holds tests alone.
-//!
-//! Rows of requests that a client writes and of replies that it reads, worked out by hand.
-//!
-//! It holds tests alone. That what is written is read back is proved, and has no row.
-//!
-//! Worked rows of an update client over memory: what a server replies and what its downloads hold, and how
-//! far a walk goes.
-//!
-//! It has tests alone, so that `update_client` is proved once.
+//! `requests` has the bytes of requests, hostile ones too, and `bodies` records of replies;
+//! `client_requests` what a client writes and `replies` what it reads; `walks` and
+//! `update_client_replies` an update client over memory: what its downloads hold, and how far it goes.
+//! It holds tests alone. The laws of `omaha_json` have further rows.
 
 #![tactic(auto)]
 

@@ -38,7 +38,7 @@ fn make_folder(rt: &HostRuntime, end: &str) -> Result<String, Fail> {
 #[test]
 fn compares_the_files_of_a_folder(rt: HostRuntime) -> Result<(), Fail> {
     let alloc = rt.alloc();
-    let path = make_folder(&rt, "package_files_rows")?;
+    let path = make_folder(&rt, "server_rows")?;
     let folder = Folder::new(alloc, &rt, path.as_str());
     let found = print_findings(alloc, &catalogue(alloc)?, &folder)?;
     let described = describe(alloc, &folder, "a-3.bin");

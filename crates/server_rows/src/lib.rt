@@ -1,22 +1,8 @@
-//! Worked rows of cohorts, editions and replies: clients with their tracks, requests with their replies, and
-//! histories of batches.
+//! Worked rows of what a server decides: clients with their tracks, requests with their replies, histories of
+//! batches, budgets, the desk of update checks, and files of packages.
 //!
-//! It has tests alone, so that `cohorts`, `editions` and `replies` themselves are proved once. A row is a line: the
-//! reply, a bar, and what is asked.
-//!
-//! Worked rows of budgets: the asks of one worker, and those of two threads.
-//!
-//! It has tests alone, so that `mirror_ledger` is proved once. Each row is a line of numbers.
-//!
-//! Worked rows of the desk of update checks: what a connection sends, and what it gets over books of some
-//! budgets.
-//!
-//! It has tests alone, so that `update_desk` is proved once.
-//!
-//! Rows of the files of a catalogue's packages, in memory and in a folder: which differ, and what a profile
-//! says of one.
-//!
-//! It has tests alone, so that `package_files` is proved once.
+//! It has tests alone, so that `cohorts`, `editions`, `replies`, `mirror_ledger`, `update_desk` and
+//! `package_files` are proved once. A row is a line; that of a reply has the reply, a bar, and what is asked.
 
 #![tactic(auto)]
 

@@ -4,13 +4,10 @@
 //! `Disk` reads a file. Every reader, writer and runtime of std has them. Read
 //! `specs/Streams.antt` for what is known of a stream.
 //!
+//! `Shown` prints a string from outside, as a path or an address, percent-encoded if it has control
+//! characters, which would break a line of a terminal or change its state. Read `specs/Strings.antt`.
+//!
 //! It does not buffer, and flushes nothing.
-//!
-//! Strings from outside, as they are printed.
-//!
-//! A path, an address or a server's string may have control characters, which would break a line of a terminal or
-//! change its state. `Shown` prints such a string percent-encoded, and any other as it is. Read
-//! `specs/Strings.antt`.
 
 #![tactic(auto)]
 

@@ -1,4 +1,5 @@
-//! What holds of replies and of walks, each law as a clause of a function.
+//! What holds of replies, of walks, and of walks over a server of one catalogue, each law as a clause of a
+//! function.
 
 ghost use Rattle.theorems.specs.Examples.{ExampleIsWorked};
 ghost use Rattle.theorems.specs.Laws.{AsksGetReplies, OffersAreSteps, RepliesAreWhole, StatusesSay, WalksAreLeast, WalksAreShort, WalksEnd, WalksExist, WalksKeepTracks, WalksNeedChains};

@@ -1,19 +1,14 @@
-//! Walks: what a client gets that takes each offer and asks again.
+//! Theorems: what a client gets that takes each offer and asks again.
 //!
 //! It has no code of its own. `laws::walk` states that a client which follows the replies of a catalogue
 //! that stays as it is comes to its target, for the least sum of bytes in all, and `laws::statuses` what
 //! the status of an update check says. Both are about the replies of `replies`, as a client sees them.
+//! `laws::served_walks` states that a walk of `update_client`, whose posts a server of one catalogue
+//! replied to, is such a walk: as many steps as offers, and their bytes.
+//!
 //! Read `specs/Asks.antt` for the reply to an ask and the next ask, `specs/Walks.antt` for walks,
-//! `specs/Statuses.antt` for statuses, and `specs/Laws.antt` for what holds of them.
-//!
-//! It says nothing of a catalogue that changes on the way, and is no client.
-//!
-//! What a client's walk comes to over a server whose catalogue stays as it is.
-//!
-//! It has no code of its own. `laws::served_walks` states that a walk of `update_client` whose posts a server of one
-//! catalogue replied to is a walk in the sense of the crate `theorems`: as many steps as offers, and their
-//! bytes, which are the least sum of a chain to the target. Read `specs/Served.antt` for the server's
-//! replies, and `specs/ServedLaws.antt` for what holds of the walk.
+//! `specs/Statuses.antt` for statuses and `specs/Served.antt` for the replies of a server of one catalogue;
+//! `specs/Laws.antt` and `specs/ServedLaws.antt` have what holds of them.
 //!
 //! It says nothing of a catalogue that changes on the way, nor of a walk that ends with an error.
 

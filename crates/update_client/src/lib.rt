@@ -6,15 +6,10 @@
 //! is offered, and asks again until there is no update. Read `specs/Installing.antt`, then
 //! `specs/Clients.antt` and `specs/Walks.antt`.
 //!
+//! A `Trace` is a list of what has happened, which only contracts see: it keeps nothing, takes no memory and
+//! has no limit. A link says with it what it has carried. Read `specs/Traces.antt`.
+//!
 //! It opens no socket and writes no file: its caller's `Link` and `Installer` do.
-//!
-//! Lists of what has happened, which only contracts see.
-//!
-//! A `Trace` records each entry for contracts alone: it keeps none of them, takes no memory and has no
-//! limit. What carries bytes from outside, as a link, says with it what it has carried. Read
-//! `specs/Traces.antt`.
-//!
-//! It gives nothing back when it runs: what a program reads again, it keeps elsewhere.
 
 #![tactic(auto)]
 
