@@ -233,16 +233,24 @@ def write_index(rules, headings):
         file.write("\n".join([*before, *index_of(rules, headings)]) + "\n")
 
 
+def headings_near(asked, headings):
+    """The headings that have the asked words; else those whose paragraphs have the phrase, else the words."""
+    phrase, words = asked.lower(), asked.lower().split()
+    texts = {name: text.lower() for name, (_, text) in headings.items()}
+    return (
+        [name for name in headings if all(word in name.lower() for word in words)]
+        or [name for name in headings if phrase in texts[name]]
+        or [name for name in headings if all(word in texts[name] for word in words)]
+    )
+
+
 def print_rule(asked, rules, headings):
-    """Prints where a rule or a heading is; else the headings that have the words, or that speak of them."""
+    """Prints where a rule or a heading is; if there is none of that name, the headings that speak of it."""
     named = [name for name in headings if name.lower() == asked.lower()]
     if not named:
-        words = asked.lower()
-        near = [name for name in headings if words in name.lower()]
-        near = near or [name for name, (_, text) in headings.items() if words in text.lower()]
-        for name in near:
-            print(f"{headings[name][0].path}:{headings[name][0].line}: {name}")
-        print(f"tests/rules.py: no rule {asked}", file=sys.stderr)
+        print(f"no rule {asked}; see")
+        for name in headings_near(asked, headings):
+            print(f"  {headings[name][0]}")
         return 1
     name = named[0]
     print(f"{name}\n  heading     {headings[name][0].path}:{headings[name][0].line}")
