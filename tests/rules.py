@@ -86,7 +86,7 @@ def files_below(folder, suffix):
 
 
 def edits_of(crate):
-    """The edits of a crate: those that the gate tries, then those in `mutants/`."""
+    """The edits of a crate: those that the gate tries, then those that `make mutants` tries."""
     yield from files_below(os.path.join(CRATES, crate, "must-fail"), ".edit")
     yield from files_below(os.path.join(MUTANTS, crate), ".edit")
 
