@@ -7,7 +7,7 @@ A rule has one plain name, which is a heading in `docs/definitions/`. Its marks 
 - `// rule: NAME` above a test that shows it, or above the test's helper, in a crate whose name ends in `_rows`;
 - `# rule: NAME` in each edit that breaks it, in the crate's `must-fail/` or in `mutants/CRATE/`.
 
-Every rule needs exactly one definition, a function, a test and an edit, and its heading must name the definition's
+Every rule needs exactly one definition, a function, a test and an edit, and its heading must name the definition with its
 file and crate. The rules without a test or an edit are listed below with the reason.
 
     tests/rules.py            checks the marks, and that the index is the one that they give
@@ -147,9 +147,9 @@ def module_of(place):
 
 
 def is_named(text, place):
-    """Whether a section names the file and the crate of a definition."""
+    """Whether a section names a definition, its file and, after that, its crate."""
     file = f"`{module_of(place)}`"
-    return file in text and f"`{place.crate}`" in text.partition(file)[2]
+    return f"`{place.name}`" in text and file in text and f"`{place.crate}`" in text.partition(file)[2]
 
 
 def faults_of(rules, headings):
@@ -162,7 +162,7 @@ def faults_of(rules, headings):
             yield f"{name}: {len(rule.definitions)} definitions: {', '.join(map(str, rule.definitions))}"
         for place in rule.definitions:
             if name in headings and not is_named(headings[name][1], place):
-                yield f"{name}: its heading doesn't name {module_of(place)} of {place.crate}"
+                yield f"{name}: its heading doesn't name {place.name} in {module_of(place)} of {place.crate}"
         if not rule.functions:
             yield f"{name}: no function"
         if not rule.edits and name not in NO_EDIT:
