@@ -1,7 +1,7 @@
 // Items that are found by what names them.
 
 use crate::lines::catalogue_of;
-use catalogue::Catalogue;
+use catalogue::{ApplyError, Catalogue};
 use std::alloc::Global;
 use std::test::Fail;
 use version::Version;
@@ -17,15 +17,24 @@ add_diff other 1.9 2.0 other-1.9-2.0.bin 2 5555555555555555555555555555555555555
 add_diff other 1.8 2.0 other-1.8-2.0.bin 4 5555555555555555555555555555555555555555555555555555555555555555
 add_cohort other beta";
 
-fn two_apps(alloc: Global) -> Result<Catalogue, Fail> {
+fn two_apps(alloc: Global) -> Result<Catalogue, ApplyError> {
     catalogue_of(alloc, TWO_APPS)
+}
+
+fn release_of(catalogue: &Catalogue, version: &str) -> Option<usize> {
+    let app = catalogue.app("Other")?;
+    catalogue.find_release(app, &Version::lenient(version))
+}
+
+fn release_of_hash(catalogue: &Catalogue, byte: u8) -> Option<usize> {
+    let app = catalogue.app("Other")?;
+    catalogue.find_hash(app, &[byte; 32])
 }
 
 #[test]
 fn finds_releases_in_version_order(rt: HostRuntime) -> Result<(), Fail> {
     let catalogue = two_apps(rt.alloc())?;
-    let app = catalogue.app("Other").ok_or("no app")?;
-    assert_eq!(rt; app, 1);
+    assert_eq!(rt; catalogue.app("Other"), Some(1));
     let rows = [
         ("1.9", Some(1)),
         ("2.0.0.0", Some(2)),
@@ -33,18 +42,26 @@ fn finds_releases_in_version_order(rt: HostRuntime) -> Result<(), Fail> {
         ("0", None),
     ];
     for (version, found) in rows {
-        let version = Version::lenient(version);
-        assert_eq!(rt; catalogue.find_release(app, &version), found);
+        assert_eq!(rt; release_of(&catalogue, version), found, "{version}");
     }
-    assert_eq!(rt; catalogue.find_hash(app, &[0x33; 32]), Some(1));
-    assert_eq!(rt; catalogue.find_hash(app, &[0x55; 32]), None);
+    assert_eq!(rt; release_of_hash(&catalogue, 0x33), Some(1));
+    assert_eq!(rt; release_of_hash(&catalogue, 0x55), None);
     Ok(())
+}
+
+fn diff_of(catalogue: &Catalogue, from: &str, to: &str) -> Option<usize> {
+    let app = catalogue.app("Other")?;
+    catalogue.find_diff(app, &Version::lenient(from), &Version::lenient(to))
+}
+
+fn count_of_diffs(catalogue: &Catalogue) -> Option<usize> {
+    let app = catalogue.app("Other")?;
+    Some(catalogue.diffs(app).len())
 }
 
 #[test]
 fn finds_differentials_by_their_pair(rt: HostRuntime) -> Result<(), Fail> {
     let catalogue = two_apps(rt.alloc())?;
-    let app = catalogue.app("Other").ok_or("no app")?;
     let rows = [
         ("1.8", "2.0", Some(0)),
         ("1.9", "2", Some(1)),
@@ -52,20 +69,22 @@ fn finds_differentials_by_their_pair(rt: HostRuntime) -> Result<(), Fail> {
         ("1.8", "1.9", None),
     ];
     for (from, to, found) in rows {
-        let from = Version::lenient(from);
-        let to = Version::lenient(to);
-        assert_eq!(rt; catalogue.find_diff(app, &from, &to), found);
+        assert_eq!(rt; diff_of(&catalogue, from, to), found, "{from} to {to}");
     }
-    assert_eq!(rt; catalogue.diffs(app).len(), 2);
+    assert_eq!(rt; count_of_diffs(&catalogue), Some(2));
     Ok(())
+}
+
+fn cohort_of(catalogue: &Catalogue, name: &str) -> Option<usize> {
+    let app = catalogue.app("Other")?;
+    catalogue.find_cohort(app, name)
 }
 
 #[test]
 fn finds_cohorts_and_packages_by_name(rt: HostRuntime) -> Result<(), Fail> {
     let catalogue = two_apps(rt.alloc())?;
-    let app = catalogue.app("Other").ok_or("no app")?;
-    assert_eq!(rt; catalogue.find_cohort(app, "beta"), Some(1));
-    assert_eq!(rt; catalogue.find_cohort(app, "Beta"), None);
+    assert_eq!(rt; cohort_of(&catalogue, "beta"), Some(1));
+    assert_eq!(rt; cohort_of(&catalogue, "Beta"), None);
     let rows = [
         ("other-1.9.bin", Some(5)),
         ("mini-1.0.bin", Some(3)),

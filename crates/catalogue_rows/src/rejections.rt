@@ -1,8 +1,8 @@
 // The first fault of each edit, by rows: the fault, a bar, the edit.
 
-use crate::lines::{catalogue_of, edit_of};
-use catalogue::{ApplyError, Batch, Catalogue, Fault, Refused};
-use std::alloc::Global;
+use crate::lines::{apply_lines, catalogue_of, outcome_of};
+use catalogue::{ApplyError, Catalogue, Fault, Refused};
+use std::alloc::{AllocError, Global};
 use std::process::Abort;
 use std::test::Fail;
 
@@ -15,23 +15,31 @@ add_cohort mini beta
 set_target mini stable 2.0 -";
 
 // A valid edit comes before the one of the row, so its index is 1.
-fn answer(alloc: Global, catalogue: &mut Catalogue, line: &str) -> Result<String, Fail> {
-    let mut edits = Vec::new(alloc);
-    edits.push(edit_of(alloc, "add_app fresh stable")?)?;
-    edits.push(edit_of(alloc, line)?)?;
-    match catalogue.apply(&Batch::new(edits)) {
-        Ok(()) => Ok(String::from_str(alloc, "accepted")?),
-        Err(error) => Ok(format!(in alloc; "{error}")?),
-    }
+fn outcome(alloc: Global, catalogue: &mut Catalogue, line: &str) -> Result<String, AllocError> {
+    let lines = format!(in alloc; "add_app fresh stable\n{line}")?;
+    outcome_of(alloc, apply_lines(alloc, catalogue, lines.as_str()))
+}
+
+fn rejects_row(
+    rt: &impl Abort,
+    alloc: Global,
+    catalogue: &mut Catalogue,
+    row: &str,
+) -> Result<(), Fail> {
+    let (fault, line) = row.split_once(" | ").ok_or("no bar")?;
+    let outcome = outcome(alloc, catalogue, line)?;
+    assert_eq!(rt;
+        outcome.as_str().strip_prefix("edit 1: "),
+        Some(fault),
+        "{row}"
+    );
+    Ok(())
 }
 
 fn rejects(rt: &impl Abort, alloc: Global, rows: &str) -> Result<(), Fail> {
     let mut catalogue = catalogue_of(alloc, SMALL)?;
     for row in rows.lines() {
-        let (fault, line) = row.split_once(" | ").ok_or("no bar")?;
-        let wanted = format!(in alloc; "edit 1: {fault}")?;
-        let answer = answer(alloc, &mut catalogue, line)?;
-        assert_eq!(rt; answer.as_str(), wanted.as_str(), "{row}");
+        rejects_row(rt, alloc, &mut catalogue, row)?;
     }
     Ok(())
 }
@@ -117,19 +125,20 @@ C14 UnknownCohort | set_open mini gamma on";
     rejects(&rt, rt.alloc(), rows)
 }
 
+fn prints(rt: &impl Abort, alloc: Global, error: ApplyError, text: &str) -> Result<(), AllocError> {
+    let printed = format!(in alloc; "{error}")?;
+    assert_eq!(rt; printed.as_str(), text);
+    Ok(())
+}
+
 #[test]
 fn prints_errors_with_their_codes(rt: HostRuntime) -> Result<(), Fail> {
-    let alloc = rt.alloc();
     let refused = Refused {
         index: 12,
         fault: Fault::UnknownRelease,
     };
-    let texts = [
-        (ApplyError::Refused(refused), "edit 12: C11 UnknownRelease"),
-        (ApplyError::Memory, "memory"),
-    ];
-    for (error, text) in texts {
-        assert_eq!(rt; format!(in alloc; "{error}")?.as_str(), text);
-    }
+    let error = ApplyError::Refused(refused);
+    prints(&rt, rt.alloc(), error, "edit 12: C11 UnknownRelease")?;
+    prints(&rt, rt.alloc(), ApplyError::Memory, "memory")?;
     Ok(())
 }
