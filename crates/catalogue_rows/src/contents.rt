@@ -1,6 +1,7 @@
 // What accepted edits make of a catalogue.
 
 use crate::lines::{apply_lines, batch_of, catalogue_of};
+use crate::rows::check;
 use crate::shown::shown;
 use catalogue::{ApplyError, Batch, Catalogue};
 use std::alloc::{AllocError, Global};
@@ -61,7 +62,7 @@ fn staged(alloc: Global) -> Result<String, ApplyError> {
 #[test]
 fn keeps_releases_and_differentials_in_order(rt: HostRuntime) -> Result<(), Fail> {
     let content = staged(rt.alloc())?;
-    assert_eq!(rt; content.as_str(), STAGED_CONTENT);
+    check(&rt, content.as_str(), STAGED_CONTENT, STAGED);
     Ok(())
 }
 
@@ -81,7 +82,7 @@ diff 2.0 10.0 demo-2.0-10.0.bin 500 36
 #[test]
 fn withdraws_a_release(rt: HostRuntime) -> Result<(), Fail> {
     let content = content_after(rt.alloc(), STAGED, "set_withdrawn demo 3.0 on")?;
-    assert_eq!(rt; content.as_str(), WITHDRAWN);
+    check(&rt, content.as_str(), WITHDRAWN, STAGED);
     Ok(())
 }
 
@@ -149,6 +150,6 @@ fn copied_content(alloc: Global) -> Result<String, ApplyError> {
 #[test]
 fn copies_a_catalogue_and_a_batch_whole(rt: HostRuntime) -> Result<(), Fail> {
     let content = copied_content(rt.alloc())?;
-    assert_eq!(rt; content.as_str(), STAGED_CONTENT);
+    check(&rt, content.as_str(), STAGED_CONTENT, STAGED);
     Ok(())
 }

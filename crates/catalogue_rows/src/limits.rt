@@ -1,6 +1,7 @@
 // Each limit is reached by a batch, and one more is rejected with its index.
 
 use crate::lines::{apply_lines, catalogue_of, outcome_of};
+use crate::rows::{check, three_parts};
 use catalogue::{ApplyError, Catalogue};
 use std::alloc::{AllocError, Global};
 use std::process::Abort;
@@ -25,12 +26,16 @@ fn outcome_of_apps(alloc: Global, count: u32) -> Result<String, AllocError> {
     outcome(alloc, lines.as_str())
 }
 
+fn check_apps(rt: &impl Abort, alloc: Global, count: u32, want: &str) -> Result<(), AllocError> {
+    let outcome = outcome_of_apps(alloc, count)?;
+    check(rt, outcome.as_str(), want, "apps");
+    Ok(())
+}
+
 #[test]
 fn rejects_a_sixty_fifth_app(rt: HostRuntime) -> Result<(), Fail> {
-    let full = outcome_of_apps(rt.alloc(), 64)?;
-    assert_eq!(rt; full.as_str(), "accepted");
-    let over = outcome_of_apps(rt.alloc(), 65)?;
-    assert_eq!(rt; over.as_str(), "edit 64: C17 Limit");
+    check_apps(&rt, rt.alloc(), 64, "accepted")?;
+    check_apps(&rt, rt.alloc(), 65, "edit 64: C17 Limit")?;
     Ok(())
 }
 
@@ -49,12 +54,16 @@ fn outcome_of_cohorts(alloc: Global, count: u32) -> Result<String, AllocError> {
     outcome(alloc, lines.as_str())
 }
 
+fn check_cohorts(rt: &impl Abort, alloc: Global, count: u32, want: &str) -> Result<(), AllocError> {
+    let outcome = outcome_of_cohorts(alloc, count)?;
+    check(rt, outcome.as_str(), want, "cohorts");
+    Ok(())
+}
+
 #[test]
 fn rejects_a_thirty_third_cohort(rt: HostRuntime) -> Result<(), Fail> {
-    let full = outcome_of_cohorts(rt.alloc(), 31)?;
-    assert_eq!(rt; full.as_str(), "accepted");
-    let over = outcome_of_cohorts(rt.alloc(), 32)?;
-    assert_eq!(rt; over.as_str(), "edit 32: C17 Limit");
+    check_cohorts(&rt, rt.alloc(), 31, "accepted")?;
+    check_cohorts(&rt, rt.alloc(), 32, "edit 32: C17 Limit")?;
     Ok(())
 }
 
@@ -76,18 +85,27 @@ fn outcome_of_releases(alloc: Global, count: u32) -> Result<String, AllocError> 
     outcome(alloc, lines.as_str())
 }
 
+fn check_releases(
+    rt: &impl Abort,
+    alloc: Global,
+    count: u32,
+    want: &str,
+) -> Result<(), AllocError> {
+    let outcome = outcome_of_releases(alloc, count)?;
+    check(rt, outcome.as_str(), want, "releases");
+    Ok(())
+}
+
 #[test]
 fn rejects_a_five_hundred_and_thirteenth_release(rt: HostRuntime) -> Result<(), Fail> {
-    let full = outcome_of_releases(rt.alloc(), 512)?;
-    assert_eq!(rt; full.as_str(), "accepted");
-    let over = outcome_of_releases(rt.alloc(), 513)?;
-    assert_eq!(rt; over.as_str(), "edit 513: C17 Limit");
+    check_releases(&rt, rt.alloc(), 512, "accepted")?;
+    check_releases(&rt, rt.alloc(), 513, "edit 513: C17 Limit")?;
     Ok(())
 }
 
 // A release's differentials to those above it, at most `count`.
 fn push_diffs_from(lines: &mut String, from: u32, count: u32) -> Result<(), AllocError> {
-    for to in (from + 1..256).take(count as usize) {
+    for to in (from.saturating_add(1)..256).take(count as usize) {
         writeln!(
             lines,
             "add_diff app0 1.{from} 1.{to} d-{from}-{to}.bin 1 {to:064}"
@@ -102,7 +120,7 @@ fn push_diffs(lines: &mut String, count: u32) -> Result<(), AllocError> {
     let mut left = count;
     for from in 0..255u32 {
         push_diffs_from(lines, from, left)?;
-        left = left.saturating_sub(255 - from);
+        left = left.saturating_sub(255u32.saturating_sub(from));
     }
     Ok(())
 }
@@ -122,7 +140,7 @@ fn rejects(
     error: &str,
 ) -> Result<(), AllocError> {
     let outcome = outcome_of(alloc, apply_lines(alloc, catalogue, line))?;
-    assert_eq!(rt; outcome.as_str(), error);
+    check(rt, outcome.as_str(), error, line);
     Ok(())
 }
 
@@ -166,11 +184,10 @@ cohort 33 edit 1: C9 BadName
 release 128 accepted
 release 129 edit 1: C9 BadName";
 
-fn bounds_a_name(rt: &impl Abort, alloc: Global, row: &str) -> Result<(), Fail> {
-    let (kind, others) = row.split_once(' ').ok_or("no length")?;
-    let (length, want) = others.split_once(' ').ok_or("no outcome")?;
+fn bounds_a_name(rt: &impl Abort, alloc: Global, row: &str) -> Result<(), AllocError> {
+    let (kind, length, want) = three_parts(row);
     let outcome = outcome_of_name(alloc, kind, length)?;
-    assert_eq!(rt; outcome.as_str(), want, "{row}");
+    check(rt, outcome.as_str(), want, row);
     Ok(())
 }
 
