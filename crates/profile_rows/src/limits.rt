@@ -20,5 +20,6 @@ edit 1: C2 AppExists | [[app]]~id = 'A'~default = 's'"#;
 
 #[test]
 fn leaves_the_catalogues_limits_to_it(rt: HostRuntime) -> Result<(), Fail> {
-    check_rows(&rt, rt.alloc(), Form::Applied, LIMITS)
+    check_rows(&rt, rt.alloc(), Form::Applied, LIMITS)?;
+    Ok(())
 }

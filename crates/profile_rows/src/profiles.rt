@@ -1,5 +1,5 @@
-use crate::shown::{Form, check_rows, profile};
-use std::alloc::Global;
+use crate::shown::{Form, check, check_rows, profile};
+use std::alloc::{AllocError, Global};
 use std::process::Abort;
 use std::test::Fail;
 
@@ -55,12 +55,13 @@ F3 BadEntry \"a\\tb'\" | \"a\tb'\" = 1";
 #[test]
 fn reports_the_first_fault_of_a_document(rt: HostRuntime) -> Result<(), Fail> {
     check_rows(&rt, rt.alloc(), Form::Profile, DOCUMENTS)?;
-    check_rows(&rt, rt.alloc(), Form::Profile, TABBED_KEYS)
+    check_rows(&rt, rt.alloc(), Form::Profile, TABBED_KEYS)?;
+    Ok(())
 }
 
-fn check_bytes(rt: &impl Abort, alloc: Global, bytes: &[u8], want: &str) -> Result<(), Fail> {
+fn check_bytes(rt: &impl Abort, alloc: Global, bytes: &[u8], want: &str) -> Result<(), AllocError> {
     let got = profile(alloc, bytes)?;
-    assert_eq!(rt; got.as_str(), want);
+    check(rt, got.as_str(), want, want);
     Ok(())
 }
 
@@ -73,7 +74,8 @@ fn reads_bytes_that_are_utf8(rt: HostRuntime) -> Result<(), Fail> {
         b"\xef\xbb\xbfschema = 1\n",
         "F3 BadEntry mirror",
     )?;
-    check_bytes(&rt, rt.alloc(), b"", "F2 BadSchema")
+    check_bytes(&rt, rt.alloc(), b"", "F2 BadSchema")?;
+    Ok(())
 }
 
 // The lists' types come before what their tables say, and each key before the next. F3 comes before
@@ -137,7 +139,8 @@ F3 BadEntry app[0].id | {name='a',codebase='http://m/',budget=0}]~app = [{}]"#;
 
 #[test]
 fn reports_the_first_fault_of_a_mirror(rt: HostRuntime) -> Result<(), Fail> {
-    check_rows(&rt, rt.alloc(), Form::Profile, MIRRORS)
+    check_rows(&rt, rt.alloc(), Form::Profile, MIRRORS)?;
+    Ok(())
 }
 
 // Unknown keys come before the others, which come in their order; the types of an app's lists come
@@ -225,7 +228,8 @@ F3 BadEntry app[0].release[0].cohorts | audience = 1~cohorts = ['b']"#;
 
 #[test]
 fn reports_the_first_fault_of_an_app(rt: HostRuntime) -> Result<(), Fail> {
-    check_rows(&rt, rt.alloc(), Form::Profile, APPS)
+    check_rows(&rt, rt.alloc(), Form::Profile, APPS)?;
+    Ok(())
 }
 
 // An app's edit comes first, then its cohorts but for the default one, its releases, and what is
@@ -268,5 +272,6 @@ m0 http://m0.example/p/ 1000000; app demo stable; cohort demo beta; release demo
 #[test]
 fn gives_the_edits_of_a_profile(rt: HostRuntime) -> Result<(), Fail> {
     check_rows(&rt, rt.alloc(), Form::Profile, EDITS)?;
-    check_rows(&rt, rt.alloc(), Form::Profile, WORKED)
+    check_rows(&rt, rt.alloc(), Form::Profile, WORKED)?;
+    Ok(())
 }

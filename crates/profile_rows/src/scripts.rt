@@ -99,7 +99,8 @@ F3 BadEntry edit[0].on | edit = [{ do = 'set_rollback', app = 'a', cohort = 'c' 
 #[test]
 fn reports_the_first_fault_of_a_script(rt: HostRuntime) -> Result<(), Fail> {
     check_rows(&rt, rt.alloc(), Form::Script, SCRIPTS)?;
-    check_rows(&rt, rt.alloc(), Form::Script, EDIT_FAULTS)
+    check_rows(&rt, rt.alloc(), Form::Script, EDIT_FAULTS)?;
+    Ok(())
 }
 
 const EDITS: &str = r#"> schema = 1~base = 7~
@@ -122,5 +123,6 @@ on 7; open a c false; cohort a d; | edit = [{do='set_open',app='a',cohort='c',on
 
 #[test]
 fn reads_each_kind_of_edit(rt: HostRuntime) -> Result<(), Fail> {
-    check_rows(&rt, rt.alloc(), Form::Script, EDITS)
+    check_rows(&rt, rt.alloc(), Form::Script, EDITS)?;
+    Ok(())
 }

@@ -10,7 +10,6 @@ use catalogue::{
 use profile_toml::{ProfileFault, read_profile, read_script};
 use std::alloc::{AllocError, Global};
 use std::process::Abort;
-use std::test::Fail;
 use values::{ReadError, Text};
 
 fn fault_line(alloc: Global, error: &ReadError<ProfileFault>) -> Result<String, AllocError> {
@@ -249,17 +248,22 @@ fn outcome_of_row(
     outcome_of(alloc, form, document.as_str().as_bytes())
 }
 
+/// Asserts that what is found for a row is what it wants.
+pub(crate) fn check(rt: &impl Abort, found: &str, want: &str, row: &str) {
+    assert_eq!(rt; found, want, "{row}");
+}
+
 fn check_row(
     rt: &impl Abort,
     alloc: Global,
     form: Form,
     front: &str,
     row: &str,
-) -> Result<(), Fail> {
-    let (want, text) = row.split_once(" | ").ok_or("no row")?;
+) -> Result<(), AllocError> {
+    let (want, text) = row.split_once(" | ").unwrap_or((row, ""));
     let want = expanded(alloc, want)?;
     let got = outcome_of_row(alloc, form, front, text)?;
-    assert_eq!(rt; got.as_str(), want.as_str(), "{row}");
+    check(rt, got.as_str(), want.as_str(), row);
     Ok(())
 }
 
@@ -269,7 +273,7 @@ pub(crate) fn check_rows(
     alloc: Global,
     form: Form,
     rows: &str,
-) -> Result<(), Fail> {
+) -> Result<(), AllocError> {
     let mut front = "";
     for row in rows.lines() {
         match row.strip_prefix("> ") {

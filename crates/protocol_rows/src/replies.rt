@@ -1,3 +1,4 @@
+use crate::rows::{between, check};
 use omaha_json::{AppReply, AppState, CheckReply, KnownApp, Offer, Part, Reply};
 use omaha_json_client::read_reply;
 use std::alloc::{AllocError, Global};
@@ -74,7 +75,7 @@ fn outcome_between(
     middle: &str,
     back: &str,
 ) -> Result<String, AllocError> {
-    let body = format!(in alloc; "{front}{middle}{back}")?;
+    let body = between(alloc, front, middle, back)?;
     outcome_of(alloc, body.as_str().as_bytes())
 }
 
@@ -84,10 +85,10 @@ fn check_row(
     row: &str,
     front: &str,
     back: &str,
-) -> Result<(), Fail> {
-    let (want, middle) = row.split_once(" | ").ok_or("no row")?;
+) -> Result<(), AllocError> {
+    let (want, middle) = row.split_once(" | ").unwrap_or((row, ""));
     let got = outcome_between(alloc, front, middle, back)?;
-    assert_eq!(rt; got.as_str(), want, "{row}");
+    check(rt, got.as_str(), want, row);
     Ok(())
 }
 
@@ -98,7 +99,7 @@ fn check_rows(
     rows: &str,
     front: &str,
     back: &str,
-) -> Result<(), Fail> {
+) -> Result<(), AllocError> {
     for row in rows.lines() {
         check_row(rt, alloc, row, front, back)?;
     }
@@ -129,7 +130,8 @@ K5 BadOffer 0 | )]}'{"response":{"app":[{"appid":"a","status":"ok","updatecheck"
 
 #[test]
 fn reports_the_first_fault_of_a_reply(rt: HostRuntime) -> Result<(), Fail> {
-    check_rows(&rt, rt.alloc(), FAULTS, "", "")
+    check_rows(&rt, rt.alloc(), FAULTS, "", "")?;
+    Ok(())
 }
 
 const APP_FRONT: &str = r#")]}'
@@ -151,7 +153,8 @@ const APPS: &str = r#"0 0; a unknown | {"appid":"a","status":"error-unknownAppli
 
 #[test]
 fn reads_apps_without_an_offer(rt: HostRuntime) -> Result<(), Fail> {
-    check_rows(&rt, rt.alloc(), APPS, APP_FRONT, APP_BACK)
+    check_rows(&rt, rt.alloc(), APPS, APP_FRONT, APP_BACK)?;
+    Ok(())
 }
 
 const OFFER_FRONT: &str = r#")]}'
@@ -182,7 +185,8 @@ K5 BadOffer 0 | {"fp":"x","name":"n","size":1,"hash_sha256":"1111111111111111111
 
 #[test]
 fn reads_offers_at_their_limits(rt: HostRuntime) -> Result<(), Fail> {
-    check_rows(&rt, rt.alloc(), OFFERS, OFFER_FRONT, OFFER_BACK)
+    check_rows(&rt, rt.alloc(), OFFERS, OFFER_FRONT, OFFER_BACK)?;
+    Ok(())
 }
 
 const ADDRESS_FRONT: &str = r#")]}'
@@ -200,5 +204,6 @@ K5 BadOffer 0 | "#;
 
 #[test]
 fn reads_the_first_addresses(rt: HostRuntime) -> Result<(), Fail> {
-    check_rows(&rt, rt.alloc(), ADDRESSES, ADDRESS_FRONT, ADDRESS_BACK)
+    check_rows(&rt, rt.alloc(), ADDRESSES, ADDRESS_FRONT, ADDRESS_BACK)?;
+    Ok(())
 }

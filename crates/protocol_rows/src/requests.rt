@@ -1,3 +1,4 @@
+use crate::rows::{between, check, check_start, three_words, two_words};
 use omaha_json::{AppAsk, Check, Request, read_request};
 use std::alloc::{AllocError, Global};
 use std::process::Abort;
@@ -50,7 +51,7 @@ fn outcome_between(
     middle: &str,
     back: &str,
 ) -> Result<String, AllocError> {
-    let body = format!(in alloc; "{front}{middle}{back}")?;
+    let body = between(alloc, front, middle, back)?;
     outcome_of(alloc, body.as_str().as_bytes())
 }
 
@@ -60,10 +61,10 @@ fn check_row(
     row: &str,
     front: &str,
     back: &str,
-) -> Result<(), Fail> {
-    let (want, middle) = row.split_once(" | ").ok_or("no row")?;
+) -> Result<(), AllocError> {
+    let (want, middle) = row.split_once(" | ").unwrap_or((row, ""));
     let got = outcome_between(alloc, front, middle, back)?;
-    assert_eq!(rt; got.as_str(), want, "{row}");
+    check(rt, got.as_str(), want, row);
     Ok(())
 }
 
@@ -74,7 +75,7 @@ fn check_rows(
     rows: &str,
     front: &str,
     back: &str,
-) -> Result<(), Fail> {
+) -> Result<(), AllocError> {
     for row in rows.lines() {
         check_row(rt, alloc, row, front, back)?;
     }
@@ -111,12 +112,13 @@ J4 BadApp 0 | {"request":{"protocol":"3.1","app":[],"app":[1]}}"#;
 
 #[test]
 fn reports_the_first_fault_of_a_body(rt: HostRuntime) -> Result<(), Fail> {
-    check_rows(&rt, rt.alloc(), FAULTS, "", "")
+    check_rows(&rt, rt.alloc(), FAULTS, "", "")?;
+    Ok(())
 }
 
-fn check_body(rt: &impl Abort, alloc: Global, body: &[u8], want: &str) -> Result<(), Fail> {
+fn check_body(rt: &impl Abort, alloc: Global, body: &[u8], want: &str) -> Result<(), AllocError> {
     let got = outcome_of(alloc, body)?;
-    assert_eq!(rt; got.as_str(), want);
+    check(rt, got.as_str(), want, want);
     Ok(())
 }
 
@@ -134,7 +136,8 @@ fn rejects_bytes_that_are_no_utf_8(rt: HostRuntime) -> Result<(), Fail> {
         rt.alloc(),
         b"\xef\xbb\xbf{\"request\":{\"protocol\":\"3.1\"}}",
         "J1 NotJson",
-    )
+    )?;
+    Ok(())
 }
 
 const FRONT: &str = r#"{"request":{"sessionid":"x","protocol":"3.1","app":["#;
@@ -170,7 +173,8 @@ sx; A v f c h true 0; a v f c h false 1 | {"appid":"A","ping":{}},{"appid":"a","
 
 #[test]
 fn reads_what_is_asked_for_an_app(rt: HostRuntime) -> Result<(), Fail> {
-    check_rows(&rt, rt.alloc(), ASKS, FRONT, BACK)
+    check_rows(&rt, rt.alloc(), ASKS, FRONT, BACK)?;
+    Ok(())
 }
 
 // A browser's request, most of whose members are not read.
@@ -202,7 +206,8 @@ const ODD_BROWSER: &str = r#"{"request":{
 fn ignores_the_members_that_are_not_read(rt: HostRuntime) -> Result<(), Fail> {
     let want = "s{5f}; mhjfbmdg v1.2.3 f1.ab cstable:7 h false false p true 1";
     check_body(&rt, rt.alloc(), BROWSER.as_bytes(), want)?;
-    check_body(&rt, rt.alloc(), ODD_BROWSER.as_bytes(), want)
+    check_body(&rt, rt.alloc(), ODD_BROWSER.as_bytes(), want)?;
+    Ok(())
 }
 
 fn push_times(body: &mut String, text: &str, count: usize) -> Result<(), AllocError> {
@@ -212,10 +217,10 @@ fn push_times(body: &mut String, text: &str, count: usize) -> Result<(), AllocEr
     Ok(())
 }
 
-// Tests that what a body is read as begins so.
-fn check_start(rt: &impl Abort, alloc: Global, body: &str, want: &str) -> Result<(), Fail> {
+// Asserts that what a body is read as begins so.
+fn check_outcome(rt: &impl Abort, alloc: Global, body: &str, want: &str) -> Result<(), AllocError> {
     let got = outcome_of(alloc, body.as_bytes())?;
-    assert!(rt; got.as_str().starts_with(want), "{want}");
+    check_start(rt, got.as_str(), want);
     Ok(())
 }
 
@@ -226,11 +231,10 @@ fn body_of_identifier(alloc: Global, letter: &str, count: usize) -> Result<Strin
     Ok(body)
 }
 
-fn check_identifier(rt: &impl Abort, alloc: Global, row: &str) -> Result<(), Fail> {
-    let (letter, others) = row.split_once(' ').ok_or("no count")?;
-    let (count, want) = others.split_once(' ').ok_or("no start")?;
+fn check_identifier(rt: &impl Abort, alloc: Global, row: &str) -> Result<(), AllocError> {
+    let (letter, count, want) = three_words(row);
     let body = body_of_identifier(alloc, letter, count.parse().unwrap_or(0))?;
-    check_start(rt, alloc, body.as_str(), want)
+    check_outcome(rt, alloc, body.as_str(), want)
 }
 
 // Each row: a letter, how many times an identifier has it, and how the outcome begins.
@@ -256,11 +260,10 @@ fn body_of_apps(alloc: Global, count: usize, last: &str) -> Result<String, Alloc
     Ok(body)
 }
 
-fn check_apps(rt: &impl Abort, alloc: Global, row: &str) -> Result<(), Fail> {
-    let (count, others) = row.split_once(' ').ok_or("no last app")?;
-    let (last, want) = others.split_once(' ').ok_or("no start")?;
+fn check_apps(rt: &impl Abort, alloc: Global, row: &str) -> Result<(), AllocError> {
+    let (count, last, want) = three_words(row);
     let body = body_of_apps(alloc, count.parse().unwrap_or(0), last)?;
-    check_start(rt, alloc, body.as_str(), want)
+    check_outcome(rt, alloc, body.as_str(), want)
 }
 
 // Each row: how many apps there are before the last one, that one with the end, and how the outcome begins.
@@ -286,10 +289,10 @@ fn body_of_lists(alloc: Global, count: usize) -> Result<String, AllocError> {
     Ok(body)
 }
 
-fn check_lists(rt: &impl Abort, alloc: Global, row: &str) -> Result<(), Fail> {
-    let (count, want) = row.split_once(' ').ok_or("no start")?;
+fn check_lists(rt: &impl Abort, alloc: Global, row: &str) -> Result<(), AllocError> {
+    let (count, want) = two_words(row);
     let body = body_of_lists(alloc, count.parse().unwrap_or(0))?;
-    check_start(rt, alloc, body.as_str(), want)
+    check_outcome(rt, alloc, body.as_str(), want)
 }
 
 // Each row: how many lists lie within each other, and how the outcome begins.

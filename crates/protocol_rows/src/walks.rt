@@ -1,6 +1,7 @@
 ghost use Rattle.std.specs.Prelude.{◌≡◌, []};
 
 use crate::link::Played;
+use crate::rows::{check, check_start};
 use crate::shelf::Shelf;
 use std::alloc::{AllocError, Global};
 use std::process::Abort;
@@ -134,15 +135,15 @@ fn play_row(alloc: Global, row: &str) -> Result<String, AllocError> {
     play(alloc, start, replies, bodies, limits)
 }
 
-fn check_row(rt: &impl Abort, alloc: Global, row: &str) -> Result<(), Fail> {
-    let (given, want) = row.split_once(" = ").ok_or("no row")?;
+fn check_row(rt: &impl Abort, alloc: Global, row: &str) -> Result<(), AllocError> {
+    let (given, want) = row.split_once(" = ").unwrap_or((row, ""));
     let got = play_row(alloc, given)?;
-    assert_eq!(rt; got.as_str(), want, "{row}");
+    check(rt, got.as_str(), want, row);
     Ok(())
 }
 
 // Asserts that the walk of each row `START | REPLIES | BODIES | LIMITS = WANT` comes to that.
-fn check_rows(rt: &impl Abort, alloc: Global, rows: &str) -> Result<(), Fail> {
+fn check_rows(rt: &impl Abort, alloc: Global, rows: &str) -> Result<(), AllocError> {
     for row in rows.lines() {
         check_row(rt, alloc, row)?;
     }
@@ -158,7 +159,8 @@ const WALKS: &str =
 
 #[test]
 fn installs_what_is_offered(rt: HostRuntime) -> Result<(), Fail> {
-    check_rows(&rt, rt.alloc(), WALKS)
+    check_rows(&rt, rt.alloc(), WALKS)?;
+    Ok(())
 }
 
 const FAULTS: &str = r#"1.0 a s | 1 {} |  |  = U2 Reply, 1.0 a s, 0, , 
@@ -186,7 +188,8 @@ const FAULTS: &str = r#"1.0 a s | 1 {} |  |  = U2 Reply, 1.0 a s, 0, ,
 
 #[test]
 fn reports_each_fault(rt: HostRuntime) -> Result<(), Fail> {
-    check_rows(&rt, rt.alloc(), FAULTS)
+    check_rows(&rt, rt.alloc(), FAULTS)?;
+    Ok(())
 }
 
 const FAILED_CALLS: &str =
@@ -207,28 +210,30 @@ const FAILED_CALLS: &str =
 
 #[test]
 fn keeps_its_last_commit_at_each_failed_call(rt: HostRuntime) -> Result<(), Fail> {
-    check_rows(&rt, rt.alloc(), FAILED_CALLS)
+    check_rows(&rt, rt.alloc(), FAILED_CALLS)?;
+    Ok(())
 }
 
 // Asserts that a walk of so many offers and then none comes to an end that begins so.
-fn check_start(rt: &impl Abort, alloc: Global, replies: &str, want: &str) -> Result<(), Fail> {
+fn check_walk(rt: &impl Abort, alloc: Global, replies: &str, want: &str) -> Result<(), AllocError> {
     let line = play(alloc, "1.0 a s", replies, "abc", "")?;
-    assert!(rt; line.as_str().starts_with(want), "{line}");
+    check_start(rt, line.as_str(), want);
     Ok(())
 }
 
 #[test]
 fn makes_at_most_1024_steps(rt: HostRuntime) -> Result<(), Fail> {
-    check_start(
+    check_walk(
         &rt,
         rt.alloc(),
         "1024 offer t 2.0 b- abc;1 check noupdate",
         "1024 steps 3072 bytes, 2.0 b-0 t,",
     )?;
-    check_start(
+    check_walk(
         &rt,
         rt.alloc(),
         "1025 offer t 2.0 b- abc;1 check noupdate",
         "U7 TooManySteps, 2.0 b-1 t,",
-    )
+    )?;
+    Ok(())
 }
