@@ -1,16 +1,26 @@
 // What accepted edits make of a catalogue.
 
-use crate::lines::{batch_of, catalogue_of};
+use crate::lines::{apply_lines, batch_of, catalogue_of};
+use crate::rows::check;
 use crate::shown::shown;
-use catalogue::Catalogue;
-use std::alloc::Global;
+use catalogue::{ApplyError, Batch, Catalogue};
+use std::alloc::{AllocError, Global};
 use std::process::Abort;
 use std::test::Fail;
 
-fn makes(rt: &impl Abort, alloc: Global, lines: &str, content: &str) -> Result<(), Fail> {
-    let catalogue = catalogue_of(alloc, lines)?;
-    assert_eq!(rt; shown(alloc, &catalogue)?.as_str(), content);
+// Applies the edits that semicolons separate, each in a batch of its own.
+fn apply_each(alloc: Global, catalogue: &mut Catalogue, edits: &str) -> Result<(), ApplyError> {
+    for edit in edits.split(';') {
+        apply_lines(alloc, catalogue, edit)?;
+    }
     Ok(())
+}
+
+// The content that one batch of lines makes, and then the edits.
+fn content_after(alloc: Global, lines: &str, edits: &str) -> Result<String, ApplyError> {
+    let mut catalogue = catalogue_of(alloc, lines)?;
+    apply_each(alloc, &mut catalogue, edits)?;
+    Ok(shown(alloc, &catalogue)?)
 }
 
 const STAGED: &str = "add_app demo stable
@@ -31,9 +41,7 @@ set_share demo beta 1000
 set_rollback demo beta on
 set_open demo beta on";
 
-#[test]
-fn keeps_releases_and_differentials_in_order(rt: HostRuntime) -> Result<(), Fail> {
-    let content = "app demo
+const STAGED_CONTENT: &str = "app demo
 cohort stable 10.0 3.0 500
 cohort beta 3.0 - 1000 rollback open
 release 1.0 demo-1.0.bin 1000 17
@@ -45,7 +53,17 @@ diff 1.0 3.0 demo-1.0-3.0.bin 100 19
 diff 2.0 3.0 demo-2.0-3.0.bin 200 35
 diff 2.0 10.0 demo-2.0-10.0.bin 500 36
 ";
-    makes(&rt, rt.alloc(), STAGED, content)
+
+fn staged(alloc: Global) -> Result<String, ApplyError> {
+    let catalogue = catalogue_of(alloc, STAGED)?;
+    Ok(shown(alloc, &catalogue)?)
+}
+
+#[test]
+fn keeps_releases_and_differentials_in_order(rt: HostRuntime) -> Result<(), Fail> {
+    let content = staged(rt.alloc())?;
+    check(&rt, content.as_str(), STAGED_CONTENT, STAGED);
+    Ok(())
 }
 
 const WITHDRAWN: &str = "app demo
@@ -61,17 +79,10 @@ diff 2.0 3.0 demo-2.0-3.0.bin 200 35
 diff 2.0 10.0 demo-2.0-10.0.bin 500 36
 ";
 
-// The content of the staged app after one more batch.
-fn staged_after(alloc: Global, line: &str) -> Result<String, Fail> {
-    let mut catalogue = catalogue_of(alloc, STAGED)?;
-    catalogue.apply(&batch_of(alloc, line)?)?;
-    Ok(shown(alloc, &catalogue)?)
-}
-
 #[test]
 fn withdraws_a_release(rt: HostRuntime) -> Result<(), Fail> {
-    let content = staged_after(rt.alloc(), "set_withdrawn demo 3.0 on")?;
-    assert_eq!(rt; content.as_str(), WITHDRAWN);
+    let content = content_after(rt.alloc(), STAGED, "set_withdrawn demo 3.0 on")?;
+    check(&rt, content.as_str(), WITHDRAWN, STAGED);
     Ok(())
 }
 
@@ -81,20 +92,7 @@ add_release mini 1.0 mini-1.0.bin 3 11111111111111111111111111111111111111111111
 add_release mini 2.0 mini-2.0.bin 56 2222222222222222222222222222222222222222222222222222222222222222";
 
 // Each row: edits after those above, joined by semicolons, and the line that they change.
-fn leaves(rt: &impl Abort, alloc: Global, edits: &str, line: &str) -> Result<(), Fail> {
-    let mut catalogue = catalogue_of(alloc, BARE)?;
-    for edit in edits.split(';') {
-        catalogue.apply(&batch_of(alloc, edit)?)?;
-    }
-    let lines = shown(alloc, &catalogue)?;
-    assert!(rt; lines.as_str().lines().any(|found| found == line), "{line}");
-    Ok(())
-}
-
-#[test]
-fn keeps_the_last_value_of_each_setting(rt: HostRuntime) -> Result<(), Fail> {
-    let alloc = rt.alloc();
-    let rows = "set_stone mini 2.0 on > release 2.0 mini-2.0.bin 56 34 stone
+const SETTINGS: &str = "set_stone mini 2.0 on > release 2.0 mini-2.0.bin 56 34 stone
 set_stone mini 2 on;set_stone MINI 2.0.0 off > release 2.0 mini-2.0.bin 56 34
 set_withdrawn mini 1.0 on > release 1.0 mini-1.0.bin 3 17 withdrawn
 set_withdrawn mini 1.0 on;set_withdrawn mini 1.0 off > release 1.0 mini-1.0.bin 3 17
@@ -110,19 +108,48 @@ set_share mini beta 0 > cohort beta - - 0
 set_rollback mini beta on;set_rollback mini beta off > cohort beta - - 1000
 set_open mini beta on;set_rollback mini beta on > cohort beta - - 1000 rollback open
 set_withdrawn mini 1.0 on;add_diff mini 1.0 2.0 d.bin 7 5555555555555555555555555555555555555555555555555555555555555555 > diff 1.0 2.0 d.bin 7 85";
-    for row in rows.lines() {
-        let (edits, line) = row.split_once(" > ").ok_or("no row")?;
-        leaves(&rt, alloc, edits, line)?;
-    }
+
+fn leaves(rt: &impl Abort, alloc: Global, row: &str) -> Result<(), Fail> {
+    let (edits, line) = row.split_once(" > ").ok_or("no row")?;
+    let content = content_after(alloc, BARE, edits)?;
+    assert!(rt;
+        content.as_str().lines().any(|found| found == line),
+        "{row}"
+    );
     Ok(())
 }
 
 #[test]
+fn keeps_the_last_value_of_each_setting(rt: HostRuntime) -> Result<(), Fail> {
+    for row in SETTINGS.lines() {
+        leaves(&rt, rt.alloc(), row)?;
+    }
+    Ok(())
+}
+
+fn copied_batch(alloc: Global) -> Result<Batch, AllocError> {
+    let batch = batch_of(alloc, STAGED)?;
+    batch.copy()
+}
+
+fn catalogue_of_copy(alloc: Global) -> Result<Catalogue, ApplyError> {
+    let batch = copied_batch(alloc)?;
+    Catalogue::empty(alloc).applied(&batch)
+}
+
+fn copied_catalogue(alloc: Global) -> Result<Catalogue, ApplyError> {
+    let catalogue = catalogue_of_copy(alloc)?;
+    Ok(catalogue.copy()?)
+}
+
+fn copied_content(alloc: Global) -> Result<String, ApplyError> {
+    let catalogue = copied_catalogue(alloc)?;
+    Ok(shown(alloc, &catalogue)?)
+}
+
+#[test]
 fn copies_a_catalogue_and_a_batch_whole(rt: HostRuntime) -> Result<(), Fail> {
-    let alloc = rt.alloc();
-    let batch = batch_of(alloc, STAGED)?.copy()?;
-    let catalogue = Catalogue::empty(alloc).applied(&batch)?;
-    let before = shown(alloc, &catalogue_of(alloc, STAGED)?)?;
-    assert_eq!(rt; shown(alloc, &catalogue.copy()?)?.as_str(), before.as_str());
+    let content = copied_content(rt.alloc())?;
+    check(&rt, content.as_str(), STAGED_CONTENT, STAGED);
     Ok(())
 }

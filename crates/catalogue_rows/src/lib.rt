@@ -18,6 +18,8 @@ mod mirrors;
 #[cfg(test)]
 mod rejections;
 #[cfg(test)]
+mod rows;
+#[cfg(test)]
 mod shown;
 #[cfg(test)]
 mod version_tests;

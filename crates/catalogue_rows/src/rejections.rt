@@ -1,8 +1,9 @@
 // The first fault of each edit, by rows: the fault, a bar, the edit.
 
-use crate::lines::{catalogue_of, edit_of};
-use catalogue::{ApplyError, Batch, Catalogue, Fault, Refused};
-use std::alloc::Global;
+use crate::lines::{apply_lines, catalogue_of, outcome_of};
+use crate::rows::check;
+use catalogue::{ApplyError, Catalogue, Fault, Refused};
+use std::alloc::{AllocError, Global};
 use std::process::Abort;
 use std::test::Fail;
 
@@ -15,23 +16,28 @@ add_cohort mini beta
 set_target mini stable 2.0 -";
 
 // A valid edit comes before the one of the row, so its index is 1.
-fn answer(alloc: Global, catalogue: &mut Catalogue, line: &str) -> Result<String, Fail> {
-    let mut edits = Vec::new(alloc);
-    edits.push(edit_of(alloc, "add_app fresh stable")?)?;
-    edits.push(edit_of(alloc, line)?)?;
-    match catalogue.apply(&Batch::new(edits)) {
-        Ok(()) => Ok(String::from_str(alloc, "accepted")?),
-        Err(error) => Ok(format!(in alloc; "{error}")?),
-    }
+fn outcome(alloc: Global, catalogue: &mut Catalogue, line: &str) -> Result<String, AllocError> {
+    let lines = format!(in alloc; "add_app fresh stable\n{line}")?;
+    outcome_of(alloc, apply_lines(alloc, catalogue, lines.as_str()))
 }
 
-fn rejects(rt: &impl Abort, alloc: Global, rows: &str) -> Result<(), Fail> {
+fn rejects_row(
+    rt: &impl Abort,
+    alloc: Global,
+    catalogue: &mut Catalogue,
+    row: &str,
+) -> Result<(), AllocError> {
+    let (fault, line) = row.split_once(" | ").unwrap_or((row, ""));
+    let outcome = outcome(alloc, catalogue, line)?;
+    let found = outcome.as_str().strip_prefix("edit 1: ").unwrap_or("");
+    check(rt, found, fault, row);
+    Ok(())
+}
+
+fn rejects(rt: &impl Abort, alloc: Global, rows: &str) -> Result<(), ApplyError> {
     let mut catalogue = catalogue_of(alloc, SMALL)?;
     for row in rows.lines() {
-        let (fault, line) = row.split_once(" | ").ok_or("no bar")?;
-        let wanted = format!(in alloc; "edit 1: {fault}")?;
-        let answer = answer(alloc, &mut catalogue, line)?;
-        assert_eq!(rt; answer.as_str(), wanted.as_str(), "{row}");
+        rejects_row(rt, alloc, &mut catalogue, row)?;
     }
     Ok(())
 }
@@ -42,7 +48,8 @@ fn rejects_an_app_by_its_first_fault(rt: HostRuntime) -> Result<(), Fail> {
 C9 BadName | add_app MINI Stable
 C9 BadName | add_app new _
 C2 AppExists | add_app MINI stable";
-    rejects(&rt, rt.alloc(), rows)
+    rejects(&rt, rt.alloc(), rows)?;
+    Ok(())
 }
 
 #[test]
@@ -59,7 +66,8 @@ C9 BadName | add_release mini 1.0 .x 1 11111111111111111111111111111111111111111
 C5 ReleaseExists | add_release mini 1.0.0.0 mini-1.0.bin 1 1111111111111111111111111111111111111111111111111111111111111111
 C6 HashTaken | add_release mini 3.0 mini-1.0.bin 1 1111111111111111111111111111111111111111111111111111111111111111
 C10 NameTaken | add_release mini 3.0 mini-1.0-2.0.bin 1 4444444444444444444444444444444444444444444444444444444444444444";
-    rejects(&rt, rt.alloc(), rows)
+    rejects(&rt, rt.alloc(), rows)?;
+    Ok(())
 }
 
 #[test]
@@ -75,7 +83,8 @@ C11 UnknownRelease | add_diff mini 1.0 9.9 mini-1.0.bin 1 4444444444444444444444
 C13 DiffBackward | add_diff mini 2.0 1.0 mini-1.0.bin 1 4444444444444444444444444444444444444444444444444444444444444444
 C13 DiffBackward | add_diff mini 1.0 1 mini-1.0.bin 1 4444444444444444444444444444444444444444444444444444444444444444
 C12 DiffExists | add_diff mini 1 2.0.0 mini-1.0.bin 1 3333333333333333333333333333333333333333333333333333333333333333";
-    rejects(&rt, rt.alloc(), rows)
+    rejects(&rt, rt.alloc(), rows)?;
+    Ok(())
 }
 
 #[test]
@@ -91,7 +100,8 @@ C4 BadVersion | set_audience mini 01 gamma
 C11 UnknownRelease | set_audience mini 3.0 gamma
 C14 UnknownCohort | set_audience mini 2.0 beta,gamma
 C14 UnknownCohort | set_audience mini 2.0 Beta!";
-    rejects(&rt, rt.alloc(), rows)
+    rejects(&rt, rt.alloc(), rows)?;
+    Ok(())
 }
 
 #[test]
@@ -114,22 +124,24 @@ C1 UnknownApp | set_rollback x gamma on
 C14 UnknownCohort | set_rollback mini gamma on
 C1 UnknownApp | set_open x gamma on
 C14 UnknownCohort | set_open mini gamma on";
-    rejects(&rt, rt.alloc(), rows)
+    rejects(&rt, rt.alloc(), rows)?;
+    Ok(())
+}
+
+fn prints(rt: &impl Abort, alloc: Global, error: ApplyError, text: &str) -> Result<(), AllocError> {
+    let printed = format!(in alloc; "{error}")?;
+    check(rt, printed.as_str(), text, text);
+    Ok(())
 }
 
 #[test]
 fn prints_errors_with_their_codes(rt: HostRuntime) -> Result<(), Fail> {
-    let alloc = rt.alloc();
     let refused = Refused {
         index: 12,
         fault: Fault::UnknownRelease,
     };
-    let texts = [
-        (ApplyError::Refused(refused), "edit 12: C11 UnknownRelease"),
-        (ApplyError::Memory, "memory"),
-    ];
-    for (error, text) in texts {
-        assert_eq!(rt; format!(in alloc; "{error}")?.as_str(), text);
-    }
+    let error = ApplyError::Refused(refused);
+    prints(&rt, rt.alloc(), error, "edit 12: C11 UnknownRelease")?;
+    prints(&rt, rt.alloc(), ApplyError::Memory, "memory")?;
     Ok(())
 }

@@ -5,15 +5,10 @@ use std::alloc::{AllocError, Global};
 use values::{Items, Text};
 use version::Version;
 
-fn add_line(lines: &mut String, line: &str) -> Result<(), AllocError> {
-    lines.push_str(line)?;
-    lines.push('\n')
-}
-
-fn optional(alloc: Global, version: Option<Version>) -> Result<String, AllocError> {
+fn push_optional(lines: &mut String, version: Option<Version>) -> Result<(), AllocError> {
     match version {
-        None => String::from_str(alloc, "-"),
-        Some(version) => Ok(format!(in alloc; "{version}")?),
+        None => lines.push_str(" -"),
+        Some(version) => write!(lines, " {version}"),
     }
 }
 
@@ -21,63 +16,63 @@ fn flag(on: bool, name: &'static str) -> &'static str {
     if on { name } else { "" }
 }
 
-fn cohort_line(alloc: Global, cohort: &Cohort) -> Result<String, AllocError> {
+fn push_cohort(lines: &mut String, cohort: &Cohort) -> Result<(), AllocError> {
     let name = cohort.name.as_str();
-    let target = optional(alloc, cohort.target)?;
-    let held = optional(alloc, cohort.held)?;
-    let target = target.as_str();
-    let held = held.as_str();
+    write!(lines, "cohort {name}")?;
+    push_optional(lines, cohort.target)?;
+    push_optional(lines, cohort.held)?;
     let share = cohort.share;
     let rollback = flag(cohort.rollback, " rollback");
     let open = flag(cohort.hintable, " open");
-    Ok(format!(in alloc; "cohort {name} {target} {held} {share}{rollback}{open}")?)
+    writeln!(lines, " {share}{rollback}{open}")
 }
 
-fn audience(alloc: Global, names: Option<&Items<Text>>) -> Result<String, AllocError> {
-    let mut text = String::new(alloc);
-    if let Some(names) = names {
-        text.push_str(" for")?;
-        for name in names.as_slice() {
-            text.push(' ')?;
-            text.push_str(name.as_str())?;
-        }
+fn push_audience(lines: &mut String, names: &Items<Text>) -> Result<(), AllocError> {
+    lines.push_str(" for")?;
+    for name in names.as_slice() {
+        lines.push(' ')?;
+        lines.push_str(name.as_str())?;
     }
-    Ok(text)
+    Ok(())
 }
 
-fn release_line(alloc: Global, release: &Release) -> Result<String, AllocError> {
+fn push_release(lines: &mut String, release: &Release) -> Result<(), AllocError> {
     let spelled = release.spelled.as_str();
     let name = release.name.as_str();
     let size = release.size;
     let first = release.hash[0];
     let stone = flag(release.stone, " stone");
     let withdrawn = flag(release.withdrawn, " withdrawn");
-    let names = audience(alloc, release.audience.as_ref())?;
-    let names = names.as_str();
-    Ok(format!(in alloc; "release {spelled} {name} {size} {first}{stone}{withdrawn}{names}")?)
+    write!(
+        lines,
+        "release {spelled} {name} {size} {first}{stone}{withdrawn}"
+    )?;
+    if let Some(names) = &release.audience {
+        push_audience(lines, names)?;
+    }
+    lines.push('\n')
 }
 
-fn diff_line(alloc: Global, diff: &Diff) -> Result<String, AllocError> {
+fn push_diff(lines: &mut String, diff: &Diff) -> Result<(), AllocError> {
     let from = diff.from;
     let to = diff.to;
     let name = diff.name.as_str();
     let size = diff.size;
     let first = diff.hash[0];
-    Ok(format!(in alloc; "diff {from} {to} {name} {size} {first}")?)
+    writeln!(lines, "diff {from} {to} {name} {size} {first}")
 }
 
-fn add_app(alloc: Global, lines: &mut String, app: &App) -> Result<(), AllocError> {
+fn push_app(lines: &mut String, app: &App) -> Result<(), AllocError> {
     let id = app.id.as_str();
-    let line = format!(in alloc; "app {id}")?;
-    add_line(lines, line.as_str())?;
+    writeln!(lines, "app {id}")?;
     for cohort in app.cohorts.as_slice() {
-        add_line(lines, cohort_line(alloc, cohort)?.as_str())?;
+        push_cohort(lines, cohort)?;
     }
     for release in app.releases.as_slice() {
-        add_line(lines, release_line(alloc, release)?.as_str())?;
+        push_release(lines, release)?;
     }
     for diff in app.diffs.as_slice() {
-        add_line(lines, diff_line(alloc, diff)?.as_str())?;
+        push_diff(lines, diff)?;
     }
     Ok(())
 }
@@ -86,7 +81,7 @@ fn add_app(alloc: Global, lines: &mut String, app: &App) -> Result<(), AllocErro
 pub(crate) fn shown(alloc: Global, catalogue: &Catalogue) -> Result<String, AllocError> {
     let mut lines = String::new(alloc);
     for app in catalogue.apps() {
-        add_app(alloc, &mut lines, app)?;
+        push_app(&mut lines, app)?;
     }
     Ok(lines)
 }

@@ -5,10 +5,12 @@ ghost use Rattle.payload_graph.specs.Net.{net_among};
 
 use crate::demo::{catalogue_of_demo, key_of};
 use crate::outcomes::outcome_of;
+use crate::rows::check;
 use catalogue::Catalogue;
 use payload_graph::Graph;
 use price_certificates::{read_prices, write_prices};
 use std::alloc::Global;
+use std::process::Abort;
 use std::test::Fail;
 
 pub(crate) const STABLE: &str = "prices 1
@@ -80,29 +82,45 @@ fn read_and_written(alloc: Global, track: &str, bytes: &[u8]) -> Result<Vec<u8>,
     rewritten_in(alloc, &catalogue, track, bytes)
 }
 
+fn check_rewritten(
+    rt: &impl Abort,
+    alloc: Global,
+    track: &str,
+    certificate: &str,
+) -> Result<(), Fail> {
+    let bytes = read_and_written(alloc, track, certificate.as_bytes())?;
+    assert!(rt; bytes.as_slice() == certificate.as_bytes(), "{track}");
+    Ok(())
+}
+
 #[test]
 fn is_written_as_it_was_read(rt: HostRuntime) -> Result<(), Fail> {
-    for (track, certificate) in [("stable", STABLE), ("held", HELD), ("beta", BETA)] {
-        let bytes = read_and_written(rt.alloc(), track, certificate.as_bytes())?;
-        assert!(rt; bytes.as_slice() == certificate.as_bytes(), "{track}");
-    }
+    check_rewritten(&rt, rt.alloc(), "stable", STABLE)?;
+    check_rewritten(&rt, rt.alloc(), "held", HELD)?;
+    check_rewritten(&rt, rt.alloc(), "beta", BETA)
+}
+
+fn check_outcome(
+    rt: &impl Abort,
+    alloc: Global,
+    track: &str,
+    certificate: &str,
+    want: &str,
+) -> Result<(), Fail> {
+    let outcome = outcome_of(alloc, track, certificate.as_bytes())?;
+    check(rt, outcome.as_str(), want, track);
     Ok(())
 }
 
 #[test]
 fn is_certified(rt: HostRuntime) -> Result<(), Fail> {
-    for (track, certificate) in [("stable", STABLE), ("held", HELD), ("beta", BETA)] {
-        let outcome = outcome_of(rt.alloc(), track, certificate.as_bytes())?;
-        assert_eq!(rt; outcome.as_str(), "certified", "{track}");
-    }
-    Ok(())
+    check_outcome(&rt, rt.alloc(), "stable", STABLE, "certified")?;
+    check_outcome(&rt, rt.alloc(), "held", HELD, "certified")?;
+    check_outcome(&rt, rt.alloc(), "beta", BETA, "certified")
 }
 
 #[test]
 fn is_of_one_track(rt: HostRuntime) -> Result<(), Fail> {
-    for (track, want) in [("stable", "P2 4"), ("beta", "P2 3")] {
-        let outcome = outcome_of(rt.alloc(), track, HELD.as_bytes())?;
-        assert_eq!(rt; outcome.as_str(), want, "{track}");
-    }
-    Ok(())
+    check_outcome(&rt, rt.alloc(), "stable", HELD, "P2 4")?;
+    check_outcome(&rt, rt.alloc(), "beta", HELD, "P2 3")
 }

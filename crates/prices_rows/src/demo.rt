@@ -1,139 +1,35 @@
 // A catalogue of four releases, one of them a stone, and the keys of its tracks.
 
-use catalogue::{AddDiff, Batch, Catalogue, Edit, SetRollback, SetStone};
+use crate::lines::catalogue_of;
+use catalogue::{ApplyError, Catalogue};
 use cohorts::Lane;
 use payload_graph::TrackKey;
-use profile_toml::read_profile;
-use std::alloc::{AllocError, Global};
-use std::test::Fail;
-use values::Text;
+use std::alloc::Global;
 
-const PROFILE: &str = r#"schema = 1
+const RELEASES: &str = "add_app demo stable
+add_cohort demo beta
+add_release demo 1.0 demo-1.0.bin 1000 1111111111111111111111111111111111111111111111111111111111111111
+add_release demo 2.0 demo-2.0.bin 1200 2222222222222222222222222222222222222222222222222222222222222222
+add_release demo 3.0 demo-3.0.bin 1500 3333333333333333333333333333333333333333333333333333333333333333
+add_release demo 4.0 demo-4.0.bin 1600 4444444444444444444444444444444444444444444444444444444444444444
+set_target demo stable 4.0 3.0
+set_target demo beta 3.0 -";
 
-[[mirror]]
-name = "m0"
-codebase = "http://m0.example/p/"
-budget = 1000000
-
-[[app]]
-id = "demo"
-default = "stable"
-cohort = [
-    { name = "stable", target = "4.0", held = "3.0", share = 500 },
-    { name = "beta", target = "3.0", share = 1000, open = true },
-]
-
-[[app.release]]
-version = "1.0"
-name = "demo-1.0.bin"
-size = 1000
-sha256 = "1111111111111111111111111111111111111111111111111111111111111111"
-
-[[app.release]]
-version = "2.0"
-name = "demo-2.0.bin"
-size = 1200
-sha256 = "2222222222222222222222222222222222222222222222222222222222222222"
-
-[[app.release]]
-version = "3.0"
-name = "demo-3.0.bin"
-size = 1500
-sha256 = "3333333333333333333333333333333333333333333333333333333333333333"
-
-[[app.release]]
-version = "4.0"
-name = "demo-4.0.bin"
-size = 1600
-sha256 = "4444444444444444444444444444444444444444444444444444444444444444"
-"#;
-
-// Differentials: the releases, the bytes, and what the hash repeats.
-const DIFFS: &str = "1.0 2.0 300 12
-2.0 3.0 200 23
-3.0 4.0 250 34
-2.0 4.0 500 24
-1.0 3.0 100 13";
-
-fn hash_of(alloc: Global, digits: &str) -> Result<Text, AllocError> {
-    let mut hash = String::new(alloc);
-    for _pair in 0..32 {
-        hash.push_str(digits)?;
-    }
-    Ok(Text::new(hash))
-}
-
-fn diff_of(alloc: Global, from: &str, to: &str, size: u64, hash: Text) -> Result<Edit, AllocError> {
-    let name = format!(in alloc; "demo-{from}-{to}.bin")?;
-    Ok(Edit::AddDiff(AddDiff {
-        app: Text::copy_of(alloc, "demo")?,
-        from: Text::copy_of(alloc, from)?,
-        to: Text::copy_of(alloc, to)?,
-        name: Text::new(name),
-        size,
-        sha256: hash,
-    }))
-}
-
-fn diff_of_line(alloc: Global, line: &str) -> Result<Edit, Fail> {
-    let (from, others) = line.split_once(' ').ok_or("no from")?;
-    let (to, others) = others.split_once(' ').ok_or("no to")?;
-    let (size, digits) = others.split_once(' ').ok_or("no size")?;
-    let hash = hash_of(alloc, digits)?;
-    Ok(diff_of(alloc, from, to, size.parse().unwrap_or(0), hash)?)
-}
-
-fn stone_of(alloc: Global) -> Result<Edit, AllocError> {
-    Ok(Edit::SetStone(SetStone {
-        app: Text::copy_of(alloc, "demo")?,
-        version: Text::copy_of(alloc, "2.0")?,
-        on: true,
-    }))
-}
-
-fn rollback_of(alloc: Global) -> Result<Edit, AllocError> {
-    Ok(Edit::SetRollback(SetRollback {
-        app: Text::copy_of(alloc, "demo")?,
-        cohort: Text::copy_of(alloc, "beta")?,
-        on: true,
-    }))
-}
+const DIFFS: &str =
+    "add_diff demo 1.0 2.0 demo-1.0-2.0.bin 300 1212121212121212121212121212121212121212121212121212121212121212;add_diff demo 2.0 3.0 demo-2.0-3.0.bin 200 2323232323232323232323232323232323232323232323232323232323232323;add_diff demo 3.0 4.0 demo-3.0-4.0.bin 250 3434343434343434343434343434343434343434343434343434343434343434;add_diff demo 2.0 4.0 demo-2.0-4.0.bin 500 2424242424242424242424242424242424242424242424242424242424242424;add_diff demo 1.0 3.0 demo-1.0-3.0.bin 100 1313131313131313131313131313131313131313131313131313131313131313;set_stone demo 2.0 on;set_rollback demo beta on";
 
 // The same, but the way from 2.0 to 4.0 by 3.0 has as many bytes as the one past it.
-const DIFFS_WITH_A_TIE: &str = "1.0 2.0 300 12
-2.0 3.0 200 23
-3.0 4.0 250 34
-2.0 4.0 450 24
-1.0 3.0 100 13";
+const DIFFS_WITH_A_TIE: &str =
+    "add_diff demo 1.0 2.0 demo-1.0-2.0.bin 300 1212121212121212121212121212121212121212121212121212121212121212;add_diff demo 2.0 3.0 demo-2.0-3.0.bin 200 2323232323232323232323232323232323232323232323232323232323232323;add_diff demo 3.0 4.0 demo-3.0-4.0.bin 250 3434343434343434343434343434343434343434343434343434343434343434;add_diff demo 2.0 4.0 demo-2.0-4.0.bin 450 2424242424242424242424242424242424242424242424242424242424242424;add_diff demo 1.0 3.0 demo-1.0-3.0.bin 100 1313131313131313131313131313131313131313131313131313131313131313;set_stone demo 2.0 on;set_rollback demo beta on";
 
-fn edits_of(alloc: Global, diffs: &str) -> Result<Batch, Fail> {
-    let mut edits = Vec::new(alloc);
-    for line in diffs.lines() {
-        let edit = diff_of_line(alloc, line)?;
-        edits.push(edit)?;
-    }
-    edits.push(stone_of(alloc)?)?;
-    edits.push(rollback_of(alloc)?)?;
-    Ok(Batch::new(edits))
-}
-
-fn catalogue_with(alloc: Global, diffs: &str) -> Result<Catalogue, Fail> {
-    let (releases, _mirrors) = read_profile(alloc, PROFILE.as_bytes())?;
-    let more = edits_of(alloc, diffs)?;
-    let mut catalogue = Catalogue::empty(alloc);
-    catalogue.apply(&releases)?;
-    catalogue.apply(&more)?;
-    Ok(catalogue)
-}
-
-/// The catalogue of the profile, with the differentials, the stone and the downgrade of `beta`.
-pub(crate) fn catalogue_of_demo(alloc: Global) -> Result<Catalogue, Fail> {
-    catalogue_with(alloc, DIFFS)
+/// The catalogue of the releases, with the differentials, the stone and the downgrade of `beta`.
+pub(crate) fn catalogue_of_demo(alloc: Global) -> Result<Catalogue, ApplyError> {
+    catalogue_of(alloc, RELEASES, DIFFS)
 }
 
 /// The same with a differential of 450 bytes from 2.0 to 4.0.
-pub(crate) fn catalogue_with_a_tie(alloc: Global) -> Result<Catalogue, Fail> {
-    catalogue_with(alloc, DIFFS_WITH_A_TIE)
+pub(crate) fn catalogue_with_a_tie(alloc: Global) -> Result<Catalogue, ApplyError> {
+    catalogue_of(alloc, RELEASES, DIFFS_WITH_A_TIE)
 }
 
 /// The key of `stable`, its held clients or `beta`, whose clients allow a downgrade.

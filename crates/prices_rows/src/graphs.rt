@@ -1,9 +1,12 @@
 // Graphs of tracks, worked by hand and against the rule.
 
+ghost use Rattle.std.specs.Prelude.{◌<◌, length};
+
 use crate::lines::catalogue_of;
+use crate::rows::{check, three_parts};
 use crate::rule::{permitted, words_from, words_into};
 use crate::words::{listed_from, listed_into};
-use catalogue::{App, Catalogue};
+use catalogue::{App, ApplyError, Catalogue};
 use cohorts::Lane;
 use payload_graph::{Differentials, Edge, Graph, TrackKey};
 use std::alloc::{AllocError, Global};
@@ -49,30 +52,40 @@ pub(crate) fn key_of(words: &str) -> TrackKey {
     }
 }
 
-fn listed(alloc: Global, graph: Option<Graph>, into: bool) -> Result<String, AllocError> {
-    let Some(graph) = graph else {
-        return String::from_str(alloc, " none");
-    };
-    if into {
-        listed_into(alloc, &graph)
-    } else {
-        listed_from(alloc, &graph)
+fn listed(alloc: Global, graph: &Option<Graph>, into: bool) -> Result<String, AllocError> {
+    match graph {
+        None => String::from_str(alloc, " none"),
+        Some(graph) if into => listed_into(alloc, graph),
+        Some(graph) => listed_from(alloc, graph),
     }
 }
 
-fn listed_after(alloc: Global, more: &str, key: &str, into: bool) -> Result<String, Fail> {
+fn listed_of(
+    alloc: Global,
+    catalogue: &Catalogue,
+    key: &TrackKey,
+    into: bool,
+) -> Result<String, AllocError> {
+    let graph = Graph::of_track(alloc, catalogue, key)?;
+    listed(alloc, &graph, into)
+}
+
+fn listed_after(alloc: Global, more: &str, key: &str, into: bool) -> Result<String, ApplyError> {
     let catalogue = catalogue_of(alloc, DEMO, more)?;
-    let graph = Graph::of_track(alloc, &catalogue, &key_of(key))?;
-    Ok(listed(alloc, graph, into)?)
+    Ok(listed_of(alloc, &catalogue, &key_of(key), into)?)
+}
+
+fn check_row(rt: &impl Abort, alloc: Global, row: &str, into: bool) -> Result<(), ApplyError> {
+    let (key, more, want) = three_parts(row);
+    let found = listed_after(alloc, more, key, into)?;
+    check(rt, found.as_str(), want, row);
+    Ok(())
 }
 
 // Tests rows: a key, a bar, edits after those of `demo`, a bar, and the payloads, each after a space.
-fn lists(rt: &impl Abort, alloc: Global, rows: &str, into: bool) -> Result<(), Fail> {
+fn lists(rt: &impl Abort, alloc: Global, rows: &str, into: bool) -> Result<(), ApplyError> {
     for row in rows.lines() {
-        let (key, others) = row.split_once('|').ok_or("no bar")?;
-        let (more, want) = others.split_once('|').ok_or("no second bar")?;
-        let found = listed_after(alloc, more, key, into)?;
-        assert_eq!(rt; found.as_str(), want, "{row}");
+        check_row(rt, alloc, row, into)?;
     }
     Ok(())
 }
@@ -99,7 +112,8 @@ beta target yes|set_target demo beta 1.0 -| 1>0f1000 2>0f1000 2>1f1200 3>0f1000 
 
 #[test]
 fn lists_the_payloads_from_each_release(rt: HostRuntime) -> Result<(), Fail> {
-    lists(&rt, rt.alloc(), FROM, false)
+    lists(&rt, rt.alloc(), FROM, false)?;
+    Ok(())
 }
 
 const INTO: &str =
@@ -111,7 +125,8 @@ stable target no|set_withdrawn demo 4.0 on| 0>1f1200 0>1d300 1>2f1500 1>2d200";
 
 #[test]
 fn lists_the_payloads_into_each_release(rt: HostRuntime) -> Result<(), Fail> {
-    lists(&rt, rt.alloc(), INTO, true)
+    lists(&rt, rt.alloc(), INTO, true)?;
+    Ok(())
 }
 
 fn same_from(
@@ -136,6 +151,19 @@ fn same_into(
     Ok(found.as_str() == want.as_str())
 }
 
+fn same_edges(
+    alloc: Global,
+    graph: &Graph,
+    edges: &[Edge],
+    count: usize,
+) -> Result<bool, AllocError> {
+    if same_from(alloc, graph, edges, count)? {
+        same_into(alloc, graph, edges, count)
+    } else {
+        Ok(false)
+    }
+}
+
 fn is_as_ruled(
     alloc: Global,
     catalogue: &Catalogue,
@@ -145,10 +173,18 @@ fn is_as_ruled(
 ) -> Result<bool, AllocError> {
     let count = app.releases.as_slice().len();
     let edges = permitted(alloc, catalogue, app, key)?;
-    Ok(
-        same_from(alloc, graph, edges.as_slice(), count)?
-            && same_into(alloc, graph, edges.as_slice(), count)?,
-    )
+    same_edges(alloc, graph, edges.as_slice(), count)
+}
+
+fn resolved(
+    alloc: Global,
+    catalogue: &Catalogue,
+    key: &TrackKey,
+) -> Result<Option<Graph>, AllocError>
+    requires { key.now.app < length catalogue.now }
+{
+    let differentials = Differentials::of_app(alloc, catalogue, key.app)?;
+    Graph::with_differentials(alloc, catalogue, key, &differentials)
 }
 
 // Whether a track's graph has what the rule permits, its differentials resolved before; only the held
@@ -157,14 +193,13 @@ fn agrees_in(alloc: Global, catalogue: &Catalogue, key: &TrackKey) -> Result<boo
     let Some(app) = catalogue.apps().get(key.app) else {
         return Ok(false);
     };
-    let differentials = Differentials::of_app(alloc, catalogue, key.app)?;
-    match Graph::with_differentials(alloc, catalogue, key, &differentials)? {
+    match resolved(alloc, catalogue, key)? {
         Some(graph) => is_as_ruled(alloc, catalogue, app, key, &graph),
         None => Ok(key.cohort == 1 && key.lane == Lane::Held),
     }
 }
 
-fn agrees(alloc: Global, more: &str, key: &str) -> Result<bool, Fail> {
+fn agrees(alloc: Global, more: &str, key: &str) -> Result<bool, ApplyError> {
     let catalogue = catalogue_of(alloc, DEMO, more)?;
     Ok(agrees_in(alloc, &catalogue, &key_of(key))?)
 }
@@ -180,18 +215,23 @@ set_audience demo 1.0 _
 set_target demo beta 1.0 -;set_rollback demo beta off
 set_target demo stable 2.0 1.0;set_rollback demo stable on";
 
+const KEYS: &str = "stable target no
+stable held yes
+beta target yes
+beta held yes";
+
+fn check_keys(rt: &impl Abort, alloc: Global, more: &str) -> Result<(), ApplyError> {
+    for key in KEYS.lines() {
+        let same = agrees(alloc, more, key)?;
+        assert!(rt; same, "{more} {key}");
+    }
+    Ok(())
+}
+
 #[test]
 fn agrees_with_the_rule(rt: HostRuntime) -> Result<(), Fail> {
     for more in CHANGES.lines() {
-        for key in [
-            "stable target no",
-            "stable held yes",
-            "beta target yes",
-            "beta held yes",
-        ] {
-            let same = agrees(rt.alloc(), more, key)?;
-            assert!(rt; same, "{more} {key}");
-        }
+        check_keys(&rt, rt.alloc(), more)?;
     }
     Ok(())
 }

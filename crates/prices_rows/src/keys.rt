@@ -2,11 +2,13 @@
 
 use crate::certificates::{BETA, HELD};
 use crate::demo::catalogue_of_demo;
+use crate::rows::{check, three_parts};
 use crate::wrong_lines::with_line;
 use cohorts::Lane;
 use payload_graph::TrackKey;
 use price_certificates::{Fault, read_key};
 use std::alloc::{AllocError, Global};
+use std::process::Abort;
 use std::test::Fail;
 
 fn shown(alloc: Global, key: &Result<TrackKey, Fault>) -> Result<String, AllocError> {
@@ -35,15 +37,17 @@ fn key_with(alloc: Global, n: &str, line: &str) -> Result<String, Fail> {
     key_in(alloc, changed.as_str().as_bytes())
 }
 
+fn check_key(rt: &impl Abort, alloc: Global, bytes: &[u8], want: &str) -> Result<(), Fail> {
+    let key = key_in(alloc, bytes)?;
+    check(rt, key.as_str(), want, want);
+    Ok(())
+}
+
 #[test]
 fn names_the_track(rt: HostRuntime) -> Result<(), Fail> {
-    let held = key_in(rt.alloc(), HELD.as_bytes())?;
-    assert_eq!(rt; held.as_str(), "0 0 held no");
-    let beta = key_in(rt.alloc(), BETA.as_bytes())?;
-    assert_eq!(rt; beta.as_str(), "0 1 target yes");
-    let cut = key_in(rt.alloc(), b"prices 1\napp demo\n")?;
-    assert_eq!(rt; cut.as_str(), "P1 3");
-    Ok(())
+    check_key(&rt, rt.alloc(), HELD.as_bytes(), "0 0 held no")?;
+    check_key(&rt, rt.alloc(), BETA.as_bytes(), "0 1 target yes")?;
+    check_key(&rt, rt.alloc(), b"prices 1\napp demo\n", "P1 3")
 }
 
 // Each row: the number of a line, what it is instead, and the key.
@@ -61,13 +65,17 @@ const LINES: &str = "1|prices 1|0 0 target no
 5|rollback true|P1 5
 6|no heading|0 0 target no";
 
+fn check_row(rt: &impl Abort, alloc: Global, row: &str) -> Result<(), Fail> {
+    let (n, line, want) = three_parts(row);
+    let key = key_with(alloc, n, line)?;
+    check(rt, key.as_str(), want, row);
+    Ok(())
+}
+
 #[test]
 fn looks_at_five_lines(rt: HostRuntime) -> Result<(), Fail> {
     for row in LINES.lines() {
-        let (n, others) = row.split_once('|').ok_or("no bar")?;
-        let (line, want) = others.split_once('|').ok_or("no second bar")?;
-        let key = key_with(rt.alloc(), n, line)?;
-        assert_eq!(rt; key.as_str(), want, "{row}");
+        check_row(&rt, rt.alloc(), row)?;
     }
     Ok(())
 }

@@ -27,6 +27,8 @@ mod places;
 #[cfg(test)]
 mod random;
 #[cfg(test)]
+mod rows;
+#[cfg(test)]
 mod rule;
 #[cfg(test)]
 mod slow;

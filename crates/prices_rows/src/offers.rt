@@ -6,8 +6,9 @@ ghost use Rattle.payload_graph.specs.Places.{IsWithin};
 
 use crate::graphs::{DEMO, key_of};
 use crate::lines::catalogue_of;
-use crate::tables::{push_table, stone_lines};
-use catalogue::Catalogue;
+use crate::rows::{check, three_parts};
+use crate::tables::{stone_lines, table_words};
+use catalogue::{ApplyError, Catalogue};
 use par_tables::tables;
 use payload_graph::{Graph, Payload, Place, TrackKey};
 use quotes::{Quote, quote_from};
@@ -67,7 +68,7 @@ fn quoted(
     word_of(alloc, quote_from(catalogue, key, &place, &table))
 }
 
-fn quoted_after(alloc: Global, key: &str, place: &str) -> Result<String, Fail> {
+fn quoted_after(alloc: Global, key: &str, place: &str) -> Result<String, ApplyError> {
     let catalogue = catalogue_of(alloc, DEMO, "")?;
     Ok(quoted(alloc, &catalogue, &key_of(key), place)?)
 }
@@ -92,44 +93,56 @@ stable target no|outside 4.0|no chain
 beta target yes|outside 3.5|f1 1400
 beta target no|outside 3.5|no chain";
 
+fn check_offer(rt: &impl Abort, alloc: Global, row: &str) -> Result<(), ApplyError> {
+    let (key, release, want) = three_parts(row);
+    let found = quoted_after(alloc, key, release)?;
+    check(rt, found.as_str(), want, row);
+    Ok(())
+}
+
 #[test]
 fn offers_the_first_payload_of_a_least_chain(rt: HostRuntime) -> Result<(), Fail> {
     for row in OFFERS.lines() {
-        let (key, others) = row.split_once('|').ok_or("no bar")?;
-        let (release, want) = others.split_once('|').ok_or("no second bar")?;
-        let found = quoted_after(rt.alloc(), key, release)?;
-        assert_eq!(rt; found.as_str(), want, "{row}");
+        check_offer(&rt, rt.alloc(), row)?;
     }
     Ok(())
 }
 
-fn stone_offer(alloc: Global, place: &str) -> Result<String, Fail> {
+fn stone_offer(alloc: Global, place: &str) -> Result<String, ApplyError> {
     let lines = stone_lines(alloc)?;
     let catalogue = catalogue_of(alloc, lines.as_str(), "")?;
     Ok(quoted(alloc, &catalogue, &key_of("stable target no"), place)?)
+}
+
+fn check_stone_offer(
+    rt: &impl Abort,
+    alloc: Global,
+    place: &str,
+    want: &str,
+) -> Result<(), ApplyError> {
+    let found = stone_offer(alloc, place)?;
+    check(rt, found.as_str(), want, place);
+    Ok(())
 }
 
 // 512 releases, each a stone, and each package of 2^40 bytes: the full package of the lowest, and 511
 // differentials.
 #[test]
 fn sums_the_largest_packages_from_outside(rt: HostRuntime) -> Result<(), Fail> {
-    let outside = stone_offer(rt.alloc(), "outside 0")?;
-    assert_eq!(rt; outside.as_str(), "f0 562949953421312");
-    let lowest = stone_offer(rt.alloc(), "0")?;
-    assert_eq!(rt; lowest.as_str(), "d0 561850441793536");
+    check_stone_offer(&rt, rt.alloc(), "outside 0", "f0 562949953421312")?;
+    check_stone_offer(&rt, rt.alloc(), "0", "d0 561850441793536")?;
     Ok(())
 }
 
 fn found_words(alloc: Global, catalogue: &Catalogue, key: &TrackKey) -> Result<String, AllocError> {
-    let mut words = String::new(alloc);
-    match tables(alloc, catalogue)?.find(key) {
-        Some(table) => push_table(alloc, &mut words, table)?,
-        None => words.push_str(" no table")?,
+    let tables = tables(alloc, catalogue)?;
+    match tables.find(key) {
+        Some(table) => table_words(alloc, table),
+        None => String::from_str(alloc, " no table"),
     }
-    Ok(words)
 }
 
-fn found_after(alloc: Global, more: &str, key: &str) -> Result<String, Fail> {
+fn found_after(alloc: Global, more: &str, key: &str) -> Result<String, ApplyError> {
     let catalogue = catalogue_of(alloc, DEMO, more)?;
     Ok(found_words(alloc, &catalogue, &key_of(key))?)
 }
@@ -144,13 +157,17 @@ gone target no|| no table
 beta held yes|set_target demo beta - 3.0| 500d1 200d2 end 1400f1
 stable target yes|set_rollback demo stable on| 750d1 450d2 250d3 end";
 
+fn check_table(rt: &impl Abort, alloc: Global, row: &str) -> Result<(), ApplyError> {
+    let (key, more, want) = three_parts(row);
+    let found = found_after(alloc, more, key)?;
+    check(rt, found.as_str(), want, row);
+    Ok(())
+}
+
 #[test]
 fn finds_the_table_of_a_key(rt: HostRuntime) -> Result<(), Fail> {
     for row in TABLES.lines() {
-        let (key, others) = row.split_once('|').ok_or("no bar")?;
-        let (more, want) = others.split_once('|').ok_or("no second bar")?;
-        let found = found_after(rt.alloc(), more, key)?;
-        assert_eq!(rt; found.as_str(), want, "{row}");
+        check_table(&rt, rt.alloc(), row)?;
     }
     Ok(())
 }

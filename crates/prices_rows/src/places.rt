@@ -1,10 +1,12 @@
 // Places of clients, and what is permitted from outside of all releases.
 
 use crate::lines::catalogue_of;
+use crate::rows::{check, three_parts};
 use catalogue::Catalogue;
 use cohorts::Lane;
 use payload_graph::{Payload, Place, TrackKey, permits, place_of};
 use std::alloc::{AllocError, Global};
+use std::process::Abort;
 use std::test::Fail;
 
 const DEMO: &str = "add_app demo stable
@@ -77,14 +79,22 @@ const ROWS: &str = "1.2222222222222222222222222222222222222222222222222222222222
 |9 no|outside ---
 |9 yes|outside fff";
 
+fn check_row(rt: &impl Abort, alloc: Global, catalogue: &Catalogue, row: &str) -> Result<(), Fail> {
+    let (fp, client, want) = three_parts(row);
+    let found = permitted_to(alloc, catalogue, fp, client)?;
+    check(rt, found.as_str(), want, row);
+    Ok(())
+}
+
+fn check_rows(rt: &impl Abort, alloc: Global, catalogue: &Catalogue) -> Result<(), Fail> {
+    for row in ROWS.lines() {
+        check_row(rt, alloc, catalogue, row)?;
+    }
+    Ok(())
+}
+
 #[test]
 fn permits_by_the_place(rt: HostRuntime) -> Result<(), Fail> {
     let catalogue = catalogue_of(rt.alloc(), DEMO, "")?;
-    for row in ROWS.lines() {
-        let (fp, others) = row.split_once('|').ok_or("no bar")?;
-        let (client, want) = others.split_once('|').ok_or("no second bar")?;
-        let found = permitted_to(rt.alloc(), &catalogue, fp, client)?;
-        assert_eq!(rt; found.as_str(), want, "{row}");
-    }
-    Ok(())
+    check_rows(&rt, rt.alloc(), &catalogue)
 }

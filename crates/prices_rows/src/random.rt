@@ -22,21 +22,15 @@ impl Numbers {
     }
 }
 
-fn push_release(
-    alloc: Global,
-    lines: &mut String,
-    numbers: &mut Numbers,
-    release: u64,
-) -> Result<(), AllocError> {
+fn push_release(lines: &mut String, numbers: &mut Numbers, release: u64) -> Result<(), AllocError> {
     let size = numbers.size();
-    let line = format!(in alloc;
-        "add_release demo {release}.0 demo-{release}.bin {size} {release:064}\n"
-    )?;
-    lines.push_str(line.as_str())
+    writeln!(
+        lines,
+        "add_release demo {release}.0 demo-{release}.bin {size} {release:064}"
+    )
 }
 
 fn push_flag(
-    alloc: Global,
     lines: &mut String,
     numbers: &mut Numbers,
     verb: &str,
@@ -45,12 +39,10 @@ fn push_flag(
     if numbers.next() % 4 > 0 {
         return Ok(());
     }
-    let line = format!(in alloc; "{verb} demo {release}.0 on\n")?;
-    lines.push_str(line.as_str())
+    writeln!(lines, "{verb} demo {release}.0 on")
 }
 
 fn push_diff(
-    alloc: Global,
     lines: &mut String,
     numbers: &mut Numbers,
     from: u64,
@@ -60,49 +52,45 @@ fn push_diff(
         return Ok(());
     }
     let size = numbers.size();
-    let line = format!(in alloc;
-        "add_diff demo {from}.0 {to}.0 demo-{from}-{to}.bin {size} {from:032}{to:032}\n"
-    )?;
-    lines.push_str(line.as_str())
+    writeln!(
+        lines,
+        "add_diff demo {from}.0 {to}.0 demo-{from}-{to}.bin {size} {from:032}{to:032}"
+    )
 }
 
-fn push_releases(
-    alloc: Global,
-    lines: &mut String,
-    numbers: &mut Numbers,
-) -> Result<(), AllocError> {
+fn push_releases(lines: &mut String, numbers: &mut Numbers) -> Result<(), AllocError> {
     for release in 1..7u64 {
-        push_release(alloc, lines, numbers, release)?;
-        push_flag(alloc, lines, numbers, "set_stone", release)?;
-        push_flag(alloc, lines, numbers, "set_withdrawn", release)?;
+        push_release(lines, numbers, release)?;
+        push_flag(lines, numbers, "set_stone", release)?;
+        push_flag(lines, numbers, "set_withdrawn", release)?;
     }
     Ok(())
 }
 
-fn push_diffs(
-    alloc: Global,
-    lines: &mut String,
-    numbers: &mut Numbers,
-    from: u64,
-) -> Result<(), AllocError> {
+fn push_diffs(lines: &mut String, numbers: &mut Numbers, from: u64) -> Result<(), AllocError> {
     for to in 1..7u64 {
-        push_diff(alloc, lines, numbers, from, to)?;
+        push_diff(lines, numbers, from, to)?;
     }
     Ok(())
+}
+
+fn push_lines(lines: &mut String, numbers: &mut Numbers) -> Result<(), AllocError> {
+    lines.push_str("add_app demo stable\n")?;
+    push_releases(lines, numbers)?;
+    for from in 1..7u64 {
+        push_diffs(lines, numbers, from)?;
+    }
+    let target = numbers.next() % 6 + 1;
+    write!(
+        lines,
+        "set_target demo stable {target}.0 -\nset_rollback demo stable on"
+    )
 }
 
 /// The lines of a catalogue's edits.
 pub(crate) fn lines_of(alloc: Global, seed: u64) -> Result<String, AllocError> {
     let mut numbers = Numbers { state: seed };
-    let mut lines = String::from_str(alloc, "add_app demo stable\n")?;
-    push_releases(alloc, &mut lines, &mut numbers)?;
-    for from in 1..7u64 {
-        push_diffs(alloc, &mut lines, &mut numbers, from)?;
-    }
-    let target = numbers.next() % 6 + 1;
-    let end = format!(in alloc;
-        "set_target demo stable {target}.0 -\nset_rollback demo stable on"
-    )?;
-    lines.push_str(end.as_str())?;
+    let mut lines = String::new(alloc);
+    push_lines(&mut lines, &mut numbers)?;
     Ok(lines)
 }

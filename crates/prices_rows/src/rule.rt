@@ -63,29 +63,19 @@ pub(crate) fn permitted(
     Ok(edges)
 }
 
-fn push_leaving(
-    alloc: Global,
-    words: &mut String,
-    edges: &[Edge],
-    from: usize,
-) -> Result<(), AllocError> {
+fn push_leaving(words: &mut String, edges: &[Edge], from: usize) -> Result<(), AllocError> {
     for edge in edges {
         if edge.from == from {
-            push_word(alloc, words, edge)?;
+            push_word(words, edge)?;
         }
     }
     Ok(())
 }
 
-fn push_entering(
-    alloc: Global,
-    words: &mut String,
-    edges: &[Edge],
-    to: usize,
-) -> Result<(), AllocError> {
+fn push_entering(words: &mut String, edges: &[Edge], to: usize) -> Result<(), AllocError> {
     for edge in edges {
         if edge.to == to {
-            push_word(alloc, words, edge)?;
+            push_word(words, edge)?;
         }
     }
     Ok(())
@@ -99,7 +89,7 @@ pub(crate) fn words_from(
 ) -> Result<String, AllocError> {
     let mut words = String::new(alloc);
     for from in 0..count {
-        push_leaving(alloc, &mut words, edges, from)?;
+        push_leaving(&mut words, edges, from)?;
     }
     Ok(words)
 }
@@ -112,7 +102,7 @@ pub(crate) fn words_into(
 ) -> Result<String, AllocError> {
     let mut words = String::new(alloc);
     for to in 0..count {
-        push_entering(alloc, &mut words, edges, to)?;
+        push_entering(&mut words, edges, to)?;
     }
     Ok(words)
 }

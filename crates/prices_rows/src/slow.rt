@@ -92,6 +92,13 @@ fn least_chain(
     Ok(best)
 }
 
+fn push_chain(words: &mut String, chain: Option<Chain>) -> Result<(), AllocError> {
+    match chain {
+        Some(chain) => push_price(words, chain.sum, chain.first.kind, chain.first.to),
+        None => words.push_str(" none"),
+    }
+}
+
 fn push_release(
     alloc: Global,
     words: &mut String,
@@ -103,15 +110,26 @@ fn push_release(
     if from == target {
         return words.push_str(" end");
     }
-    match least_chain(alloc, edges, count, from, target)? {
-        Some(chain) => push_price(alloc, words, chain.sum, chain.first.kind, chain.first.to),
-        None => words.push_str(" none"),
-    }
+    let chain = least_chain(alloc, edges, count, from, target)?;
+    push_chain(words, chain)
 }
 
 fn target_of(app: &App, key: &TrackKey) -> Option<usize> {
     let cohort = app.cohorts.as_slice().get(key.cohort)?;
     app.find_release(&target_in(cohort, key.lane)?)
+}
+
+fn words_of(
+    alloc: Global,
+    edges: &[Edge],
+    count: usize,
+    target: usize,
+) -> Result<String, AllocError> {
+    let mut words = String::new(alloc);
+    for from in 0..count {
+        push_release(alloc, &mut words, edges, count, from, target)?;
+    }
+    Ok(words)
 }
 
 /// The rows of a track's table, each after a space.
@@ -126,9 +144,5 @@ pub(crate) fn slow_words(
     };
     let count = app.releases.as_slice().len();
     let edges = permitted(alloc, catalogue, app, key)?;
-    let mut words = String::new(alloc);
-    for from in 0..count {
-        push_release(alloc, &mut words, edges.as_slice(), count, from, target)?;
-    }
-    Ok(words)
+    words_of(alloc, edges.as_slice(), count, target)
 }

@@ -3,8 +3,9 @@
 use crate::graphs::{DEMO, key_of};
 use crate::lines::catalogue_of;
 use crate::random::lines_of;
+use crate::rows::{check, three_parts, two_parts};
 use crate::slow::slow_words;
-use catalogue::Catalogue;
+use catalogue::{ApplyError, Catalogue};
 use par_tables::tables;
 use payload_graph::{Graph, Kind, TrackKey};
 use price_cert::{Certified, Row};
@@ -15,7 +16,6 @@ use std::test::Fail;
 
 /// Puts a priced row's word at the end.
 pub(crate) fn push_price(
-    alloc: Global,
     words: &mut String,
     price: u64,
     kind: Kind,
@@ -25,35 +25,34 @@ pub(crate) fn push_price(
         Kind::Full => "f",
         Kind::Differ => "d",
     };
-    let word = format!(in alloc; " {price}{letter}{to}")?;
-    words.push_str(word.as_str())
+    write!(words, " {price}{letter}{to}")
 }
 
-fn push_row(alloc: Global, words: &mut String, row: &Row) -> Result<(), AllocError> {
+fn push_row(words: &mut String, row: &Row) -> Result<(), AllocError> {
     match row {
         Row::Nothing => words.push_str(" none"),
         Row::End => words.push_str(" end"),
-        Row::Price { price, kind, to } => push_price(alloc, words, *price, *kind, *to),
+        Row::Price { price, kind, to } => push_price(words, *price, *kind, *to),
     }
 }
 
-/// Puts a table's words at the end.
-pub(crate) fn push_table(
-    alloc: Global,
-    words: &mut String,
-    table: &Certified,
-) -> Result<(), AllocError> {
+fn push_table(words: &mut String, table: &Certified) -> Result<(), AllocError> {
     for row in table.rows() {
-        push_row(alloc, words, row)?;
+        push_row(words, row)?;
     }
     Ok(())
 }
 
-fn solved_words(alloc: Global, graph: &Graph) -> Result<String, AllocError> {
+/// A table's words.
+pub(crate) fn table_words(alloc: Global, table: &Certified) -> Result<String, AllocError> {
     let mut words = String::new(alloc);
-    let table = solve(alloc, graph)?;
-    push_table(alloc, &mut words, &table)?;
+    push_table(&mut words, table)?;
     Ok(words)
+}
+
+fn solved_words(alloc: Global, graph: &Graph) -> Result<String, AllocError> {
+    let table = solve(alloc, graph)?;
+    table_words(alloc, &table)
 }
 
 fn words_of(alloc: Global, catalogue: &Catalogue, key: &TrackKey) -> Result<String, AllocError> {
@@ -63,7 +62,7 @@ fn words_of(alloc: Global, catalogue: &Catalogue, key: &TrackKey) -> Result<Stri
     }
 }
 
-fn words_after(alloc: Global, more: &str, key: &str) -> Result<String, Fail> {
+fn words_after(alloc: Global, more: &str, key: &str) -> Result<String, ApplyError> {
     let catalogue = catalogue_of(alloc, DEMO, more)?;
     Ok(words_of(alloc, &catalogue, &key_of(key))?)
 }
@@ -85,13 +84,17 @@ beta target yes|set_target demo beta 1.0 -| end 1000f0 1000f0 1000f0
 beta target yes|set_withdrawn demo 1.0 on;set_target demo beta 1.0 -| end none none none
 stable target no|set_target demo stable 2.0 -;add_release demo 5.0 demo-5.0.bin 7 5555555555555555555555555555555555555555555555555555555555555555| 300d1 end none none none";
 
+fn check_table(rt: &impl Abort, alloc: Global, row: &str) -> Result<(), ApplyError> {
+    let (key, more, want) = three_parts(row);
+    let found = words_after(alloc, more, key)?;
+    check(rt, found.as_str(), want, row);
+    Ok(())
+}
+
 #[test]
 fn solves_the_tables_of_tracks(rt: HostRuntime) -> Result<(), Fail> {
     for row in ROWS.lines() {
-        let (key, others) = row.split_once('|').ok_or("no bar")?;
-        let (more, want) = others.split_once('|').ok_or("no second bar")?;
-        let found = words_after(rt.alloc(), more, key)?;
-        assert_eq!(rt; found.as_str(), want, "{row}");
+        check_table(&rt, rt.alloc(), row)?;
     }
     Ok(())
 }
@@ -105,81 +108,103 @@ add_diff demo 2.0 3.0 demo-2.0-3.0.bin 200 2323232323232323232323232323232323232
 add_diff demo 3.0 4.0 demo-3.0-4.0.bin 250 3434343434343434343434343434343434343434343434343434343434343434
 set_target demo stable 4.0 -";
 
-fn tie_words(alloc: Global, more: &str) -> Result<String, Fail> {
+fn tie_words(alloc: Global, more: &str) -> Result<String, ApplyError> {
     let catalogue = catalogue_of(alloc, TIE, more)?;
     Ok(words_of(alloc, &catalogue, &key_of("stable target no"))?)
+}
+
+fn check_tie(rt: &impl Abort, alloc: Global, more: &str, want: &str) -> Result<(), ApplyError> {
+    let found = tie_words(alloc, more)?;
+    check(rt, found.as_str(), want, want);
+    Ok(())
 }
 
 #[test]
 fn of_equal_sums_the_highest_release_and_then_the_differential_comes_first(
     rt: HostRuntime,
 ) -> Result<(), Fail> {
-    let level = tie_words(rt.alloc(), "")?;
-    assert_eq!(rt; level.as_str(), " 450d1 250d2 end");
-    let higher = tie_words(
+    check_tie(&rt, rt.alloc(), "", " 450d1 250d2 end")?;
+    check_tie(
+        &rt,
         rt.alloc(),
         "add_diff demo 2.0 4.0 demo-2.0-4.0.bin 450 2424242424242424242424242424242424242424242424242424242424242424",
+        " 450d2 250d2 end",
     )?;
-    assert_eq!(rt; higher.as_str(), " 450d2 250d2 end");
     Ok(())
 }
 
-fn push_line(alloc: Global, lines: &mut String, release: u64) -> Result<(), AllocError> {
-    let line = format!(in alloc;
-        "add_release demo {release} demo-{release}.bin 1099511627776 {release:064}\nset_stone demo {release} on\n"
+fn push_line(lines: &mut String, release: u64) -> Result<(), AllocError> {
+    writeln!(
+        lines,
+        "add_release demo {release} demo-{release}.bin 1099511627776 {release:064}"
     )?;
-    lines.push_str(line.as_str())
+    writeln!(lines, "set_stone demo {release} on")
 }
 
-fn push_step(alloc: Global, lines: &mut String, from: u64, to: u64) -> Result<(), AllocError> {
-    let line = format!(in alloc;
-        "add_diff demo {from} {to} demo-{from}-{to}.bin 1099511627776 {from:032}{to:032}\n"
-    )?;
-    lines.push_str(line.as_str())
+fn push_step(lines: &mut String, from: u64, to: u64) -> Result<(), AllocError> {
+    writeln!(
+        lines,
+        "add_diff demo {from} {to} demo-{from}-{to}.bin 1099511627776 {from:032}{to:032}"
+    )
+}
+
+fn push_stone_lines(lines: &mut String) -> Result<(), AllocError> {
+    lines.push_str("add_app demo stable\n")?;
+    for release in 1..513u64 {
+        push_line(lines, release)?;
+    }
+    for from in 1..512u64 {
+        push_step(lines, from, from.saturating_add(1))?;
+    }
+    lines.push_str("set_target demo stable 512 -")
 }
 
 /// The lines of 512 releases, each a stone, whose packages have 2^40 bytes.
 pub(crate) fn stone_lines(alloc: Global) -> Result<String, AllocError> {
-    let mut lines = String::from_str(alloc, "add_app demo stable\n")?;
-    for release in 1..513u64 {
-        push_line(alloc, &mut lines, release)?;
-    }
-    for from in 1..512u64 {
-        push_step(alloc, &mut lines, from, from.saturating_add(1))?;
-    }
-    lines.push_str("set_target demo stable 512 -")?;
+    let mut lines = String::new(alloc);
+    push_stone_lines(&mut lines)?;
     Ok(lines)
 }
 
-fn stone_words(alloc: Global) -> Result<String, Fail> {
+fn stone_words(alloc: Global) -> Result<String, ApplyError> {
     let lines = stone_lines(alloc)?;
     let catalogue = catalogue_of(alloc, lines.as_str(), "")?;
     Ok(words_of(alloc, &catalogue, &key_of("stable target no"))?)
+}
+
+fn check_ends(rt: &impl Abort, words: &str, start: &str, end: &str) {
+    assert!(rt; words.starts_with(start));
+    assert!(rt; words.ends_with(end));
 }
 
 // 512 releases, each a stone, and each package of 2^40 bytes: 511 differentials from the lowest.
 #[test]
 fn sums_the_largest_packages_of_the_most_releases(rt: HostRuntime) -> Result<(), Fail> {
     let words = stone_words(rt.alloc())?;
-    let start = words
-        .as_str()
-        .starts_with(" 561850441793536d1 560750930165760d2 ");
-    assert!(rt; start);
-    let end = words.as_str().ends_with(" 1099511627776d511 end");
-    assert!(rt; end);
+    check_ends(
+        &rt,
+        words.as_str(),
+        " 561850441793536d1 560750930165760d2 ",
+        " 1099511627776d511 end",
+    );
     Ok(())
 }
 
-fn all_words(alloc: Global, catalogue: &Catalogue) -> Result<String, AllocError> {
+fn listed(alloc: Global, tables: &[Certified]) -> Result<String, AllocError> {
     let mut words = String::new(alloc);
-    for table in tables(alloc, catalogue)?.as_slice() {
+    for table in tables {
         words.push_str(";")?;
-        push_table(alloc, &mut words, table)?;
+        push_table(&mut words, table)?;
     }
     Ok(words)
 }
 
-fn all_words_after(alloc: Global, more: &str) -> Result<String, Fail> {
+fn all_words(alloc: Global, catalogue: &Catalogue) -> Result<String, AllocError> {
+    let tables = tables(alloc, catalogue)?;
+    listed(alloc, tables.as_slice())
+}
+
+fn all_words_after(alloc: Global, more: &str) -> Result<String, ApplyError> {
     let catalogue = catalogue_of(alloc, DEMO, more)?;
     Ok(all_words(alloc, &catalogue)?)
 }
@@ -190,12 +215,17 @@ set_target demo beta - 3.0|; 750d1 450d2 250d3 end; 500d1 200d2 end none; 500d1 
 set_target demo stable - -;set_rollback demo beta off|; 500d1 200d2 end none
 set_target demo stable - -;add_app other main;add_release other 1.0 other-1.0.bin 5 6666666666666666666666666666666666666666666666666666666666666666;set_target other main 1.0 1.0|; 500d1 200d2 end none; 500d1 200d2 end 1400f1; end; end";
 
+fn check_list(rt: &impl Abort, alloc: Global, row: &str) -> Result<(), ApplyError> {
+    let (more, want) = two_parts(row);
+    let found = all_words_after(alloc, more)?;
+    check(rt, found.as_str(), want, row);
+    Ok(())
+}
+
 #[test]
 fn lists_the_tables_in_the_order_of_tracks(rt: HostRuntime) -> Result<(), Fail> {
     for row in LISTS.lines() {
-        let (more, want) = row.split_once('|').ok_or("no bar")?;
-        let found = all_words_after(rt.alloc(), more)?;
-        assert_eq!(rt; found.as_str(), want, "{row}");
+        check_list(&rt, rt.alloc(), row)?;
     }
     Ok(())
 }
@@ -209,7 +239,7 @@ fn same_as_slow(alloc: Global, catalogue: &Catalogue, key: &TrackKey) -> Result<
     Ok(found.as_str() == want.as_str())
 }
 
-fn agrees(alloc: Global, seed: u64) -> Result<bool, Fail> {
+fn agrees(alloc: Global, seed: u64) -> Result<bool, ApplyError> {
     let lines = lines_of(alloc, seed)?;
     let catalogue = catalogue_of(alloc, lines.as_str(), "")?;
     Ok(same_as_slow(alloc, &catalogue, &key_of("stable target yes"))?)

@@ -7,34 +7,28 @@ use payload_graph::{Edge, Graph, Kind};
 use std::alloc::{AllocError, Global};
 
 /// Puts a payload's word at the end.
-pub(crate) fn push_word(alloc: Global, words: &mut String, edge: &Edge) -> Result<(), AllocError> {
+pub(crate) fn push_word(words: &mut String, edge: &Edge) -> Result<(), AllocError> {
     let letter = match edge.kind {
         Kind::Full => "f",
         Kind::Differ => "d",
     };
-    let word = format!(in alloc; " {}>{}{letter}{}", edge.from, edge.to, edge.bytes)?;
-    words.push_str(word.as_str())
+    write!(words, " {}>{}{letter}{}", edge.from, edge.to, edge.bytes)
 }
 
-fn push_from(
-    alloc: Global,
-    words: &mut String,
-    graph: &Graph,
-    from: usize,
-) -> Result<(), AllocError>
+fn push_from(words: &mut String, graph: &Graph, from: usize) -> Result<(), AllocError>
     requires { from < length graph.now.doors }
 {
     for edge in graph.edges_from(from) {
-        push_word(alloc, words, &edge)?;
+        push_word(words, &edge)?;
     }
     Ok(())
 }
 
-fn push_into(alloc: Global, words: &mut String, graph: &Graph, to: usize) -> Result<(), AllocError>
+fn push_into(words: &mut String, graph: &Graph, to: usize) -> Result<(), AllocError>
     requires { to < length graph.now.doors }
 {
     for edge in graph.edges_into(to) {
-        push_word(alloc, words, &edge)?;
+        push_word(words, &edge)?;
     }
     Ok(())
 }
@@ -43,7 +37,7 @@ fn push_into(alloc: Global, words: &mut String, graph: &Graph, to: usize) -> Res
 pub(crate) fn listed_from(alloc: Global, graph: &Graph) -> Result<String, AllocError> {
     let mut words = String::new(alloc);
     for from in 0..graph.doors().len() {
-        push_from(alloc, &mut words, graph, from)?;
+        push_from(&mut words, graph, from)?;
     }
     Ok(words)
 }
@@ -52,7 +46,7 @@ pub(crate) fn listed_from(alloc: Global, graph: &Graph) -> Result<String, AllocE
 pub(crate) fn listed_into(alloc: Global, graph: &Graph) -> Result<String, AllocError> {
     let mut words = String::new(alloc);
     for to in 0..graph.doors().len() {
-        push_into(alloc, &mut words, graph, to)?;
+        push_into(&mut words, graph, to)?;
     }
     Ok(words)
 }

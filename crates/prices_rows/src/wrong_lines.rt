@@ -2,8 +2,10 @@
 
 use crate::certificates::STABLE;
 use crate::outcomes::{outcome_of, outcome_with_a_tie};
+use crate::rows::{check, three_parts};
 use price_certificates::Fault;
 use std::alloc::{AllocError, Global};
+use std::process::Abort;
 use std::test::Fail;
 
 /// The certificate with another line at a number, counted from 1.
@@ -11,8 +13,7 @@ pub(crate) fn with_line(alloc: Global, n: usize, line: &str) -> Result<String, A
     let mut changed = String::new(alloc);
     for (index, old) in STABLE.lines().enumerate() {
         let next = if index + 1 == n { line } else { old };
-        changed.push_str(next)?;
-        changed.push_str("\n")?;
+        writeln!(&mut changed, "{next}")?;
     }
     Ok(changed)
 }
@@ -61,43 +62,75 @@ const LINES: &str = "8|1.0 0750 diff 2.0|P1 8
 7|rows 513|P1 7
 7|rows 04|P1 7";
 
+fn check_row(rt: &impl Abort, alloc: Global, row: &str) -> Result<(), Fail> {
+    let (n, line, want) = three_parts(row);
+    let outcome = outcome_with(alloc, n, line)?;
+    check(rt, outcome.as_str(), want, row);
+    Ok(())
+}
+
 #[test]
 fn names_the_wrong_line(rt: HostRuntime) -> Result<(), Fail> {
     for row in LINES.lines() {
-        let (n, others) = row.split_once('|').ok_or("no bar")?;
-        let (line, want) = others.split_once('|').ok_or("no second bar")?;
-        let outcome = outcome_with(rt.alloc(), n, line)?;
-        assert_eq!(rt; outcome.as_str(), want, "{row}");
+        check_row(&rt, rt.alloc(), row)?;
     }
+    Ok(())
+}
+
+fn check_tie(rt: &impl Abort, alloc: Global, bytes: &[u8], want: &str) -> Result<(), Fail> {
+    let outcome = outcome_with_a_tie(alloc, bytes)?;
+    check(rt, outcome.as_str(), want, want);
     Ok(())
 }
 
 // Of two ways of 450 bytes a line names the one that leads higher.
 #[test]
 fn breaks_a_tie_by_the_higher_release(rt: HostRuntime) -> Result<(), Fail> {
-    let lower = outcome_with_a_tie(rt.alloc(), STABLE.as_bytes())?;
-    assert_eq!(rt; lower.as_str(), "wrong 1 C4");
+    check_tie(&rt, rt.alloc(), STABLE.as_bytes(), "wrong 1 C4")?;
     let changed = with_line(rt.alloc(), 9, "2.0 450 diff 4.0")?;
-    let higher = outcome_with_a_tie(rt.alloc(), changed.as_str().as_bytes())?;
-    assert_eq!(rt; higher.as_str(), "certified");
+    check_tie(&rt, rt.alloc(), changed.as_str().as_bytes(), "certified")
+}
+
+fn check_print(rt: &impl Abort, alloc: Global, fault: Fault, want: &str) -> Result<(), Fail> {
+    let printed = format!(in alloc; "{fault}")?;
+    check(rt, printed.as_str(), want, want);
     Ok(())
 }
 
 #[test]
 fn prints_its_faults(rt: HostRuntime) -> Result<(), Fail> {
-    let malformed = format!(in rt.alloc(); "{}", Fault::BadLine { n: 8 })?;
-    assert_eq!(rt; malformed.as_str(), "P1 BadLine 8");
-    let other = format!(in rt.alloc(); "{}", Fault::NotOfThisGraph { n: 7 })?;
-    assert_eq!(rt; other.as_str(), "P2 NotOfThisGraph 7");
+    check_print(&rt, rt.alloc(), Fault::BadLine { n: 8 }, "P1 BadLine 8")?;
+    check_print(
+        &rt,
+        rt.alloc(),
+        Fault::NotOfThisGraph { n: 7 },
+        "P2 NotOfThisGraph 7",
+    )
+}
+
+fn push_part(bytes: &mut Vec<u8>, length: usize, more: &str) -> Result<(), AllocError> {
+    bytes.extend_from_slice(STABLE.as_bytes())?;
+    bytes.truncate(length);
+    bytes.extend_from_slice(more.as_bytes())?;
     Ok(())
 }
 
 fn outcome_of_part(alloc: Global, length: usize, more: &str) -> Result<String, Fail> {
     let mut bytes = Vec::new(alloc);
-    bytes.extend_from_slice(STABLE.as_bytes())?;
-    bytes.truncate(length);
-    bytes.extend_from_slice(more.as_bytes())?;
+    push_part(&mut bytes, length, more)?;
     outcome_of(alloc, "stable", &bytes)
+}
+
+fn check_part(
+    rt: &impl Abort,
+    alloc: Global,
+    length: usize,
+    more: &str,
+    want: &str,
+) -> Result<(), Fail> {
+    let outcome = outcome_of_part(alloc, length, more)?;
+    check(rt, outcome.as_str(), want, want);
+    Ok(())
 }
 
 // Each row: how many bytes there are of the certificate, what is after them, and what that is.
@@ -115,9 +148,8 @@ const PARTS: [(usize, &str, &str); 9] = [
 
 #[test]
 fn ends_at_its_last_line_feed(rt: HostRuntime) -> Result<(), Fail> {
-    for (length, more, want) in PARTS {
-        let outcome = outcome_of_part(rt.alloc(), length, more)?;
-        assert_eq!(rt; outcome.as_str(), want, "{length}");
+    for (length, more, want) in &PARTS {
+        check_part(&rt, rt.alloc(), *length, more, want)?;
     }
     Ok(())
 }
@@ -149,23 +181,28 @@ fn is_fault_at(outcome: &str, n: usize) -> bool {
     }
 }
 
-#[test]
-fn notices_each_changed_byte(rt: HostRuntime) -> Result<(), Fail> {
-    for index in 0..STABLE.len() {
-        let visible = outcome_with_byte(rt.alloc(), index, b'#')?;
-        assert!(rt; is_fault_at(visible.as_str(), line_of(index)), "{index}");
-        let invalid = outcome_with_byte(rt.alloc(), index, 0xff)?;
-        assert!(rt; is_fault_at(invalid.as_str(), line_of(index)), "{index}");
-    }
+fn check_byte(rt: &impl Abort, alloc: Global, index: usize, byte: u8) -> Result<(), Fail> {
+    let outcome = outcome_with_byte(alloc, index, byte)?;
+    assert!(rt; is_fault_at(outcome.as_str(), line_of(index)), "{index}");
     Ok(())
 }
 
 #[test]
-fn rejects_a_line_of_a_mebibyte(rt: HostRuntime) -> Result<(), Fail> {
-    let mut bytes = Vec::new(rt.alloc());
-    for _digit in 0..1048576 {
-        bytes.push(b'1')?;
+fn notices_each_changed_byte(rt: HostRuntime) -> Result<(), Fail> {
+    for index in 0..STABLE.len() {
+        check_byte(&rt, rt.alloc(), index, b'#')?;
+        check_byte(&rt, rt.alloc(), index, 0xff)?;
     }
+    Ok(())
+}
+
+fn mebibyte(alloc: Global) -> Result<Vec<u8>, AllocError> {
+    Ok(vec![in alloc; b'1'; 1048576]?)
+}
+
+#[test]
+fn rejects_a_line_of_a_mebibyte(rt: HostRuntime) -> Result<(), Fail> {
+    let bytes = mebibyte(rt.alloc())?;
     let outcome = outcome_of(rt.alloc(), "stable", &bytes)?;
     assert_eq!(rt; outcome.as_str(), "P1 1");
     Ok(())

@@ -1,6 +1,6 @@
 // The profiles of the examples, and as they are written.
 
-use crate::rewriting::is_written;
+use crate::rewriting::check_written;
 use std::test::Fail;
 
 const STAGED: &str =
@@ -282,8 +282,6 @@ name = "m0"
 
 #[test]
 fn writes_the_examples(rt: HostRuntime) -> Result<(), Fail> {
-    for (profile, text) in [(STAGED, STAGED_WRITTEN), (CHAINS, CHAINS_WRITTEN)] {
-        assert!(rt; is_written(rt.alloc(), profile, text)?, "{text}");
-    }
-    Ok(())
+    check_written(&rt, rt.alloc(), STAGED, STAGED_WRITTEN)?;
+    check_written(&rt, rt.alloc(), CHAINS, CHAINS_WRITTEN)
 }

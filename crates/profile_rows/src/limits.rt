@@ -1,4 +1,4 @@
-use crate::shown::{Form, first_wrong};
+use crate::shown::{Form, check_rows};
 use std::test::Fail;
 
 // A profile has no limits of its own; the catalogue's are reported with the index of the edit that
@@ -20,7 +20,6 @@ edit 1: C2 AppExists | [[app]]~id = 'A'~default = 's'"#;
 
 #[test]
 fn leaves_the_catalogues_limits_to_it(rt: HostRuntime) -> Result<(), Fail> {
-    let wrong = first_wrong(rt.alloc(), Form::Applied, LIMITS)?;
-    assert!(rt; wrong.is_empty(), "{wrong}");
+    check_rows(&rt, rt.alloc(), Form::Applied, LIMITS)?;
     Ok(())
 }

@@ -1,4 +1,6 @@
-use crate::shown::{Form, first_wrong, profile};
+use crate::shown::{Form, check, check_rows, profile};
+use std::alloc::{AllocError, Global};
+use std::process::Abort;
 use std::test::Fail;
 
 // F1 before F2, F2 before F3; the profile's own keys, unknown ones first and in byte order.
@@ -52,21 +54,27 @@ F3 BadEntry \"a\\tb'\" | \"a\tb'\" = 1";
 
 #[test]
 fn reports_the_first_fault_of_a_document(rt: HostRuntime) -> Result<(), Fail> {
-    let wrong = first_wrong(rt.alloc(), Form::Profile, DOCUMENTS)?;
-    assert!(rt; wrong.is_empty(), "{wrong}");
-    let wrong = first_wrong(rt.alloc(), Form::Profile, TABBED_KEYS)?;
-    assert!(rt; wrong.is_empty(), "{wrong}");
+    check_rows(&rt, rt.alloc(), Form::Profile, DOCUMENTS)?;
+    check_rows(&rt, rt.alloc(), Form::Profile, TABBED_KEYS)?;
+    Ok(())
+}
+
+fn check_bytes(rt: &impl Abort, alloc: Global, bytes: &[u8], want: &str) -> Result<(), AllocError> {
+    let got = profile(alloc, bytes)?;
+    check(rt, got.as_str(), want, want);
     Ok(())
 }
 
 #[test]
 fn reads_bytes_that_are_utf8(rt: HostRuntime) -> Result<(), Fail> {
-    let got = profile(rt.alloc(), b"schema = 1\n# \xff\n")?;
-    assert!(rt; got.as_str() == "F1 NotToml", "{got}");
-    let got = profile(rt.alloc(), b"\xef\xbb\xbfschema = 1\n")?;
-    assert!(rt; got.as_str() == "F3 BadEntry mirror", "{got}");
-    let got = profile(rt.alloc(), b"")?;
-    assert!(rt; got.as_str() == "F2 BadSchema", "{got}");
+    check_bytes(&rt, rt.alloc(), b"schema = 1\n# \xff\n", "F1 NotToml")?;
+    check_bytes(
+        &rt,
+        rt.alloc(),
+        b"\xef\xbb\xbfschema = 1\n",
+        "F3 BadEntry mirror",
+    )?;
+    check_bytes(&rt, rt.alloc(), b"", "F2 BadSchema")?;
     Ok(())
 }
 
@@ -131,8 +139,7 @@ F3 BadEntry app[0].id | {name='a',codebase='http://m/',budget=0}]~app = [{}]"#;
 
 #[test]
 fn reports_the_first_fault_of_a_mirror(rt: HostRuntime) -> Result<(), Fail> {
-    let wrong = first_wrong(rt.alloc(), Form::Profile, MIRRORS)?;
-    assert!(rt; wrong.is_empty(), "{wrong}");
+    check_rows(&rt, rt.alloc(), Form::Profile, MIRRORS)?;
     Ok(())
 }
 
@@ -221,8 +228,7 @@ F3 BadEntry app[0].release[0].cohorts | audience = 1~cohorts = ['b']"#;
 
 #[test]
 fn reports_the_first_fault_of_an_app(rt: HostRuntime) -> Result<(), Fail> {
-    let wrong = first_wrong(rt.alloc(), Form::Profile, APPS)?;
-    assert!(rt; wrong.is_empty(), "{wrong}");
+    check_rows(&rt, rt.alloc(), Form::Profile, APPS)?;
     Ok(())
 }
 
@@ -265,9 +271,7 @@ m0 http://m0.example/p/ 1000000; app demo stable; cohort demo beta; release demo
 
 #[test]
 fn gives_the_edits_of_a_profile(rt: HostRuntime) -> Result<(), Fail> {
-    let wrong = first_wrong(rt.alloc(), Form::Profile, EDITS)?;
-    assert!(rt; wrong.is_empty(), "{wrong}");
-    let wrong = first_wrong(rt.alloc(), Form::Profile, WORKED)?;
-    assert!(rt; wrong.is_empty(), "{wrong}");
+    check_rows(&rt, rt.alloc(), Form::Profile, EDITS)?;
+    check_rows(&rt, rt.alloc(), Form::Profile, WORKED)?;
     Ok(())
 }

@@ -1,24 +1,46 @@
 // A profile that is read, applied and written.
 
-use catalogue::Catalogue;
+ghost use Rattle.profile_toml.specs.Laws.{AreMirrors};
+
+use catalogue::{ApplyError, Batch, Catalogue, Mirror};
 use profile_toml::read_profile;
 use profile_writer::write_profile;
 use std::alloc::Global;
+use std::process::Abort;
 use std::test::Fail;
 
-/// Writes the catalogue and the mirrors of a profile.
-pub(crate) fn rewritten(alloc: Global, profile: &str) -> Result<Vec<u8>, Fail> {
-    profile_toml::laws::mirrors();
-    let (batch, mirrors) = read_profile(alloc, profile.as_bytes())?;
-    let mut catalogue = Catalogue::empty(alloc);
-    catalogue.apply(&batch)?;
-    let text = write_profile(alloc, &catalogue, mirrors.as_slice())?;
-    Ok(text)
+fn catalogue_of(alloc: Global, batch: &Batch) -> Result<Catalogue, ApplyError> {
+    Catalogue::empty(alloc).applied(batch)
 }
 
-/// Whether a profile is written as that document, and the document as itself.
-pub(crate) fn is_written(alloc: Global, profile: &str, text: &str) -> Result<bool, Fail> {
-    let first = rewritten(alloc, profile)?;
-    let second = rewritten(alloc, text)?;
-    Ok(first.as_slice() == text.as_bytes() && second.as_slice() == text.as_bytes())
+// Writes the catalogue of a batch.
+fn written(alloc: Global, batch: &Batch, mirrors: &[Mirror]) -> Result<Vec<u8>, ApplyError>
+    requires { AreMirrors mirrors.now }
+{
+    let catalogue = catalogue_of(alloc, batch)?;
+    Ok(write_profile(alloc, &catalogue, mirrors)?)
+}
+
+// Writes the catalogue and the mirrors of a profile.
+fn rewritten(alloc: Global, profile: &str) -> Result<Vec<u8>, Fail> {
+    profile_toml::laws::mirrors();
+    let (batch, mirrors) = read_profile(alloc, profile.as_bytes())?;
+    Ok(written(alloc, &batch, mirrors.as_slice())?)
+}
+
+fn check_bytes(rt: &impl Abort, alloc: Global, profile: &str, text: &str) -> Result<(), Fail> {
+    let bytes = rewritten(alloc, profile)?;
+    assert!(rt; bytes.as_slice() == text.as_bytes(), "{text}");
+    Ok(())
+}
+
+/// Asserts that a profile is written as that document, and the document as itself.
+pub(crate) fn check_written(
+    rt: &impl Abort,
+    alloc: Global,
+    profile: &str,
+    text: &str,
+) -> Result<(), Fail> {
+    check_bytes(rt, alloc, profile, text)?;
+    check_bytes(rt, alloc, text, text)
 }

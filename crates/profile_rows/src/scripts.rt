@@ -1,4 +1,4 @@
-use crate::shown::{Form, first_wrong};
+use crate::shown::{Form, check_rows};
 use std::test::Fail;
 
 // F1 before F2, F2 before F3, and the script's own keys, unknown ones first. The edits are counted
@@ -98,10 +98,8 @@ F3 BadEntry edit[0].on | edit = [{ do = 'set_rollback', app = 'a', cohort = 'c' 
 
 #[test]
 fn reports_the_first_fault_of_a_script(rt: HostRuntime) -> Result<(), Fail> {
-    let wrong = first_wrong(rt.alloc(), Form::Script, SCRIPTS)?;
-    assert!(rt; wrong.is_empty(), "{wrong}");
-    let wrong = first_wrong(rt.alloc(), Form::Script, EDIT_FAULTS)?;
-    assert!(rt; wrong.is_empty(), "{wrong}");
+    check_rows(&rt, rt.alloc(), Form::Script, SCRIPTS)?;
+    check_rows(&rt, rt.alloc(), Form::Script, EDIT_FAULTS)?;
     Ok(())
 }
 
@@ -125,7 +123,6 @@ on 7; open a c false; cohort a d; | edit = [{do='set_open',app='a',cohort='c',on
 
 #[test]
 fn reads_each_kind_of_edit(rt: HostRuntime) -> Result<(), Fail> {
-    let wrong = first_wrong(rt.alloc(), Form::Script, EDITS)?;
-    assert!(rt; wrong.is_empty(), "{wrong}");
+    check_rows(&rt, rt.alloc(), Form::Script, EDITS)?;
     Ok(())
 }

@@ -4,9 +4,12 @@
 // piece so many times, in which `#` is 1000 and the piece's index. A line `> FRONT` says what comes
 // before the documents of the rows below it.
 
-use catalogue::{AddDiff, AddRelease, App, Catalogue, Edit, Mirror, SetAudience, SetTarget};
+use catalogue::{
+    AddDiff, AddRelease, App, Batch, Catalogue, Edit, Mirror, SetAudience, SetShare, SetTarget,
+};
 use profile_toml::{ProfileFault, read_profile, read_script};
 use std::alloc::{AllocError, Global};
+use std::process::Abort;
 use values::{ReadError, Text};
 
 fn fault_line(alloc: Global, error: &ReadError<ProfileFault>) -> Result<String, AllocError> {
@@ -16,10 +19,10 @@ fn fault_line(alloc: Global, error: &ReadError<ProfileFault>) -> Result<String, 
     }
 }
 
-fn release(alloc: Global, edit: &AddRelease) -> Result<String, AllocError> {
+fn push_release(line: &mut String, edit: &AddRelease) -> Result<(), AllocError> {
     let (app, version, name) = (edit.app.as_str(), edit.version.as_str(), edit.name.as_str());
     let (size, sha256) = (edit.size, edit.sha256.as_str());
-    format!(in alloc; "release {app} {version} {name} {size} {sha256}")
+    write!(line, "release {app} {version} {name} {size} {sha256}")
 }
 
 fn or_none(text: &Option<Text>) -> &str {
@@ -29,114 +32,115 @@ fn or_none(text: &Option<Text>) -> &str {
     }
 }
 
-fn target(alloc: Global, edit: &SetTarget) -> Result<String, AllocError> {
+fn push_target(line: &mut String, edit: &SetTarget) -> Result<(), AllocError> {
     let (app, cohort) = (edit.app.as_str(), edit.cohort.as_str());
     let (target, held) = (or_none(&edit.target), or_none(&edit.held));
-    format!(in alloc; "target {app} {cohort} {target} {held}")
+    write!(line, "target {app} {cohort} {target} {held}")
 }
 
-fn other(alloc: Global, word: &str, app: &Text, of: &Text) -> Result<String, AllocError> {
+fn push_words(line: &mut String, word: &str, app: &Text, of: &Text) -> Result<(), AllocError> {
     let (app, of) = (app.as_str(), of.as_str());
-    format!(in alloc; "{word} {app} {of}")
+    write!(line, "{word} {app} {of}")
 }
 
-fn share(alloc: Global, app: &Text, cohort: &Text, share: u64) -> Result<String, AllocError> {
-    let (app, cohort) = (app.as_str(), cohort.as_str());
-    format!(in alloc; "share {app} {cohort} {share}")
+fn push_share(line: &mut String, edit: &SetShare) -> Result<(), AllocError> {
+    let (app, cohort, share) = (edit.app.as_str(), edit.cohort.as_str(), edit.share);
+    write!(line, "share {app} {cohort} {share}")
 }
 
-fn switch(
-    alloc: Global,
+fn push_switch(
+    line: &mut String,
     word: &str,
     app: &Text,
     of: &Text,
     on: bool,
-) -> Result<String, AllocError> {
+) -> Result<(), AllocError> {
     let (app, of) = (app.as_str(), of.as_str());
-    format!(in alloc; "{word} {app} {of} {on}")
+    write!(line, "{word} {app} {of} {on}")
 }
 
-fn diff(alloc: Global, edit: &AddDiff) -> Result<String, AllocError> {
+fn push_diff(line: &mut String, edit: &AddDiff) -> Result<(), AllocError> {
     let (app, from, to) = (edit.app.as_str(), edit.from.as_str(), edit.to.as_str());
     let (name, size, sha256) = (edit.name.as_str(), edit.size, edit.sha256.as_str());
-    format!(in alloc; "diff {app} {from} {to} {name} {size} {sha256}")
+    write!(line, "diff {app} {from} {to} {name} {size} {sha256}")
 }
 
-fn names(alloc: Global, names: &[Text]) -> Result<String, AllocError> {
-    let mut line = String::from_str(alloc, "[")?;
+fn push_names(line: &mut String, names: &[Text]) -> Result<(), AllocError> {
+    line.push_str(" [")?;
     for name in names {
         line.push_str(name.as_str())?;
         line.push_str(",")?;
     }
-    line.push_str("]")?;
-    Ok(line)
+    line.push_str("]")
 }
 
-fn audience(alloc: Global, edit: &SetAudience) -> Result<String, AllocError> {
-    let (app, version) = (edit.app.as_str(), edit.version.as_str());
-    let to = match &edit.cohorts {
-        Some(cohorts) => names(alloc, cohorts.as_slice())?,
-        None => String::from_str(alloc, "all")?,
-    };
-    format!(in alloc; "audience {app} {version} {to}")
-}
-
-fn edit(alloc: Global, edit: &Edit) -> Result<String, AllocError> {
-    match edit {
-        Edit::AddApp(e) => other(alloc, "app", &e.app, &e.default),
-        Edit::AddCohort(e) => other(alloc, "cohort", &e.app, &e.cohort),
-        Edit::AddRelease(e) => release(alloc, e),
-        Edit::AddDiff(e) => diff(alloc, e),
-        Edit::SetStone(e) => switch(alloc, "stone", &e.app, &e.version, e.on),
-        Edit::SetWithdrawn(e) => switch(alloc, "withdrawn", &e.app, &e.version, e.on),
-        Edit::SetAudience(e) => audience(alloc, e),
-        Edit::SetTarget(e) => target(alloc, e),
-        Edit::SetShare(e) => share(alloc, &e.app, &e.cohort, e.share),
-        Edit::SetRollback(e) => switch(alloc, "rollback", &e.app, &e.cohort, e.on),
-        Edit::SetOpen(e) => switch(alloc, "open", &e.app, &e.cohort, e.on),
+fn push_audience(line: &mut String, edit: &SetAudience) -> Result<(), AllocError> {
+    push_words(line, "audience", &edit.app, &edit.version)?;
+    match &edit.cohorts {
+        Some(cohorts) => push_names(line, cohorts.as_slice()),
+        None => line.push_str(" all"),
     }
 }
 
-fn push_edits(alloc: Global, line: &mut String, edits: &[Edit]) -> Result<(), AllocError> {
-    for one in edits {
+fn push_edit(line: &mut String, edit: &Edit) -> Result<(), AllocError> {
+    match edit {
+        Edit::AddApp(e) => push_words(line, "app", &e.app, &e.default),
+        Edit::AddCohort(e) => push_words(line, "cohort", &e.app, &e.cohort),
+        Edit::AddRelease(e) => push_release(line, e),
+        Edit::AddDiff(e) => push_diff(line, e),
+        Edit::SetStone(e) => push_switch(line, "stone", &e.app, &e.version, e.on),
+        Edit::SetWithdrawn(e) => push_switch(line, "withdrawn", &e.app, &e.version, e.on),
+        Edit::SetAudience(e) => push_audience(line, e),
+        Edit::SetTarget(e) => push_target(line, e),
+        Edit::SetShare(e) => push_share(line, e),
+        Edit::SetRollback(e) => push_switch(line, "rollback", &e.app, &e.cohort, e.on),
+        Edit::SetOpen(e) => push_switch(line, "open", &e.app, &e.cohort, e.on),
+    }
+}
+
+fn push_edits(line: &mut String, edits: &[Edit]) -> Result<(), AllocError> {
+    for edit in edits {
         line.push_str(" ")?;
-        line.push_str(edit(alloc, one)?.as_str())?;
+        push_edit(line, edit)?;
         line.push_str(";")?;
     }
     Ok(())
 }
 
-fn mirrors(alloc: Global, mirrors: &[Mirror]) -> Result<String, AllocError> {
-    let mut line = String::new(alloc);
+fn push_mirrors(line: &mut String, mirrors: &[Mirror]) -> Result<(), AllocError> {
     for mirror in mirrors {
         let (name, codebase) = (mirror.name.as_str(), mirror.codebase.as_str());
         let budget = mirror.budget;
-        let text = format!(in alloc; "{name} {codebase} {budget};")?;
-        line.push_str(text.as_str())?;
+        write!(line, "{name} {codebase} {budget};")?;
     }
+    Ok(())
+}
+
+fn profile_line(alloc: Global, mirrors: &[Mirror], batch: &Batch) -> Result<String, AllocError> {
+    let mut line = String::new(alloc);
+    push_mirrors(&mut line, mirrors)?;
+    push_edits(&mut line, batch.edits())?;
     Ok(line)
 }
 
 /// A profile's mirrors and edits, or its fault.
 pub(crate) fn profile(alloc: Global, text: &[u8]) -> Result<String, AllocError> {
     match read_profile(alloc, text) {
-        Ok((batch, named)) => {
-            let mut line = mirrors(alloc, named.as_slice())?;
-            push_edits(alloc, &mut line, batch.edits())?;
-            Ok(line)
-        }
+        Ok((batch, mirrors)) => profile_line(alloc, mirrors.as_slice(), &batch),
         Err(error) => fault_line(alloc, &error),
     }
+}
+
+fn script_line(alloc: Global, base: u64, batch: &Batch) -> Result<String, AllocError> {
+    let mut line = format!(in alloc; "on {base};")?;
+    push_edits(&mut line, batch.edits())?;
+    Ok(line)
 }
 
 // A script's base and edits, or its fault.
 fn script(alloc: Global, text: &[u8]) -> Result<String, AllocError> {
     match read_script(alloc, text) {
-        Ok((base, batch)) => {
-            let mut line = format!(in alloc; "on {base};")?;
-            push_edits(alloc, &mut line, batch.edits())?;
-            Ok(line)
-        }
+        Ok((base, batch)) => script_line(alloc, base, &batch),
         Err(error) => fault_line(alloc, &error),
     }
 }
@@ -152,16 +156,19 @@ fn counts(alloc: Global, apps: &[App]) -> Result<String, AllocError> {
     format!(in alloc; "{count} apps, {releases} releases, {cohorts} cohorts")
 }
 
-// What the catalogue reports of a profile's edits, or the profile's fault.
-fn applied(alloc: Global, text: &[u8]) -> Result<String, AllocError> {
-    let batch = match read_profile(alloc, text) {
-        Ok((batch, _mirrors)) => batch,
-        Err(error) => return fault_line(alloc, &error),
-    };
+fn applied_line(alloc: Global, batch: &Batch) -> Result<String, AllocError> {
     let mut catalogue = Catalogue::empty(alloc);
-    match catalogue.apply(&batch) {
+    match catalogue.apply(batch) {
         Ok(()) => counts(alloc, catalogue.apps()),
         Err(error) => format!(in alloc; "{error}"),
+    }
+}
+
+// What the catalogue reports of a profile's edits, or the profile's fault.
+fn applied(alloc: Global, text: &[u8]) -> Result<String, AllocError> {
+    match read_profile(alloc, text) {
+        Ok((batch, _mirrors)) => applied_line(alloc, &batch),
+        Err(error) => fault_line(alloc, &error),
     }
 }
 
@@ -182,83 +189,97 @@ fn outcome_of(alloc: Global, form: Form, text: &[u8]) -> Result<String, AllocErr
 }
 
 fn push_lines(whole: &mut String, text: &str) -> Result<(), AllocError> {
-    let mut first = true;
-    for line in text.split('~') {
-        if !first {
+    for (index, line) in text.split('~').enumerate() {
+        if index > 0 {
             whole.push_str("\n")?;
         }
         whole.push_str(line)?;
-        first = false;
     }
     Ok(())
 }
 
-fn push_piece(
-    alloc: Global,
-    whole: &mut String,
-    piece: &str,
-    index: usize,
-) -> Result<(), AllocError> {
-    let mut first = true;
-    for part in piece.split('#') {
-        if !first {
-            let number = format!(in alloc; "1{index:03}")?;
-            whole.push_str(number.as_str())?;
+fn push_piece(whole: &mut String, piece: &str, number: usize) -> Result<(), AllocError> {
+    for (index, part) in piece.split('#').enumerate() {
+        if index > 0 {
+            write!(whole, "1{number:03}")?;
         }
         push_lines(whole, part)?;
-        first = false;
     }
     Ok(())
 }
 
-fn push_part(alloc: Global, whole: &mut String, part: &str) -> Result<(), AllocError> {
+fn push_part(whole: &mut String, part: &str) -> Result<(), AllocError> {
     let Some((count, piece)) = part.split_once('*') else {
         return push_lines(whole, part);
     };
-    let count = count.parse::<usize>().unwrap_or(0);
-    for index in 0..count {
-        push_piece(alloc, whole, piece, index)?;
+    for number in 0..count.parse().unwrap_or(0) {
+        push_piece(whole, piece, number)?;
     }
     Ok(())
 }
 
-fn push_expanded(alloc: Global, whole: &mut String, text: &str) -> Result<(), AllocError> {
+fn push_expanded(whole: &mut String, text: &str) -> Result<(), AllocError> {
     for part in text.split('%') {
-        push_part(alloc, whole, part)?;
+        push_part(whole, part)?;
     }
     Ok(())
 }
 
-// What is wrong of a row: it is no row, or its document is read otherwise; else nothing.
-fn wrong_row(alloc: Global, form: Form, front: &str, row: &str) -> Result<String, AllocError> {
-    let Some((want, text)) = row.split_once(" | ") else {
-        return format!(in alloc; "no row: {row}");
-    };
-    let mut document = String::new(alloc);
-    push_expanded(alloc, &mut document, front)?;
-    push_expanded(alloc, &mut document, text)?;
-    document.push_str("\n")?;
-    let mut line = String::new(alloc);
-    push_expanded(alloc, &mut line, want)?;
-    let got = outcome_of(alloc, form, document.as_str().as_bytes())?;
-    if got.as_str() == line.as_str() {
-        return Ok(String::new(alloc));
-    }
-    format!(in alloc; "{got} in place of {row}")
+fn expanded(alloc: Global, text: &str) -> Result<String, AllocError> {
+    let mut whole = String::new(alloc);
+    push_expanded(&mut whole, text)?;
+    Ok(whole)
 }
 
-/// The first row whose document is read otherwise, and what it is read as.
-pub(crate) fn first_wrong(alloc: Global, form: Form, rows: &str) -> Result<String, AllocError> {
-    let mut front = String::new(alloc);
+fn document_of(alloc: Global, front: &str, text: &str) -> Result<String, AllocError> {
+    let mut document = expanded(alloc, front)?;
+    push_expanded(&mut document, text)?;
+    document.push_str("\n")?;
+    Ok(document)
+}
+
+fn outcome_of_row(
+    alloc: Global,
+    form: Form,
+    front: &str,
+    text: &str,
+) -> Result<String, AllocError> {
+    let document = document_of(alloc, front, text)?;
+    outcome_of(alloc, form, document.as_str().as_bytes())
+}
+
+/// Asserts that what is found for a row is what it wants.
+pub(crate) fn check(rt: &impl Abort, found: &str, want: &str, row: &str) {
+    assert_eq!(rt; found, want, "{row}");
+}
+
+fn check_row(
+    rt: &impl Abort,
+    alloc: Global,
+    form: Form,
+    front: &str,
+    row: &str,
+) -> Result<(), AllocError> {
+    let (want, text) = row.split_once(" | ").unwrap_or((row, ""));
+    let want = expanded(alloc, want)?;
+    let got = outcome_of_row(alloc, form, front, text)?;
+    check(rt, got.as_str(), want.as_str(), row);
+    Ok(())
+}
+
+/// Asserts that the document of each row is read as the row says.
+pub(crate) fn check_rows(
+    rt: &impl Abort,
+    alloc: Global,
+    form: Form,
+    rows: &str,
+) -> Result<(), AllocError> {
+    let mut front = "";
     for row in rows.lines() {
-        if let Some(line) = row.strip_prefix("> ") {
-            front = String::from_str(alloc, line)?;
-        } else {
-            let wrong = wrong_row(alloc, form, front.as_str(), row)?;
-            if !wrong.is_empty() {
-                return Ok(wrong);
-            }
+        match row.strip_prefix("> ") {
+            Some(line) => front = line,
+            None => check_row(rt, alloc, form, front, row)?,
         }
     }
-    Ok(String::new(alloc))
+    Ok(())
 }

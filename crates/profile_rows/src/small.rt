@@ -1,6 +1,6 @@
 // Small catalogues: as operators may write them, and as they are written.
 
-use crate::rewriting::is_written;
+use crate::rewriting::check_written;
 use std::test::Fail;
 
 const MINI: &str = r#"schema = 1
@@ -461,19 +461,12 @@ name = "m1"
 
 #[test]
 fn writes_small_catalogues(rt: HostRuntime) -> Result<(), Fail> {
-    let rows = [
-        (MINI, MINI_WRITTEN),
-        (BUILT_IN, BUILT_IN_WRITTEN),
-        (DEMO, DEMO_WRITTEN),
-    ];
-    for (profile, text) in rows {
-        assert!(rt; is_written(rt.alloc(), profile, text)?, "{text}");
-    }
-    Ok(())
+    check_written(&rt, rt.alloc(), MINI, MINI_WRITTEN)?;
+    check_written(&rt, rt.alloc(), BUILT_IN, BUILT_IN_WRITTEN)?;
+    check_written(&rt, rt.alloc(), DEMO, DEMO_WRITTEN)
 }
 
 #[test]
 fn keeps_audiences_flags_held_targets_and_shares(rt: HostRuntime) -> Result<(), Fail> {
-    assert!(rt; is_written(rt.alloc(), ODD, ODD_WRITTEN)?, "{ODD_WRITTEN}");
-    Ok(())
+    check_written(&rt, rt.alloc(), ODD, ODD_WRITTEN)
 }

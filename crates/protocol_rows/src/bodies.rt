@@ -1,27 +1,38 @@
-ghost use Rattle.std.specs.Prelude.{◌≡◌, IfOk, Some};
+ghost use Rattle.std.specs.Prelude.{IfOk, Some};
 ghost use Rattle.omaha_json.specs.ReplyWriting.{IsCheckWritable, IsStateWritable};
 
 use omaha_json::{AppReply, AppState, CheckReply, KnownApp, Offer, Part, Reply, write_reply};
 use std::alloc::{AllocError, Global};
+use std::process::Abort;
 use std::test::Fail;
 use values::{Items, Text};
 
-// Whether the reply for one app at day 6940 and second 3661 has these bytes.
-fn is_written(alloc: Global, appid: &str, state: AppState, want: &str) -> Result<bool, AllocError>
-    requires { IsStateWritable state }
+// The reply for one app at day 6940 and second 3661.
+fn written(alloc: Global, app: AppReply) -> Result<Vec<u8>, AllocError>
+    requires { IsStateWritable app.state }
 {
-    let appid = Text::copy_of(alloc, appid)?;
-    let apps = Items::new(vec![in alloc; AppReply { appid, state }]?);
+    let apps = Items::new(vec![in alloc; app]?);
     let (days, seconds) = (6940, 3661);
-    let text = write_reply(
-        alloc,
-        &Reply {
-            days,
-            seconds,
-            apps,
-        },
-    )?;
-    Ok(text.as_slice() == want.as_bytes())
+    let reply = Reply {
+        days,
+        seconds,
+        apps,
+    };
+    write_reply(alloc, &reply)
+}
+
+fn check_reply(rt: &impl Abort, alloc: Global, app: AppReply, want: &str) -> Result<(), AllocError>
+    requires { IsStateWritable app.state }
+{
+    let text = written(alloc, app)?;
+    assert!(rt; text.as_slice() == want.as_bytes(), "{want}");
+    Ok(())
+}
+
+fn two_texts(alloc: Global, first: &str, second: &str) -> Result<(Text, Text), AllocError> {
+    let first = Text::copy_of(alloc, first)?;
+    let second = Text::copy_of(alloc, second)?;
+    Ok((first, second))
 }
 
 // A known app of the cohort `beta`.
@@ -30,18 +41,47 @@ fn known(
     ping: bool,
     events: usize,
     check: Option<CheckReply>,
-) -> Result<KnownApp, AllocError>
-    ensures { IfOk result (λ app. app.check ≡ check) }
+) -> Result<AppState, AllocError>
+    requires { IsCheckWritable check }
+    ensures { IfOk result (λ state. IsStateWritable state) }
 {
-    let cohort = Text::copy_of(alloc, "beta:7")?;
-    let name = Text::copy_of(alloc, "beta")?;
-    Ok(KnownApp {
+    let (cohort, name) = two_texts(alloc, "beta:7", "beta")?;
+    Ok(AppState::Known(KnownApp {
         cohort,
         name,
         ping,
         events,
         check,
-    })
+    }))
+}
+
+fn app_of(alloc: Global, appid: &str, state: AppState) -> Result<AppReply, AllocError>
+    requires { IsStateWritable state }
+    ensures { IfOk result (λ app. IsStateWritable app.state) }
+{
+    let appid = Text::copy_of(alloc, appid)?;
+    Ok(AppReply { appid, state })
+}
+
+fn check_known(
+    rt: &impl Abort,
+    alloc: Global,
+    appid: &str,
+    ping: bool,
+    events: usize,
+    check: Option<CheckReply>,
+    want: &str,
+) -> Result<(), AllocError>
+    requires { IsCheckWritable check }
+{
+    let state = known(alloc, ping, events, check)?;
+    let app = app_of(alloc, appid, state)?;
+    check_reply(rt, alloc, app, want)
+}
+
+fn check_unknown(rt: &impl Abort, alloc: Global, want: &str) -> Result<(), AllocError> {
+    let app = app_of(alloc, "\"\\\n", AppState::Unknown)?;
+    check_reply(rt, alloc, app, want)
 }
 
 const UNKNOWN: &str = r#")]}'
@@ -59,13 +99,12 @@ const INTERNAL: &str = r#")]}'
 #[test]
 fn replies_without_an_offer(rt: HostRuntime) -> Result<(), Fail> {
     let alloc = rt.alloc();
-    assert!(rt; is_written(alloc, "\"\\\n", AppState::Unknown, UNKNOWN)?);
-    let plain = known(alloc, false, 0, None)?;
-    assert!(rt; is_written(alloc, "é", AppState::Known(plain), PLAIN)?);
-    let no_update = known(alloc, true, 3, Some(CheckReply::NoUpdate))?;
-    assert!(rt; is_written(alloc, "a", AppState::Known(no_update), NO_UPDATE)?);
-    let internal = known(alloc, false, 1, Some(CheckReply::Internal))?;
-    assert!(rt; is_written(alloc, "a", AppState::Known(internal), INTERNAL)?);
+    check_unknown(&rt, alloc, UNKNOWN)?;
+    check_known(&rt, alloc, "é", false, 0, None, PLAIN)?;
+    let no_update = Some(CheckReply::NoUpdate);
+    check_known(&rt, alloc, "a", true, 3, no_update, NO_UPDATE)?;
+    let internal = Some(CheckReply::Internal);
+    check_known(&rt, alloc, "a", false, 1, internal, INTERNAL)?;
     Ok(())
 }
 
@@ -77,8 +116,7 @@ fn part(
     size: u64,
     byte: u8,
 ) -> Result<Part, AllocError> {
-    let codebase = Text::copy_of(alloc, codebase)?;
-    let name = Text::copy_of(alloc, name)?;
+    let (codebase, name) = two_texts(alloc, codebase, name)?;
     Ok(Part {
         codebase,
         name,
@@ -87,19 +125,32 @@ fn part(
     })
 }
 
-// An offer of a full package of one byte.
-fn offer(alloc: Global, diff: Option<Part>) -> Result<CheckReply, AllocError>
-    ensures { IfOk result (λ check. IsCheckWritable (Some check)) }
-{
-    let version = Text::copy_of(alloc, "2.0")?;
-    let fp = Text::copy_of(alloc, "1.ab")?;
+// A version and its full package of one byte.
+fn full_offer(alloc: Global) -> Result<Offer, AllocError> {
     let full = part(alloc, "http://a/", "f", 1, 0xf0)?;
-    Ok(CheckReply::Offered(Offer {
+    let (version, fp) = two_texts(alloc, "2.0", "1.ab")?;
+    Ok(Offer {
         version,
         fp,
         full,
-        diff,
-    }))
+        diff: None,
+    })
+}
+
+fn full(alloc: Global) -> Result<CheckReply, AllocError>
+    ensures { IfOk result (λ check. IsCheckWritable (Some check)) }
+{
+    Ok(CheckReply::Offered(full_offer(alloc)?))
+}
+
+// The same, and a differential.
+fn both(alloc: Global) -> Result<CheckReply, AllocError>
+    ensures { IfOk result (λ check. IsCheckWritable (Some check)) }
+{
+    let diff = part(alloc, "http://b/", "d", 1099511627776, 0x0f)?;
+    let mut offer = full_offer(alloc)?;
+    offer.diff = Some(diff);
+    Ok(CheckReply::Offered(offer))
 }
 
 const FULL: &str = r#")]}'
@@ -111,10 +162,9 @@ const DIFFERENTIAL: &str = r#")]}'
 #[test]
 fn offers_a_package_and_a_differential(rt: HostRuntime) -> Result<(), Fail> {
     let alloc = rt.alloc();
-    let full = known(alloc, false, 0, Some(offer(alloc, None)?))?;
-    assert!(rt; is_written(alloc, "a", AppState::Known(full), FULL)?);
-    let diff = part(alloc, "http://b/", "d", 1099511627776, 0x0f)?;
-    let both = known(alloc, false, 0, Some(offer(alloc, Some(diff))?))?;
-    assert!(rt; is_written(alloc, "a", AppState::Known(both), DIFFERENTIAL)?);
+    let full = full(alloc)?;
+    check_known(&rt, alloc, "a", false, 0, Some(full), FULL)?;
+    let both = both(alloc)?;
+    check_known(&rt, alloc, "a", false, 0, Some(both), DIFFERENTIAL)?;
     Ok(())
 }

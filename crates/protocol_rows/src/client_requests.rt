@@ -3,49 +3,76 @@ ghost use Rattle.std.specs.Prelude.{◌≡◌, ◌<◌, ◌≤◌, length, IfOk}
 use omaha_json::{AppAsk, Check, Request};
 use omaha_json_client::write_request;
 use std::alloc::{AllocError, Global};
+use std::process::Abort;
 use std::test::Fail;
 use values::{Items, Text};
 
-// An update check that allows a downgrade.
-fn downgrade(alloc: Global) -> Result<Option<Check>, AllocError> {
-    Ok(Some(Check {
-        disabled: false,
-        rollback: true,
-        prefix: Text::copy_of(alloc, "4.")?,
-    }))
+fn two_texts(alloc: Global, first: &str, second: &str) -> Result<(Text, Text), AllocError> {
+    let first = Text::copy_of(alloc, first)?;
+    let second = Text::copy_of(alloc, second)?;
+    Ok((first, second))
 }
 
 // An ask for `demo` at version 1.0, in no cohort.
-fn ask(
-    alloc: Global,
-    fp: &str,
-    check: Option<Check>,
-    ping: bool,
-    events: usize,
-) -> Result<AppAsk, AllocError>
+fn ask(alloc: Global, fp: &str) -> Result<AppAsk, AllocError>
     ensures { IfOk result (λ ask. length ask.appid ≡ 4) }
 {
+    let appid = Text::copy_of(alloc, "demo")?;
+    let version = Text::copy_of(alloc, "1.0")?;
+    let (fp, hint) = two_texts(alloc, fp, "be\"ta")?;
     Ok(AppAsk {
-        appid: Text::copy_of(alloc, "demo")?,
-        version: Text::copy_of(alloc, "1.0")?,
-        fp: Text::copy_of(alloc, fp)?,
-        cohort: Text::copy_of(alloc, "")?,
-        hint: Text::copy_of(alloc, "be\"ta")?,
-        check,
-        ping,
-        events,
+        appid,
+        version,
+        fp,
+        cohort: Text::new(String::new(alloc)),
+        hint,
+        check: None,
+        ping: false,
+        events: 0,
     })
 }
 
-// Whether the request of session `abc` that asks this has these bytes.
-fn is_written(alloc: Global, ask: AppAsk, want: &str) -> Result<bool, AllocError>
+// An update check that allows a downgrade.
+fn downgrade(alloc: Global) -> Result<AppAsk, AllocError>
+    ensures { IfOk result (λ ask. length ask.appid ≡ 4) }
+{
+    let prefix = Text::copy_of(alloc, "4.")?;
+    let mut ask = ask(alloc, "1.x")?;
+    ask.check = Some(Check {
+        disabled: false,
+        rollback: true,
+        prefix,
+    });
+    Ok(ask)
+}
+
+fn ping(alloc: Global) -> Result<AppAsk, AllocError>
+    ensures { IfOk result (λ ask. length ask.appid ≡ 4) }
+{
+    let mut ask = ask(alloc, "")?;
+    ask.ping = true;
+    ask.events = 2;
+    Ok(ask)
+}
+
+fn written(alloc: Global, session: Text, ask: AppAsk) -> Result<Vec<u8>, AllocError>
+    requires some { 0 < length ask.appid }
+    requires short { length ask.appid ≤ 256 }
+{
+    let apps = Items::new(vec![in alloc; ask]?);
+    let request = Request { session, apps };
+    write_request(alloc, &request)
+}
+
+// Asserts that the request of session `abc` that asks this has these bytes.
+fn check_request(rt: &impl Abort, alloc: Global, ask: AppAsk, want: &str) -> Result<(), AllocError>
     requires some { 0 < length ask.appid }
     requires short { length ask.appid ≤ 256 }
 {
     let session = Text::copy_of(alloc, "abc")?;
-    let apps = Items::new(vec![in alloc; ask]?);
-    let text = write_request(alloc, &Request { session, apps })?;
-    Ok(text.as_slice() == want.as_bytes())
+    let text = written(alloc, session, ask)?;
+    assert!(rt; text.as_slice() == want.as_bytes(), "{want}");
+    Ok(())
 }
 
 const DOWNGRADE: &str =
@@ -53,10 +80,8 @@ const DOWNGRADE: &str =
 
 #[test]
 fn writes_an_update_check(rt: HostRuntime) -> Result<(), Fail> {
-    let check = downgrade(rt.alloc())?;
-    let asked = ask(rt.alloc(), "1.x", check, false, 0)?;
-    let written = is_written(rt.alloc(), asked, DOWNGRADE)?;
-    assert!(rt; written);
+    let ask = downgrade(rt.alloc())?;
+    check_request(&rt, rt.alloc(), ask, DOWNGRADE)?;
     Ok(())
 }
 
@@ -65,8 +90,7 @@ const PING: &str =
 
 #[test]
 fn writes_a_ping_and_two_events(rt: HostRuntime) -> Result<(), Fail> {
-    let asked = ask(rt.alloc(), "", None, true, 2)?;
-    let written = is_written(rt.alloc(), asked, PING)?;
-    assert!(rt; written);
+    let ask = ping(rt.alloc())?;
+    check_request(&rt, rt.alloc(), ask, PING)?;
     Ok(())
 }

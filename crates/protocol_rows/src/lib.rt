@@ -22,6 +22,8 @@ mod replies;
 #[cfg(test)]
 mod requests;
 #[cfg(test)]
+mod rows;
+#[cfg(test)]
 mod shelf;
 #[cfg(test)]
 mod update_client_replies;

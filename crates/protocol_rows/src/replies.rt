@@ -1,6 +1,8 @@
+use crate::rows::{between, check};
 use omaha_json::{AppReply, AppState, CheckReply, KnownApp, Offer, Part, Reply};
 use omaha_json_client::read_reply;
 use std::alloc::{AllocError, Global};
+use std::process::Abort;
 use std::test::Fail;
 use values::ReadError;
 
@@ -16,10 +18,15 @@ fn outcome_of(alloc: Global, body: &[u8]) -> Result<String, AllocError> {
 fn shown(alloc: Global, reply: &Reply) -> Result<String, AllocError> {
     let (days, seconds) = (reply.days, reply.seconds);
     let mut text = format!(in alloc; "{days} {seconds}")?;
-    for app in reply.apps.as_slice() {
-        push_app(alloc, &mut text, app)?;
-    }
+    push_apps(alloc, &mut text, reply.apps.as_slice())?;
     Ok(text)
+}
+
+fn push_apps(alloc: Global, text: &mut String, apps: &[AppReply]) -> Result<(), AllocError> {
+    for app in apps {
+        push_app(alloc, text, app)?;
+    }
+    Ok(())
 }
 
 fn push_app(alloc: Global, text: &mut String, app: &AppReply) -> Result<(), AllocError> {
@@ -34,9 +41,8 @@ fn push_app(alloc: Global, text: &mut String, app: &AppReply) -> Result<(), Allo
 
 fn push_known(alloc: Global, text: &mut String, app: &KnownApp) -> Result<(), AllocError> {
     let (cohort, name) = (app.cohort.as_str(), app.name.as_str());
-    text.push_str(format!(in alloc; " c{cohort} n{name}")?.as_str())?;
     let (ping, events) = (app.ping, app.events);
-    text.push_str(format!(in alloc; " {ping} {events}")?.as_str())?;
+    write!(text, " c{cohort} n{name} {ping} {events}")?;
     match &app.check {
         None => Ok(()),
         Some(CheckReply::NoUpdate) => text.push_str(" noupdate"),
@@ -48,7 +54,7 @@ fn push_known(alloc: Global, text: &mut String, app: &KnownApp) -> Result<(), Al
 
 fn push_offer(alloc: Global, text: &mut String, offer: &Offer) -> Result<(), AllocError> {
     let (version, fp) = (offer.version.as_str(), offer.fp.as_str());
-    text.push_str(format!(in alloc; " v{version} f{fp}")?.as_str())?;
+    write!(text, " v{version} f{fp}")?;
     push_part(alloc, text, &offer.full)?;
     match &offer.diff {
         Some(diff) => push_part(alloc, text, diff),
@@ -57,26 +63,47 @@ fn push_offer(alloc: Global, text: &mut String, offer: &Offer) -> Result<(), All
 }
 
 fn push_part(alloc: Global, text: &mut String, part: &Part) -> Result<(), AllocError> {
+    let hash = hex::encode(alloc, part.hash)?;
     let (codebase, name) = (part.codebase.as_str(), part.name.as_str());
-    text.push_str(format!(in alloc; " {codebase}{name}")?.as_str())?;
-    let size = part.size;
-    text.push_str(format!(in alloc; " {size} ")?.as_str())?;
-    text.push_str(hex::encode(alloc, part.hash)?.as_str())
+    let (size, hash) = (part.size, hash.as_str());
+    write!(text, " {codebase}{name} {size} {hash}")
 }
 
-// The first row `WANT | MIDDLE` whose bytes, the middle between front and back, are read otherwise.
-fn first_wrong(alloc: Global, rows: &str, front: &str, back: &str) -> Result<String, AllocError> {
+fn outcome_between(
+    alloc: Global,
+    front: &str,
+    middle: &str,
+    back: &str,
+) -> Result<String, AllocError> {
+    let body = between(alloc, front, middle, back)?;
+    outcome_of(alloc, body.as_str().as_bytes())
+}
+
+fn check_row(
+    rt: &impl Abort,
+    alloc: Global,
+    row: &str,
+    front: &str,
+    back: &str,
+) -> Result<(), AllocError> {
+    let (want, middle) = row.split_once(" | ").unwrap_or((row, ""));
+    let got = outcome_between(alloc, front, middle, back)?;
+    check(rt, got.as_str(), want, row);
+    Ok(())
+}
+
+// Asserts that of each row `WANT | MIDDLE` the bytes, the middle between front and back, are read so.
+fn check_rows(
+    rt: &impl Abort,
+    alloc: Global,
+    rows: &str,
+    front: &str,
+    back: &str,
+) -> Result<(), AllocError> {
     for row in rows.lines() {
-        let Some((want, middle)) = row.split_once(" | ") else {
-            return format!(in alloc; "no row: {row}");
-        };
-        let body = format!(in alloc; "{front}{middle}{back}")?;
-        let got = outcome_of(alloc, body.as_str().as_bytes())?;
-        if got.as_str() != want {
-            return format!(in alloc; "{got} in place of {row}");
-        }
+        check_row(rt, alloc, row, front, back)?;
     }
-    Ok(String::new(alloc))
+    Ok(())
 }
 
 const FAULTS: &str = r#"K1 NoPrefix | {}
@@ -103,8 +130,7 @@ K5 BadOffer 0 | )]}'{"response":{"app":[{"appid":"a","status":"ok","updatecheck"
 
 #[test]
 fn reports_the_first_fault_of_a_reply(rt: HostRuntime) -> Result<(), Fail> {
-    let wrong = first_wrong(rt.alloc(), FAULTS, "", "")?;
-    assert!(rt; wrong.is_empty(), "{wrong}");
+    check_rows(&rt, rt.alloc(), FAULTS, "", "")?;
     Ok(())
 }
 
@@ -127,8 +153,7 @@ const APPS: &str = r#"0 0; a unknown | {"appid":"a","status":"error-unknownAppli
 
 #[test]
 fn reads_apps_without_an_offer(rt: HostRuntime) -> Result<(), Fail> {
-    let wrong = first_wrong(rt.alloc(), APPS, APP_FRONT, APP_BACK)?;
-    assert!(rt; wrong.is_empty(), "{wrong}");
+    check_rows(&rt, rt.alloc(), APPS, APP_FRONT, APP_BACK)?;
     Ok(())
 }
 
@@ -160,8 +185,7 @@ K5 BadOffer 0 | {"fp":"x","name":"n","size":1,"hash_sha256":"1111111111111111111
 
 #[test]
 fn reads_offers_at_their_limits(rt: HostRuntime) -> Result<(), Fail> {
-    let wrong = first_wrong(rt.alloc(), OFFERS, OFFER_FRONT, OFFER_BACK)?;
-    assert!(rt; wrong.is_empty(), "{wrong}");
+    check_rows(&rt, rt.alloc(), OFFERS, OFFER_FRONT, OFFER_BACK)?;
     Ok(())
 }
 
@@ -180,7 +204,6 @@ K5 BadOffer 0 | "#;
 
 #[test]
 fn reads_the_first_addresses(rt: HostRuntime) -> Result<(), Fail> {
-    let wrong = first_wrong(rt.alloc(), ADDRESSES, ADDRESS_FRONT, ADDRESS_BACK)?;
-    assert!(rt; wrong.is_empty(), "{wrong}");
+    check_rows(&rt, rt.alloc(), ADDRESSES, ADDRESS_FRONT, ADDRESS_BACK)?;
     Ok(())
 }

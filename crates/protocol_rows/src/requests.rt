@@ -1,5 +1,7 @@
-use omaha_json::{AppAsk, Request, read_request};
+use crate::rows::{between, check, check_start, three_words, two_words};
+use omaha_json::{AppAsk, Check, Request, read_request};
 use std::alloc::{AllocError, Global};
+use std::process::Abort;
 use std::test::Fail;
 use values::ReadError;
 
@@ -15,40 +17,69 @@ fn outcome_of(alloc: Global, body: &[u8]) -> Result<String, AllocError> {
 fn shown(alloc: Global, request: &Request) -> Result<String, AllocError> {
     let session = request.session.as_str();
     let mut text = format!(in alloc; "s{session}")?;
-    for ask in request.apps.as_slice() {
-        push_ask(alloc, &mut text, ask)?;
-    }
+    push_asks(&mut text, request.apps.as_slice())?;
     Ok(text)
 }
 
-fn push_ask(alloc: Global, text: &mut String, ask: &AppAsk) -> Result<(), AllocError> {
-    let (version, fp) = (ask.version.as_str(), ask.fp.as_str());
-    let (cohort, hint) = (ask.cohort.as_str(), ask.hint.as_str());
-    text.push_str("; ")?;
-    text.push_str(ask.appid.as_str())?;
-    text.push_str(format!(in alloc; " v{version} f{fp} c{cohort} h{hint}")?.as_str())?;
-    if let Some(check) = &ask.check {
-        let (disabled, rollback) = (check.disabled, check.rollback);
-        let prefix = check.prefix.as_str();
-        text.push_str(format!(in alloc; " {disabled} {rollback} p{prefix}")?.as_str())?;
+fn push_asks(text: &mut String, asks: &[AppAsk]) -> Result<(), AllocError> {
+    for ask in asks {
+        push_ask(text, ask)?;
     }
-    let (ping, events) = (ask.ping, ask.events);
-    text.push_str(format!(in alloc; " {ping} {events}")?.as_str())
+    Ok(())
 }
 
-// The first row `WANT | MIDDLE` whose body, the middle between front and back, is read otherwise.
-fn first_wrong(alloc: Global, rows: &str, front: &str, back: &str) -> Result<String, AllocError> {
-    for row in rows.lines() {
-        let Some((want, middle)) = row.split_once(" | ") else {
-            return format!(in alloc; "no row: {row}");
-        };
-        let body = format!(in alloc; "{front}{middle}{back}")?;
-        let got = outcome_of(alloc, body.as_str().as_bytes())?;
-        if got.as_str() != want {
-            return format!(in alloc; "{got} in place of {row}");
-        }
+fn push_check(text: &mut String, check: &Check) -> Result<(), AllocError> {
+    let (disabled, rollback) = (check.disabled, check.rollback);
+    let prefix = check.prefix.as_str();
+    write!(text, " {disabled} {rollback} p{prefix}")
+}
+
+fn push_ask(text: &mut String, ask: &AppAsk) -> Result<(), AllocError> {
+    let (appid, version, fp) = (ask.appid.as_str(), ask.version.as_str(), ask.fp.as_str());
+    let (cohort, hint) = (ask.cohort.as_str(), ask.hint.as_str());
+    write!(text, "; {appid} v{version} f{fp} c{cohort} h{hint}")?;
+    if let Some(check) = &ask.check {
+        push_check(text, check)?;
     }
-    Ok(String::new(alloc))
+    let (ping, events) = (ask.ping, ask.events);
+    write!(text, " {ping} {events}")
+}
+
+fn outcome_between(
+    alloc: Global,
+    front: &str,
+    middle: &str,
+    back: &str,
+) -> Result<String, AllocError> {
+    let body = between(alloc, front, middle, back)?;
+    outcome_of(alloc, body.as_str().as_bytes())
+}
+
+fn check_row(
+    rt: &impl Abort,
+    alloc: Global,
+    row: &str,
+    front: &str,
+    back: &str,
+) -> Result<(), AllocError> {
+    let (want, middle) = row.split_once(" | ").unwrap_or((row, ""));
+    let got = outcome_between(alloc, front, middle, back)?;
+    check(rt, got.as_str(), want, row);
+    Ok(())
+}
+
+// Asserts that of each row `WANT | MIDDLE` the body, the middle between front and back, is read so.
+fn check_rows(
+    rt: &impl Abort,
+    alloc: Global,
+    rows: &str,
+    front: &str,
+    back: &str,
+) -> Result<(), AllocError> {
+    for row in rows.lines() {
+        check_row(rt, alloc, row, front, back)?;
+    }
+    Ok(())
 }
 
 const FAULTS: &str = r#"J1 NotJson | {
@@ -81,25 +112,31 @@ J4 BadApp 0 | {"request":{"protocol":"3.1","app":[],"app":[1]}}"#;
 
 #[test]
 fn reports_the_first_fault_of_a_body(rt: HostRuntime) -> Result<(), Fail> {
-    let wrong = first_wrong(rt.alloc(), FAULTS, "", "")?;
-    assert!(rt; wrong.is_empty(), "{wrong}");
+    check_rows(&rt, rt.alloc(), FAULTS, "", "")?;
+    Ok(())
+}
+
+fn check_body(rt: &impl Abort, alloc: Global, body: &[u8], want: &str) -> Result<(), AllocError> {
+    let got = outcome_of(alloc, body)?;
+    check(rt, got.as_str(), want, want);
     Ok(())
 }
 
 #[test]
 fn rejects_bytes_that_are_no_utf_8(rt: HostRuntime) -> Result<(), Fail> {
-    let empty = outcome_of(rt.alloc(), b"")?;
-    assert!(rt; empty.as_str() == "J1 NotJson");
-    let no_utf8 = outcome_of(
+    check_body(&rt, rt.alloc(), b"", "J1 NotJson")?;
+    check_body(
+        &rt,
         rt.alloc(),
         b"{\"request\":{\"protocol\":\"3.1\"},\"\xff\":0}",
+        "J1 NotJson",
     )?;
-    assert!(rt; no_utf8.as_str() == "J1 NotJson");
-    let marked = outcome_of(
+    check_body(
+        &rt,
         rt.alloc(),
         b"\xef\xbb\xbf{\"request\":{\"protocol\":\"3.1\"}}",
+        "J1 NotJson",
     )?;
-    assert!(rt; marked.as_str() == "J1 NotJson");
     Ok(())
 }
 
@@ -136,8 +173,7 @@ sx; A v f c h true 0; a v f c h false 1 | {"appid":"A","ping":{}},{"appid":"a","
 
 #[test]
 fn reads_what_is_asked_for_an_app(rt: HostRuntime) -> Result<(), Fail> {
-    let wrong = first_wrong(rt.alloc(), ASKS, FRONT, BACK)?;
-    assert!(rt; wrong.is_empty(), "{wrong}");
+    check_rows(&rt, rt.alloc(), ASKS, FRONT, BACK)?;
     Ok(())
 }
 
@@ -169,91 +205,106 @@ const ODD_BROWSER: &str = r#"{"request":{
 #[test]
 fn ignores_the_members_that_are_not_read(rt: HostRuntime) -> Result<(), Fail> {
     let want = "s{5f}; mhjfbmdg v1.2.3 f1.ab cstable:7 h false false p true 1";
-    let got = outcome_of(rt.alloc(), BROWSER.as_bytes())?;
-    assert!(rt; got.as_str() == want, "{got}");
-    let got = outcome_of(rt.alloc(), ODD_BROWSER.as_bytes())?;
-    assert!(rt; got.as_str() == want, "{got}");
+    check_body(&rt, rt.alloc(), BROWSER.as_bytes(), want)?;
+    check_body(&rt, rt.alloc(), ODD_BROWSER.as_bytes(), want)?;
     Ok(())
 }
 
-// A string, so many times another, and a third.
-fn repeated(
-    alloc: Global,
-    front: &str,
-    text: &str,
-    count: usize,
-    back: &str,
-) -> Result<String, AllocError> {
-    let mut whole = String::from_str(alloc, front)?;
+fn push_times(body: &mut String, text: &str, count: usize) -> Result<(), AllocError> {
     for _ in 0..count {
-        whole.push_str(text)?;
+        body.push_str(text)?;
     }
-    whole.push_str(back)?;
-    Ok(whole)
+    Ok(())
 }
 
-// Whether what a body is read as begins so.
-fn begins(alloc: Global, body: &str, want: &str) -> Result<bool, AllocError> {
-    Ok(
-        outcome_of(alloc, body.as_bytes())?
-            .as_str()
-            .starts_with(want),
-    )
+// Asserts that what a body is read as begins so.
+fn check_outcome(rt: &impl Abort, alloc: Global, body: &str, want: &str) -> Result<(), AllocError> {
+    let got = outcome_of(alloc, body.as_bytes())?;
+    check_start(rt, got.as_str(), want);
+    Ok(())
 }
+
+fn body_of_identifier(alloc: Global, letter: &str, count: usize) -> Result<String, AllocError> {
+    let mut body = String::from_str(alloc, r#"{"request":{"protocol":"3.1","app":[{"appid":""#)?;
+    push_times(&mut body, letter, count)?;
+    body.push_str(r#""}]}}"#)?;
+    Ok(body)
+}
+
+fn check_identifier(rt: &impl Abort, alloc: Global, row: &str) -> Result<(), AllocError> {
+    let (letter, count, want) = three_words(row);
+    let body = body_of_identifier(alloc, letter, count.parse().unwrap_or(0))?;
+    check_outcome(rt, alloc, body.as_str(), want)
+}
+
+// Each row: a letter, how many times an identifier has it, and how the outcome begins.
+const IDENTIFIERS: &str = "a 0 J4 BadApp 0
+a 1 s; a v
+a 256 s; aaaa
+a 257 J4 BadApp 0
+é 128 s; éé
+é 129 J4 BadApp 0";
 
 #[test]
 fn takes_identifiers_of_1_to_256_bytes(rt: HostRuntime) -> Result<(), Fail> {
-    let rows = [
-        ("a", 0, "J4 BadApp 0"),
-        ("a", 1, "s; a v"),
-        ("a", 256, "s; aaaa"),
-        ("a", 257, "J4 BadApp 0"),
-        ("é", 128, "s; éé"),
-        ("é", 129, "J4 BadApp 0"),
-    ];
-    for (letter, count, want) in rows {
-        let front = r#"{"request":{"protocol":"3.1","app":[{"appid":""#;
-        let body = repeated(rt.alloc(), front, letter, count, r#""}]}}"#)?;
-        assert!(rt;
-            begins(rt.alloc(), body.as_str(), want)?,
-            "{count} times {letter}"
-        );
+    for row in IDENTIFIERS.lines() {
+        check_identifier(&rt, rt.alloc(), row)?;
     }
     Ok(())
 }
+
+fn body_of_apps(alloc: Global, count: usize, last: &str) -> Result<String, AllocError> {
+    let mut body = String::from_str(alloc, r#"{"request":{"protocol":"3.1","app":["#)?;
+    push_times(&mut body, r#"{"appid":"a"},"#, count)?;
+    body.push_str(last)?;
+    Ok(body)
+}
+
+fn check_apps(rt: &impl Abort, alloc: Global, row: &str) -> Result<(), AllocError> {
+    let (count, last, want) = three_words(row);
+    let body = body_of_apps(alloc, count.parse().unwrap_or(0), last)?;
+    check_outcome(rt, alloc, body.as_str(), want)
+}
+
+// Each row: how many apps there are before the last one, that one with the end, and how the outcome begins.
+const COUNTS: &str = r#"255 {"appid":"b"}]}} s; a v
+256 {"appid":"b"}]}} J5 TooManyApps
+256 {}]}} J4 BadApp 256
+300 null]}} J4 BadApp 300"#;
 
 #[test]
 fn counts_apps_after_reading_each(rt: HostRuntime) -> Result<(), Fail> {
-    let rows = [
-        (255, r#"{"appid":"b"}]}}"#, "s; a v"),
-        (256, r#"{"appid":"b"}]}}"#, "J5 TooManyApps"),
-        (256, "{}]}}", "J4 BadApp 256"),
-        (300, "null]}}", "J4 BadApp 300"),
-    ];
-    for (count, last, want) in rows {
-        let front = r#"{"request":{"protocol":"3.1","app":["#;
-        let body = repeated(rt.alloc(), front, r#"{"appid":"a"},"#, count, last)?;
-        assert!(rt;
-            begins(rt.alloc(), body.as_str(), want)?,
-            "{count} apps and {last}"
-        );
+    for row in COUNTS.lines() {
+        check_apps(&rt, rt.alloc(), row)?;
     }
     Ok(())
 }
 
+// The lists of a member that is not read lie within two objects.
+fn body_of_lists(alloc: Global, count: usize) -> Result<String, AllocError> {
+    let mut body = String::from_str(alloc, r#"{"request":{"protocol":"3.1","x":"#)?;
+    push_times(&mut body, "[", count)?;
+    push_times(&mut body, "]", count)?;
+    body.push_str("}}")?;
+    Ok(body)
+}
+
+fn check_lists(rt: &impl Abort, alloc: Global, row: &str) -> Result<(), AllocError> {
+    let (count, want) = two_words(row);
+    let body = body_of_lists(alloc, count.parse().unwrap_or(0))?;
+    check_outcome(rt, alloc, body.as_str(), want)
+}
+
+// Each row: how many lists lie within each other, and how the outcome begins.
+const LEVELS: &str = "100 s
+125 s
+126 J1 NotJson
+200 J1 NotJson";
+
 #[test]
 fn nests_at_most_127_levels(rt: HostRuntime) -> Result<(), Fail> {
-    // The lists of a member that is not read lie within two objects.
-    for (count, want) in [
-        (100, "s"),
-        (125, "s"),
-        (126, "J1 NotJson"),
-        (200, "J1 NotJson"),
-    ] {
-        let front = r#"{"request":{"protocol":"3.1","x":"#;
-        let open = repeated(rt.alloc(), front, "[", count, "")?;
-        let body = repeated(rt.alloc(), open.as_str(), "]", count, "}}")?;
-        assert!(rt; begins(rt.alloc(), body.as_str(), want)?, "{count} lists");
+    for row in LEVELS.lines() {
+        check_lists(&rt, rt.alloc(), row)?;
     }
     Ok(())
 }

@@ -20,58 +20,101 @@ fn cut<'a>(text: &'a str, separator: char) -> (&'a str, &'a str) {
     }
 }
 
-// The members of a file of such a body: its name, its length and its SHA-256.
-fn file_members(alloc: Global, name: &str, word: &str, end: &str) -> Result<String, AllocError> {
-    let (text, times) = body_and_times(word);
+fn hash_of(alloc: Global, text: &str, times: u64) -> Result<String, AllocError> {
     let mut hasher = Sha256::new();
     for _ in 0..times.min(1 << 20) {
         hasher.update(text.as_bytes());
     }
-    let hash = hex::encode(alloc, hasher.finalize())?;
+    hex::encode(alloc, hasher.finalize())
+}
+
+// The members of a file of such a body: its name, its length and its SHA-256.
+fn push_file(
+    alloc: Global,
+    reply: &mut String,
+    name: &str,
+    word: &str,
+    end: &str,
+) -> Result<(), AllocError> {
+    let (text, times) = body_and_times(word);
+    let hash = hash_of(alloc, text, times)?;
     let (hash, size) = (hash.as_str(), times.saturating_mul(text.len() as u64));
-    format!(in alloc; r#""name{end}":"{name}","size{end}":{size},"hash{end}_sha256":"{hash}""#)
+    write!(
+        reply,
+        r#""name{end}":"{name}","size{end}":{size},"hash{end}_sha256":"{hash}""#
+    )
+}
+
+fn push_files(alloc: Global, reply: &mut String, words: &str) -> Result<(), AllocError> {
+    let (full, diff) = cut(words, ' ');
+    push_file(alloc, reply, "full.bin", full, "")?;
+    if diff.is_empty() {
+        return Ok(());
+    }
+    reply.push_str(",")?;
+    push_file(alloc, reply, "diff.bin", diff, "diff")
 }
 
 // The update check of an offer: its version, its fingerprint with the count, a full package and perhaps a
 // differential.
-fn offer(alloc: Global, words: &str, count: u64) -> Result<String, AllocError> {
+fn push_offer(
+    alloc: Global,
+    reply: &mut String,
+    words: &str,
+    count: u64,
+) -> Result<(), AllocError> {
     let (version, words) = cut(words, ' ');
     let (fp, words) = cut(words, ' ');
-    let (full, diff) = cut(words, ' ');
-    let mut files = file_members(alloc, "full.bin", full, "")?;
-    if !diff.is_empty() {
-        files.push_str(",")?;
-        files.push_str(file_members(alloc, "diff.bin", diff, "diff")?.as_str())?;
-    }
-    let files = files.as_str();
-    format!(in alloc;
-        r#"{{"status":"ok","urls":{{"url":[{{"codebase":"u/"}},{{"codebasediff":"d/"}}]}},"manifest":{{"version":"{version}","packages":{{"package":[{{"fp":"{fp}{count}",{files}}}]}}}}}}"#
+    write!(
+        reply,
+        r#"{{"status":"ok","urls":{{"url":[{{"codebase":"u/"}},{{"codebasediff":"d/"}}]}},"manifest":{{"version":"{version}","packages":{{"package":[{{"fp":"{fp}{count}","#
+    )?;
+    push_files(alloc, reply, words)?;
+    reply.push_str("}]}}}")
+}
+
+// What comes before the update check of a reply for `DEMO` with a cohort text.
+fn push_front(reply: &mut String, cohort: &str) -> Result<(), AllocError> {
+    write!(
+        reply,
+        r#")]}}'{{"response":{{"protocol":"3.1","app":[{{"appid":"DEMO","status":"ok","cohort":"{cohort}","updatecheck":"#
     )
 }
 
-// The reply for `DEMO` with a cohort text and an update check.
-fn known(alloc: Global, cohort: &str, check: &str) -> Result<String, AllocError> {
-    format!(in alloc;
-        r#")]}}'{{"response":{{"protocol":"3.1","app":[{{"appid":"DEMO","status":"ok","cohort":"{cohort}","updatecheck":{check}}}]}}}}"#
-    )
+// The reply with an offer `COHORT VERSION FP FULL [DIFF]`.
+fn push_offered(
+    alloc: Global,
+    reply: &mut String,
+    words: &str,
+    count: u64,
+) -> Result<(), AllocError> {
+    let (cohort, words) = cut(words, ' ');
+    let cohort = if cohort == "-" { "" } else { cohort };
+    push_front(reply, cohort)?;
+    push_offer(alloc, reply, words, count)?;
+    reply.push_str("}]}}")
+}
+
+// The reply with such a status of the update check.
+fn push_status(reply: &mut String, status: &str) -> Result<(), AllocError> {
+    push_front(reply, "")?;
+    write!(reply, r#"{{"status":"{status}"}}}}]}}}}"#)
 }
 
 // The bytes of a line: `offer COHORT VERSION FP FULL [DIFF]`, `check STATUS`, or any other bytes.
-fn reply_of(alloc: Global, line: &str, count: u64) -> Result<String, AllocError> {
+fn push_reply(alloc: Global, reply: &mut String, line: &str, count: u64) -> Result<(), AllocError> {
     let (verb, words) = cut(line, ' ');
     match verb {
-        "offer" => {
-            let (cohort, words) = cut(words, ' ');
-            let cohort = if cohort == "-" { "" } else { cohort };
-            let check = offer(alloc, words, count)?;
-            known(alloc, cohort, check.as_str())
-        }
-        "check" => {
-            let check = format!(in alloc; r#"{{"status":"{words}"}}"#)?;
-            known(alloc, "", check.as_str())
-        }
-        _ => String::from_str(alloc, line),
+        "offer" => push_offered(alloc, reply, words, count),
+        "check" => push_status(reply, words),
+        _ => reply.push_str(line),
     }
+}
+
+fn reply_of(alloc: Global, line: &str, count: u64) -> Result<String, AllocError> {
+    let mut reply = String::new(alloc);
+    push_reply(alloc, &mut reply, line, count)?;
+    Ok(reply)
 }
 
 impl<'a> Replies<'a> {

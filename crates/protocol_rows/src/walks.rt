@@ -1,48 +1,75 @@
 ghost use Rattle.std.specs.Prelude.{◌≡◌, []};
 
 use crate::link::Played;
+use crate::rows::{check, check_start};
 use crate::shelf::Shelf;
 use std::alloc::{AllocError, Global};
+use std::process::Abort;
 use std::test::Fail;
 use update_client::{Client, Fault, Walk};
 use values::{ReadError, Text};
 
-// A word, `-` for the empty string.
-fn string_of(alloc: Global, word: Option<&str>) -> Result<Text, AllocError> {
-    match word {
-        Some("-") => Text::copy_of(alloc, ""),
-        Some(word) => Text::copy_of(alloc, word),
-        None => Text::copy_of(alloc, ""),
+fn push_copy(alloc: Global, texts: &mut Vec<Text>, word: &str) -> Result<(), AllocError> {
+    let text = Text::copy_of(alloc, if word == "-" { "" } else { word })?;
+    texts.push(text)?;
+    Ok(())
+}
+
+// The words of a line, the last one first; `-` is the empty string.
+fn texts_of(alloc: Global, line: &str) -> Result<Vec<Text>, AllocError> {
+    let mut texts = Vec::new(alloc);
+    for word in line.rsplit(' ') {
+        push_copy(alloc, &mut texts, word)?;
     }
+    Ok(texts)
+}
+
+fn next_of(alloc: Global, texts: &mut Vec<Text>) -> Text {
+    match texts.pop() {
+        Some(text) => text,
+        None => Text::new(String::new(alloc)),
+    }
+}
+
+// A client of an app in a session: `APP SESSION VERSION FP COHORT`, and `down` if it allows a downgrade.
+fn client_of_line(alloc: Global, line: &str) -> Result<Client, AllocError> {
+    let mut texts = texts_of(alloc, line)?;
+    let app = next_of(alloc, &mut texts);
+    let session = next_of(alloc, &mut texts);
+    let version = next_of(alloc, &mut texts);
+    let fp = next_of(alloc, &mut texts);
+    let cohort = next_of(alloc, &mut texts);
+    let hint = Text::new(String::new(alloc));
+    let rollback = !texts.is_empty();
+    Ok(Client::new(app, version, fp, cohort, hint, rollback, session))
 }
 
 // A client of `demo`: `VERSION FP COHORT`, and `down` if it allows a downgrade.
 fn client_of(alloc: Global, line: &str) -> Result<Client, AllocError> {
-    let mut words = line.split(' ');
-    let version = string_of(alloc, words.next())?;
-    let fp = string_of(alloc, words.next())?;
-    let cohort = string_of(alloc, words.next())?;
-    let rollback = words.next().is_some();
-    let app = Text::copy_of(alloc, "demo")?;
-    let hint = Text::copy_of(alloc, "")?;
-    let session = Text::copy_of(alloc, "abc")?;
-    Ok(Client::new(app, version, fp, cohort, hint, rollback, session))
+    let line = format!(in alloc; "demo abc {line}")?;
+    client_of_line(alloc, line.as_str())
 }
 
-fn print_end(alloc: Global, walked: &Result<Walk, ReadError<Fault>>) -> Result<String, AllocError> {
+fn push_end(text: &mut String, walked: &Result<Walk, ReadError<Fault>>) -> Result<(), AllocError> {
     match walked {
         Ok(walk) => {
             let (steps, bytes) = (walk.steps, walk.bytes);
-            format!(in alloc; "{steps} steps {bytes} bytes")
+            write!(text, "{steps} steps {bytes} bytes")
         }
-        Err(ReadError::Fault(fault)) => format!(in alloc; "{fault}"),
+        Err(ReadError::Fault(fault)) => write!(text, "{fault}"),
         Err(ReadError::Memory) => Err(AllocError),
     }
 }
 
-fn print_client(alloc: Global, client: &Client) -> Result<String, AllocError> {
+fn push_client(text: &mut String, client: &Client) -> Result<(), AllocError> {
     let (version, fp, cohort) = (client.version(), client.fp(), client.cohort());
-    format!(in alloc; "{version} {fp} {cohort}")
+    write!(text, ", {version} {fp} {cohort}")
+}
+
+fn push_log(text: &mut String, link: &Played<'_>, shelf: &Shelf) -> Result<(), AllocError> {
+    let staged = shelf.staged.len();
+    let (opened, commits) = (link.log.as_str(), shelf.log.as_str());
+    write!(text, ", {staged}, {opened}, {commits}")
 }
 
 // How a walk ends, the client, how many bytes are staged, the addresses and the commits.
@@ -53,11 +80,11 @@ fn print_walk(
     link: &Played<'_>,
     shelf: &Shelf,
 ) -> Result<String, AllocError> {
-    let end = print_end(alloc, walked)?;
-    let place = print_client(alloc, client)?;
-    let (end, place, staged) = (end.as_str(), place.as_str(), shelf.staged.len());
-    let (opened, commits) = (link.log.as_str(), shelf.log.as_str());
-    format!(in alloc; "{end}, {place}, {staged}, {opened}, {commits}")
+    let mut text = String::new(alloc);
+    push_end(&mut text, walked)?;
+    push_client(&mut text, client)?;
+    push_log(&mut text, link, shelf)?;
+    Ok(text)
 }
 
 // A number of a line, or this one if there is none.
@@ -71,14 +98,14 @@ fn number_at(words: &str, index: usize, otherwise: u64) -> u64 {
 fn walk_over(
     alloc: Global,
     client: &mut Client,
-    mut link: Played<'_>,
-    mut shelf: Shelf,
+    link: &mut Played<'_>,
+    shelf: &mut Shelf,
 ) -> Result<String, AllocError>
-    requires { shelf.staged.items ≡ [] }
+    requires { shelf.old.staged.items ≡ [] }
 {
     let mut block = vec![in alloc; 0; 65536]?;
-    let walked = client.walk(alloc, &mut link, &mut shelf, &mut block);
-    print_walk(alloc, &walked, client, &link, &shelf)
+    let walked = client.walk(alloc, link, shelf, &mut block);
+    print_walk(alloc, &walked, client, link, shelf)
 }
 
 // What a walk of such a client comes to over such replies and bodies. The limits are the most bytes of a
@@ -93,28 +120,34 @@ fn play(
     let mut client = client_of(alloc, start)?;
     let piece = number_at(limits, 0, 65536).min(65536) as usize;
     let calls = number_at(limits, 1, u64::MAX);
-    let link = Played::new(alloc, replies, bodies, piece, calls);
-    let shelf = Shelf::new(alloc, number_at(limits, 2, u64::MAX));
-    walk_over(alloc, &mut client, link, shelf)
+    let mut link = Played::new(alloc, replies, bodies, piece, calls);
+    let mut shelf = Shelf::new(alloc, number_at(limits, 2, u64::MAX));
+    walk_over(alloc, &mut client, &mut link, &mut shelf)
 }
 
-// The first row `START | REPLIES | BODIES | LIMITS = WANT` whose walk comes to something else.
-fn first_wrong(alloc: Global, rows: &str) -> Result<String, AllocError> {
+// `START | REPLIES | BODIES | LIMITS`
+fn play_row(alloc: Global, row: &str) -> Result<String, AllocError> {
+    let mut parts = row.split(" | ");
+    let start = parts.next().unwrap_or("");
+    let replies = parts.next().unwrap_or("");
+    let bodies = parts.next().unwrap_or("");
+    let limits = parts.next().unwrap_or("");
+    play(alloc, start, replies, bodies, limits)
+}
+
+fn check_row(rt: &impl Abort, alloc: Global, row: &str) -> Result<(), AllocError> {
+    let (given, want) = row.split_once(" = ").unwrap_or((row, ""));
+    let got = play_row(alloc, given)?;
+    check(rt, got.as_str(), want, row);
+    Ok(())
+}
+
+// Asserts that the walk of each row `START | REPLIES | BODIES | LIMITS = WANT` comes to that.
+fn check_rows(rt: &impl Abort, alloc: Global, rows: &str) -> Result<(), AllocError> {
     for row in rows.lines() {
-        let Some((given, want)) = row.split_once(" = ") else {
-            return format!(in alloc; "no row: {row}");
-        };
-        let mut parts = given.split(" | ");
-        let start = parts.next().unwrap_or("");
-        let replies = parts.next().unwrap_or("");
-        let bodies = parts.next().unwrap_or("");
-        let limits = parts.next().unwrap_or("");
-        let got = play(alloc, start, replies, bodies, limits)?;
-        if got.as_str() != want {
-            return format!(in alloc; "{got} in place of {row}");
-        }
+        check_row(rt, alloc, row)?;
     }
-    Ok(String::new(alloc))
+    Ok(())
 }
 
 const WALKS: &str =
@@ -126,8 +159,7 @@ const WALKS: &str =
 
 #[test]
 fn installs_what_is_offered(rt: HostRuntime) -> Result<(), Fail> {
-    let wrong = first_wrong(rt.alloc(), WALKS)?;
-    assert!(rt; wrong.is_empty(), "{wrong}");
+    check_rows(&rt, rt.alloc(), WALKS)?;
     Ok(())
 }
 
@@ -156,8 +188,7 @@ const FAULTS: &str = r#"1.0 a s | 1 {} |  |  = U2 Reply, 1.0 a s, 0, ,
 
 #[test]
 fn reports_each_fault(rt: HostRuntime) -> Result<(), Fail> {
-    let wrong = first_wrong(rt.alloc(), FAULTS)?;
-    assert!(rt; wrong.is_empty(), "{wrong}");
+    check_rows(&rt, rt.alloc(), FAULTS)?;
     Ok(())
 }
 
@@ -179,31 +210,30 @@ const FAILED_CALLS: &str =
 
 #[test]
 fn keeps_its_last_commit_at_each_failed_call(rt: HostRuntime) -> Result<(), Fail> {
-    let wrong = first_wrong(rt.alloc(), FAILED_CALLS)?;
-    assert!(rt; wrong.is_empty(), "{wrong}");
+    check_rows(&rt, rt.alloc(), FAILED_CALLS)?;
     Ok(())
 }
 
-// Whether a walk of so many offers and then none comes to an end that begins so.
-fn ends_so(alloc: Global, replies: &str, want: &str) -> Result<bool, AllocError> {
+// Asserts that a walk of so many offers and then none comes to an end that begins so.
+fn check_walk(rt: &impl Abort, alloc: Global, replies: &str, want: &str) -> Result<(), AllocError> {
     let line = play(alloc, "1.0 a s", replies, "abc", "")?;
-    Ok(line.as_str().starts_with(want))
+    check_start(rt, line.as_str(), want);
+    Ok(())
 }
 
 #[test]
 fn makes_at_most_1024_steps(rt: HostRuntime) -> Result<(), Fail> {
-    let alloc = rt.alloc();
-    let whole = ends_so(
-        alloc,
+    check_walk(
+        &rt,
+        rt.alloc(),
         "1024 offer t 2.0 b- abc;1 check noupdate",
         "1024 steps 3072 bytes, 2.0 b-0 t,",
     )?;
-    assert!(rt; whole);
-    let long = ends_so(
-        alloc,
+    check_walk(
+        &rt,
+        rt.alloc(),
         "1025 offer t 2.0 b- abc;1 check noupdate",
         "U7 TooManySteps, 2.0 b-1 t,",
     )?;
-    assert!(rt; long);
     Ok(())
 }

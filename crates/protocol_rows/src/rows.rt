@@ -1,0 +1,36 @@
+// Rows of text, and what is found for them.
+
+use std::alloc::{AllocError, Global};
+use std::process::Abort;
+
+/// A string between two others.
+pub(crate) fn between(
+    alloc: Global,
+    front: &str,
+    middle: &str,
+    back: &str,
+) -> Result<String, AllocError> {
+    format!(in alloc; "{front}{middle}{back}")
+}
+
+/// The parts of a row before and after its first space; without one the second part is empty.
+pub(crate) fn two_words(row: &str) -> (&str, &str) {
+    row.split_once(' ').unwrap_or((row, ""))
+}
+
+/// The parts of a row of two such.
+pub(crate) fn three_words(row: &str) -> (&str, &str, &str) {
+    let (first, others) = two_words(row);
+    let (second, third) = two_words(others);
+    (first, second, third)
+}
+
+/// Asserts that what is found for a row is what it wants.
+pub(crate) fn check(rt: &impl Abort, found: &str, want: &str, row: &str) {
+    assert_eq!(rt; found, want, "{row}");
+}
+
+/// Asserts that what is found begins so.
+pub(crate) fn check_start(rt: &impl Abort, found: &str, want: &str) {
+    assert!(rt; found.starts_with(want), "{found}");
+}
