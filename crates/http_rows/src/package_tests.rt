@@ -3,7 +3,7 @@ ghost use Rattle.std.specs.Prelude.{◌≡◌, length};
 use crate::devices::Kept;
 use http_desks::{Packages, send_package};
 use http_wire::Failed;
-use std::test::Fail;
+use std::alloc::Global;
 
 // SHA-256 of a million bytes `a`, as NIST's examples of FIPS 180 have it.
 const MILLION: [u8; 32] = [
@@ -37,29 +37,41 @@ impl Packages for Letters {
     }
 }
 
-// Sends a package of letters, of which so many can be read; returns how much was sent, and how that ended.
+// Sends a package of letters, of which so many can be read; returns how that ended.
 fn send_letters(
     sink: &mut Kept,
     block: &mut [u8],
     size: u64,
     readable: u64,
     hash: &[u8],
-) -> (usize, &'static str)
+) -> &'static str
     requires { length block.old ≡ 65536 }
 {
     let packages = Letters { readable };
-    let end = match send_package(sink, block, &packages, b"a.bin", size, hash) {
+    match send_package(sink, block, &packages, b"a.bin", size, hash) {
         Ok(true) => "whole",
         Ok(false) => "cut",
         Err(_) => "failed",
-    };
-    (sink.bytes.len(), end)
+    }
+}
+
+// How much of a package is sent to a sink whose first writes don't fail, and how that ends.
+fn send(
+    alloc: Global,
+    good: usize,
+    size: u64,
+    readable: u64,
+    hash: &[u8],
+) -> Option<(usize, &'static str)> {
+    let mut block = vec![in alloc; 0; 65536].ok()?;
+    let mut sink = Kept::new(alloc, 65536, good);
+    let end = send_letters(&mut sink, &mut block, size, readable, hash);
+    Some((sink.bytes.len(), end))
 }
 
 // A row is the size of a package whose digest is another, and how much of it is sent.
 #[test]
-fn cuts_a_package_of_another_digest(rt: HostRuntime) -> Result<(), Fail> {
-    let mut block = vec![in rt.alloc(); 0; 65536]?;
+fn cuts_a_package_of_another_digest(rt: HostRuntime) {
     let rows = [
         (1000000, 983040),
         (1048576, 983040),
@@ -68,45 +80,37 @@ fn cuts_a_package_of_another_digest(rt: HostRuntime) -> Result<(), Fail> {
         (3, 0),
     ];
     for (size, sent) in rows {
-        let mut sink = Kept::new(rt.alloc(), 65536, usize::MAX);
-        let ended = send_letters(&mut sink, &mut block, size, size, &[0; 32]);
-        assert!(rt; ended == (sent, "cut"), "{size} bytes");
+        let ended = send(rt.alloc(), usize::MAX, size, size, &[0; 32]);
+        assert!(rt; ended == Some((sent, "cut")), "{size} bytes");
     }
-    Ok(())
 }
 
 // A row is how many of a million letters can be read, how many are sent, and how that ends.
 #[test]
-fn cuts_a_package_that_cannot_be_read(rt: HostRuntime) -> Result<(), Fail> {
-    let mut block = vec![in rt.alloc(); 0; 65536]?;
+fn cuts_a_package_that_cannot_be_read(rt: HostRuntime) {
     let rows = [
-        (1000000, (1000000, "whole")),
-        (983040, (983040, "cut")),
-        (65536, (65536, "cut")),
-        (0, (0, "cut")),
+        (1000000, 1000000, "whole"),
+        (983040, 983040, "cut"),
+        (65536, 65536, "cut"),
+        (0, 0, "cut"),
     ];
-    for (readable, wanted) in rows {
-        let mut sink = Kept::new(rt.alloc(), 65536, usize::MAX);
-        let ended = send_letters(&mut sink, &mut block, 1000000, readable, &MILLION);
-        assert!(rt; ended == wanted, "{readable} bytes");
+    for (readable, sent, end) in rows {
+        let ended = send(rt.alloc(), usize::MAX, 1000000, readable, &MILLION);
+        assert!(rt; ended == Some((sent, end)), "{readable} bytes");
     }
-    Ok(())
 }
 
 // A row is how many writes don't fail, how many of a million letters are sent, and how that ends.
 #[test]
-fn sends_a_first_part_where_a_write_fails(rt: HostRuntime) -> Result<(), Fail> {
-    let mut block = vec![in rt.alloc(); 0; 65536]?;
+fn sends_a_first_part_where_a_write_fails(rt: HostRuntime) {
     let rows = [
-        (0, (0, "failed")),
-        (3, (196608, "failed")),
-        (15, (983040, "failed")),
-        (16, (1000000, "whole")),
+        (0, 0, "failed"),
+        (3, 196608, "failed"),
+        (15, 983040, "failed"),
+        (16, 1000000, "whole"),
     ];
-    for (good, wanted) in rows {
-        let mut sink = Kept::new(rt.alloc(), 65536, good);
-        let ended = send_letters(&mut sink, &mut block, 1000000, 1000000, &MILLION);
-        assert!(rt; ended == wanted, "{good} writes");
+    for (good, sent, end) in rows {
+        let ended = send(rt.alloc(), good, 1000000, 1000000, &MILLION);
+        assert!(rt; ended == Some((sent, end)), "{good} writes");
     }
-    Ok(())
 }
