@@ -2,6 +2,8 @@
 #                    proof; after make install it also starts the server
 # make test          the gate: the rules' marks, the words to avoid, every proof from nothing, must-fail
 #                    edits, tests and the program
+# make mutants CRATE..  tries the edits that the gate doesn't, of these crates or of all; the prover
+#                    must reject each
 # make commands      runs the commands on the profiles of examples/, and verifies each track's
 #                    certificate; the program is built without a proof
 # make serving       tests the server and the walk, after make install, over the loopback
@@ -15,7 +17,15 @@
 
 PREFIX ?= /usr/local
 
-.PHONY: demo test commands serving install allocations bench load instructions
+JOBS ?= $(shell nproc)
+
+# what follows `mutants` are names of crates, and no targets
+ifeq (mutants,$(firstword $(MAKECMDGOALS)))
+CRATES := $(wordlist 2,$(words $(MAKECMDGOALS)),$(MAKECMDGOALS))
+$(eval $(CRATES):;@:)
+endif
+
+.PHONY: demo test mutants commands serving install allocations bench load instructions $(CRATES)
 
 demo:
 	@examples/demo.py
@@ -25,6 +35,9 @@ test:
 	tests/words.py
 	rt ci
 
+mutants:
+	tests/mutants.py $(CRATES)
+
 commands:
 	tests/commands.py
 
@@ -33,6 +46,8 @@ serving:
 	tests/walk.py
 
 install:
+	@echo "proves the libraries of the program, $(JOBS) side by side; this takes some 40 minutes on four processors"
+	cd crates/omaha && rt all check --jobs $(JOBS)
 	cd crates/omaha && rt run < stdin
 	install -d $(DESTDIR)$(PREFIX)/bin
 	install -m 755 crates/omaha/out/omaha $(DESTDIR)$(PREFIX)/bin/omaha

@@ -1,14 +1,19 @@
 #!/usr/bin/env python3
 """Checks the marks of the rules, and prints where each rule lives.
 
-A rule has one plain name. A comment `-- rule: NAME` is above the definition that states it, in a
-file of `specs/`; `// rule: NAME` above each function that keeps it; and a line `# rule: NAME` in each
-edit that breaks it, in the crate's `must-fail/` or in `mutants/CRATE/`. Every rule needs exactly one
-definition, a function and an edit, and a heading in `docs/DEFINITIONS.md` that names the definition's
-file and crate; the few that no edit of one line can break are listed below with the reason.
+A rule has one plain name, which is a heading in `docs/definitions/`. Its marks name it:
+- `-- rule: NAME` above the definition that states it, in a file of `specs/`;
+- `// rule: NAME` above each function that keeps it, in a file of `src/`;
+- `// rule: NAME` above a test that shows it, or above the test's helper, in a crate whose name ends in `_rows`;
+- `# rule: NAME` in each edit that breaks it, in the crate's `must-fail/` or in `mutants/CRATE/`.
 
-`tests/rules.py` checks the marks; `tests/rules.py --table` prints the table "Where a rule lives":
-the rule, its definition, its functions, its edits and the files of their proofs.
+Every rule needs exactly one definition, a function, a test and an edit, and its heading must name the definition with its
+file and crate. The rules without a test or an edit are listed below with the reason.
+
+    tests/rules.py            checks the marks, and that the index is the one that they give
+    tests/rules.py NAME       prints where a rule is: its heading, definition, functions, tests and edits, with their paths
+    tests/rules.py --table    prints the table of all rules
+    tests/rules.py --index    writes that table, in short, into the index `docs/definitions/README.md`
 """
 
 import os
@@ -18,6 +23,8 @@ import sys
 TOP = os.path.dirname(os.path.dirname(os.path.abspath(__file__)))
 CRATES = os.path.join(TOP, "crates")
 MUTANTS = os.path.join(TOP, "mutants")
+HEADINGS = os.path.join(TOP, "docs", "definitions")
+INDEX = os.path.join(HEADINGS, "README.md")
 
 # Rules that no edit shows, and why.
 NO_EDIT = {
@@ -34,17 +41,45 @@ NO_EDIT = {
     "Walk over one catalogue": "a law, and no code of this repository",
 }
 
+# Whether each rule must have the mark of a test; False as long as the crates of tests have no marks.
+TESTS_ARE_MARKED = False
+
+# Rules that no test shows, and why.
+NO_TEST = {
+    "Entries of a trace": "contracts alone see them",
+    "Reply to an ask": "its parts are rules of their own",
+    "Settled rows": "they are of a table that is not full yet, which no caller sees",
+}
+
 MARK = re.compile(r"^\s*(?:--|//|#) rule: (.+?)\s*$")
 DEFINITION = re.compile(r"^\s*(?:abbrev pub|unfoldable pub|pub record|pub data|abbrev|record|pub)\s+([\w◌-]+)")
-FUNCTION = re.compile(r"^\s*(?:pub(?:\([a-z]+\))? )?(?:const )?fn (\w+)|^\s*impl.* for (\w+)|^\s*(?:pub(?:\([a-z]+\))? )?(?:struct|enum|trait) (\w+)|^\s*(?:pub )?const (\w+)")
+FUNCTION = re.compile(
+    r"^\s*(?:pub(?:\([a-z]+\))? )?(?:const )?fn (\w+)|^\s*impl.* for (\w+)"
+    r"|^\s*(?:pub(?:\([a-z]+\))? )?(?:struct|enum|trait) (\w+)|^\s*(?:pub )?const (\w+)"
+)
 
 
-def files(crate, folder, suffix):
-    yield from files_below(os.path.join(CRATES, crate, folder), suffix)
+class Place:
+    """A marked item: its crate, its name, and its file from the top with the line."""
+
+    def __init__(self, crate, name, path, line):
+        self.crate, self.name = crate, name
+        self.path, self.line = os.path.relpath(path, TOP), line
+
+    def __str__(self):
+        return f"{self.path}:{self.line}: {self.name}"
+
+
+class Rule:
+    """The items that bear the mark of a rule."""
+
+    def __init__(self):
+        self.definitions, self.functions, self.tests, self.edits = [], [], [], []
 
 
 def files_below(folder, suffix):
-    for path, _, names in os.walk(folder):
+    for path, below, names in os.walk(folder):
+        below.sort()
         for name in sorted(names):
             if name.endswith(suffix):
                 yield os.path.join(path, name)
@@ -52,86 +87,200 @@ def files_below(folder, suffix):
 
 def edits_of(crate):
     """The edits of a crate: those that the gate tries, then those that `make mutants` tries."""
-    yield from files(crate, "must-fail", ".edit")
+    yield from files_below(os.path.join(CRATES, crate, "must-fail"), ".edit")
     yield from files_below(os.path.join(MUTANTS, crate), ".edit")
 
 
 def marks(path, item):
-    """The rules marked in a file, each with the name of the item below the mark."""
+    """The rules marked in a file, each with the name and the line of the item below the mark."""
     with open(path, encoding="utf-8") as file:
         lines = file.read().split("\n")
     for number, line in enumerate(lines):
         found = MARK.match(line)
         if not found:
             continue
-        name = ""
-        for below in lines[number + 1 : number + 40]:
-            matched = item.match(below) if item else None
+        name, at = "", number + 1
+        for below in range(number + 1, min(number + 40, len(lines))):
+            matched = item.match(lines[below]) if item else None
             if matched:
-                name = next(group for group in matched.groups() if group)
+                name, at = next(group for group in matched.groups() if group), below + 1
                 break
-        yield found.group(1), name
+        yield found.group(1), name, at
 
 
-def proof_of(crate, name):
-    """The folder of proof files of a function, if it has one."""
-    for path, _, names in os.walk(os.path.join(CRATES, crate, "proofs")):
-        if os.path.basename(path) == name and any(n.endswith(".antt") for n in names):
-            return os.path.relpath(path, os.path.join(CRATES, crate))
-    return "by search"
+def read_rules():
+    """Each rule that is marked somewhere, by its name."""
+    rules = {}
+    for crate in sorted(os.listdir(CRATES)):
+        for path in files_below(os.path.join(CRATES, crate, "specs"), ".antt"):
+            for rule, name, line in marks(path, DEFINITION):
+                rules.setdefault(rule, Rule()).definitions.append(Place(crate, name, path, line))
+        for path in files_below(os.path.join(CRATES, crate, "src"), ".rt"):
+            for rule, name, line in marks(path, FUNCTION):
+                entry = rules.setdefault(rule, Rule())
+                (entry.tests if crate.endswith("_rows") else entry.functions).append(Place(crate, name, path, line))
+        for path in edits_of(crate):
+            for rule, _, line in marks(path, None):
+                edit = os.path.basename(path).removesuffix(".edit")
+                rules.setdefault(rule, Rule()).edits.append(Place(crate, edit, path, line))
+    return rules
 
 
 def sections():
-    """The paragraphs below each heading of docs/DEFINITIONS.md, on one line."""
-    with open(os.path.join(TOP, "docs", "DEFINITIONS.md"), encoding="utf-8") as file:
-        parts = re.split(r"(?m)^## (.+)$", file.read())
-    return {name: " ".join(text.split()) for name, text in zip(parts[1::2], parts[2::2])}
+    """The headings of `docs/definitions/`: for each its place, and the paragraphs below it on one line."""
+    found = {}
+    for path in files_below(HEADINGS, ".md"):
+        if path == INDEX:
+            continue
+        with open(path, encoding="utf-8") as file:
+            parts = re.split(r"(?m)^## (.+)$", file.read())
+        line = parts[0].count("\n") + 1
+        for name, text in zip(parts[1::2], parts[2::2]):
+            found[name] = Place("", name, path, line), " ".join(text.split())
+            line += text.count("\n")
+    return found
 
 
-def is_named(text, definition):
-    """Whether a section names the file and the crate of a definition."""
-    crate, name = definition.split(": ")
-    file = "`specs/" + name.rpartition(".")[0].replace(".", "/") + ".antt`"
-    return file in text and f"`{crate}`" in text.partition(file)[2]
+def module_of(place):
+    """The file of a definition, as its heading names it."""
+    return place.path.removeprefix(f"crates/{place.crate}/")
+
+
+def is_named(text, place):
+    """Whether a section names a definition, its file and, after that, its crate."""
+    file = f"`{module_of(place)}`"
+    return f"`{place.name}`" in text and file in text and f"`{place.crate}`" in text.partition(file)[2]
+
+
+def faults_of(rules, headings):
+    """What the rules lack, a line each."""
+    for name in rules:
+        if name not in headings:
+            yield f"{name}: no heading in docs/definitions/"
+    for name, rule in sorted(rules.items()):
+        if len(rule.definitions) != 1:
+            yield f"{name}: {len(rule.definitions)} definitions: {', '.join(map(str, rule.definitions))}"
+        for place in rule.definitions:
+            if name in headings and not is_named(headings[name][1], place):
+                yield f"{name}: its heading doesn't name {place.name} in {module_of(place)} of {place.crate}"
+        if not rule.functions:
+            yield f"{name}: no function"
+        if not rule.edits and name not in NO_EDIT:
+            yield f"{name}: no edit"
+        if TESTS_ARE_MARKED and not rule.tests and name not in NO_TEST:
+            yield f"{name}: no test"
+    for name in sorted((set(NO_EDIT) | set(NO_TEST)) - set(rules)):
+        yield f"{name}: excepted, and no rule"
+
+
+def in_crate(place):
+    return f"`{place.crate}`: `{place.name}`"
+
+
+def first_of(places, shown):
+    """The first of several items, and how many more there are."""
+    more = f", +{len(places) - 1}" if len(places) > 1 else ""
+    return shown(places[0]) + more if places else "–"
+
+
+def anchor_of(name):
+    return re.sub(r"[^\w -]", "", name.lower()).replace(" ", "-")
+
+
+def index_of(rules, headings):
+    """The rows of the index."""
+    yield "| Rule | Definition | Function | Test | Edit |"
+    yield "|---|---|---|---|---|"
+    for name, rule in sorted(rules.items(), key=lambda entry: entry[0].lower()):
+        if name not in headings:
+            continue
+        file = os.path.basename(headings[name][0].path)
+        cells = [
+            f"[{name}]({file}#{anchor_of(name)})",
+            first_of(rule.definitions, lambda place: f"`{place.crate}/{module_of(place)}`: `{place.name}`"),
+            first_of(rule.functions, in_crate),
+            first_of(rule.tests, in_crate),
+            first_of(rule.edits, lambda edit: f"`{edit.path.removeprefix('crates/').removesuffix('.edit')}`"),
+        ]
+        yield "| " + " | ".join(cells) + " |"
+
+
+def table_of(rules):
+    """The rows of the table of all rules, with every item."""
+    yield "| Rule | Definition | Function | Test | Edit |"
+    yield "|---|---|---|---|---|"
+    for name, rule in sorted(rules.items(), key=lambda entry: entry[0].lower()):
+        cells = [
+            ", ".join(f"{place.path}: {place.name}" for place in rule.definitions),
+            ", ".join(f"{place.crate}: {place.name}" for place in rule.functions),
+            ", ".join(f"{place.crate}: {place.name}" for place in rule.tests) or "–",
+            ", ".join(edit.path for edit in rule.edits) or "–",
+        ]
+        yield "| " + " | ".join([name, *cells]) + " |"
+
+
+def read_index():
+    """The lines of the index's file before its table, and the table."""
+    with open(INDEX, encoding="utf-8") as file:
+        lines = file.read().splitlines()
+    start = next((number for number, line in enumerate(lines) if line.startswith("| Rule ")), len(lines))
+    return lines[:start], lines[start:]
+
+
+def write_index(rules, headings):
+    before, _ = read_index()
+    with open(INDEX, "w", encoding="utf-8") as file:
+        file.write("\n".join([*before, *index_of(rules, headings)]) + "\n")
+
+
+def headings_near(asked, headings):
+    """The headings that have the asked words; else those whose paragraphs have the phrase, else the words."""
+    phrase, words = asked.lower(), asked.lower().split()
+    texts = {name: text.lower() for name, (_, text) in headings.items()}
+    return (
+        [name for name in headings if all(word in name.lower() for word in words)]
+        or [name for name in headings if phrase in texts[name]]
+        or [name for name in headings if all(word in texts[name] for word in words)]
+    )
+
+
+def print_rule(asked, rules, headings):
+    """Prints where a rule or a heading is; if there is none of that name, the headings that speak of it."""
+    named = [name for name in headings if name.lower() == asked.lower()]
+    if not named:
+        print(f"no rule {asked}; see")
+        for name in headings_near(asked, headings):
+            print(f"  {headings[name][0]}")
+        return 1
+    name = named[0]
+    print(f"{name}\n  heading     {headings[name][0].path}:{headings[name][0].line}")
+    rule = rules.get(name, Rule())
+    kinds = [("definition", rule.definitions), ("function", rule.functions), ("test", rule.tests), ("edit", rule.edits)]
+    for kind, places in kinds:
+        for place in places:
+            print(f"  {kind:<11} {place}")
+    return 0
 
 
 def main():
-    rules = {}
-    for crate in sorted(os.listdir(CRATES)):
-        for path in files(crate, "specs", ".antt"):
-            module = os.path.relpath(path, os.path.join(CRATES, crate, "specs"))[:-5].replace("/", ".")
-            for rule, name in marks(path, DEFINITION):
-                rules.setdefault(rule, ([], [], [], []))[0].append(f"{crate}: {module}.{name}")
-        for path in files(crate, "src", ".rt"):
-            for rule, name in marks(path, FUNCTION):
-                entry = rules.setdefault(rule, ([], [], [], []))
-                entry[1].append(f"{crate}: {name}")
-                entry[3].append(proof_of(crate, name))
-        for path in edits_of(crate):
-            for rule, _ in marks(path, None):
-                edit = os.path.basename(path)[:-5]
-                rules.setdefault(rule, ([], [], [], []))[2].append(edit)
-    headings = sections()
-    wrong = [f"{rule}: no heading in docs/DEFINITIONS.md" for rule in sorted(rules) if rule not in headings]
-    for rule, (definitions, functions, edits, _) in sorted(rules.items()):
-        if len(definitions) != 1:
-            wrong.append(f"{rule}: {len(definitions)} definitions: {', '.join(definitions)}")
-        for definition in definitions:
-            if not is_named(headings.get(rule, ""), definition):
-                wrong.append(f"{rule}: its heading doesn't name the file of {definition}")
-        if not functions:
-            wrong.append(f"{rule}: no function")
-        if not edits and rule not in NO_EDIT:
-            wrong.append(f"{rule}: no edit")
-    if "--table" in sys.argv[1:]:
-        print("| Rule | Definition | Function | Edits | Proof |\n|---|---|---|---|---|")
-        for rule, (definitions, functions, edits, proofs) in sorted(rules.items()):
-            shown = (rule, ", ".join(definitions), ", ".join(functions), ", ".join(edits) or "–")
-            print("| " + " | ".join(shown) + " | " + ", ".join(dict.fromkeys(proofs)) + " |")
+    rules, headings = read_rules(), sections()
+    words = sys.argv[1:]
+    if words == ["--table"]:
+        print("\n".join(table_of(rules)))
+        return 0
+    if words == ["--index"]:
+        write_index(rules, headings)
+        return 0
+    if words:
+        return print_rule(" ".join(words), rules, headings)
+    wrong = list(faults_of(rules, headings))
+    if read_index()[1] != list(index_of(rules, headings)):
+        wrong.append("docs/definitions/README.md: not the index of these marks: run `tests/rules.py --index`")
     for line in wrong:
         print(f"tests/rules.py: {line}", file=sys.stderr)
     if not wrong:
-        print(f"{len(rules)} rules have their heading, definition, function and edit")
+        shown = "function, test and edit" if TESTS_ARE_MARKED else "function and edit"
+        print(f"{len(rules)} rules have their heading, definition, {shown}")
     return 1 if wrong else 0
 
 

@@ -64,10 +64,15 @@ FIXED = re.compile(r"\banswer(s|ing)?\b|\bcohort texts?\b|^text$|\bbad entry\b|\
 
 
 def names(text, pattern):
-    """The names that a file gives: the number of each line, and the words of the name that are not fixed."""
+    """The names that a file gives: the number of each line, and the words of the name that are not fixed.
+
+    A name that begins with `MOST_` or `most_` is given whole: its words alone would not be found.
+    """
     for found in pattern.finditer(text):
-        words = " ".join(PART.findall(found.group(1))).lower()
-        yield text.count("\n", 0, found.start(1)) + 1, FIXED.sub("", words)
+        name = found.group(1)
+        words = " ".join(PART.findall(name)).lower()
+        line = text.count("\n", 0, found.start(1)) + 1
+        yield line, name if name.lower().startswith("most_") else FIXED.sub("", words)
 
 
 def comments(text, pattern):

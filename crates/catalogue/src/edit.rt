@@ -50,17 +50,17 @@ impl Clone for Edit {
 
     fn clone(&self) -> Result<Edit, AllocError> {
         match self {
-            Edit::AddApp(edit) => Ok(Edit::AddApp(edit.clone()?)),
-            Edit::AddRelease(edit) => Ok(Edit::AddRelease(edit.clone()?)),
-            Edit::AddDiff(edit) => Ok(Edit::AddDiff(edit.clone()?)),
-            Edit::SetStone(edit) => Ok(Edit::SetStone(edit.clone()?)),
-            Edit::SetWithdrawn(edit) => Ok(Edit::SetWithdrawn(edit.clone()?)),
-            Edit::SetAudience(edit) => Ok(Edit::SetAudience(edit.clone()?)),
-            Edit::AddCohort(edit) => Ok(Edit::AddCohort(edit.clone()?)),
-            Edit::SetTarget(edit) => Ok(Edit::SetTarget(edit.clone()?)),
-            Edit::SetShare(edit) => Ok(Edit::SetShare(edit.clone()?)),
-            Edit::SetRollback(edit) => Ok(Edit::SetRollback(edit.clone()?)),
-            Edit::SetOpen(edit) => Ok(Edit::SetOpen(edit.clone()?)),
+            Edit::AddApp(edit) => edit.clone().map(Edit::AddApp),
+            Edit::AddRelease(edit) => edit.clone().map(Edit::AddRelease),
+            Edit::AddDiff(edit) => edit.clone().map(Edit::AddDiff),
+            Edit::SetStone(edit) => edit.clone().map(Edit::SetStone),
+            Edit::SetWithdrawn(edit) => edit.clone().map(Edit::SetWithdrawn),
+            Edit::SetAudience(edit) => edit.clone().map(Edit::SetAudience),
+            Edit::AddCohort(edit) => edit.clone().map(Edit::AddCohort),
+            Edit::SetTarget(edit) => edit.clone().map(Edit::SetTarget),
+            Edit::SetShare(edit) => edit.clone().map(Edit::SetShare),
+            Edit::SetRollback(edit) => edit.clone().map(Edit::SetRollback),
+            Edit::SetOpen(edit) => edit.clone().map(Edit::SetOpen),
         }
     }
 }

@@ -30,3 +30,4 @@ pub use crate::edits::releases::AddRelease;
 pub use crate::fault::{ApplyError, Fault, Refused};
 pub use records::form::is_cohort_name;
 pub use records::{App, Cohort, Declared, Diff, Mirror, Release};
+pub use version::Version;

@@ -15,14 +15,14 @@ use Rattle.editions.specs.declared.fault.NextError.TheVariants as error
 
 -- rule: Room for 4096 batches
 -- an edition's maximal number of batches
-abbrev pub most_batches : ℕ
-most_batches = 4096
+abbrev pub max_batches : ℕ
+max_batches = 4096
 
 -- rule: Tables of an edition
 -- an edition: its batches are not too many and lead to its catalogue's content, and its tables are those
 -- of that content
 pub record IsSound (history : History) (apps : List App) (tables : List Certificate) : Type 0 where
-  pub few : length history ≤ most_batches
+  pub few : length history ≤ max_batches
   pub led : LeadsTo history apps
   pub priced : AreTables apps tables
 
@@ -41,10 +41,10 @@ IsAccepted history batch = IsOk (outcome_after history batch)
 -- out of memory
 abbrev pub Continues : History → List Edit → Result History NextError → Type 0
 Continues history batch (Ok next) =
-    IsAccepted history batch × (length history < most_batches) × (next ≡ history ++ batch ∷ [])
+    IsAccepted history batch × (length history < max_batches) × (next ≡ history ++ batch ∷ [])
 Continues history batch (Err (error.Refused refused)) = outcome_after history batch ≡ Err refused
 Continues history batch (Err error.HistoryFull) =
-    IsAccepted history batch × (length history ≡ most_batches)
+    IsAccepted history batch × (length history ≡ max_batches)
 Continues history batch (Err error.Memory) = Unit {0}
 
 -- the content, if there is one

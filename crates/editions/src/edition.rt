@@ -3,7 +3,7 @@ ghost use Rattle.std.specs.Arc.{arc_value};
 ghost use Rattle.catalogue_laws.specs.Histories.{LeadsTo};
 ghost use Rattle.par_tables.specs.Tables.{AreTables};
 ghost use Rattle.payload_graph.specs.Net.{net_among};
-ghost use Rattle.editions.specs.Editions.{content_of, most_batches, Continues, IsTrackKey};
+ghost use Rattle.editions.specs.Editions.{content_of, max_batches, Continues, IsTrackKey};
 
 use crate::fault::NextError;
 use catalogue::{Batch, Catalogue};
@@ -75,7 +75,7 @@ impl Edition {
     /// Counts the batches, at most 4096.
     pub fn number(&self) -> u64
         ensures count { result ≡ length self.now }
-        ensures few { length self.now ≤ most_batches }
+        ensures few { length self.now ≤ max_batches }
     {
         self.batches.len() as u64
     }

@@ -7,7 +7,7 @@ pub(crate) const EDITS: [(&str, &str); 17] = [
 Found in: an edit of a profile.
 An edit names an app that isn't there when the edit's turn comes.
 Usual cause: A typing mistake in `app`, or an edit before the one that adds the app.
-Remedy: Correct the identifier (its case makes no difference), or move the edit behind `add_app`.
+Remedy: Correct the identifier (its case makes no difference), or move the edit after `add_app`.
 ",
     ),
     (
@@ -33,7 +33,7 @@ Remedy: Choose an identifier of visible ASCII characters without spaces.
         "C4 BadVersion
 Found in: an edit of a profile.
 A version is not one to four decimal numbers with dots, each below 2^32.
-Usual cause: A leading zero (`1.02`), a suffix (`1.0-beta`), or a `v` in front.
+Usual cause: A leading zero (`1.02`), a suffix (`1.0-beta`), or a leading `v`.
 Remedy: Write the version as `1.2.3.4`, with at most four numbers and no leading zeros.
 ",
     ),
@@ -60,7 +60,7 @@ Remedy: Build the package anew for the new version, or remove one of the release
         "C7 BadHash
 Found in: an edit of a profile.
 A `sha256` is not 64 lower-case hexadecimal digits.
-Usual cause: Upper-case digits, a digest of another kind, or text around it.
+Usual cause: Upper-case digits, a digest of another kind, or characters around it.
 Remedy: Use what `sha256sum FILE` prints before the name.
 ",
     ),
@@ -79,7 +79,7 @@ Remedy: Use what `stat -c %s FILE` prints.
 Found in: an edit of a profile.
 A package or cohort name has another form than it must.
 Usual cause: A slash or a space in a package's name, or a capital in a cohort's.
-Remedy: Packages: 1 to 128 of A-Z a-z 0-9 . _ - and no dot in front. Cohorts: 1 to 32 of a-z 0-9 -.
+Remedy: Packages: 1 to 128 of A-Z a-z 0-9 . _ - and no leading dot. Cohorts: 1 to 32 of a-z 0-9 -.
 ",
     ),
     (

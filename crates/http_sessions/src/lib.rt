@@ -21,3 +21,5 @@ pub use crate::buffers::Buffers;
 pub use crate::ends::{End, Fault, Served};
 pub use crate::serving::serve;
 pub use crate::session::{MAX_MESSAGES, Session, Turn};
+pub use http_desks::{Answer, Clock, Declared, Desk, DeskStatus, Off, Packages};
+pub use http_wire::{Sink, Source};

@@ -3,7 +3,7 @@
 use Rattle.std.specs.Prelude.{◌≡◌, ℕ, ◌<◌, ◌≤◌, Bool, List, [], ◌∷◌, length, map, nat_le, slice_index, take}
 use Rattle.std.specs.List.{list_all}
 use Rattle.std.specs.declared.sync.ledger.Blank.{Blank}
-use Rattle.records.specs.Mirrors.{most_budget}
+use Rattle.records.specs.Mirrors.{max_budget}
 use Rattle.records.specs.declared.mirror.Mirror.{Mirror}
 
 -- the budget of the mirror at an index, 0 if there is none
@@ -12,7 +12,7 @@ budget_at mirrors index = slice_index (map (λ (mirror : Mirror). mirror.budget)
 
 -- each mirror's budget is at most the maximum
 abbrev pub are_bounded : List Mirror → Bool
-are_bounded mirrors = list_all (λ (mirror : Mirror). nat_le mirror.budget most_budget) mirrors
+are_bounded mirrors = list_all (λ (mirror : Mirror). nat_le mirror.budget max_budget) mirrors
 
 -- a blank is of a ledger's name, which has a part for each worker and carries the budget of the mirror
 -- at an index

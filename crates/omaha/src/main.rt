@@ -1,4 +1,4 @@
-//! The program `omaha`: it replies to one Omaha 3.1 request from its standard input.
+//! The program `omaha`: an update server for the Omaha protocol 3.1, checks of profiles, and a client.
 //!
 //! Everything that it does is in `omaha_cli`, whose `run` it calls with the standard streams.
 

@@ -32,12 +32,12 @@ omaha_app =
     (with_subcommand
     (with_subcommand
     (with_subcommand
-    (with_subcommand (with_subcommand (with_subcommand plain_app once_app.top) check_app.top) certify_app.top)
+    (with_subcommand (with_subcommand (with_subcommand plain_app serve_app.top) check_app.top) walk_app.top)
+    describe_app.top)
+    certify_app.top)
     verify_app.top)
     explain_app.top)
-    serve_app.top)
-    describe_app.top)
-    walk_app.top
+    once_app.top
 
 -- the number of `--moment`, or 0 without the option; none if it is no number
 abbrev pub timestamp_in : List Row → Option ℕ

@@ -1,10 +1,15 @@
 -- The options and arguments of a command, and what their values say; this project's profile.
-use Rattle.std.specs.Prelude.{ℕ, ◌^◌, ◌==◌, ◌&&◌, Bool, true, List, [], length, nat_lt, slice_index, if◌then◌else◌, Option, Some, None, unwrap_or}
+use Rattle.std.specs.Prelude.{ℕ, ◌≡◌, ◌^◌, ◌==◌, ◌&&◌, Bool, true, List, [], length, nat_lt, slice_index, if◌then◌else◌, Option, Some, None, unwrap_or, IfOk, Result}
 use Rattle.std.specs.Option.{option_map_or}
 use Rattle.std.specs.Str.{all_ascii_digits}
 use Rattle.std.specs.Str.Parse.{digits_value}
-use Rattle.clap.specs.Words.{Row, Rule, all_of, count_of, first_of, new_rule}
+use Rattle.clap.specs.Words.{App, Row, Rule, all_of, app_of, count_of, first_of, new_rule}
 use Rattle.clap.specs.declared.builder.action.ArgAction.TheVariants.{Append, Count}
+use Rattle.clap.specs.declared.builder.command.Command.{Command}
+
+-- the command, if memory sufficed for it, is of that shape
+abbrev pub IsMade : {E : Type 0} → App → Result Command E → Type 0
+IsMade app made = IfOk made (λ command. app_of command ≡ app)
 
 -- an option `--name VALUE`
 abbrev pub option_named : List ℕ → Rule

@@ -1,6 +1,6 @@
 //! What a run of the program is asked to do.
 
-use reports::TrackNames;
+use cohorts::TrackNames;
 use values::{Items, Text};
 
 /// What a run of the program is asked to do.

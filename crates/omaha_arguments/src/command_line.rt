@@ -1,15 +1,16 @@
 // The command line, as `clap` reads it.
 
 ghost use Rattle.std.specs.Prelude.{◌≡◌, [], true, IfErr, IfOk, map, string_bytes};
-ghost use Rattle.clap.specs.Words.{FailsBy, app_of, found_of, rows_of, with_subcommand};
+ghost use Rattle.clap.specs.Words.{App, FailsBy, found_of, rows_of, with_subcommand};
 ghost use Rattle.omaha_arguments.specs.Commands.{check_in, command_in, command_of, faults_in, faults_of, omaha_app, plain_app};
 ghost use Rattle.omaha_arguments.specs.Errors.{IsWhy};
+ghost use Rattle.omaha_arguments.specs.Options.{IsMade};
 ghost use Rattle.omaha_arguments.specs.WalkArguments.{IsAskable};
 
 use crate::command::{Command, Once};
 use crate::error::{ArgumentError, argument_error};
 use crate::once_arguments::{once_command, read_once};
-use crate::options::{optional_string, strings_in};
+use crate::options::{Making, optional_string, strings_in};
 use crate::report_arguments::{
     certify_command, check_command, describe_command, explain_command, read_comparison,
     read_report, verify_command,
@@ -17,7 +18,7 @@ use crate::report_arguments::{
 use crate::serve_arguments::{read_serve, serve_command};
 use crate::walk_arguments::{read_walk, walk_command};
 use clap::{ArgMatches, Error};
-use std::alloc::{AllocError, Global};
+use std::alloc::Global;
 
 const VERSION: &str = "0.2.0";
 
@@ -29,43 +30,40 @@ Example: a client without an installed version asks for the built-in app `mini`.
   echo '{\"request\":{\"app\":[{\"appid\":\"mini\",\"updatecheck\":{}}],\"protocol\":\"3.1\"}}' | omaha";
 
 // The program without its commands.
-fn plain_command<'a>(alloc: Global) -> Result<clap::Command<'a>, AllocError>
-    ensures { IfOk result (λ command. app_of command ≡ plain_app) }
+fn plain_command<'a>(alloc: Global) -> Making<'a>
+    ensures { IsMade plain_app result }
 {
     let command = clap::Command::new(alloc, "omaha")
         .no_binary_name(true)
         .version(VERSION)
         .about(OMAHA)
         .after_help(AFTER_OMAHA);
-    let command = command.bin_name("omaha")?;
-    Ok(command)
+    command.bin_name("omaha")
 }
 
 // The program with one more command.
-fn with_command<'a>(
-    program: clap::Command<'a>,
-    command: clap::Command<'a>,
-) -> Result<clap::Command<'a>, AllocError>
-    requires { (app_of command).top.is_plain ≡ true }
-    ensures { IfOk result (λ more. app_of more ≡ with_subcommand (app_of program.entry) (app_of command.entry).top) }
+fn with_command<'a>(program: Making<'a>, command: Making<'a>) -> Making<'a>
+    ensures { (app own : App) → own.top.is_plain ≡ true → IsMade app program.entry → IsMade own command.entry →
+        IsMade (with_subcommand app own.top) result }
 {
-    let more = program.subcommand(command)?;
+    let command = command?;
+    let more = program?.subcommand(command)?;
     Ok(more)
 }
 
-fn omaha_command<'a>(alloc: Global) -> Result<clap::Command<'a>, AllocError>
-    ensures { IfOk result (λ command. app_of command ≡ omaha_app) }
+// The program with its commands, those for operators first.
+fn omaha_command<'a>(alloc: Global) -> Making<'a>
+    ensures { IsMade omaha_app result }
 {
-    let program = plain_command(alloc)?;
-    let program = with_command(program, once_command(alloc)?)?;
-    let program = with_command(program, check_command(alloc)?)?;
-    let program = with_command(program, certify_command(alloc)?)?;
-    let program = with_command(program, verify_command(alloc)?)?;
-    let program = with_command(program, explain_command(alloc)?)?;
-    let program = with_command(program, serve_command(alloc)?)?;
-    let program = with_command(program, describe_command(alloc)?)?;
-    let program = with_command(program, walk_command(alloc)?)?;
-    Ok(program)
+    let program = plain_command(alloc);
+    let program = with_command(program, serve_command(alloc));
+    let program = with_command(program, check_command(alloc));
+    let program = with_command(program, walk_command(alloc));
+    let program = with_command(program, describe_command(alloc));
+    let program = with_command(program, certify_command(alloc));
+    let program = with_command(program, verify_command(alloc));
+    let program = with_command(program, explain_command(alloc));
+    with_command(program, once_command(alloc))
 }
 
 // Reads the arguments of `check`.

@@ -1,11 +1,12 @@
 // The options of the command `once`.
 
 ghost use Rattle.std.specs.Prelude.{◌≡◌, codes, IfOk};
-ghost use Rattle.clap.specs.Words.{FailsBy, app_of, found_of, kind_of, rows_of};
+ghost use Rattle.clap.specs.Words.{FailsBy, found_of, kind_of, rows_of};
 ghost use Rattle.omaha_arguments.specs.Commands.{faults_of_once, timestamp_in, once_app, once_in};
+ghost use Rattle.omaha_arguments.specs.Options.{IsMade};
 
 use crate::command::Once;
-use crate::options::{number_in, optional_string, titled, with_option};
+use crate::options::{Making, number_in, optional_string, titled, with_option};
 use clap::error::ErrorKind;
 use clap::{ArgMatches, Error};
 use std::alloc::{AllocError, Global};
@@ -31,8 +32,9 @@ written nothing to standard output.
   omaha: memory                        out of memory
 Control characters in F are printed as `%` and two hexadecimal digits.
 
-Edits count from 0, for each app of the profile in order: the app; each cohort but the default one;
-each release; then each cohort's target and held target, its share and its open flag, if given.
+Edits count from 0. For each app of the profile: the app; each cohort but the default one; each
+release, and then what is set of it; each differential; then for each cohort its targets, share,
+rollback and open flag, as far as they are given.
 
 Exit status: 0 if the reply was written, 1 if the command failed, 2 if the arguments are invalid.
 
@@ -40,13 +42,12 @@ Example: a client without an installed version asks for the built-in app `mini`.
   echo '{\"request\":{\"app\":[{\"appid\":\"mini\",\"updatecheck\":{}}],\"protocol\":\"3.1\"}}' |
     omaha once --moment 1767229261";
 
-pub(crate) fn once_command<'a>(alloc: Global) -> Result<clap::Command<'a>, AllocError>
-    ensures { IfOk result (λ command. app_of command ≡ once_app) }
+pub(crate) fn once_command<'a>(alloc: Global) -> Making<'a>
+    ensures { IsMade once_app result }
 {
     let command = titled(alloc, "once", ONCE, AFTER_ONCE);
-    let command = with_option(alloc, command, "profile", "F", PROFILE)?;
-    let command = with_option(alloc, command, "moment", "N", TIMESTAMP)?;
-    Ok(command)
+    let command = with_option(alloc, command, "profile", "F", PROFILE);
+    with_option(alloc, command, "moment", "N", TIMESTAMP)
 }
 
 // The error for a `--moment` that is no such number, built like the errors of `clap`.

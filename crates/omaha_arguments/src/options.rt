@@ -1,12 +1,15 @@
 // The options and arguments of a command, as `clap` reads them.
 
 ghost use Rattle.std.specs.Prelude.{◌≡◌, IfOk, map};
-ghost use Rattle.clap.specs.Words.{app_of, first_of, found_of, new_app, rows_of, with_rule};
-ghost use Rattle.omaha_arguments.specs.Options.{flag_in, flag_named, has_plus, number_in, number_of, option_named, string_in, strings_in, wanted, wanted_list, wanted_option};
+ghost use Rattle.clap.specs.Words.{App, first_of, found_of, new_app, rows_of, with_rule};
+ghost use Rattle.omaha_arguments.specs.Options.{IsMade, flag_in, flag_named, has_plus, number_in, number_of, option_named, string_in, strings_in, wanted, wanted_list, wanted_option};
 
 use clap::{Arg, ArgAction, ArgMatches};
 use std::alloc::{AllocError, Global};
 use values::{Items, Text};
+
+/// A command that is being made, or that memory ran out: each function below passes a failure on.
+pub(crate) type Making<'a> = Result<clap::Command<'a>, AllocError>;
 
 /// A command with a name and its help.
 pub(crate) fn titled<'a>(
@@ -14,62 +17,63 @@ pub(crate) fn titled<'a>(
     name: &'a str,
     about: &'a str,
     after_help: &'a str,
-) -> clap::Command<'a>
-    ensures { app_of result ≡ new_app name.entry.now }
+) -> Making<'a>
+    ensures { IsMade (new_app name.entry.now) result }
 {
-    clap::Command::new(alloc, name)
+    let command = clap::Command::new(alloc, name)
         .about(about)
-        .after_help(after_help)
+        .after_help(after_help);
+    Ok(command)
 }
 
 /// The command with one more argument, which has to be given.
 pub(crate) fn with_wanted<'a>(
     alloc: Global,
-    command: clap::Command<'a>,
+    command: Making<'a>,
     name: &'a str,
     help: &'a str,
-) -> Result<clap::Command<'a>, AllocError>
-    ensures { IfOk result (λ more. app_of more ≡ with_rule (app_of command.entry) (wanted name.entry.now)) }
+) -> Making<'a>
+    ensures { (app : App) → IsMade app command.entry → IsMade (with_rule app (wanted name.entry.now)) result }
 {
     let argument = Arg::new(alloc, name).required(true).help(help);
-    let more = command.arg(argument)?;
+    let more = command?.arg(argument)?;
     Ok(more)
 }
 
 /// The command with one more option, which has a value and has to be given.
 pub(crate) fn with_wanted_option<'a>(
     alloc: Global,
-    command: clap::Command<'a>,
+    command: Making<'a>,
     name: &'a str,
     value: &'a str,
     help: &'a str,
-) -> Result<clap::Command<'a>, AllocError>
-    ensures { IfOk result (λ more. app_of more ≡ with_rule (app_of command.entry) (wanted_option name.entry.now)) }
+) -> Making<'a>
+    ensures { (app : App) → IsMade app command.entry → IsMade (with_rule app (wanted_option name.entry.now)) result }
 {
     let option = Arg::new(alloc, name)
         .long(name)
         .value_name(value)
         .required(true)
         .help(help);
-    let more = command.arg(option)?;
+    let more = command?.arg(option)?;
     Ok(more)
 }
 
 /// The command with one more option, which has a value.
 pub(crate) fn with_option<'a>(
     alloc: Global,
-    command: clap::Command<'a>,
+    command: Making<'a>,
     name: &'a str,
     value: &'a str,
     help: &'a str,
-) -> Result<clap::Command<'a>, AllocError>
-    ensures { IfOk result (λ more. app_of more ≡ with_rule (app_of command.entry) (option_named name.entry.now)) }
+) -> Making<'a>
+    ensures { (app : App) → IsMade app command.entry → IsMade (with_rule app (option_named name.entry.now)) result }
 {
     let option = Arg::new(alloc, name)
         .long(name)
         .value_name(value)
         .help(help);
-    let more = command.arg(option)?;
+    let more = command?.arg(option)?;
     Ok(more)
 }
 
@@ -127,34 +131,34 @@ pub(crate) fn optional_string(
 /// The command with one more flag, an option without a value.
 pub(crate) fn with_flag<'a>(
     alloc: Global,
-    command: clap::Command<'a>,
+    command: Making<'a>,
     name: &'a str,
     help: &'a str,
-) -> Result<clap::Command<'a>, AllocError>
-    ensures { IfOk result (λ more. app_of more ≡ with_rule (app_of command.entry) (flag_named name.entry.now)) }
+) -> Making<'a>
+    ensures { (app : App) → IsMade app command.entry → IsMade (with_rule app (flag_named name.entry.now)) result }
 {
     let flag = Arg::new(alloc, name)
         .long(name)
         .action(ArgAction::Count)
         .help(help);
-    let more = command.arg(flag)?;
+    let more = command?.arg(flag)?;
     Ok(more)
 }
 
 /// The command with one more argument, which has to be given and may be given several times.
 pub(crate) fn with_wanted_list<'a>(
     alloc: Global,
-    command: clap::Command<'a>,
+    command: Making<'a>,
     name: &'a str,
     help: &'a str,
-) -> Result<clap::Command<'a>, AllocError>
-    ensures { IfOk result (λ more. app_of more ≡ with_rule (app_of command.entry) (wanted_list name.entry.now)) }
+) -> Making<'a>
+    ensures { (app : App) → IsMade app command.entry → IsMade (with_rule app (wanted_list name.entry.now)) result }
 {
     let argument = Arg::new(alloc, name)
         .required(true)
         .action(ArgAction::Append)
         .help(help);
-    let more = command.arg(argument)?;
+    let more = command?.arg(argument)?;
     Ok(more)
 }
 

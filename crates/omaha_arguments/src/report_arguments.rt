@@ -1,17 +1,17 @@
 // The arguments of the commands that report on a profile, as `clap` reads them.
 
 ghost use Rattle.std.specs.Prelude.{◌≡◌, codes, IfOk};
-ghost use Rattle.clap.specs.Words.{FailsBy, app_of, found_of, kind_of, rows_of};
+ghost use Rattle.clap.specs.Words.{FailsBy, found_of, kind_of, rows_of};
+ghost use Rattle.omaha_arguments.specs.Options.{IsMade};
 ghost use Rattle.omaha_arguments.specs.ReportArguments.{yes_or_no, certify_app, check_app, comparison_in, describe_app, explain_app, faults_of_certify, faults_of_report, lane_of, names_in, question_in, report_in, verify_app};
 
 use crate::command::{Comparison, Question, Report};
 use crate::options::{
-    optional_string, string_in, titled, with_option, with_wanted, with_wanted_list,
+    Making, optional_string, string_in, titled, with_option, with_wanted, with_wanted_list,
 };
 use clap::error::ErrorKind;
 use clap::{Arg, ArgMatches, Error};
-use cohorts::Lane;
-use reports::TrackNames;
+use cohorts::{Lane, TrackNames};
 use std::alloc::{AllocError, Global};
 use values::Text;
 
@@ -95,52 +95,47 @@ invalid.
 Example:
   omaha explain C11";
 
-pub(crate) fn check_command<'a>(alloc: Global) -> Result<clap::Command<'a>, AllocError>
-    ensures { IfOk result (λ command. app_of command ≡ check_app) }
+pub(crate) fn check_command<'a>(alloc: Global) -> Making<'a>
+    ensures { IsMade check_app result }
 {
     let command = titled(alloc, "check", CHECK, AFTER_CHECK);
-    let command = with_wanted(alloc, command, "F", "The profile")?;
+    let command = with_wanted(alloc, command, "F", "The profile");
     let help = "The folder of the packages [default: they are not compared]";
-    let command = with_option(alloc, command, "packages", "DIR", help)?;
-    Ok(command)
+    with_option(alloc, command, "packages", "DIR", help)
 }
 
-pub(crate) fn describe_command<'a>(alloc: Global) -> Result<clap::Command<'a>, AllocError>
-    ensures { IfOk result (λ command. app_of command ≡ describe_app) }
+pub(crate) fn describe_command<'a>(alloc: Global) -> Making<'a>
+    ensures { IsMade describe_app result }
 {
     let command = titled(alloc, "describe", DESCRIBE, AFTER_DESCRIBE);
-    let command = with_wanted_list(alloc, command, "FILE", "A package")?;
-    Ok(command)
+    with_wanted_list(alloc, command, "FILE", "A package")
 }
 
-pub(crate) fn certify_command<'a>(alloc: Global) -> Result<clap::Command<'a>, AllocError>
-    ensures { IfOk result (λ command. app_of command ≡ certify_app) }
+pub(crate) fn certify_command<'a>(alloc: Global) -> Making<'a>
+    ensures { IsMade certify_app result }
 {
     let command = titled(alloc, "certify", CERTIFY, AFTER_CERTIFY);
-    let command = with_wanted(alloc, command, "F", "The profile")?;
-    let command = with_wanted(alloc, command, "APP", "The app's identifier")?;
-    let command = with_wanted(alloc, command, "COHORT", "The cohort's name")?;
-    let command = with_wanted(alloc, command, "LANE", "`target` or `held`")?;
-    let command = with_wanted(alloc, command, "ROLLBACK", "`yes` or `no`")?;
-    Ok(command)
+    let command = with_wanted(alloc, command, "F", "The profile");
+    let command = with_wanted(alloc, command, "APP", "The app's identifier");
+    let command = with_wanted(alloc, command, "COHORT", "The cohort's name");
+    let command = with_wanted(alloc, command, "LANE", "`target` or `held`");
+    with_wanted(alloc, command, "ROLLBACK", "`yes` or `no`")
 }
 
-pub(crate) fn verify_command<'a>(alloc: Global) -> Result<clap::Command<'a>, AllocError>
-    ensures { IfOk result (λ command. app_of command ≡ verify_app) }
+pub(crate) fn verify_command<'a>(alloc: Global) -> Making<'a>
+    ensures { IsMade verify_app result }
 {
     let command = titled(alloc, "verify", VERIFY, AFTER_VERIFY);
-    let command = with_wanted(alloc, command, "F", "The profile")?;
-    let command = with_wanted(alloc, command, "CERT", "The certificate")?;
-    Ok(command)
+    let command = with_wanted(alloc, command, "F", "The profile");
+    with_wanted(alloc, command, "CERT", "The certificate")
 }
 
-pub(crate) fn explain_command<'a>(alloc: Global) -> Result<clap::Command<'a>, AllocError>
-    ensures { IfOk result (λ command. app_of command ≡ explain_app) }
+pub(crate) fn explain_command<'a>(alloc: Global) -> Making<'a>
+    ensures { IsMade explain_app result }
 {
     let command = titled(alloc, "explain", EXPLAIN, AFTER_EXPLAIN);
     let code = Arg::new(alloc, "CODE").help("The code, or the first word of the line");
-    let command = command.arg(code)?;
-    Ok(command)
+    command?.arg(code)
 }
 
 // The lane of a word, if it is one.

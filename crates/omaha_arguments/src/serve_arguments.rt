@@ -1,12 +1,14 @@
 // The options of the command `serve`.
 
 ghost use Rattle.std.specs.Prelude.{◌≡◌, codes, IfOk};
-ghost use Rattle.clap.specs.Words.{FailsBy, app_of, found_of, kind_of, rows_of};
+ghost use Rattle.clap.specs.Words.{FailsBy, found_of, kind_of, rows_of};
+ghost use Rattle.omaha_arguments.specs.Options.{IsMade};
 ghost use Rattle.omaha_arguments.specs.ServeArguments.{faults_of_serve, limit_of, serve_app, serve_in, sessions_in, timeout_in, timeout_of};
 
 use crate::command::Serve;
 use crate::options::{
-    number_in, number_of, optional_string, string_in, titled, with_option, with_wanted_option,
+    Making, number_in, number_of, optional_string, string_in, titled, with_option,
+    with_wanted_option,
 };
 use clap::error::ErrorKind;
 use clap::{ArgMatches, Error};
@@ -44,17 +46,16 @@ Exit status: 0 after the last session, 1 if the command failed, 2 if the argumen
 Example:
   omaha serve --profile profile.toml --packages packages --listen 127.0.0.1:8080";
 
-pub(crate) fn serve_command<'a>(alloc: Global) -> Result<clap::Command<'a>, AllocError>
-    ensures { IfOk result (λ command. app_of command ≡ serve_app) }
+pub(crate) fn serve_command<'a>(alloc: Global) -> Making<'a>
+    ensures { IsMade serve_app result }
 {
     let command = titled(alloc, "serve", SERVE, AFTER_SERVE);
-    let command = with_wanted_option(alloc, command, "profile", "F", PROFILE)?;
-    let command = with_wanted_option(alloc, command, "packages", "DIR", PACKAGES)?;
-    let command = with_wanted_option(alloc, command, "listen", "ADDR", LISTEN)?;
-    let command = with_option(alloc, command, "sessions", "K", SESSIONS)?;
-    let command = with_option(alloc, command, "timeout", "SECONDS", TIMEOUT)?;
-    let command = with_option(alloc, command, "log", "FILE", LOG)?;
-    Ok(command)
+    let command = with_wanted_option(alloc, command, "profile", "F", PROFILE);
+    let command = with_wanted_option(alloc, command, "packages", "DIR", PACKAGES);
+    let command = with_wanted_option(alloc, command, "listen", "ADDR", LISTEN);
+    let command = with_option(alloc, command, "sessions", "K", SESSIONS);
+    let command = with_option(alloc, command, "timeout", "SECONDS", TIMEOUT);
+    with_option(alloc, command, "log", "FILE", LOG)
 }
 
 // The error for a number that is none, built like the errors of `clap`.

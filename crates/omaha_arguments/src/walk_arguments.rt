@@ -1,12 +1,15 @@
 // The options of the command `walk`.
 
 ghost use Rattle.std.specs.Prelude.{◌≡◌, codes, IfOk};
-ghost use Rattle.clap.specs.Words.{FailsBy, app_of, found_of, kind_of, rows_of};
+ghost use Rattle.clap.specs.Words.{FailsBy, found_of, kind_of, rows_of};
 ghost use Rattle.omaha_json_client.specs.RequestWriting.{IsAppid};
+ghost use Rattle.omaha_arguments.specs.Options.{IsMade};
 ghost use Rattle.omaha_arguments.specs.WalkArguments.{faults_of_walk, is_appid, walk_app, walk_in};
 
 use crate::command::Walk;
-use crate::options::{flag_in, string_in, titled, with_flag, with_option, with_wanted_option};
+use crate::options::{
+    Making, flag_in, string_in, titled, with_flag, with_option, with_wanted_option,
+};
 use clap::error::ErrorKind;
 use clap::{ArgMatches, Error};
 use std::alloc::{AllocError, Global};
@@ -57,18 +60,17 @@ Exit status: 0 if there is no update any more, 1 if the walk failed, 2 if the ar
 Example, against `omaha serve --profile mini.toml --packages packages --listen 127.0.0.1:8080`:
   omaha walk --to 127.0.0.1:8080 --app mini --version ''";
 
-pub(crate) fn walk_command<'a>(alloc: Global) -> Result<clap::Command<'a>, AllocError>
-    ensures { IfOk result (λ command. app_of command ≡ walk_app) }
+pub(crate) fn walk_command<'a>(alloc: Global) -> Making<'a>
+    ensures { IsMade walk_app result }
 {
     let command = titled(alloc, "walk", WALK, AFTER_WALK);
-    let command = with_wanted_option(alloc, command, "to", "ADDR", TO)?;
-    let command = with_wanted_option(alloc, command, "app", "A", APP)?;
-    let command = with_wanted_option(alloc, command, "version", "V", INSTALLED)?;
-    let command = with_option(alloc, command, "fp", "FP", FP)?;
-    let command = with_option(alloc, command, "cohort", "C", COHORT)?;
-    let command = with_option(alloc, command, "session", "S", SESSION)?;
-    let command = with_flag(alloc, command, "rollback", ROLLBACK)?;
-    Ok(command)
+    let command = with_wanted_option(alloc, command, "to", "ADDR", TO);
+    let command = with_wanted_option(alloc, command, "app", "A", APP);
+    let command = with_wanted_option(alloc, command, "version", "V", INSTALLED);
+    let command = with_option(alloc, command, "fp", "FP", FP);
+    let command = with_option(alloc, command, "cohort", "C", COHORT);
+    let command = with_option(alloc, command, "session", "S", SESSION);
+    with_flag(alloc, command, "rollback", ROLLBACK)
 }
 
 // The error for an identifier of another length, built like the errors of `clap`.

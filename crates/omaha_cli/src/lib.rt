@@ -1,4 +1,4 @@
-//! The program `omaha`, but for its `main`: it replies to one request from a reader, or reports on a profile.
+//! The program `omaha`, but for its `main`: an update server, checks of profiles, and a client.
 //!
 //! `run` carries out the command that `omaha_arguments` reads, reports how it ended and returns the exit
 //! status: read `specs/Running.antt`. The command `once` is `respond`, which reads a profile from its file

@@ -6,8 +6,8 @@
 //! reply is written by serde, and needs no tree of JSON values. `laws` has whole requests and
 //! replies with their records.
 //!
-//! It does not decide the reply to a request: `editions` does. It does not write requests or read
-//! replies.
+//! It does not decide the reply to a request: `replies` does. It does not write requests or read
+//! replies: `omaha_json_client` does.
 
 #![tactic(auto)]
 

@@ -1,7 +1,7 @@
 use values::{Items, Text};
 
 /// A reply of the Omaha protocol 3.1, JSON form.
-#[derive(Clone, Debug, Drop)]
+#[derive(Drop)]
 pub struct Reply {
     /// Whole days since 1 January 2007, UTC, the member `elapsed_days`.
     pub days: u64,
@@ -12,7 +12,7 @@ pub struct Reply {
 }
 
 /// The reply to one app of a request.
-#[derive(Clone, Debug, Drop)]
+#[derive(Drop)]
 pub struct AppReply {
     /// The identifier as the client spelled it.
     pub appid: Text,
@@ -21,7 +21,7 @@ pub struct AppReply {
 }
 
 /// What a server knows of an app.
-#[derive(Clone, Debug, Drop)]
+#[derive(Drop)]
 pub enum AppState {
     /// The app is known.
     Known(KnownApp),
@@ -32,7 +32,7 @@ pub enum AppState {
 }
 
 /// The reply to an app that is known.
-#[derive(Clone, Debug, Drop)]
+#[derive(Drop)]
 pub struct KnownApp {
     /// The cohort text that the client sends back next time.
     pub cohort: Text,
@@ -47,7 +47,7 @@ pub struct KnownApp {
 }
 
 /// The reply to an update check.
-#[derive(Clone, Debug, Drop)]
+#[derive(Drop)]
 pub enum CheckReply {
     /// There is nothing to install, the status `noupdate`.
     NoUpdate,
@@ -60,7 +60,7 @@ pub enum CheckReply {
 }
 
 /// An offer of one version.
-#[derive(Clone, Debug, Drop)]
+#[derive(Drop)]
 pub struct Offer {
     /// The version as the catalogue spells it.
     pub version: Text,
@@ -73,7 +73,7 @@ pub struct Offer {
 }
 
 /// A file that a client may download.
-#[derive(Clone, Debug, Drop)]
+#[derive(Drop)]
 pub struct Part {
     /// The address that the file's name is appended to.
     pub codebase: Text,

@@ -1,7 +1,7 @@
 use values::{Items, Text};
 
 /// What one request of the Omaha protocol 3.1, JSON form, asks.
-#[derive(Clone, Debug, Drop)]
+#[derive(Drop)]
 pub struct Request {
     /// The member `sessionid`, empty if it is missing.
     pub session: Text,
@@ -10,7 +10,7 @@ pub struct Request {
 }
 
 /// What a request asks for one app.
-#[derive(Clone, Debug, Drop)]
+#[derive(Drop)]
 pub struct AppAsk {
     /// The identifier as the client spells it, 1 to 256 bytes.
     pub appid: Text,
@@ -31,7 +31,7 @@ pub struct AppAsk {
 }
 
 /// An update check: what a client says when it asks for an update.
-#[derive(Clone, Debug, Drop)]
+#[derive(Drop)]
 pub struct Check {
     /// Whether updates are disabled, the member `updatedisabled`.
     pub disabled: bool,

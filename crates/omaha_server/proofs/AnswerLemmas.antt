@@ -3,7 +3,7 @@ use Rattle.std.proofs.Common.{◌≡◌, ℕ, List, [], ◌∷◌, ◌++◌, Res
 use Rattle.std.specs.List.{list_all}
 use Rattle.std.proofs.lemmas.Bool.{and_parts}
 use Rattle.editions.specs.Editions.{content_of}
-use Rattle.records.specs.Mirrors.{is_codebase, is_mirror, most_budget}
+use Rattle.records.specs.Mirrors.{is_codebase, is_mirror, max_budget}
 use Rattle.records.specs.Forms.{is_cohort_name}
 use Rattle.records.specs.declared.mirror.Mirror.{Mirror}
 use Rattle.mirror_ledger.specs.Asks.{AreTallied, AreUnused, Ask}
@@ -20,7 +20,7 @@ pub are_bounded-mirrors : (mirrors : List Mirror) → list_all is_mirror mirrors
 are_bounded-mirrors [] valid = refl
 are_bounded-mirrors (mirror ∷ mirrors) valid =
     let parts = and_parts (is_mirror mirror) (list_all is_mirror mirrors) valid in
-    let budget = (and_parts (is_cohort_name mirror.name && is_codebase mirror.codebase) (nat_le mirror.budget most_budget) parts.0).1 in
+    let budget = (and_parts (is_cohort_name mirror.name && is_codebase mirror.codebase) (nat_le mirror.budget max_budget) parts.0).1 in
     ap₂ ◌&&◌ budget (are_bounded-mirrors mirrors parts.1)
 
 -- shares of 0 are the sums of no asks

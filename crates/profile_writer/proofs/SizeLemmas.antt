@@ -4,7 +4,7 @@ use Rattle.std.specs.List.{AllByRecursion, list_all}
 use Rattle.std.proofs.lemmas.Bool.{and_parts, leb-true}
 use Rattle.records.specs.Forms.{is_hash, is_size}
 use Rattle.records.specs.Limits.{max_share}
-use Rattle.records.specs.Mirrors.{is_mirror, most_budget}
+use Rattle.records.specs.Mirrors.{is_mirror, max_budget}
 use Rattle.records.specs.Validity.{is_valid_audience, is_valid_cohort, is_valid_diff, is_valid_release, is_released}
 use Rattle.records.specs.declared.content.Cohort.{Cohort}
 use Rattle.records.specs.declared.content.Diff.{Diff}
@@ -47,7 +47,7 @@ below-is_valid_cohort releases cohort good =
 
 below-is_mirror : (mirror : Mirror) → is_mirror mirror ≡ true → mirror.budget < 2 ^ 63
 below-is_mirror mirror good =
-    let most = leb-true mirror.budget most_budget (and_parts _ (nat_le mirror.budget most_budget) good).1 in omega arith
+    let most = leb-true mirror.budget max_budget (and_parts _ (nat_le mirror.budget max_budget) good).1 in omega arith
 
 pub releases_below : (cohorts : List Cohort) (releases : List Release)
     → list_all (is_valid_release cohorts) releases ≡ true → AllByRecursion (λ release. release.size < 2 ^ 63) releases

@@ -18,11 +18,11 @@ is_codebase text =
     && ends_with nat_eq text (codes "/")
 
 -- a mirror's budget at most, in bytes
-abbrev pub most_budget : ℕ
-most_budget = 2 ^ 60
+abbrev pub max_budget : ℕ
+max_budget = 2 ^ 60
 
 -- rule: Mirror
 -- a mirror: its name is a valid cohort name
 abbrev pub is_mirror : Mirror → Bool
 is_mirror mirror =
-    is_cohort_name mirror.name && is_codebase mirror.codebase && nat_le mirror.budget most_budget
+    is_cohort_name mirror.name && is_codebase mirror.codebase && nat_le mirror.budget max_budget

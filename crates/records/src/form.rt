@@ -7,7 +7,7 @@ ghost use Rattle.records.specs.Forms.{has_length, hash_named, hash_of, is_app_id
 
 use hex::FromHex;
 
-const MOST_BYTES: u64 = 1 << 40;
+const MAX_BYTES: u64 = 1 << 40;
 
 /// Whether a string has from `least` to `most` bytes.
 pub(crate) fn has_length(text: &str, least: usize, most: usize) -> bool
@@ -134,5 +134,5 @@ pub fn hash_named(text: &str) -> [u8; 32]
 pub fn is_size(size: u64) -> bool
     ensures { result ≡ is_size size }
 {
-    1 <= size && size <= MOST_BYTES
+    1 <= size && size <= MAX_BYTES
 }

@@ -5,7 +5,7 @@ ghost use Rattle.records.specs.Mirrors.{is_codebase, is_codebase_byte, is_mirror
 use crate::form::{has_length, is_cohort_name};
 use values::Text;
 
-const MOST_BUDGET: u64 = 1 << 60;
+const MAX_BUDGET: u64 = 1 << 60;
 
 /// A server that clients download packages from.
 #[derive(Clone, Drop)]
@@ -54,12 +54,12 @@ impl Mirror {
     /// `a-z`, `0-9`, `-`; a codebase of 9 to 256 bytes from 0x21 to 0x7e but for `"`, `#`, `?` and
     /// `\`, which begins `http://` and ends `/`; a budget of at most 2^60.
     ///
-    /// That no two mirrors have one name is not its affair.
+    /// Does not check that names are unique: `read_profile` does.
     pub fn is_valid(&self) -> bool
         ensures { result ≡ is_mirror self.now }
     {
         is_cohort_name(self.name.as_str())
             && is_codebase(self.codebase.as_str())
-            && self.budget <= MOST_BUDGET
+            && self.budget <= MAX_BUDGET
     }
 }

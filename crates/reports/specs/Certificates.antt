@@ -5,6 +5,7 @@ use Rattle.std.specs.Option.{option_map_or}
 use Rattle.records.specs.Lookups.{cohorts_at, is_app, is_cohort, releases_at}
 use Rattle.records.specs.declared.content.App.{App}
 use Rattle.records.specs.declared.content.Cohort.{Cohort}
+use Rattle.cohorts.specs.declared.names.TrackNames.{TrackNames}
 use Rattle.payload_graph.specs.declared.payload.TrackKey.{TrackKey}
 use Rattle.payload_graph.specs.Net.{Net, net_among}
 use Rattle.price_cert.specs.Rules.{AreCertified, IsFirstWrong}
@@ -16,7 +17,6 @@ use Rattle.price_certificates.specs.Strings.{spelled_at, string_among}
 use Rattle.price_certificates.specs.declared.fault.Fault.{Fault}
 use Rattle.reports.specs.declared.fault.CertificateError.{CertificateError}
 use Rattle.reports.specs.declared.fault.CertificateError.TheVariants as error
-use Rattle.reports.specs.declared.names.TrackNames.{TrackNames}
 
 -- the key of a cohort of an app
 abbrev pub key_of : TrackNames → ℕ → ℕ → TrackKey

@@ -6,9 +6,10 @@ ghost use Rattle.editions.specs.Editions.{content_of};
 ghost use Rattle.reports.specs.Certificates.{Certifies, IsCertificateOf};
 
 use crate::fault::CertificateError;
-use crate::names::{TrackNames, key_named};
+use crate::names::key_named;
 use crate::tables::table_of;
 use catalogue::Catalogue;
+use cohorts::TrackNames;
 use editions::Edition;
 use payload_graph::TrackKey;
 use price_cert::Certified;

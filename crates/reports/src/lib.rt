@@ -17,5 +17,4 @@ mod verifying;
 pub use crate::certifying::certify;
 pub use crate::counting::summary;
 pub use crate::fault::CertificateError;
-pub use crate::names::TrackNames;
 pub use crate::verifying::verify;

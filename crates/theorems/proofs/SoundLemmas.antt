@@ -11,7 +11,7 @@ use Rattle.std.proofs.lemmas.Str.Ascii.{IsAscii-nil}
 use Rattle.hex.specs.Hex.{IsBytes}
 use Rattle.records.specs.Forms.{is_cohort_name, is_hash, is_size}
 use Rattle.records.specs.Lookups.{is_app}
-use Rattle.records.specs.Mirrors.{is_codebase, is_mirror, most_budget}
+use Rattle.records.specs.Mirrors.{is_codebase, is_mirror, max_budget}
 use Rattle.records.specs.Validity.{IsValidApp, is_valid_cohort, is_valid_diff, is_valid_release}
 use Rattle.records.specs.declared.content.App.{App}
 use Rattle.records.specs.declared.content.Cohort.{Cohort}
@@ -112,7 +112,7 @@ codebase-utf8 None is = IsUtf8-nothing
 codebase-utf8 (Some mirror) is =
     IsUtf8-codebase mirror.codebase
     (and_parts (is_cohort_name mirror.name) (is_codebase mirror.codebase)
-    (and_parts (is_cohort_name mirror.name && is_codebase mirror.codebase) (nat_le mirror.budget most_budget) is).0).1
+    (and_parts (is_cohort_name mirror.name && is_codebase mirror.codebase) (nat_le mirror.budget max_budget) is).0).1
 
 -- the reply to an update check
 IsCheck-of :

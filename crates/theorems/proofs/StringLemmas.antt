@@ -14,7 +14,7 @@ use Rattle.hex.proofs.HexLemmas.{IsAscii-encode_with}
 use Rattle.records.specs.Forms.{has_length, is_cohort_byte, is_cohort_name, is_hash_digit, is_package_byte, is_package_name}
 use Rattle.records.specs.Mirrors.{is_codebase, is_codebase_byte}
 use Rattle.records.specs.Validity.{spells}
-use Rattle.version.specs.Versions.{components_of, has_leading_zero, is_number, most_components, number_in, number_of, numbers_of, padded, parts_of, prepended, version_of}
+use Rattle.version.specs.Versions.{components_of, has_leading_zero, is_number, max_components, number_in, number_of, numbers_of, padded, parts_of, prepended, version_of}
 
 no_longer : false ≡ true → ⊥
 no_longer same = cc
@@ -145,7 +145,7 @@ components-numbers :
 unfolding components_of
 components-numbers form text some same =
     sym (ap (λ (numbers : Option (List ℕ)). is_some numbers) (numbers-plain form same (parts_of text)))
-    ∙ some-numbers (nat_le (length (parts_of text)) (most_components form)) (numbers_of form (parts_of text)) some
+    ∙ some-numbers (nat_le (length (parts_of text)) (max_components form)) (numbers_of form (parts_of text)) some
 
 spelled-numbers : (text : List ℕ) → is_some (version_of text) ≡ true → is_some (plain_numbers (parts_of text)) ≡ true
 unfolding version_of

@@ -187,6 +187,11 @@ OpensFile accepted asked opened (Err errors.Memory) = opened ≡ asked
 OpensFile accepted asked opened (Err (errors.Fault found)) =
     opened ≡ asked ++ address_of accepted.offer ∷ []
 
+-- the client has what was accepted, unless there was an error
+abbrev pub Moves : {X : Type 0} → Installed → Installed → Accepted → Result X (ReadError Fault) → Type 0
+Moves client after accepted (Ok x) = after ≡ client_after client accepted
+Moves client after accepted (Err error) = after ≡ client
+
 -- what was accepted was committed and the client has it, or an error left the client and the commits
 abbrev pub Takes : Installed → Installed → Accepted → List Commit → List Commit → List ℕ → Type 0
     → Result Step (ReadError Fault) → Type 0

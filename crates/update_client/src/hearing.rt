@@ -11,7 +11,7 @@ use std::alloc::Global;
 use values::{ReadError, Text};
 
 /// An offer, with the cohort text of its reply.
-#[derive(Clone, Debug, Drop)]
+#[derive(Drop)]
 pub struct Accepted {
     /// The cohort text to send next, or empty.
     pub cohort: Text,

@@ -5,7 +5,7 @@ use crate::link::Failed;
 use values::Text;
 
 /// One accepted offer.
-#[derive(Clone, Debug, Drop)]
+#[derive(Clone, Drop)]
 pub struct Step {
     /// Whether the file is a differential.
     pub diff: bool,

@@ -3,7 +3,8 @@
 ghost use Rattle.std.specs.Prelude.{◌≡◌, ◌+◌, ◌<◌, ◌++◌, [], length, string_bytes, IfOk};
 ghost use Rattle.std.specs.Result.{result_map_both};
 ghost use Rattle.update_client.specs.Clients.{address_of, step_of};
-ghost use Rattle.update_client.specs.Walks.{OpensFile, Posts, Takes, Turned, Walks, failed_links, failed_installers};
+ghost use Rattle.update_client.specs.Installed.{Installed};
+ghost use Rattle.update_client.specs.Walks.{Moves, OpensFile, Posts, Takes, Turned, Walks, failed_links, failed_installers};
 
 use crate::client::{Client, make_request};
 use crate::fault::Fault;
@@ -69,6 +70,43 @@ fn make_step(alloc: Global, offer: &Offer) -> Result<Step, AllocError>
     })
 }
 
+// Installs what was accepted.
+fn download<L: Link, I: Installer>(
+    alloc: Global,
+    link: &mut L,
+    installer: &mut I,
+    block: &mut [u8],
+    accepted: &Accepted,
+) -> Result<Step, ReadError<Fault>>
+    requires room { 0 < length block.old }
+    requires empty { I.staged installer.old ≡ [] }
+    ensures takes { (client after : Installed) → Moves client after accepted.now result → Takes client after accepted.now
+        (I.commits installer.old) (I.commits installer.new) (L.received link.new) (L.ended link.new) result }
+    ensures posts { L.posts link.new ≡ L.posts link.old }
+    ensures opens { OpensFile accepted.now (L.opened link.old) (L.opened link.new) result }
+    ensures staged { I.staged installer.new ≡ [] }
+    ensures link_failed { L.failures link.new ≡ L.failures link.old + failed_links result }
+    ensures installer_failed { I.failures installer.new
+        ≡ I.failures installer.old + failed_installers result }
+{
+    let step = make_step(alloc, &accepted.offer)?;
+    let address = join_address(alloc, &accepted.offer)?;
+    match link.open(address.as_str()) {
+        Ok(()) => {}
+        Err(_) => return Err(ReadError::Fault(Fault::Link)),
+    }
+    match install(
+        link,
+        installer,
+        block,
+        &step,
+        &offered_part(&accepted.offer).hash,
+    ) {
+        Ok(()) => Ok(step),
+        Err(fault) => Err(ReadError::Fault(fault)),
+    }
+}
+
 // Installs what was accepted, and moves the client on.
 fn take<L: Link, I: Installer>(
     alloc: Global,
@@ -89,17 +127,7 @@ fn take<L: Link, I: Installer>(
     ensures installer_failed { I.failures installer.new
         ≡ I.failures installer.old + failed_installers result }
 {
-    let step = make_step(alloc, &accepted.offer)?;
-    let part = offered_part(&accepted.offer);
-    let address = join_address(alloc, &accepted.offer)?;
-    match link.open(address.as_str()) {
-        Ok(()) => {}
-        Err(_) => return Err(ReadError::Fault(Fault::Link)),
-    }
-    match install(link, installer, block, &step, &part.hash) {
-        Ok(()) => {}
-        Err(fault) => return Err(ReadError::Fault(fault)),
-    }
+    let step = download(alloc, link, installer, block, &accepted)?;
     client.take_over(accepted);
     Ok(step)
 }

@@ -4,7 +4,7 @@ use Rattle.std.proofs.Math.ListN.{replicate, set}
 use Rattle.std.proofs.Math.Seq.{append_snoc, set-append_seam}
 use Rattle.version.specs.declared.parse.Form.{Form}
 use Rattle.version.specs.declared.parse.Form.TheVariants.{Plain, Lenient}
-use Rattle.version.specs.Versions.{most_components, number_in, numbers_of, padded}
+use Rattle.version.specs.Versions.{max_components, number_in, numbers_of, padded}
 use Rattle.version.proofs.SpellingLemmas.{numbers_of-push}
 
 -- these numbers were read from the parts so far, and they and no others were kept
@@ -13,12 +13,12 @@ pub record HasRead (form : Form) (parts : List (List ℕ)) (components : List �
   pub kept : components ≡ padded numbers
   pub counted : count ≡ length numbers
   pub passed : count ≡ length parts
-  pub within : count ≤ most_components form
+  pub within : count ≤ max_components form
 
 -- no form takes more components than a version has
-pub most_components-le : (form : Form) → most_components form ≤ 16
-most_components-le Plain = omega arith
-most_components-le Lenient = omega arith
+pub max_components-le : (form : Form) → max_components form ≤ 16
+max_components-le Plain = omega arith
+max_components-le Lenient = omega arith
 
 -- a number written after the others
 padded-push :
@@ -38,11 +38,11 @@ padded-push numbers number short =
 pub HasRead-push :
     (form : Form) (parts : List (List ℕ)) (components : List ℕ) (count : ℕ) (numbers part : List ℕ) (number : ℕ) →
     HasRead form parts components count numbers →
-    count ≢ most_components form →
+    count ≢ max_components form →
     number_in form part ≡ Some number →
     HasRead form (parts ++ part ∷ []) (set components count number) (count + 1) (numbers ++ number ∷ [])
 HasRead-push form parts components count numbers part number so_far more spells =
-    let room : length numbers < 16 = omega (arith, most_components-le form, so_far.counted) in
+    let room : length numbers < 16 = omega (arith, max_components-le form, so_far.counted) in
     record {
       spelled = numbers_of-push form parts part numbers number so_far.spelled spells;
       kept = rw (so_far.kept, so_far.counted) (padded-push numbers number room);

@@ -8,7 +8,7 @@ use Rattle.std.specs.Str.Parse.{digits_value}
 use Rattle.std.proofs.lemmas.Bool.Decides.{nat_tests}
 use Rattle.version.specs.declared.parse.Form.{Form}
 use Rattle.version.specs.declared.parse.Form.TheVariants.{Plain, Lenient}
-use Rattle.version.specs.Versions.{components_of, has_leading_zero, lenient_version_of, most_components, number_in, number_of, numbers_of, padded, parts_of, prepended, version_of}
+use Rattle.version.specs.Versions.{components_of, has_leading_zero, lenient_version_of, max_components, number_in, number_of, numbers_of, padded, parts_of, prepended, version_of}
 
 -- the number that std's `parse` gives for a string without a leading `+`
 pub number_of-from_parse :
@@ -100,7 +100,7 @@ numbers_of_none form (first ∷ parts) (suc index) past within none =
 -- a string of more parts than the form allows spells no version
 pub components_of_many :
     (form : Form) (text : List ℕ) →
-    most_components form < length (parts_of text) →
+    max_components form < length (parts_of text) →
     components_of form text ≡ None
 unfolding components_of
 components_of_many form text many = grind (arith, nat_tests)
@@ -121,7 +121,7 @@ components_of_none form text none = rw none (same_choice _ None)
 -- a string of few enough parts, each of which spells a number
 pub components_of_some :
     (form : Form) (text numbers : List ℕ) →
-    length (parts_of text) ≤ most_components form →
+    length (parts_of text) ≤ max_components form →
     numbers_of form (parts_of text) ≡ Some numbers →
     components_of form text ≡ Some (padded numbers, length numbers)
 unfolding components_of

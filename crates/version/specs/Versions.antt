@@ -34,9 +34,9 @@ number_in Plain part = if has_leading_zero part then None else number_of part
 number_in Lenient part = number_of part
 
 -- how many components a form allows at most
-abbrev pub most_components : Form → ℕ
-most_components Plain = 4
-most_components Lenient = 16
+abbrev pub max_components : Form → ℕ
+max_components Plain = 4
+max_components Lenient = 16
 
 -- a number before others, if all of them are there
 abbrev pub prepended : Option ℕ → Option (List ℕ) → Option (List ℕ)
@@ -56,7 +56,7 @@ padded numbers = numbers ++ replicate (16 - length numbers) 0
 -- the version that a string spells in a form, and how many components the string writes
 unfoldable pub components_of : Form → List ℕ → Option (List ℕ × ℕ)
 components_of form text =
-    if nat_le (length (parts_of text)) (most_components form) then
+    if nat_le (length (parts_of text)) (max_components form) then
     option_map (λ numbers. (padded numbers, length numbers)) (numbers_of form (parts_of text))
     else None
 

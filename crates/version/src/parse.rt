@@ -1,7 +1,7 @@
 // How a string is read as the numbers of a version.
 
 ghost use Rattle.std.specs.Prelude.{◌≡◌, ◌&&◌, ◌==◌, length, nat_lt, slice_index};
-ghost use Rattle.version.specs.Versions.{components_of, has_leading_zero, most_components, number_in, number_of};
+ghost use Rattle.version.specs.Versions.{components_of, has_leading_zero, max_components, number_in, number_of};
 
 /// How many components a version has, those that a string leaves out among them.
 pub(crate) const COMPONENTS: usize = 16;
@@ -35,7 +35,7 @@ pub(crate) fn read(text: &str, form: Form) -> Option<([u32; COMPONENTS], usize)>
 
 // How many components a string may have.
 fn most(form: Form) -> usize
-    ensures { result ≡ most_components form }
+    ensures { result ≡ max_components form }
 {
     match form {
         Form::Plain => 4,

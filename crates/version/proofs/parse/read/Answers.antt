@@ -2,7 +2,7 @@ use Rattle.std.proofs.Common.{◌≤◌, ◌∙◌, [], ◌∷◌, ◌++◌, ap,
 use Rattle.std.proofs.lemmas.Iterator.Consumers.{YieldsList-end, YieldsList-turn}
 use Rattle.std.proofs.lemmas.Iterator.Splits.{YieldsList-from_str_split}
 use Rattle.std.proofs.lemmas.List.{length-map, map-append}
-use Rattle.version.specs.Versions.{most_components, number_in, numbers_of, parts_of}
+use Rattle.version.specs.Versions.{max_components, number_in, numbers_of, parts_of}
 use Rattle.version.proofs.ReadingLemmas.{HasRead-push}
 use Rattle.version.proofs.SpellingLemmas.{components_of_many, components_of_none, components_of_some, numbers_of_none}
 use Rattle.version.proofs.parse.read.Goals as goal
@@ -33,5 +33,5 @@ returns c =
     let all = YieldsList-end (YieldsList-from_str_split 46 c.args.text.now (lit< tt) (cc) (cc) (cc)) c.loop-part.yielded _ c.loop-part.yielded_by _ _ c.in-None.is c.next.ensures.steps in
     let so_far = c.loop-part.invariant.1 in
     let spelled = ap (numbers_of c.args.form) (sym all.0) ∙ so_far.spelled in
-    let few : length (parts_of c.args.text.now) ≤ most_components c.args.form = omega (arith, all.1, so_far.passed, so_far.within, length-map c.loop-part.yielded (λ part. part.now)) in
+    let few : length (parts_of c.args.text.now) ≤ max_components c.args.form = omega (arith, all.1, so_far.passed, so_far.within, length-map c.loop-part.yielded (λ part. part.now)) in
     rw (so_far.kept, so_far.counted) (sym (components_of_some c.args.form c.args.text.now c.loop-part.invariant.0 few spelled))

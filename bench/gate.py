@@ -1,0 +1,110 @@
+#!/usr/bin/env python3
+"""Runs the gate, and says what its processor time goes into.
+
+    bench/gate.py [--log FILE] [--top N]
+
+It runs `rt ci` at the top of the repository, with its output in FILE, by default `gate.log` in the folder for
+temporary files. Four times a second it reads the clocks of the checks that `rt ci` has started, and sums them in
+the end: processor minutes for the proofs of libraries, of tests, for the must-fail edits (the first of a crate proves
+the crate again) and for the programs, and the most expensive crates of each. Where other work runs beside it, the
+same checks take more processor time.
+
+It exits with the status of `rt ci`, whose last line it repeats.
+"""
+
+import argparse
+import collections
+import os
+import pathlib
+import subprocess
+import sys
+import tempfile
+import time
+
+TOP = pathlib.Path(__file__).resolve().parent.parent
+TICKS = os.sysconf("SC_CLK_TCK")
+KINDS = ("proof", "tests", "edits", "program")
+
+
+def read(path):
+    """The bytes of a file of /proc, empty if the process has ended."""
+    try:
+        with open(path, "rb") as file:
+            return file.read()
+    except OSError:
+        return b""
+
+
+def parent_and_time(pid):
+    """The parent of a process, and its processor seconds; None if it has ended."""
+    fields = read(f"/proc/{pid}/stat").rpartition(b") ")[2].split()
+    if len(fields) < 13:
+        return None
+    return int(fields[1]), (int(fields[11]) + int(fields[12])) / TICKS
+
+
+def kind_of(pid, words):
+    """What a check is for: a proof, a crate's tests, an edit or a program."""
+    try:
+        folder = os.readlink(f"/proc/{pid}/cwd")
+    except OSError:
+        folder = ""
+    if "/rt-edit-" in folder:
+        return "edits"
+    target = words[words.index("-o") + 1] if "-o" in words[:-1] else ""
+    if target.endswith("_tests.o"):
+        return "tests"
+    return "proof" if target.endswith(".rlib") else "program"
+
+
+def checks_below(root):
+    """The checks that run below a process: its number, what it is for, its crate and its seconds so far."""
+    times = {int(name): parent_and_time(name) for name in os.listdir("/proc") if name.isdigit()}
+    for pid, known in times.items():
+        words = read(f"/proc/{pid}/cmdline").decode(errors="replace").split("\0")
+        if known is None or "--crate-name" not in words:
+            continue
+        above = pid
+        while above > 1 and above != root and times.get(above):
+            above = times[above][0]
+        if above == root:
+            yield pid, kind_of(pid, words), words[words.index("--crate-name") + 1], known[1]
+
+
+def watch(gate):
+    """The seconds of each check, by what it is for and its crate, until the gate ends."""
+    seen = {}
+    while gate.poll() is None:
+        for pid, kind, crate, seconds in checks_below(gate.pid):
+            known = seen.get(pid, (kind, crate, 0.0))
+            seen[pid] = (known[0], crate, max(known[2], seconds))
+        time.sleep(0.25)
+    sums = collections.Counter()
+    for kind, crate, seconds in seen.values():
+        sums[kind, crate] += seconds
+    return sums
+
+
+def main():
+    parser = argparse.ArgumentParser(description=__doc__, formatter_class=argparse.RawDescriptionHelpFormatter)
+    parser.add_argument("--log", default=os.path.join(tempfile.gettempdir(), "gate.log"))
+    parser.add_argument("--top", type=int, default=10)
+    options = parser.parse_args()
+    began = time.time()
+    with open(options.log, "w", encoding="utf-8") as log:
+        gate = subprocess.Popen(["rt", "ci"], cwd=TOP, stdin=subprocess.DEVNULL, stdout=log, stderr=subprocess.STDOUT)
+        sums = watch(gate)
+    print(f"{(time.time() - began) / 60:.1f} minutes on {len(os.sched_getaffinity(0))} processors")
+    print(f"{sum(sums.values()) / 60:8.1f} processor minutes in all")
+    for kind in KINDS:
+        own = {crate: seconds for (of, crate), seconds in sums.items() if of == kind}
+        print(f"{sum(own.values()) / 60:8.1f} {kind} ({len(own)} crates)")
+    print(f"the most expensive {options.top}, in processor seconds:")
+    for (kind, crate), seconds in sums.most_common(options.top):
+        print(f"{seconds:8.0f} {kind} of {crate}")
+    print(pathlib.Path(options.log).read_text(encoding="utf-8").rstrip("\n").rpartition("\n")[2])
+    return gate.returncode
+
+
+if __name__ == "__main__":
+    sys.exit(main())

@@ -1,0 +1,20 @@
+use Rattle.std.proofs.Common.{refl}
+use Rattle.omaha_arguments.proofs.command_line.omaha_command.Goals as goal
+
+pub returns : goal.returns
+returns c =
+    c.with_command.ensures _ _ refl
+    (c.with_command-program-7.ensures _ _ refl
+    (c.with_command-program-6.ensures _ _ refl
+    (c.with_command-program-5.ensures _ _ refl
+    (c.with_command-program-4.ensures _ _ refl
+    (c.with_command-program-3.ensures _ _ refl
+    (c.with_command-program-2.ensures _ _ refl
+    (c.with_command-program.ensures _ _ refl c.plain_command-program.ensures c.serve_command.ensures)
+    c.check_command.ensures)
+    c.walk_command.ensures)
+    c.describe_command.ensures)
+    c.certify_command.ensures)
+    c.verify_command.ensures)
+    c.explain_command.ensures)
+    c.once_command.ensures
