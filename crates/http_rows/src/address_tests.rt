@@ -1,6 +1,5 @@
 use http_client_heads::parse_address;
 use std::alloc::{AllocError, Global};
-use std::test::Fail;
 
 // A row is an address, and its authority, host, port and path.
 const ROWS: &str = "\
@@ -46,12 +45,16 @@ fn shown(alloc: Global, text: &str) -> Result<String, AllocError> {
     }
 }
 
+// Whether an address has the parts of its row.
+fn has_parts(alloc: Global, row: &str) -> Option<bool> {
+    let (text, wanted) = row.split_once(" = ")?;
+    let line = shown(alloc, text).ok()?;
+    Some(line.as_str() == wanted)
+}
+
 #[test]
-fn reads_the_parts_of_addresses(rt: HostRuntime) -> Result<(), Fail> {
+fn reads_the_parts_of_addresses(rt: HostRuntime) {
     for row in ROWS.lines() {
-        let (text, wanted) = row.split_once(" = ").ok_or("no sign")?;
-        let line = shown(rt.alloc(), text)?;
-        assert_eq!(rt; line.as_str(), wanted, "{row}");
+        assert!(rt; has_parts(rt.alloc(), row) == Some(true), "{row}");
     }
-    Ok(())
 }

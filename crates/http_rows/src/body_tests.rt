@@ -1,8 +1,10 @@
+ghost use Rattle.std.specs.Prelude.{◌≡◌, length};
+
 use crate::devices::Pieces;
+use crate::head_tests::print_head;
 use http_wire::{Head, MAX_FIELDS, Window, read_body, read_head};
-use httparse::spans::EMPTY_HEADER_SPAN;
+use httparse::spans::{EMPTY_HEADER_SPAN, HeaderSpan};
 use std::alloc::{AllocError, Global};
-use std::test::Fail;
 
 // Two messages after each other, the first with a body that looks like a head.
 const MESSAGES: &[u8] =
@@ -11,32 +13,39 @@ const MESSAGES: &[u8] =
 const BODY: &[u8] = b"GET /x HTTP/1.1\r\n\r";
 
 // Reads a head, a body of 18 bytes and a second head, and says how far it came.
-fn print_two(alloc: Global, source: &mut Pieces<'_>) -> Result<&'static str, AllocError> {
-    let mut window = Window::new(alloc)?;
-    let mut fields = vec![in alloc; EMPTY_HEADER_SPAN; MAX_FIELDS]?;
-    match read_head(source, &mut window, &mut fields) {
+fn read_two(source: &mut Pieces<'_>, window: &mut Window, fields: &mut [HeaderSpan]) -> &'static str
+    requires { length fields.old ≡ 5461 }
+{
+    match read_head(source, window, fields) {
         Ok(Head::Whole(spans)) => window.discard(spans.len),
-        Ok(_) => return Ok("no head"),
-        Err(_) => return Ok("head failed"),
+        Ok(_) => return "no head",
+        Err(_) => return "head failed",
     }
     let mut body = [0; 18];
-    match read_body(source, &mut window, &mut body) {
+    match read_body(source, window, &mut body) {
         Ok(true) if body.as_slice() == BODY => {}
-        Ok(true) => return Ok("another body"),
-        Ok(false) => return Ok("short body"),
-        Err(_) => return Ok("body failed"),
+        Ok(true) => return "another body",
+        Ok(false) => return "short body",
+        Err(_) => return "body failed",
     }
-    match read_head(source, &mut window, &mut fields) {
-        Ok(Head::Whole(spans)) if spans.path.of(window.bytes()) == b"/b".as_slice() => Ok("both"),
-        Ok(Head::Whole(_)) => Ok("another head"),
-        Ok(Head::Ended) => Ok("one"),
-        Ok(_) => Ok("bad"),
-        Err(_) => Ok("second failed"),
+    match read_head(source, window, fields) {
+        Ok(Head::Whole(spans)) if spans.path.of(window.bytes()) == b"/b".as_slice() => "both",
+        Ok(Head::Whole(_)) => "another head",
+        Ok(Head::Ended) => "one",
+        Ok(_) => "bad",
+        Err(_) => "second failed",
     }
 }
 
+// How far it comes over a source.
+fn read_from(alloc: Global, source: &mut Pieces<'_>) -> Result<&'static str, AllocError> {
+    let mut window = Window::new(alloc)?;
+    let mut fields = vec![in alloc; EMPTY_HEADER_SPAN; MAX_FIELDS]?;
+    Ok(read_two(source, &mut window, &mut fields))
+}
+
 #[test]
-fn reads_messages_however_they_are_cut(rt: HostRuntime) -> Result<(), Fail> {
+fn reads_messages_however_they_are_cut(rt: HostRuntime) {
     for end in 0..=MESSAGES.len() {
         let expected = match end {
             0..40 => "no head",
@@ -45,21 +54,15 @@ fn reads_messages_however_they_are_cut(rt: HostRuntime) -> Result<(), Fail> {
             _ => "both",
         };
         for piece in [1, 7, 1000] {
-            let left = &MESSAGES[..end];
-            let mut source = Pieces {
-                left,
-                piece,
-                good: usize::MAX,
-                failed: false,
-            };
-            assert_eq!(rt; print_two(rt.alloc(), &mut source)?, expected);
+            let mut source = Pieces::new(&MESSAGES[..end], piece);
+            let found = read_from(rt.alloc(), &mut source);
+            assert!(rt; found.ok() == Some(expected), "{end} bytes, {piece} a call");
         }
     }
-    Ok(())
 }
 
 #[test]
-fn reports_each_read_that_fails(rt: HostRuntime) -> Result<(), Fail> {
+fn reports_each_read_that_fails(rt: HostRuntime) {
     for good in 0..=MESSAGES.len() {
         let expected = match good {
             0..40 => "head failed",
@@ -73,34 +76,32 @@ fn reports_each_read_that_fails(rt: HostRuntime) -> Result<(), Fail> {
             good,
             failed: false,
         };
-        assert_eq!(rt; print_two(rt.alloc(), &mut source)?, expected);
+        let found = read_from(rt.alloc(), &mut source);
+        assert!(rt; found.ok() == Some(expected), "after {good} reads");
     }
-    Ok(())
+}
+
+// A head of one field that has so many bytes.
+fn make_head(alloc: Global, length: usize) -> Result<Vec<u8>, AllocError> {
+    let mut head = Vec::from_slice(alloc, b"GET / HTTP/1.1\r\nX: ")?;
+    for _ in head.len()..length.saturating_sub(4) {
+        head.push(b'a')?;
+    }
+    head.extend_from_slice(b"\r\n\r\n")?;
+    Ok(head)
+}
+
+// Whether a head of so many bytes is read as that.
+fn is_read_as(alloc: Global, length: usize, wanted: &str) -> Result<bool, AllocError> {
+    let head = make_head(alloc, length)?;
+    let found = print_head(alloc, &head, 5000)?;
+    Ok(head.len() == length && found.as_str() == wanted)
 }
 
 #[test]
-fn reads_a_head_of_16384_bytes(rt: HostRuntime) -> Result<(), Fail> {
-    for (length, expected) in [(16384, "whole"), (16385, "long")] {
-        let alloc = rt.alloc();
-        let mut head = Vec::from_slice(alloc, b"GET / HTTP/1.1\r\nX: ")?;
-        for _ in head.len()..length - 4 {
-            head.push(b'a')?;
-        }
-        head.extend_from_slice(b"\r\n\r\n")?;
-        let mut window = Window::new(alloc)?;
-        let mut fields = vec![in alloc; EMPTY_HEADER_SPAN; MAX_FIELDS]?;
-        let mut source = Pieces {
-            left: &head,
-            piece: 5000,
-            good: usize::MAX,
-            failed: false,
-        };
-        let found = match read_head(&mut source, &mut window, &mut fields) {
-            Ok(Head::Whole(_)) => "whole",
-            Ok(Head::Long) => "long",
-            _ => "another",
-        };
-        assert_eq!(rt; found, expected);
+fn reads_a_head_of_16384_bytes(rt: HostRuntime) {
+    for (length, wanted) in [(16384, "0 open"), (16385, "long")] {
+        let is_right = is_read_as(rt.alloc(), length, wanted);
+        assert!(rt; is_right.ok() == Some(true), "{length} bytes");
     }
-    Ok(())
 }

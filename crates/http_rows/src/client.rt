@@ -5,11 +5,32 @@ ghost use Rattle.std.specs.Prelude.{◌≡◌, ◌<◌};
 use crate::counter::{Counter, Nothing, Stopped};
 use http_connections::{Door, serve_connections};
 use http_wire::Unwatched;
+use std::alloc::Global;
 use std::io;
 use std::io::{Read, Write};
 use std::marker::Brand;
 use std::net::{Shutdown, TcpListener, TcpStream};
 use std::sync::ledger::{Blank, Ledger};
+
+/// Sends a byte of a message: `~` is the end of a line, and `#` is 1000 letters.
+pub(crate) fn send_byte(stream: &mut TcpStream, byte: u8) -> io::Result<()> {
+    match byte {
+        b'~' => stream.write_all(b"\r\n"),
+        b'#' => stream.write_all(&[b'x'; 1000]),
+        other => stream.write_all(&[other]),
+    }
+}
+
+// Sends a message. Then no more is sent, unless the message ends with `+`.
+fn send(stream: &mut TcpStream, message: &str) -> io::Result<()> {
+    for byte in message.as_bytes() {
+        if *byte == b'+' {
+            return Ok(());
+        }
+        send_byte(stream, *byte)?;
+    }
+    stream.shutdown(Shutdown::Write)
+}
 
 /// Connects and sends a message: a line of it ends at each `~`, and each `#` is 1000 letters. Then no more is
 /// sent, unless the message ends with `+`.
@@ -18,31 +39,23 @@ pub(crate) fn connect(
     listener: &TcpListener,
     message: &str,
 ) -> io::Result<TcpStream> {
-    let mut stream = TcpStream::connect(rt, listener.local_addr()?)?;
-    for byte in message.as_bytes() {
-        match *byte {
-            b'~' => stream.write_all(b"\r\n")?,
-            b'#' => stream.write_all(&[b'x'; 1000])?,
-            b'+' => return Ok(stream),
-            other => stream.write_all(&[other])?,
-        }
-    }
-    stream.shutdown(Shutdown::Write)?;
+    let address = listener.local_addr()?;
+    let mut stream = TcpStream::connect(rt, address)?;
+    send(&mut stream, message)?;
     Ok(stream)
 }
 
-/// Returns what the server sent, with `~` for the ends of lines.
-pub(crate) fn receive(rt: &HostRuntime, mut stream: TcpStream) -> io::Result<String> {
-    let mut text = String::new(rt.alloc());
+// Returns all that the server sent.
+fn read_all(alloc: Global, stream: &mut TcpStream) -> io::Result<String> {
+    let mut text = String::new(alloc);
     stream.read_to_string(&mut text)?;
-    let mut line = String::new(rt.alloc());
-    for part in text.as_str().split("\r\n") {
-        if !line.is_empty() {
-            line.push_str("~")?;
-        }
-        line.push_str(part)?;
-    }
-    Ok(line)
+    Ok(text)
+}
+
+/// Returns what the server sent, with `~` for the ends of lines.
+pub(crate) fn receive(alloc: Global, stream: &mut TcpStream) -> io::Result<String> {
+    let text = read_all(alloc, stream)?;
+    Ok(text.as_str().replace(alloc, "\r\n", "~")?)
 }
 
 // Serves by a door of a ledger, and returns how often the desk was asked.

@@ -1,5 +1,6 @@
 use crate::client::{connect, receive, serve_some};
-use std::net::TcpListener;
+use std::alloc::Global;
+use std::net::{TcpListener, TcpStream};
 use std::test::Fail;
 
 // A row is what a client sends, and what it gets.
@@ -14,44 +15,80 @@ POST /ask HTTP/1.1~Content-Le =
 POST /ask HTTP/1.1~Content-Le+ = 
  = ";
 
-// What a client gets that sends a message.
-fn exchange(rt: &HostRuntime, listener: &TcpListener, message: &str) -> Result<String, Fail> {
-    let stream = connect(rt, listener, message)?;
+// Whether a client gets what its row says.
+fn is_sent(alloc: Global, stream: &mut TcpStream, wanted: &str) -> bool {
+    match receive(alloc, stream) {
+        Ok(line) => line.as_str() == wanted,
+        Err(_) => false,
+    }
+}
+
+// Whether the client of a row gets what the row says.
+fn is_replied(rt: &HostRuntime, listener: &TcpListener, row: &str) -> Option<bool> {
+    let (message, wanted) = row.split_once(" = ")?;
+    let mut stream = connect(rt, listener, message).ok()?;
     let _ = serve_some(rt, listener, 1);
-    Ok(receive(rt, stream)?)
+    Some(is_sent(rt.alloc(), &mut stream, wanted))
 }
 
 #[test]
 fn replies_over_the_loopback(rt: HostRuntime) -> Result<(), Fail> {
     let listener = TcpListener::bind(&rt, "127.0.0.1:0")?;
     for row in ROWS.lines() {
-        let (message, wanted) = row.split_once(" = ").ok_or("no sign")?;
-        let line = exchange(&rt, &listener, message)?;
-        assert_eq!(rt; line.as_str(), wanted, "{row}");
+        assert!(rt; is_replied(&rt, &listener, row) == Some(true), "{row}");
     }
     Ok(())
 }
 
-const ASK: &str = "POST /ask HTTP/1.1~Content-Length: 0~~";
+// Clients that connect one after the other, the second of which sends nothing. The first three are of one server, and
+// the last is of the next.
+const CLIENTS: &str = "\
+POST /ask HTTP/1.1~Content-Length: 0~~ = HTTP/1.1 200 OK~Content-Type: text/plain~Content-Length: 1~~a
++ = 
+POST /ask HTTP/1.1~Content-Length: 0~~ = HTTP/1.1 200 OK~Content-Type: text/plain~Content-Length: 1~~b
+POST /ask HTTP/1.1~Content-Length: 0~~ = HTTP/1.1 200 OK~Content-Type: text/plain~Content-Length: 1~~a";
+
+// Connects the clients of rows.
+fn connect_all(rt: &HostRuntime, listener: &TcpListener, rows: &str) -> Option<Vec<TcpStream>> {
+    let mut streams = Vec::new(rt.alloc());
+    for row in rows.lines() {
+        let (message, _) = row.split_once(" = ")?;
+        let stream = connect(rt, listener, message).ok()?;
+        streams.push(stream).ok()?;
+    }
+    Some(streams)
+}
+
+// How many clients get what their rows say.
+fn count_replied(alloc: Global, streams: &mut [TcpStream], rows: &str) -> Option<usize> {
+    let mut count: usize = 0;
+    for (stream, row) in streams.iter_mut().zip(rows.lines()) {
+        let (_, wanted) = row.split_once(" = ")?;
+        if is_sent(alloc, stream, wanted) {
+            count = count.saturating_add(1);
+        }
+    }
+    Some(count)
+}
 
 #[test]
 fn serves_one_connection_after_the_other(rt: HostRuntime) -> Result<(), Fail> {
     let listener = TcpListener::bind(&rt, "127.0.0.1:0")?;
-    let first = connect(&rt, &listener, ASK)?;
-    let silent = connect(&rt, &listener, "+")?;
-    let second = connect(&rt, &listener, ASK)?;
-    let third = connect(&rt, &listener, ASK)?;
+    let mut streams = connect_all(&rt, &listener, CLIENTS).ok_or("no connection")?;
     assert!(rt; serve_some(&rt, &listener, 3) == 2);
-    let line = receive(&rt, first)?;
-    assert!(rt; line.as_str().ends_with("~~a"));
-    let line = receive(&rt, silent)?;
-    assert!(rt; line.is_empty());
-    let line = receive(&rt, second)?;
-    assert!(rt; line.as_str().ends_with("~~b"));
     assert!(rt; serve_some(&rt, &listener, 1) == 1);
-    let line = receive(&rt, third)?;
-    assert!(rt; line.as_str().ends_with("~~a"));
+    assert!(rt; count_replied(rt.alloc(), &mut streams, CLIENTS) == Some(4));
     Ok(())
+}
+
+// How often a server of two connections is asked that accepts one.
+fn ask_once(rt: &HostRuntime, listener: &TcpListener) -> Option<u8> {
+    let message = "POST /ask HTTP/1.1~Content-Length: 0~~";
+    let mut stream = connect(rt, listener, message).ok()?;
+    let asked = serve_some(rt, listener, 2);
+    let line = receive(rt.alloc(), &mut stream).ok()?;
+    line.as_str().strip_suffix("~~a")?;
+    Some(asked)
 }
 
 #[test]
@@ -59,9 +96,6 @@ fn a_connection_that_is_not_accepted_counts(rt: HostRuntime) -> Result<(), Fail>
     let listener = TcpListener::bind(&rt, "127.0.0.1:0")?;
     listener.set_nonblocking(true)?;
     assert!(rt; serve_some(&rt, &listener, 2) == 0);
-    let stream = connect(&rt, &listener, ASK)?;
-    assert!(rt; serve_some(&rt, &listener, 2) == 1);
-    let line = receive(&rt, stream)?;
-    assert!(rt; line.as_str().ends_with("~~a"));
+    assert!(rt; ask_once(&rt, &listener) == Some(1));
     Ok(())
 }

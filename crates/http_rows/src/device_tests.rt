@@ -7,7 +7,6 @@ use http_wire::{Failed, Sink, Source};
 use std::alloc::{AllocError, Global};
 use std::marker::Brand;
 use std::sync::ledger::{Blank, Ledger};
-use std::test::Fail;
 
 // Puts the outcome of a call at the end of a line.
 fn push_outcome(
@@ -75,22 +74,38 @@ iiii9i1| 4 1 0| 4 1 failed
 1if2| 1 failed 2| 1 failed 2
 01| 0 1 0| failed 1 failed";
 
-#[test]
-fn tries_an_interrupted_call_again(rt: HostRuntime) -> Result<(), Fail> {
-    for row in ROWS.lines() {
-        let (script, others) = row.split_once('|').ok_or("no bar")?;
-        let (read, written) = others.split_once('|').ok_or("no second bar")?;
-        let line = print_reads(&rt, script)?;
-        assert_eq!(rt; line.as_str(), read, "{row}");
-        let line = print_writes(&rt, script)?;
-        assert_eq!(rt; line.as_str(), written, "{row}");
+// Whether reads come to what is wanted.
+fn reads_so<R: AllocGlobal>(rt: &R, script: &str, wanted: &str) -> bool {
+    match print_reads(rt, script) {
+        Ok(line) => line.as_str() == wanted,
+        Err(_) => false,
     }
-    Ok(())
+}
+
+// Whether writes come to what is wanted.
+fn writes_so<R: AllocGlobal>(rt: &R, script: &str, wanted: &str) -> bool {
+    match print_writes(rt, script) {
+        Ok(line) => line.as_str() == wanted,
+        Err(_) => false,
+    }
+}
+
+// Whether the calls of a row come to what it says.
+fn comes_to_its_ends<R: AllocGlobal>(rt: &R, row: &str) -> Option<bool> {
+    let (script, others) = row.split_once('|')?;
+    let (read, written) = others.split_once('|')?;
+    Some(reads_so(rt, script, read) && writes_so(rt, script, written))
 }
 
 #[test]
-fn the_clock_is_within_this_century(rt: HostRuntime) -> Result<(), Fail> {
+fn tries_an_interrupted_call_again(rt: HostRuntime) {
+    for row in ROWS.lines() {
+        assert!(rt; comes_to_its_ends(&rt, row) == Some(true), "{row}");
+    }
+}
+
+#[test]
+fn the_clock_is_within_this_century(rt: HostRuntime) {
     let now = SystemClock::new(&rt).now();
     assert!(rt; 1_767_225_600 < now && now < 4_102_444_800);
-    Ok(())
 }

@@ -3,6 +3,7 @@
 ghost use Rattle.std.specs.Prelude.{None, if◌then◌else◌};
 
 use http_wire::{Failed, Sink, Source};
+use std::alloc::Global;
 
 /// Gives `piece` bytes a call, and fails once, after `good` calls.
 #[derive(Drop)]
@@ -11,6 +12,18 @@ pub(crate) struct Pieces<'a> {
     pub(crate) piece: usize,
     pub(crate) good: usize,
     pub(crate) failed: bool,
+}
+
+impl<'a> Pieces<'a> {
+    /// Gives these bytes, so many a call, and never fails.
+    pub(crate) fn new(left: &'a [u8], piece: usize) -> Pieces<'a> {
+        Pieces {
+            left,
+            piece,
+            good: usize::MAX,
+            failed: false,
+        }
+    }
 }
 
 impl Source for Pieces<'_> {
@@ -39,6 +52,19 @@ pub(crate) struct Kept {
     pub(crate) piece: usize,
     pub(crate) good: usize,
     pub(crate) failed: bool,
+}
+
+impl Kept {
+    /// Keeps nothing yet, takes so many bytes a call, and fails once, after `good` calls.
+    pub(crate) fn new(alloc: Global, piece: usize, good: usize) -> Kept {
+        Kept {
+            bytes: Vec::new(alloc),
+            calls: 0,
+            piece,
+            good,
+            failed: false,
+        }
+    }
 }
 
 impl Sink for Kept {

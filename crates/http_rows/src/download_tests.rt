@@ -1,4 +1,4 @@
-use crate::server::serve_once;
+use crate::server::{free_host, host_of, serve_once};
 use http_client::HttpLink;
 use std::alloc::Global;
 use std::net::{Net, TcpListener, TcpStream};
@@ -31,6 +31,16 @@ fn read_all<L: Link>(link: &mut L, line: &mut String) -> Option<()> {
     None
 }
 
+// What a link hands on of an address, or `failed`.
+fn read_at<L: Link>(link: &mut L, alloc: Global, address: &str) -> Option<String> {
+    let mut line = String::new(alloc);
+    match link.open(address) {
+        Ok(()) => read_all(link, &mut line)?,
+        Err(_) => line.push_str("failed").ok()?,
+    }
+    Some(line)
+}
+
 // What a download hands on, or `failed`.
 fn download<R: Net<Listener = TcpListener, Stream = TcpStream>>(
     rt: &R,
@@ -38,12 +48,7 @@ fn download<R: Net<Listener = TcpListener, Stream = TcpStream>>(
     address: &str,
 ) -> Option<String> {
     let mut link = HttpLink::new(alloc, rt, "127.0.0.1:1", 5);
-    let mut line = String::new(alloc);
-    match link.open(address) {
-        Ok(()) => read_all(&mut link, &mut line)?,
-        Err(_) => line.push_str("failed").ok()?,
-    }
-    Some(line)
+    read_at(&mut link, alloc, address)
 }
 
 // The request that a server gets, and what the download hands on.
@@ -59,40 +64,59 @@ fn exchange<R: Net<Listener = TcpListener, Stream = TcpStream> + Threads + Sync>
         || serve_once(alloc, listener, reply),
         || download(rt, alloc, address),
     );
-    Some((request?, outcome?))
+    request.zip(outcome)
+}
+
+// Whether the request is that of a download from a host.
+fn asks_for_package(request: &str, host: &str) -> bool {
+    request.split_once(host) == Some(("GET /p/a.bin?x=1 HTTP/1.1~Host: ", "~Connection: close~~"))
+}
+
+// Whether a download from a host hands on what its row says.
+fn hands_on<R: Net<Listener = TcpListener, Stream = TcpStream> + Threads + Sync + AllocGlobal>(
+    rt: &R,
+    listener: &TcpListener,
+    host: &str,
+    row: &str,
+) -> Option<bool> {
+    let (reply, wanted) = row.split_once(" = ")?;
+    let address = format!(in rt.alloc(); "http://{host}/p/a.bin?x=1").ok()?;
+    let (request, outcome) = exchange(rt, rt.alloc(), listener, address.as_str(), reply)?;
+    Some(outcome.as_str() == wanted && asks_for_package(request.as_str(), host))
 }
 
 #[test]
 fn downloads_over_the_loopback(rt: HostRuntime) -> Result<(), Fail> {
     let listener = TcpListener::bind(&rt, "127.0.0.1:0")?;
-    let host = format!(in rt.alloc(); "{}", listener.local_addr()?)?;
-    let address = format!(in rt.alloc(); "http://{host}/p/a.bin?x=1")?;
-    let wanted_request = format!(in rt.alloc();
-        "GET /p/a.bin?x=1 HTTP/1.1~Host: {host}~Connection: close~~"
-    )?;
+    let host = host_of(rt.alloc(), &listener)?;
     for row in ROWS.lines() {
-        let (reply, wanted) = row.split_once(" = ").ok_or("no sign")?;
-        let (request, outcome) = exchange(
-            &rt,
-            rt.alloc(),
-            &listener,
-            address.as_str(),
-            reply,
-        ).ok_or("no exchange")?;
-        assert_eq!(rt; outcome.as_str(), wanted, "{row}");
-        assert_eq!(rt; request.as_str(), wanted_request.as_str(), "{row}");
+        assert!(rt;
+            hands_on(&rt, &listener, host.as_str(), row) == Some(true),
+            "{row}"
+        );
     }
     Ok(())
 }
 
+// Whether a download from an address fails.
+fn fails(rt: &HostRuntime, address: &str) -> bool {
+    match download(rt, rt.alloc(), address) {
+        Some(outcome) => outcome.as_str() == "failed",
+        None => false,
+    }
+}
+
+// Whether a download fails from a host that nobody listens on.
+fn fails_at_free_host(rt: &HostRuntime) -> Result<bool, Fail> {
+    let host = free_host(rt)?;
+    let address = format!(in rt.alloc(); "http://{host}/p/a.bin")?;
+    Ok(fails(rt, address.as_str()))
+}
+
 #[test]
 fn a_download_fails_if_nobody_listens(rt: HostRuntime) -> Result<(), Fail> {
-    let listener = TcpListener::bind(&rt, "127.0.0.1:0")?;
-    let address = format!(in rt.alloc(); "http://{}/p/a.bin", listener.local_addr()?)?;
-    drop(listener);
-    let outcome = download(&rt, rt.alloc(), address.as_str()).ok_or("no outcome")?;
-    assert_eq!(rt; outcome.as_str(), "failed");
-    let outcome = download(&rt, rt.alloc(), "https://127.0.0.1/p/a.bin").ok_or("no outcome")?;
-    assert_eq!(rt; outcome.as_str(), "failed");
+    assert!(rt; fails(&rt, "https://127.0.0.1/p/a.bin"));
+    let is_right = fails_at_free_host(&rt)?;
+    assert!(rt; is_right);
     Ok(())
 }

@@ -2,11 +2,11 @@ ghost use Rattle.std.specs.Prelude.{◌≡◌, length};
 ghost use Rattle.http_wire.specs.Heads.{IsWholeWithin};
 
 use crate::devices::Pieces;
+use crate::lines::expand;
 use http_heads::{Status, framing, package_name, path_of, wants_close};
 use http_wire::{Head, MAX_FIELDS, Window, read_head};
 use httparse::spans::{EMPTY_HEADER_SPAN, HeaderSpan, RequestSpans};
 use std::alloc::{AllocError, Global};
-use std::test::Fail;
 
 // A row is a head and what it gives: the length of the body or the error status, and whether the
 // connection ends; or why there is no head. `~` is CR LF, `^` a lone LF, `@` NUL.
@@ -56,19 +56,6 @@ POST / HTTP/1.1~Content-Length: 5~Transfer-Encoding: identity~~ = 501 open
 POST / HTTP/1.1~Content-Length: 5~Content-Length: 6~transfer-encoding: x~~ = 501 open
 ";
 
-fn expand(alloc: Global, text: &str) -> Result<Vec<u8>, AllocError> {
-    let mut bytes = Vec::new(alloc);
-    for byte in text.as_bytes() {
-        match *byte {
-            b'~' => bytes.extend_from_slice(b"\r\n")?,
-            b'^' => bytes.push(b'\n')?,
-            b'@' => bytes.push(0)?,
-            other => bytes.push(other)?,
-        }
-    }
-    Ok(bytes)
-}
-
 fn code(status: Status) -> &'static str {
     match status {
         Status::BadRequest => "400",
@@ -99,22 +86,16 @@ fn print_fields(
     }
 }
 
-fn print_head(
+// What is read of a source: a whole head's fields, or why there is no head.
+fn print_read(
     alloc: Global,
-    head: &[u8],
-    piece: usize,
+    source: &mut Pieces<'_>,
     window: &mut Window,
     fields: &mut [HeaderSpan],
 ) -> Result<String, AllocError>
     requires { length fields.old ≡ 5461 }
 {
-    let mut source = Pieces {
-        left: head,
-        piece,
-        good: usize::MAX,
-        failed: false,
-    };
-    match read_head(&mut source, window, fields) {
+    match read_head(source, window, fields) {
         Ok(Head::Whole(spans)) => print_fields(alloc, window.bytes(), spans, fields),
         Ok(Head::Ended) => String::from_str(alloc, "ended"),
         Ok(Head::Bad) => String::from_str(alloc, "bad"),
@@ -123,50 +104,58 @@ fn print_head(
     }
 }
 
-fn print_heads(alloc: Global, rows: &str, piece: usize) -> Result<String, AllocError> {
-    let mut printed = String::new(alloc);
-    for row in rows.lines() {
-        if let Some((text, _)) = row.split_once(" = ") {
-            let head = expand(alloc, text)?;
-            let mut window = Window::new(alloc)?;
-            let mut fields = vec![in alloc; EMPTY_HEADER_SPAN; MAX_FIELDS]?;
-            let told = print_head(alloc, &head, piece, &mut window, &mut fields)?;
-            printed.push_str(text)?;
-            printed.push_str(" = ")?;
-            printed.push_str(told.as_str())?;
-            printed.push_str("\n")?;
+/// What is read of a head that comes so many bytes a call.
+pub(crate) fn print_head(alloc: Global, head: &[u8], piece: usize) -> Result<String, AllocError> {
+    let mut window = Window::new(alloc)?;
+    let mut fields = vec![in alloc; EMPTY_HEADER_SPAN; MAX_FIELDS]?;
+    let mut source = Pieces::new(head, piece);
+    print_read(alloc, &mut source, &mut window, &mut fields)
+}
+
+// Whether a head gives what its row says.
+fn gives(alloc: Global, row: &str, piece: usize) -> Option<bool> {
+    let (text, wanted) = row.split_once(" = ")?;
+    let head = expand(alloc, text).ok()?;
+    let told = print_head(alloc, &head, piece).ok()?;
+    Some(told.as_str() == wanted)
+}
+
+#[test]
+fn reads_heads_however_they_are_cut(rt: HostRuntime) {
+    for piece in [1, 7, 100000] {
+        for row in HEADS.lines() {
+            assert!(rt;
+                gives(rt.alloc(), row, piece) == Some(true),
+                "{row}, {piece} a call"
+            );
         }
     }
-    Ok(printed)
+}
+
+// A row is a target, its path and the package that it names.
+const TARGETS: &str = "\
+/p/mini-1.0.bin?x=1 = /p/mini-1.0.bin = mini-1.0.bin
+/p/a? = /p/a = a
+/p/a#b = /p/a#b = a#b
+/p/a%2Db/c = /p/a%2Db/c = a%2Db/c
+/p/ = /p/ = 
+/p?/p/a = /p = none
+?/p/a =  = none
+//p/a = //p/a = none
+/P/a = /P/a = none";
+
+// Whether a target has the path and the package of its row.
+fn names(row: &str) -> Option<bool> {
+    let (target, others) = row.split_once(" = ")?;
+    let (path, name) = others.split_once(" = ")?;
+    let found = path_of(target.as_bytes());
+    let package = package_name(found).unwrap_or(b"none");
+    Some(found == path.as_bytes() && package == name.as_bytes())
 }
 
 #[test]
-fn reads_heads_however_they_are_cut(rt: HostRuntime) -> Result<(), Fail> {
-    for piece in [1, 7, 100000] {
-        let printed = print_heads(rt.alloc(), HEADS, piece)?;
-        assert_eq!(rt; printed.as_str(), HEADS);
+fn finds_the_package_of_a_target(rt: HostRuntime) {
+    for row in TARGETS.lines() {
+        assert!(rt; names(row) == Some(true), "{row}");
     }
-    Ok(())
-}
-
-// A target, its path and the package that it names.
-#[test]
-fn finds_the_package_of_a_target(rt: HostRuntime) -> Result<(), Fail> {
-    let rows = [
-        ("/p/mini-1.0.bin?x=1", "/p/mini-1.0.bin", "mini-1.0.bin"),
-        ("/p/a?", "/p/a", "a"),
-        ("/p/a#b", "/p/a#b", "a#b"),
-        ("/p/a%2Db/c", "/p/a%2Db/c", "a%2Db/c"),
-        ("/p/", "/p/", ""),
-        ("/p?/p/a", "/p", "none"),
-        ("?/p/a", "", "none"),
-        ("//p/a", "//p/a", "none"),
-        ("/P/a", "/P/a", "none"),
-    ];
-    for (target, path, name) in rows {
-        let found = path_of(target.as_bytes());
-        assert_eq!(rt; found, path.as_bytes());
-        assert_eq!(rt; package_name(found).unwrap_or(b"none"), name.as_bytes());
-    }
-    Ok(())
 }

@@ -28,6 +28,8 @@ mod folder_tests;
 #[cfg(test)]
 mod head_tests;
 #[cfg(test)]
+mod lines;
+#[cfg(test)]
 mod memory_tests;
 #[cfg(test)]
 mod opening_tests;

@@ -5,8 +5,8 @@ ghost use Rattle.std.specs.Prelude.{codes};
 use crate::desks::{ABC, Files, Stopped};
 use crate::devices::{Kept, Pieces};
 use http_desks::{Answer, Declared, Desk, Off};
-use http_sessions::{Buffers, End, Session, Turn};
-use std::test::Fail;
+use http_sessions::{Buffers, End, Served, Session, Turn};
+use std::alloc::Global;
 
 // Out of memory whenever it is asked; each package is `abc`.
 #[derive(Drop)]
@@ -42,49 +42,50 @@ const SENT: &[u8] =
 const WRITTEN: &[u8] =
     b"HTTP/1.1 200 OK\r\nContent-Type: application/octet-stream\r\nContent-Length: 3\r\n\r\nabcHTTP/1.1 500 Internal Server Error\r\nContent-Length: 0\r\nConnection: close\r\n\r\n";
 
-// The session gets `()` as its handle, so that neither it nor its desk can allocate.
+// What comes after one message. The session gets `()` as its handle, so that neither it nor its desk can allocate.
+fn take_turn(
+    session: Session,
+    buffers: &mut Buffers,
+    source: &mut Pieces<'_>,
+    sink: &mut Kept,
+) -> Option<Turn> {
+    session
+        .turn(&(), buffers, source, sink, &mut Poor, &Files, &Stopped)
+        .ok()
+}
+
+// What a session comes to after two messages.
+fn take_two_turns(
+    session: Session,
+    buffers: &mut Buffers,
+    source: &mut Pieces<'_>,
+    sink: &mut Kept,
+) -> Option<Served> {
+    match take_turn(session, buffers, source, sink)? {
+        Turn::Open(session) => match take_turn(session, buffers, source, sink)? {
+            Turn::Ended(served) => Some(served),
+            Turn::Open(_) => None,
+        },
+        Turn::Ended(_) => None,
+    }
+}
+
+// What a session comes to that writes to a sink.
+fn serve_sent(alloc: Global, sink: &mut Kept) -> Option<Served> {
+    let mut buffers = Buffers::new(alloc).ok()?;
+    let session = Session::new(alloc).ok()?;
+    let mut source = Pieces::new(SENT, 7);
+    take_two_turns(session, &mut buffers, &mut source, sink)
+}
+
 #[test]
-fn sends_a_package_whole_without_an_allocator(rt: HostRuntime) -> Result<(), Fail> {
-    let session = Session::new(rt.alloc())?;
-    let mut buffers = Buffers::new(rt.alloc())?;
-    let mut source = Pieces {
-        left: SENT,
-        piece: 7,
-        good: usize::MAX,
-        failed: false,
+fn sends_a_package_whole_without_an_allocator(rt: HostRuntime) {
+    let mut sink = Kept::new(rt.alloc(), 100, usize::MAX);
+    let served = serve_sent(rt.alloc(), &mut sink);
+    let wanted = Served {
+        requests: 2,
+        end: End::Refused,
     };
-    let mut sink = Kept {
-        bytes: Vec::new(rt.alloc()),
-        calls: 0,
-        piece: 100,
-        good: usize::MAX,
-        failed: false,
-    };
-    let first = session.turn(
-        &(),
-        &mut buffers,
-        &mut source,
-        &mut sink,
-        &mut Poor,
-        &Files,
-        &Stopped,
-    );
-    let Ok(Turn::Open(session)) = first else {
-        return Err("the package ended the session".into());
-    };
-    let second = session.turn(
-        &(),
-        &mut buffers,
-        &mut source,
-        &mut sink,
-        &mut Poor,
-        &Files,
-        &Stopped,
-    );
-    let Ok(Turn::Ended(served)) = second else {
-        return Err("the session goes on".into());
-    };
-    assert!(rt; served.requests == 2 && matches!(served.end, End::Refused));
-    assert_eq!(rt; sink.bytes.as_slice(), WRITTEN);
-    Ok(())
+    assert!(rt; served == Some(wanted));
+    assert!(rt; sink.bytes.as_slice() == WRITTEN);
 }

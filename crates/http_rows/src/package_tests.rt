@@ -3,8 +3,7 @@ ghost use Rattle.std.specs.Prelude.{◌≡◌, length};
 use crate::devices::Kept;
 use http_desks::{Packages, send_package};
 use http_wire::Failed;
-use std::alloc::{AllocError, Global};
-use std::test::Fail;
+use std::alloc::Global;
 
 // SHA-256 of a million bytes `a`, as NIST's examples of FIPS 180 have it.
 const MILLION: [u8; 32] = [
@@ -38,102 +37,80 @@ impl Packages for Letters {
     }
 }
 
-fn make_sink(alloc: Global, good: usize) -> Kept {
-    Kept {
-        bytes: Vec::new(alloc),
-        calls: 0,
-        piece: 65536,
-        good,
-        failed: false,
-    }
-}
-
-// Sends a package of letters, of which so many can be read, and prints how that ended.
+// Sends a package of letters, of which so many can be read; returns how that ended.
 fn send_letters(
-    alloc: Global,
+    sink: &mut Kept,
     block: &mut [u8],
     size: u64,
     readable: u64,
     hash: &[u8],
-    good: usize,
-) -> Result<String, AllocError>
+) -> &'static str
     requires { length block.old ≡ 65536 }
 {
     let packages = Letters { readable };
-    let mut sink = make_sink(alloc, good);
-    let end = match send_package(&mut sink, block, &packages, b"a.bin", size, hash) {
+    match send_package(sink, block, &packages, b"a.bin", size, hash) {
         Ok(true) => "whole",
         Ok(false) => "cut",
         Err(_) => "failed",
-    };
-    format!(in alloc; "{} {end}\n", sink.bytes.len())
-}
-
-// How much is sent of packages of some sizes whose digest is another.
-fn print_wrong(alloc: Global, block: &mut [u8]) -> Result<String, AllocError>
-    requires { length block.old ≡ 65536 }
-{
-    let mut printed = String::new(alloc);
-    for size in [1000000, 1048576, 65537, 65536, 3] {
-        let row = send_letters(alloc, block, size, size, &[0; 32], usize::MAX)?;
-        printed.push_str(row.as_str())?;
     }
-    Ok(printed)
 }
 
-// How much is sent of a million letters where so many can be read.
-fn print_unreadable(alloc: Global, block: &mut [u8]) -> Result<String, AllocError>
-    requires { length block.old ≡ 65536 }
-{
-    let mut printed = String::new(alloc);
-    for readable in [1000000, 983040, 65536, 0] {
-        let row = send_letters(alloc, block, 1000000, readable, &MILLION, usize::MAX)?;
-        printed.push_str(row.as_str())?;
+// How much of a package is sent to a sink whose first writes don't fail, and how that ends.
+fn send(
+    alloc: Global,
+    good: usize,
+    size: u64,
+    readable: u64,
+    hash: &[u8],
+) -> Option<(usize, &'static str)> {
+    let mut block = vec![in alloc; 0; 65536].ok()?;
+    let mut sink = Kept::new(alloc, 65536, good);
+    let end = send_letters(&mut sink, &mut block, size, readable, hash);
+    Some((sink.bytes.len(), end))
+}
+
+// A row is the size of a package whose digest is another, and how much of it is sent.
+#[test]
+fn cuts_a_package_of_another_digest(rt: HostRuntime) {
+    let rows = [
+        (1000000, 983040),
+        (1048576, 983040),
+        (65537, 65536),
+        (65536, 0),
+        (3, 0),
+    ];
+    for (size, sent) in rows {
+        let ended = send(rt.alloc(), usize::MAX, size, size, &[0; 32]);
+        assert!(rt; ended == Some((sent, "cut")), "{size} bytes");
     }
-    Ok(printed)
 }
 
-// How much is sent of a million letters where so many writes don't fail.
-fn print_failing(alloc: Global, block: &mut [u8]) -> Result<String, AllocError>
-    requires { length block.old ≡ 65536 }
-{
-    let mut printed = String::new(alloc);
-    for good in [0, 3, 15, 16] {
-        let row = send_letters(alloc, block, 1000000, 1000000, &MILLION, good)?;
-        printed.push_str(row.as_str())?;
+// A row is how many of a million letters can be read, how many are sent, and how that ends.
+#[test]
+fn cuts_a_package_that_cannot_be_read(rt: HostRuntime) {
+    let rows = [
+        (1000000, 1000000, "whole"),
+        (983040, 983040, "cut"),
+        (65536, 65536, "cut"),
+        (0, 0, "cut"),
+    ];
+    for (readable, sent, end) in rows {
+        let ended = send(rt.alloc(), usize::MAX, 1000000, readable, &MILLION);
+        assert!(rt; ended == Some((sent, end)), "{readable} bytes");
     }
-    Ok(printed)
 }
 
+// A row is how many writes don't fail, how many of a million letters are sent, and how that ends.
 #[test]
-fn cuts_a_package_of_another_digest(rt: HostRuntime) -> Result<(), Fail> {
-    let mut block = vec![in rt.alloc(); 0; 65536]?;
-    let printed = print_wrong(rt.alloc(), &mut block)?;
-    assert_eq!(rt;
-        printed.as_str(),
-        "983040 cut\n983040 cut\n65536 cut\n0 cut\n0 cut\n"
-    );
-    Ok(())
-}
-
-#[test]
-fn cuts_a_package_that_cannot_be_read(rt: HostRuntime) -> Result<(), Fail> {
-    let mut block = vec![in rt.alloc(); 0; 65536]?;
-    let printed = print_unreadable(rt.alloc(), &mut block)?;
-    assert_eq!(rt;
-        printed.as_str(),
-        "1000000 whole\n983040 cut\n65536 cut\n0 cut\n"
-    );
-    Ok(())
-}
-
-#[test]
-fn sends_a_first_part_where_a_write_fails(rt: HostRuntime) -> Result<(), Fail> {
-    let mut block = vec![in rt.alloc(); 0; 65536]?;
-    let printed = print_failing(rt.alloc(), &mut block)?;
-    assert_eq!(rt;
-        printed.as_str(),
-        "0 failed\n196608 failed\n983040 failed\n1000000 whole\n"
-    );
-    Ok(())
+fn sends_a_first_part_where_a_write_fails(rt: HostRuntime) {
+    let rows = [
+        (0, 0, "failed"),
+        (3, 196608, "failed"),
+        (15, 983040, "failed"),
+        (16, 1000000, "whole"),
+    ];
+    for (good, sent, end) in rows {
+        let ended = send(rt.alloc(), good, 1000000, 1000000, &MILLION);
+        assert!(rt; ended == Some((sent, end)), "{good} writes");
+    }
 }

@@ -1,6 +1,6 @@
 ghost use Rattle.std.specs.Prelude.{◌<◌};
 
-use crate::server::serve_once;
+use crate::server::{free_host, host_of, serve_once};
 use http_client::HttpLink;
 use std::alloc::Global;
 use std::net::{Net, TcpListener, TcpStream};
@@ -33,7 +33,15 @@ HTTP/1.1 200 OK~Content-Len = failed
 NO HTTP~~ = failed
  = failed";
 
-// What a post comes to: the reply's body, or `failed`. A read or a write may take so many seconds.
+// What a post over a link comes to: the reply's body, or `failed`.
+fn post_by<L: Link>(link: &mut L, alloc: Global) -> Option<String> {
+    match link.post(alloc, b"{}") {
+        Ok(reply) => String::from_utf8(reply).ok(),
+        Err(_) => String::from_str(alloc, "failed").ok(),
+    }
+}
+
+// What a post to a host comes to. A read or a write may take so many seconds.
 fn post<R: Net<Listener = TcpListener, Stream = TcpStream>>(
     rt: &R,
     alloc: Global,
@@ -43,10 +51,7 @@ fn post<R: Net<Listener = TcpListener, Stream = TcpStream>>(
     requires limited { 0 < seconds }
 {
     let mut link = HttpLink::new(alloc, rt, host, seconds);
-    match link.post(alloc, b"{}") {
-        Ok(reply) => String::from_utf8(reply).ok(),
-        Err(_) => String::from_str(alloc, "failed").ok(),
-    }
+    post_by(&mut link, alloc)
 }
 
 // The request that a server gets, and what the post comes to.
@@ -62,56 +67,75 @@ fn exchange<R: Net<Listener = TcpListener, Stream = TcpStream> + Threads + Sync>
         || serve_once(alloc, listener, reply),
         || post(rt, alloc, host, 5),
     );
-    Some((request?, outcome?))
+    request.zip(outcome)
+}
+
+// Whether a post to a host comes to what its row says.
+fn comes_to<R: Net<Listener = TcpListener, Stream = TcpStream> + Threads + Sync + AllocGlobal>(
+    rt: &R,
+    listener: &TcpListener,
+    host: &str,
+    row: &str,
+) -> Option<bool> {
+    let (reply, wanted) = row.split_once(" = ")?;
+    let (_, outcome) = exchange(rt, rt.alloc(), listener, host, reply)?;
+    Some(outcome.as_str() == wanted)
 }
 
 #[test]
 fn posts_over_the_loopback(rt: HostRuntime) -> Result<(), Fail> {
     let listener = TcpListener::bind(&rt, "127.0.0.1:0")?;
-    let host = format!(in rt.alloc(); "{}", listener.local_addr()?)?;
+    let host = host_of(rt.alloc(), &listener)?;
     for row in ROWS.lines() {
-        let (reply, wanted) = row.split_once(" = ").ok_or("no sign")?;
-        let (_, outcome) = exchange(&rt, rt.alloc(), &listener, host.as_str(), reply).ok_or(
-            "no exchange",
-        )?;
-        assert_eq!(rt; outcome.as_str(), wanted, "{row}");
+        assert!(rt;
+            comes_to(&rt, &listener, host.as_str(), row) == Some(true),
+            "{row}"
+        );
     }
     Ok(())
+}
+
+// Whether a server gets the request of an update check to its host.
+fn gets_update_check<
+    R: Net<Listener = TcpListener, Stream = TcpStream> + Threads + Sync + AllocGlobal,
+>(rt: &R, listener: &TcpListener, host: &str) -> Option<bool> {
+    let reply = "HTTP/1.1 200 OK~Content-Length: 5~~hello";
+    let (request, outcome) = exchange(rt, rt.alloc(), listener, host, reply)?;
+    let wanted = (
+        "POST /service/update2/json HTTP/1.1~Host: ",
+        "~Content-Type: application/json~Content-Length: 2~Connection: close~~{}",
+    );
+    Some(outcome.as_str() == "hello" && request.as_str().split_once(host) == Some(wanted))
 }
 
 #[test]
 fn posts_to_the_path_of_update_checks(rt: HostRuntime) -> Result<(), Fail> {
     let listener = TcpListener::bind(&rt, "127.0.0.1:0")?;
-    let host = format!(in rt.alloc(); "{}", listener.local_addr()?)?;
-    let reply = "HTTP/1.1 200 OK~Content-Length: 5~~hello";
-    let (request, outcome) = exchange(&rt, rt.alloc(), &listener, host.as_str(), reply).ok_or(
-        "no exchange",
-    )?;
-    assert_eq!(rt; outcome.as_str(), "hello");
-    let wanted = format!(in rt.alloc();
-        "POST /service/update2/json HTTP/1.1~Host: {host}~Content-Type: application/json~Content-Length: 2~Connection: close~~{{}}"
-    )?;
-    assert_eq!(rt; request.as_str(), wanted.as_str());
+    let host = host_of(rt.alloc(), &listener)?;
+    assert!(rt; gets_update_check(&rt, &listener, host.as_str()) == Some(true));
     Ok(())
+}
+
+// Whether a post to a host fails, of which a read or a write may take a second.
+fn fails(rt: &HostRuntime, host: &str) -> bool {
+    match post(rt, rt.alloc(), host, 1) {
+        Some(outcome) => outcome.as_str() == "failed",
+        None => false,
+    }
 }
 
 #[test]
 fn a_post_fails_if_nobody_listens(rt: HostRuntime) -> Result<(), Fail> {
-    let listener = TcpListener::bind(&rt, "127.0.0.1:0")?;
-    let host = format!(in rt.alloc(); "{}", listener.local_addr()?)?;
-    drop(listener);
-    let outcome = post(&rt, rt.alloc(), host.as_str(), 5).ok_or("no outcome")?;
-    assert_eq!(rt; outcome.as_str(), "failed");
-    let outcome = post(&rt, rt.alloc(), "127.0.0.1", 5).ok_or("no outcome")?;
-    assert_eq!(rt; outcome.as_str(), "failed");
+    assert!(rt; fails(&rt, "127.0.0.1"));
+    let host = free_host(&rt)?;
+    assert!(rt; fails(&rt, host.as_str()));
     Ok(())
 }
 
 #[test]
 fn a_post_fails_if_the_server_is_silent_for_too_long(rt: HostRuntime) -> Result<(), Fail> {
     let listener = TcpListener::bind(&rt, "127.0.0.1:0")?;
-    let host = format!(in rt.alloc(); "{}", listener.local_addr()?)?;
-    let outcome = post(&rt, rt.alloc(), host.as_str(), 1).ok_or("no outcome")?;
-    assert_eq!(rt; outcome.as_str(), "failed");
+    let host = host_of(rt.alloc(), &listener)?;
+    assert!(rt; fails(&rt, host.as_str()));
     Ok(())
 }

@@ -2,7 +2,6 @@ use crate::devices::Kept;
 use http_heads::{Allow, ReplyHead, Status};
 use http_wire::send_reply;
 use std::alloc::Global;
-use std::test::Fail;
 
 const REPLIES: &str = "\
 HTTP/1.1 200 OK\r
@@ -58,46 +57,39 @@ fn send_rows(sink: &mut Kept, block: &mut [u8]) -> bool {
         && send_reply(sink, block, &broken, b"").is_ok()
 }
 
-fn make_sink(alloc: Global, piece: usize, good: usize) -> Kept {
-    Kept {
-        bytes: Vec::new(alloc),
-        calls: 0,
-        piece,
-        good,
-        failed: false,
-    }
-}
-
 #[test]
-fn sends_replies_however_they_are_cut(rt: HostRuntime) -> Result<(), Fail> {
+fn sends_replies_however_they_are_cut(rt: HostRuntime) {
     for piece in [1, 7, 1000] {
-        let mut sink = make_sink(rt.alloc(), piece, usize::MAX);
-        let mut block = [0; 200];
-        assert!(rt; send_rows(&mut sink, &mut block));
-        assert_eq!(rt; sink.bytes.as_slice(), REPLIES.as_bytes());
+        let mut sink = Kept::new(rt.alloc(), piece, usize::MAX);
+        assert!(rt; send_rows(&mut sink, &mut [0; 200]));
+        assert!(rt;
+            sink.bytes.as_slice() == REPLIES.as_bytes(),
+            "{piece} a call"
+        );
     }
-    Ok(())
+}
+
+// Whether the replies are sent in so many writes.
+fn is_sent_in(alloc: Global, block: &mut [u8], calls: usize) -> bool {
+    let mut sink = Kept::new(alloc, 1000, usize::MAX);
+    let is_sent = send_rows(&mut sink, block);
+    is_sent && sink.calls == calls && sink.bytes.as_slice() == REPLIES.as_bytes()
 }
 
 #[test]
-fn sends_a_reply_in_one_write(rt: HostRuntime) -> Result<(), Fail> {
-    for (length, calls) in [(200, 4), (20, 25)] {
-        let mut sink = make_sink(rt.alloc(), 1000, usize::MAX);
-        let mut block = vec![in rt.alloc(); 0; length]?;
-        assert!(rt; send_rows(&mut sink, &mut block));
-        assert_eq!(rt; sink.calls, calls);
-        assert_eq!(rt; sink.bytes.as_slice(), REPLIES.as_bytes());
-    }
-    Ok(())
+fn sends_a_reply_in_one_write(rt: HostRuntime) {
+    assert!(rt; is_sent_in(rt.alloc(), &mut [0; 200], 4));
+    assert!(rt; is_sent_in(rt.alloc(), &mut [0; 20], 25));
 }
 
 #[test]
-fn leaves_a_first_part_where_a_write_fails(rt: HostRuntime) -> Result<(), Fail> {
+fn leaves_a_first_part_where_a_write_fails(rt: HostRuntime) {
     for good in 0..REPLIES.len() {
-        let mut sink = make_sink(rt.alloc(), 1, good);
-        let mut block = [0; 200];
-        assert!(rt; !send_rows(&mut sink, &mut block));
-        assert_eq!(rt; sink.bytes.as_slice(), &REPLIES.as_bytes()[..good]);
+        let mut sink = Kept::new(rt.alloc(), 1, good);
+        assert!(rt; !send_rows(&mut sink, &mut [0; 200]));
+        assert!(rt;
+            sink.bytes.as_slice() == &REPLIES.as_bytes()[..good],
+            "{good} writes"
+        );
     }
-    Ok(())
 }

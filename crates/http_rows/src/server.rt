@@ -1,41 +1,44 @@
 // A server of one connection, which sends what a row says.
 
+use crate::client::send_byte;
 use std::alloc::Global;
-use std::io::{Read, Write};
+use std::io::Read;
 use std::net::{TcpListener, TcpStream};
-use std::str;
+use std::{io, str};
 
 // Whether the bytes end a request: a head, or a body in braces.
 fn is_whole(bytes: &[u8]) -> bool {
     bytes.ends_with(b"}") || bytes.starts_with(b"GET") && bytes.ends_with(b"\r\n\r\n")
 }
 
-// Reads a request, and returns it with `~` for the ends of its lines.
-fn receive(alloc: Global, stream: &mut TcpStream) -> Option<String> {
-    let mut bytes = Vec::new(alloc);
+// Reads a request to its end.
+fn read_request(stream: &mut TcpStream, bytes: &mut Vec<u8>) -> Option<()> {
     let mut block = [0; 1024];
     for _ in 0..1000 {
         let count = stream.read(&mut block).ok()?;
         bytes.extend_from_slice(&block[..count]).ok()?;
-        if count == 0 || is_whole(&bytes) {
+        if count == 0 || is_whole(bytes) {
             break;
         }
     }
+    Some(())
+}
+
+// Reads a request, and returns it with `~` for the ends of its lines.
+fn receive(alloc: Global, stream: &mut TcpStream) -> Option<String> {
+    let mut bytes = Vec::new(alloc);
+    read_request(stream, &mut bytes)?;
     let request = str::from_utf8(&bytes).ok()?;
     request.replace(alloc, "\r\n", "~").ok()
 }
 
 // Sends a reply: a line of it ends at each `~`, and each `#` is 1000 letters.
-fn send(stream: &mut TcpStream, reply: &str) -> Option<()> {
-    stream.set_nodelay(true).ok()?;
+fn send(stream: &mut TcpStream, reply: &str) -> io::Result<()> {
+    stream.set_nodelay(true)?;
     for byte in reply.as_bytes() {
-        match *byte {
-            b'~' => stream.write_all(b"\r\n").ok()?,
-            b'#' => stream.write_all(&[b'x'; 1000]).ok()?,
-            other => stream.write_all(&[other]).ok()?,
-        }
+        send_byte(stream, *byte)?;
     }
-    Some(())
+    Ok(())
 }
 
 /// Accepts a connection, reads a request, sends the reply, a byte or a line end at a time, and closes; returns
@@ -45,4 +48,16 @@ pub(crate) fn serve_once(alloc: Global, listener: &TcpListener, reply: &str) -> 
     let request = receive(alloc, &mut stream)?;
     let _ = send(&mut stream, reply);
     Some(request)
+}
+
+/// Where a listener listens.
+pub(crate) fn host_of(alloc: Global, listener: &TcpListener) -> io::Result<String> {
+    let address = listener.local_addr()?;
+    Ok(format!(in alloc; "{address}")?)
+}
+
+/// An address of the loopback that nobody listens on.
+pub(crate) fn free_host(rt: &HostRuntime) -> io::Result<String> {
+    let listener = TcpListener::bind(rt, "127.0.0.1:0")?;
+    host_of(rt.alloc(), &listener)
 }

@@ -1,9 +1,9 @@
 use crate::desks::{Echo, Files, Stopped};
 use crate::devices::{Kept, Pieces};
+use crate::lines::expand;
 use http_sessions::{End, Fault, Served, serve};
 use http_wire::Unwatched;
 use std::alloc::AllocError;
-use std::test::Fail;
 
 // A row is what a connection sends, and what it gets: the replies, how many were begun and how the
 // session ended. `~` is CR LF, `^` a lone LF.
@@ -40,18 +40,6 @@ GET / HTTP/1.1~~~ = HTTP/1.1 404 Not Found~Content-Length: 0~~ | 1 unfinished
 GET / HTTP/1.1~~GET  / HTTP/1.1~~ = HTTP/1.1 404 Not Found~Content-Length: 0~~HTTP/1.1 400 Bad Request~Content-Length: 0~Connection: close~~ | 2 refused
 ";
 
-fn expand<R: AllocGlobal>(rt: &R, text: &str) -> Result<Vec<u8>, AllocError> {
-    let mut bytes = Vec::new(rt.alloc());
-    for byte in text.as_bytes() {
-        match *byte {
-            b'~' => bytes.extend_from_slice(b"\r\n")?,
-            b'^' => bytes.push(b'\n')?,
-            other => bytes.push(other)?,
-        }
-    }
-    Ok(bytes)
-}
-
 // The bytes, with `~` and `^` for the ends of lines.
 fn shorten<R: AllocGlobal>(rt: &R, bytes: &[u8]) -> Result<String, AllocError> {
     let mut text = String::new(rt.alloc());
@@ -80,130 +68,98 @@ fn end_of(served: Result<Served, Fault>) -> (u32, &'static str) {
     }
 }
 
-fn make_sink<R: AllocGlobal>(rt: &R, piece: usize, good: usize) -> Kept {
-    Kept {
-        bytes: Vec::new(rt.alloc()),
-        calls: 0,
-        piece,
-        good,
-        failed: false,
-    }
-}
-
 // Serves what a connection sends, in pieces.
 fn serve_pieces<R: AllocGlobal>(
     rt: &R,
-    sent: &[u8],
-    piece: usize,
+    source: &mut Pieces<'_>,
     sink: &mut Kept,
 ) -> (u32, &'static str) {
-    let mut source = Pieces {
-        left: sent,
-        piece,
-        good: usize::MAX,
-        failed: false,
-    };
-    end_of(serve(
-        rt,
-        &mut source,
-        sink,
-        &mut Echo,
-        &Files,
-        &Stopped,
-        &Unwatched,
-    ))
+    end_of(serve(rt, source, sink, &mut Echo, &Files, &Stopped, &Unwatched))
 }
 
-fn print_session<R: AllocGlobal>(rt: &R, text: &str, piece: usize) -> Result<String, AllocError> {
-    let sent = expand(rt, text)?;
-    let mut sink = make_sink(rt, piece, usize::MAX);
-    let (requests, how) = serve_pieces(rt, &sent, piece, &mut sink);
+// What a connection gets that sends these bytes: the replies, how many were begun and how the session ended.
+fn print_session<R: AllocGlobal>(rt: &R, sent: &[u8], piece: usize) -> Result<String, AllocError> {
+    let mut sink = Kept::new(rt.alloc(), piece, usize::MAX);
+    let (requests, how) = serve_pieces(rt, &mut Pieces::new(sent, piece), &mut sink);
     let written = shorten(rt, &sink.bytes)?;
-    format!(in rt.alloc(); "{text} = {} | {requests} {how}\n", written.as_str())
+    format!(in rt.alloc(); "{written} | {requests} {how}")
 }
 
-fn print_sessions<R: AllocGlobal>(rt: &R, rows: &str, piece: usize) -> Result<String, AllocError> {
-    let mut printed = String::new(rt.alloc());
-    for row in rows.lines() {
-        if let Some((text, _)) = row.split_once(" = ") {
-            let line = print_session(rt, text, piece)?;
-            printed.push_str(line.as_str())?;
-        }
-    }
-    Ok(printed)
+// Whether a connection gets what its row says.
+fn is_served<R: AllocGlobal>(rt: &R, row: &str, piece: usize) -> Option<bool> {
+    let (text, wanted) = row.split_once(" = ")?;
+    let sent = expand(rt.alloc(), text).ok()?;
+    let printed = print_session(rt, &sent, piece).ok()?;
+    Some(printed.as_str() == wanted)
 }
 
 #[test]
-fn serves_sessions_however_they_are_cut(rt: HostRuntime) -> Result<(), Fail> {
+fn serves_sessions_however_they_are_cut(rt: HostRuntime) {
     for piece in [1, 7, 100000] {
-        let printed = print_sessions(&rt, SESSIONS, piece)?;
-        assert_eq!(rt; printed.as_str(), SESSIONS);
+        for row in SESSIONS.lines() {
+            assert!(rt;
+                is_served(&rt, row, piece) == Some(true),
+                "{row}, {piece} a call"
+            );
+        }
     }
-    Ok(())
 }
 
 // A message of 30 bytes of body, cut before each byte.
 #[test]
-fn gives_no_reply_to_a_part_of_a_message(rt: HostRuntime) -> Result<(), Fail> {
+fn gives_no_reply_to_a_part_of_a_message(rt: HostRuntime) {
     let sent =
         b"POST /service/update2/json HTTP/1.1\r\nContent-Length: 30\r\n\r\n{\"request\":{\"protocol\":\"3.1\"}}";
     for end in 0..sent.len() {
         let how = if end == 0 { "finished" } else { "unfinished" };
-        let mut sink = make_sink(&rt, 100, usize::MAX);
-        let ended = serve_pieces(&rt, &sent[..end], 7, &mut sink);
-        assert_eq!(rt; ended, (0, how));
-        assert_eq!(rt; sink.bytes.len(), 0);
+        let mut sink = Kept::new(rt.alloc(), 100, usize::MAX);
+        let ended = serve_pieces(&rt, &mut Pieces::new(&sent[..end], 7), &mut sink);
+        assert!(rt; ended == (0, how) && sink.bytes.is_empty(), "{end} bytes");
     }
-    Ok(())
 }
 
 const TWO: &[u8] = b"GET / HTTP/1.1\r\n\r\nGET / HTTP/1.1\r\n\r\n";
 
 // Two messages of 18 bytes, each with a reply of 45.
 #[test]
-fn replies_to_whole_messages_before_a_read_that_fails(rt: HostRuntime) -> Result<(), Fail> {
+fn replies_to_whole_messages_before_a_read_that_fails(rt: HostRuntime) {
     for good in 0..38 {
-        let mut sink = make_sink(&rt, 100, usize::MAX);
+        let mut sink = Kept::new(rt.alloc(), 100, usize::MAX);
         let mut source = Pieces {
             left: TWO,
             piece: 1,
             good,
             failed: false,
         };
-        let ended = end_of(serve(
-            &rt,
-            &mut source,
-            &mut sink,
-            &mut Echo,
-            &Files,
-            &Stopped,
-            &Unwatched,
-        ));
+        let ended = serve_pieces(&rt, &mut source, &mut sink);
         let expected = if good < 37 {
             (0, "read failed")
         } else {
             (2, "finished")
         };
-        assert_eq!(rt; ended, expected);
-        assert_eq!(rt; sink.bytes.len(), good.min(36) / 18 * 45);
+        assert!(rt; ended == expected, "after {good} reads");
+        assert!(rt;
+            sink.bytes.len() == good.min(36) / 18 * 45,
+            "after {good} reads"
+        );
     }
-    Ok(())
 }
 
 #[test]
-fn writes_a_first_part_before_a_write_that_fails(rt: HostRuntime) -> Result<(), Fail> {
+fn writes_a_first_part_before_a_write_that_fails(rt: HostRuntime) {
     for good in 0..91 {
-        let mut sink = make_sink(&rt, 1, good);
-        let ended = serve_pieces(&rt, TWO, 100, &mut sink);
+        let mut sink = Kept::new(rt.alloc(), 1, good);
+        let ended = serve_pieces(&rt, &mut Pieces::new(TWO, 100), &mut sink);
         let expected = if good < 90 {
             (0, "write failed")
         } else {
             (2, "finished")
         };
-        assert_eq!(rt; ended, expected);
-        assert_eq!(rt; sink.bytes.len(), good);
+        assert!(rt;
+            ended == expected && sink.bytes.len() == good,
+            "after {good} writes"
+        );
     }
-    Ok(())
 }
 
 fn make_messages<R: AllocGlobal>(rt: &R, count: usize) -> Result<Vec<u8>, AllocError> {
@@ -214,18 +170,22 @@ fn make_messages<R: AllocGlobal>(rt: &R, count: usize) -> Result<Vec<u8>, AllocE
     Ok(sent)
 }
 
+// How many of so many messages get a reply, and how many bytes are written.
+fn serve_messages<R: AllocGlobal>(rt: &R, count: usize) -> Option<(u32, usize)> {
+    let sent = make_messages(rt, count).ok()?;
+    let mut sink = Kept::new(rt.alloc(), 1000, usize::MAX);
+    match serve_pieces(rt, &mut Pieces::new(&sent, 1000), &mut sink) {
+        (requests, "finished") => Some((requests, sink.bytes.len())),
+        _ => None,
+    }
+}
+
 // The last reply has 19 bytes more, which say that the connection ends.
 #[test]
-fn closes_after_a_thousand_messages(rt: HostRuntime) -> Result<(), Fail> {
-    let rows = [(999, 999, 44955), (1000, 1000, 45019), (1001, 1000, 45019)];
-    for (count, requests, written) in rows {
-        let sent = make_messages(&rt, count)?;
-        let mut sink = make_sink(&rt, 1000, usize::MAX);
-        let ended = serve_pieces(&rt, &sent, 1000, &mut sink);
-        assert_eq!(rt; ended, (requests, "finished"));
-        assert_eq!(rt; sink.bytes.len(), written);
-    }
-    Ok(())
+fn closes_after_a_thousand_messages(rt: HostRuntime) {
+    assert!(rt; serve_messages(&rt, 999) == Some((999, 44955)));
+    assert!(rt; serve_messages(&rt, 1000) == Some((1000, 45019)));
+    assert!(rt; serve_messages(&rt, 1001) == Some((1000, 45019)));
 }
 
 // A head of so many fields, the last of which fills it up to so many bytes.
@@ -242,8 +202,25 @@ fn make_head<R: AllocGlobal>(rt: &R, fields: usize, length: usize) -> Result<Vec
     Ok(sent)
 }
 
+// How a session of one such head ends, if its reply begins so.
+fn serve_head<R: AllocGlobal>(
+    rt: &R,
+    fields: usize,
+    length: usize,
+    line: &str,
+) -> Option<(u32, &'static str)> {
+    let sent = make_head(rt, fields, length).ok()?;
+    let mut sink = Kept::new(rt.alloc(), 1000, usize::MAX);
+    let ended = serve_pieces(rt, &mut Pieces::new(&sent, 1000), &mut sink);
+    if sink.bytes.starts_with(line.as_bytes()) {
+        Some(ended)
+    } else {
+        None
+    }
+}
+
 #[test]
-fn bounds_the_fields_and_the_length_of_a_head(rt: HostRuntime) -> Result<(), Fail> {
+fn bounds_the_fields_and_the_length_of_a_head(rt: HostRuntime) {
     let rows = [
         (64, 0, "HTTP/1.1 404", "finished"),
         (65, 0, "HTTP/1.1 400", "refused"),
@@ -252,11 +229,7 @@ fn bounds_the_fields_and_the_length_of_a_head(rt: HostRuntime) -> Result<(), Fai
         (65, 16385, "HTTP/1.1 431", "refused"),
     ];
     for (fields, length, line, how) in rows {
-        let sent = make_head(&rt, fields, length)?;
-        let mut sink = make_sink(&rt, 1000, usize::MAX);
-        let ended = serve_pieces(&rt, &sent, 1000, &mut sink);
-        assert_eq!(rt; ended, (1, how));
-        assert!(rt; sink.bytes.starts_with(line.as_bytes()));
+        let ended = serve_head(&rt, fields, length, line);
+        assert!(rt; ended == Some((1, how)), "{fields} fields, {length} bytes");
     }
-    Ok(())
 }

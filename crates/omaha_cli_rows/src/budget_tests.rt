@@ -7,7 +7,6 @@ use omaha_cli::{Service, answer, read_service};
 use std::alloc::{AllocError, Global};
 use std::str;
 use std::sync::Wait;
-use std::test::Fail;
 
 // The profile of the app `demo` with these keys, whose client at 1.0 is offered 1600 bytes.
 macro_rules! profile {
@@ -70,34 +69,29 @@ const SECOND: &str = concat!(
 );
 
 #[test]
-fn counts_the_budgets_of_the_profile(rt: HostRuntime) -> Result<(), Fail> {
-    let shelf = Shelf {
-        alloc: rt.alloc(),
-        rt,
-        files: FILES.as_slice(),
-        broken: "broken",
-        large: "large.toml",
-    };
+fn counts_the_budgets_of_the_profile(rt: HostRuntime) {
+    let shelf = Shelf::new(rt, FILES.as_slice());
+    let rt = &shelf.rt;
     let words = ["once", "--profile", "scarce.toml"];
-    ends(&shelf.rt, &shelf, &words, SHARED, replied(BUSY))?;
+    assert!(rt; ends(&shelf, &words, SHARED, replied(BUSY)));
     let words = ["once", "--profile", "enough.toml"];
-    ends(&shelf.rt, &shelf, &words, SHARED, replied(SECOND))
+    assert!(rt; ends(&shelf, &words, SHARED, replied(SECOND)));
 }
 
 fn profile_of(alloc: Global, budgets: &str) -> Result<String, AllocError> {
     let mut profile = String::from_str(alloc, MIRRORLESS)?;
     for (index, budget) in budgets.split(' ').enumerate() {
-        let mirror = format!(in alloc;
+        write!(
+            profile,
             "[[mirror]]\nname = \"m{index}\"\ncodebase = \"http://m{index}.example/p/\"\nbudget = {budget}\n"
         )?;
-        profile.push_str(mirror.as_str())?;
     }
     Ok(profile)
 }
 
-fn service_of(alloc: Global, budgets: &str) -> Result<Service, Fail> {
-    let profile = profile_of(alloc, budgets)?;
-    Ok(read_service(alloc, profile.as_str().as_bytes())?)
+fn service_of(alloc: Global, budgets: &str) -> Option<Service> {
+    let profile = profile_of(alloc, budgets).ok()?;
+    read_service(alloc, profile.as_str().as_bytes()).ok()
 }
 
 // A client at 1.0.
@@ -125,31 +119,42 @@ fn count_of(text: &str, words: &str) -> u64 {
     count.saturating_sub(1)
 }
 
+// How many offers a reply has of the mirror of an index.
+fn push_offers(
+    alloc: Global,
+    line: &mut String,
+    reply: &str,
+    mirror: usize,
+) -> Result<(), AllocError> {
+    let words = format!(in alloc; "\"codebase\":\"http://m{mirror}.example/p/\"")?;
+    let count = count_of(reply, words.as_str());
+    write!(line, " {count}")
+}
+
 // How many offers a reply has of each of so many mirrors, and how many clients get `error-internal`.
 fn counts_in(alloc: Global, reply: &str, mirrors: usize) -> Result<String, AllocError> {
     let mut line = String::new(alloc);
-    for index in 0..mirrors {
-        let words = format!(in alloc; "\"codebase\":\"http://m{index}.example/p/\"")?;
-        let count = count_of(reply, words.as_str());
-        line.push_str(format!(in alloc; " {count}")?.as_str())?;
+    for mirror in 0..mirrors {
+        push_offers(alloc, &mut line, reply, mirror)?;
     }
     let count = count_of(reply, "error-internal");
-    line.push_str(format!(in alloc; ", {count}")?.as_str())?;
+    write!(line, ", {count}")?;
     Ok(line)
 }
 
-fn counts_over<R: Wait>(
-    rt: &R,
-    alloc: Global,
-    budgets: &str,
-    clients: usize,
-) -> Result<String, Fail> {
+// The reply to so many clients over mirrors of these budgets.
+fn reply_over<R: Wait>(rt: &R, alloc: Global, budgets: &str, clients: usize) -> Option<Vec<u8>> {
+    let request = request_of(alloc, clients).ok()?;
     let service = service_of(alloc, budgets)?;
-    let request = request_of(alloc, clients)?;
-    let reply = answer(rt, alloc, service, 0, request.as_str().as_bytes())?;
-    let text = str::from_utf8(reply.as_slice())?;
+    answer(rt, alloc, service, 0, request.as_str().as_bytes()).ok()
+}
+
+// What the clients of a row get over its budgets.
+fn counts_over<R: Wait>(rt: &R, alloc: Global, budgets: &str, clients: usize) -> Option<String> {
+    let reply = reply_over(rt, alloc, budgets, clients)?;
+    let text = str::from_utf8(&reply).ok()?;
     let mirrors = (count_of(budgets, " ") as usize).saturating_add(1);
-    Ok(counts_in(alloc, text, mirrors)?)
+    counts_in(alloc, text, mirrors).ok()
 }
 
 // Each row: budgets, and how many clients ask for 1600 bytes each; then how many offers name each mirror, and
@@ -168,14 +173,17 @@ const ROWS: &str = "1000000|1| 1, 0
 3199 0 1600 9600|9| 1 0 1 6, 1
 256000 153600|256| 160 96, 0";
 
+// Whether the clients of a row get what it says.
+fn is_granted<R: Wait>(rt: &R, alloc: Global, row: &str) -> Option<bool> {
+    let (budgets, others) = row.split_once('|')?;
+    let (clients, wanted) = others.split_once('|')?;
+    let line = counts_over(rt, alloc, budgets, clients.parse().unwrap_or(0))?;
+    Some(line.as_str() == wanted)
+}
+
 #[test]
-fn apps_of_one_request_share_the_budgets(rt: HostRuntime) -> Result<(), Fail> {
+fn apps_of_one_request_share_the_budgets(rt: HostRuntime) {
     for row in ROWS.lines() {
-        let (budgets, others) = row.split_once('|').ok_or("no bar")?;
-        let (clients, wanted) = others.split_once('|').ok_or("no second bar")?;
-        let clients = clients.parse().unwrap_or(0);
-        let line = counts_over(&rt, rt.alloc(), budgets, clients)?;
-        assert_eq!(rt; line.as_str(), wanted, "{row}");
+        assert!(rt; is_granted(&rt, rt.alloc(), row) == Some(true), "{row}");
     }
-    Ok(())
 }

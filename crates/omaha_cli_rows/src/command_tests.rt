@@ -1,12 +1,12 @@
 use crate::devices::Breaks;
 use crate::ending::{ends, ends_over, failed, replied, shows};
-use crate::runs::first_wrong;
+use crate::offers::OLD;
+use crate::runs::is_right;
 use crate::shelf::Shelf;
 use crate::staged::{
     BETA, DATED, HELD, HINTED, LAST_DATED, SHARED, STAGED, TARGET, UNRELEASED, WAITING,
 };
 use std::io::ErrorKind;
-use std::test::Fail;
 
 const FILES: [(&str, &str); 7] = [
     ("staged.toml", STAGED),
@@ -22,29 +22,24 @@ const FILES: [(&str, &str); 7] = [
 ];
 
 fn shelf<R: AllocGlobal>(rt: R) -> Shelf<R> {
-    Shelf {
-        alloc: rt.alloc(),
-        rt,
-        files: FILES.as_slice(),
-        broken: "broken",
-        large: "large.toml",
-    }
+    Shelf::new(rt, FILES.as_slice())
 }
 
 #[test]
-fn serves_each_stage(rt: HostRuntime) -> Result<(), Fail> {
+fn serves_each_stage(rt: HostRuntime) {
     let shelf = shelf(rt);
+    let rt = &shelf.rt;
     let words = ["once", "--profile", "staged.toml"];
     let rows = [(SHARED, TARGET), (HELD, WAITING), (HINTED, BETA)];
     for (request, reply) in rows {
-        ends(&shelf.rt, &shelf, &words, request, replied(reply))?;
+        assert!(rt; ends(&shelf, &words, request, replied(reply)), "{request}");
     }
-    Ok(())
 }
 
 #[test]
-fn replies_at_the_given_time(rt: HostRuntime) -> Result<(), Fail> {
+fn replies_at_the_given_time(rt: HostRuntime) {
     let shelf = shelf(rt);
+    let rt = &shelf.rt;
     let rows = [
         ("1767229261", DATED),
         ("0001767229261", DATED),
@@ -55,9 +50,8 @@ fn replies_at_the_given_time(rt: HostRuntime) -> Result<(), Fail> {
     ];
     for (moment, reply) in rows {
         let words = ["once", "--moment", moment, "--profile=staged.toml"];
-        ends(&shelf.rt, &shelf, &words, SHARED, replied(reply))?;
+        assert!(rt; ends(&shelf, &words, SHARED, replied(reply)), "{moment}");
     }
-    Ok(())
 }
 
 // Invalid profiles, over an input that is no request: the profile is reported, and nothing is read.
@@ -92,16 +86,32 @@ const PROFILES: &str = "1_omaha:_file_nowhere.toml~ | once --profile nowhere.tom
 1_omaha:_U1_Link~ | walk --to 127.0.0.1:9 --app mini --version ^";
 
 #[test]
-fn reports_what_is_wrong_with_the_profile(rt: HostRuntime) -> Result<(), Fail> {
+fn reports_what_is_wrong_with_the_profile(rt: HostRuntime) {
     let shelf = shelf(rt);
-    let wrong = first_wrong(&shelf, PROFILES)?;
     let rt = &shelf.rt;
-    assert!(rt; wrong.is_empty(), "{wrong}");
-    Ok(())
+    for row in PROFILES.lines() {
+        assert!(rt; is_right(&shelf, row) == Some(true), "{row}");
+    }
+}
+
+// A row is an invalid profile, and its line. The request is one that the built-in catalogue has an offer for.
+#[test]
+fn replies_from_no_other_catalogue_than_the_profile(rt: HostRuntime) {
+    let shelf = shelf(rt);
+    let rt = &shelf.rt;
+    let rows = [
+        ("broken.toml", "omaha: F1 NotToml\n"),
+        ("unreleased.toml", "omaha: edit 6: C11 UnknownRelease\n"),
+        ("nowhere.toml", "omaha: file nowhere.toml\n"),
+    ];
+    for (profile, line) in rows {
+        let words = ["once", "--profile", profile];
+        assert!(rt; ends(&shelf, &words, OLD, failed(line)), "{profile}");
+    }
 }
 
 #[test]
-fn reads_the_profile_before_an_input_that_fails(rt: HostRuntime) -> Result<(), Fail> {
+fn reads_the_profile_before_an_input_that_fails(rt: HostRuntime) {
     let mut reader = Breaks {
         left: 0,
         kind: ErrorKind::ConnectionReset,
@@ -109,20 +119,17 @@ fn reads_the_profile_before_an_input_that_fails(rt: HostRuntime) -> Result<(), F
     let words = ["once", "--profile", "broken.toml"];
     let wanted = failed("omaha: F1 NotToml\n");
     let shelf = shelf(rt);
-    ends_over(&shelf.rt, &shelf, &words, &mut reader, wanted)
+    let rt = &shelf.rt;
+    assert!(rt; ends_over(&shelf, &words, &mut reader, wanted));
 }
 
 #[test]
-fn reports_the_request_after_a_valid_profile(rt: HostRuntime) -> Result<(), Fail> {
-    let shelf = shelf(rt);
+fn reports_the_request_after_a_valid_profile(rt: HostRuntime) {
     let words = ["once", "--profile", "staged.toml"];
-    ends(
-        &shelf.rt,
-        &shelf,
-        &words,
-        "{",
-        failed("omaha: J1 NotJson\n"),
-    )
+    let wanted = failed("omaha: J1 NotJson\n");
+    let shelf = shelf(rt);
+    let rt = &shelf.rt;
+    assert!(rt; ends(&shelf, &words, "{", wanted));
 }
 
 // Invalid arguments, and the beginning of the message: nothing is read or written.
@@ -152,58 +159,34 @@ const MISTAKES: &str =
 2_error:_a_value_is_required_for_'--profile_<F>' | once --profile";
 
 #[test]
-fn accepts_no_other_arguments(rt: HostRuntime) -> Result<(), Fail> {
+fn accepts_no_other_arguments(rt: HostRuntime) {
     let shelf = shelf(rt);
-    let wrong = first_wrong(&shelf, MISTAKES)?;
     let rt = &shelf.rt;
-    assert!(rt; wrong.is_empty(), "{wrong}");
-    Ok(())
+    for row in MISTAKES.lines() {
+        assert!(rt; is_right(&shelf, row) == Some(true), "{row}");
+    }
 }
 
 #[test]
-fn prints_help_and_version(rt: HostRuntime) -> Result<(), Fail> {
+fn prints_help_and_version(rt: HostRuntime) {
     let shelf = shelf(rt);
-    shows(&shelf.rt, &shelf, &["--help"], "Usage: omaha [COMMAND]\n")?;
-    shows(
-        &shelf.rt,
-        &shelf,
-        &["help"],
-        "\nExample: a client without an installed version ",
-    )?;
-    shows(
-        &shelf.rt,
-        &shelf,
-        &["once", "--help"],
-        "Usage: omaha once [OPTIONS]\n",
-    )?;
-    shows(&shelf.rt, &shelf, &["help", "once"], "[default: 0]")?;
-    shows(
-        &shelf.rt,
-        &shelf,
-        &["check", "--help"],
-        "Usage: omaha check [OPTIONS] <F>\n",
-    )?;
-    shows(
-        &shelf.rt,
-        &shelf,
-        &["certify", "--help"],
-        "demo stable target no",
-    )?;
-    shows(
-        &shelf.rt,
-        &shelf,
-        &["verify", "--help"],
-        "omaha: wrong 2.0 C3",
-    )?;
-    shows(&shelf.rt, &shelf, &["explain", "--help"], "[CODE]")?;
-    shows(
-        &shelf.rt,
-        &shelf,
-        &["serve", "--help"],
-        "--listen 127.0.0.1:8080\n",
-    )?;
-    shows(&shelf.rt, &shelf, &["describe", "--help"], "<FILE>")?;
-    shows(&shelf.rt, &shelf, &["walk", "--help"], "U8 Busy")?;
-    shows(&shelf.rt, &shelf, &["--version"], "omaha 0.2.0\n")?;
-    shows(&shelf.rt, &shelf, &["-V"], "omaha 0.2.0\n")
+    let rt = &shelf.rt;
+    let rows = [
+        ("--help", "Usage: omaha [COMMAND]\n"),
+        ("help", "\nExample: a client without an installed version "),
+        ("once --help", "Usage: omaha once [OPTIONS]\n"),
+        ("help once", "[default: 0]"),
+        ("check --help", "Usage: omaha check [OPTIONS] <F>\n"),
+        ("certify --help", "demo stable target no"),
+        ("verify --help", "omaha: wrong 2.0 C3"),
+        ("explain --help", "[CODE]"),
+        ("serve --help", "--listen 127.0.0.1:8080\n"),
+        ("describe --help", "<FILE>"),
+        ("walk --help", "U8 Busy"),
+        ("--version", "omaha 0.2.0\n"),
+        ("-V", "omaha 0.2.0\n"),
+    ];
+    for (words, text) in rows {
+        assert!(rt; shows(&shelf, words, text), "{words}");
+    }
 }

@@ -1,12 +1,13 @@
 // How a run ends.
 
+use crate::runs::arguments;
 use omaha_cli::run;
+use std::alloc::{AllocError, Global};
 use std::io::Read;
 use std::net::{Net, TcpListener, TcpStream};
-use std::process::Abort;
 use std::rt::Files;
+use std::str;
 use std::sync::Wait;
-use std::test::Fail;
 use std::time::Clock;
 
 /// What a run writes, what it reports, and its status.
@@ -35,57 +36,69 @@ pub(crate) fn failed(faults: &str) -> Ending<'_> {
     }
 }
 
-fn strings<R: AllocGlobal>(rt: &R, words: &[&str]) -> Result<Vec<String>, Fail> {
-    let mut strings = Vec::new(rt.alloc());
+fn strings(alloc: Global, words: &[&str]) -> Result<Vec<String>, AllocError> {
+    let mut strings = Vec::new(alloc);
     for word in words {
-        strings.push(String::from_str(rt.alloc(), word)?)?;
+        let string = String::from_str(alloc, word)?;
+        strings.push(string)?;
     }
     Ok(strings)
 }
 
-/// Tests how a run ends by its arguments and its reader.
+// Whether a run ends so by its arguments and its reader.
+fn runs_so<
+    R: Net<Listener = TcpListener, Stream = TcpStream> + Clock + Files + Wait + AllocGlobal,
+    I: Read,
+>(files: &R, words: &[String], reader: &mut I, wanted: Ending<'_>) -> bool {
+    let mut written = Vec::new(files.alloc());
+    let mut told = Vec::new(files.alloc());
+    let status = run(files, words, reader, &mut written, &mut told);
+    status == wanted.status
+        && written.as_slice() == wanted.output.as_bytes()
+        && told.as_slice() == wanted.faults.as_bytes()
+}
+
+/// Whether a run ends so by its arguments and its reader.
 pub(crate) fn ends_over<
     R: Net<Listener = TcpListener, Stream = TcpStream> + Clock + Files + Wait + AllocGlobal,
     I: Read,
->(
-    rt: &impl Abort,
-    files: &R,
-    words: &[&str],
-    reader: &mut I,
-    wanted: Ending<'_>,
-) -> Result<(), Fail> {
-    let words = strings(files, words)?;
-    let mut written = Vec::new(files.alloc());
-    let mut told = Vec::new(files.alloc());
-    let status = run(files, &words, reader, &mut written, &mut told);
-    assert_eq!(rt; status, wanted.status);
-    assert_eq!(rt; written.as_slice(), wanted.output.as_bytes());
-    assert_eq!(rt; told.as_slice(), wanted.faults.as_bytes());
-    Ok(())
+>(files: &R, words: &[&str], reader: &mut I, wanted: Ending<'_>) -> bool {
+    match strings(files.alloc(), words) {
+        Ok(words) => runs_so(files, &words, reader, wanted),
+        Err(_) => false,
+    }
 }
 
-/// Tests how a run ends by its arguments and its input.
+/// Whether a run ends so by its arguments and its input.
 pub(crate) fn ends<
     R: Net<Listener = TcpListener, Stream = TcpStream> + Clock + Files + Wait + AllocGlobal,
->(rt: &impl Abort, files: &R, words: &[&str], input: &str, wanted: Ending<'_>) -> Result<(), Fail> {
-    ends_over(rt, files, words, &mut input.as_bytes(), wanted)
+>(files: &R, words: &[&str], input: &str, wanted: Ending<'_>) -> bool {
+    ends_over(files, words, &mut input.as_bytes(), wanted)
 }
 
-/// Tests that arguments ask for help, which has the string in lines of at most 100 columns.
-pub(crate) fn shows<
+// Whether bytes have a string, in lines of at most 100 columns.
+fn has_text(bytes: &[u8], text: &str) -> bool {
+    let shown = str::from_utf8(bytes).unwrap_or("");
+    shown.contains(text) && shown.lines().all(|line| line.len() <= 100)
+}
+
+// Whether a run writes help that has the string, and reports nothing.
+fn writes_text<
     R: Net<Listener = TcpListener, Stream = TcpStream> + Clock + Files + Wait + AllocGlobal,
->(rt: &impl Abort, files: &R, words: &[&str], text: &str) -> Result<(), Fail> {
-    let words = strings(files, words)?;
+>(files: &R, words: &[String], text: &str) -> bool {
     let mut reader = b"{".as_slice();
     let mut written = Vec::new(files.alloc());
     let mut told = Vec::new(files.alloc());
-    let status = run(files, &words, &mut reader, &mut written, &mut told);
-    assert_eq!(rt; status, 0);
-    assert_eq!(rt; told.len(), 0);
-    let shown = String::from_utf8(written)
-        .ok()
-        .unwrap_or(String::new(files.alloc()));
-    assert!(rt; shown.as_str().contains(text), "{text}");
-    assert!(rt; shown.as_str().lines().all(|line| line.len() <= 100));
-    Ok(())
+    let status = run(files, words, &mut reader, &mut written, &mut told);
+    status == 0 && told.is_empty() && has_text(&written, text)
+}
+
+/// Whether arguments, with a space between two, ask for help that has the string, in lines of at most 100 columns.
+pub(crate) fn shows<
+    R: Net<Listener = TcpListener, Stream = TcpStream> + Clock + Files + Wait + AllocGlobal,
+>(files: &R, words: &str, text: &str) -> bool {
+    match arguments(files.alloc(), words) {
+        Ok(words) => writes_text(files, &words, text),
+        Err(_) => false,
+    }
 }

@@ -9,19 +9,18 @@ use omaha_json::RequestFault;
 use package_files::DescribeError;
 use profile_toml::ProfileFault;
 use reports::CertificateError;
-use std::alloc::Global;
-use std::process::Abort;
+use std::alloc::{AllocError, Global};
 use std::test::Fail;
 use update_client::Fault as WalkFault;
 use values::Text;
 
-// The first line of the explanation of a line's first word, without what follows the fault's name.
-fn head_of(alloc: Global, line: &str) -> Result<String, Fail> {
+// The first line of the explanation of a line's first word.
+fn head_of(line: &str) -> &'static str {
     let word = line.split(' ').next().unwrap_or("");
-    let Some(text) = explain(word) else {
-        return Err("no explanation".into());
-    };
-    Ok(String::from_str(alloc, text.lines().next().unwrap_or(""))?)
+    match explain(word) {
+        Some(text) => text.lines().next().unwrap_or(""),
+        None => "no explanation",
+    }
 }
 
 const EDITS: [Fault; 17] = [
@@ -44,39 +43,19 @@ const EDITS: [Fault; 17] = [
     Fault::Limit,
 ];
 
-#[test]
-fn explains_each_fault_of_an_edit(rt: HostRuntime) -> Result<(), Fail> {
-    let alloc = rt.alloc();
-    for fault in EDITS {
-        let line = format!(in alloc; "{fault}")?;
-        let head = head_of(alloc, line.as_str())?;
-        assert_eq!(rt; head.as_str(), line.as_str());
+// Whether a fault of an edit has an explanation that begins with it.
+fn is_edit_explained(alloc: Global, fault: Fault) -> bool {
+    match format!(in alloc; "{fault}") {
+        Ok(line) => head_of(line.as_str()) == line.as_str(),
+        Err(_) => false,
     }
-    Ok(())
 }
 
-fn failures(alloc: Global) -> Result<Vec<Failure>, Fail> {
-    let mut failures = Vec::new(alloc);
-    failures.push(Failure::File(Text::copy_of(alloc, "F")?))?;
-    failures.push(Failure::Profile(ProfileFault::NotToml))?;
-    failures.push(Failure::Profile(ProfileFault::BadSchema))?;
-    failures.push(Failure::Profile(ProfileFault::BadEntry(Text::copy_of(alloc, "app")?)))?;
-    failures.push(Failure::Profile(ProfileFault::BadMirror(0)))?;
-    failures.push(Failure::Profile(ProfileFault::TooManyEdits))?;
-    failures.push(Failure::Read)?;
-    failures.push(Failure::TooLong)?;
-    failures.push(Failure::Request(RequestFault::NotJson))?;
-    failures.push(Failure::Request(RequestFault::NoRequest))?;
-    failures.push(Failure::Request(RequestFault::BadProtocol))?;
-    failures.push(Failure::Request(RequestFault::BadApp { index: 0 }))?;
-    failures.push(Failure::Request(RequestFault::TooManyApps))?;
-    failures.push(Failure::Certificate(CertificateError::NoTrack))?;
-    failures.push(Failure::Net(Text::copy_of(alloc, "ADDR")?))?;
-    failures.push(Failure::Undescribed(Text::copy_of(alloc, "F")?, DescribeError::Missing))?;
-    failures.push(Failure::Packages(1))?;
-    failures.push(Failure::Memory)?;
-    failures.push(Failure::Write)?;
-    Ok(failures)
+#[test]
+fn explains_each_fault_of_an_edit(rt: HostRuntime) {
+    for fault in EDITS {
+        assert!(rt; is_edit_explained(rt.alloc(), fault), "{fault}");
+    }
 }
 
 const WALKS: [WalkFault; 8] = [
@@ -90,42 +69,103 @@ const WALKS: [WalkFault; 8] = [
     WalkFault::Busy,
 ];
 
+// Whether a failure of a walk has an explanation that begins with it.
+fn is_walk_explained(alloc: Global, failure: &Failure) -> bool {
+    match format!(in alloc; "{failure}") {
+        Ok(line) => head_of(line.as_str()) == line.as_str(),
+        Err(_) => false,
+    }
+}
+
 #[test]
-fn explains_each_fault_of_a_walk(rt: HostRuntime) -> Result<(), Fail> {
-    let alloc = rt.alloc();
+fn explains_each_fault_of_a_walk(rt: HostRuntime) {
     for fault in WALKS {
         let failure = Failure::Walk(fault);
-        let line = format!(in alloc; "{failure}")?;
-        let head = head_of(alloc, line.as_str())?;
-        assert_eq!(rt; head.as_str(), line.as_str());
+        assert!(rt; is_walk_explained(rt.alloc(), &failure), "{failure}");
     }
-    Ok(())
+}
+
+// Whether a failure has an explanation that begins with its line, or with what comes before its number.
+fn is_explained(alloc: Global, failure: &Failure) -> bool {
+    match format!(in alloc; "{failure}") {
+        Ok(line) => {
+            let head = head_of(line.as_str());
+            line.as_str()
+                .starts_with(head.strip_suffix(" N").unwrap_or(head))
+        }
+        Err(_) => false,
+    }
+}
+
+// The failure of a place, of those without a name.
+fn plain(place: usize) -> Failure {
+    match place {
+        0 => Failure::Profile(ProfileFault::NotToml),
+        1 => Failure::Profile(ProfileFault::BadSchema),
+        2 => Failure::Profile(ProfileFault::BadMirror(0)),
+        3 => Failure::Profile(ProfileFault::TooManyEdits),
+        4 => Failure::Read,
+        5 => Failure::TooLong,
+        6 => Failure::Request(RequestFault::NotJson),
+        7 => Failure::Request(RequestFault::NoRequest),
+        8 => Failure::Request(RequestFault::BadProtocol),
+        9 => Failure::Request(RequestFault::BadApp { index: 0 }),
+        10 => Failure::Request(RequestFault::TooManyApps),
+        11 => Failure::Certificate(CertificateError::NoTrack),
+        12 => Failure::Packages(1),
+        13 => Failure::Memory,
+        _ => Failure::Write,
+    }
+}
+
+// The failure of a place, with a name.
+fn named(name: Text, place: usize) -> Failure {
+    match place {
+        0 => Failure::File(name),
+        1 => Failure::Profile(ProfileFault::BadEntry(name)),
+        2 => Failure::Net(name),
+        _ => Failure::Undescribed(name, DescribeError::Missing),
+    }
+}
+
+// Whether the failure of a place is explained with that name.
+fn is_named_explained(alloc: Global, place: usize, name: &str) -> Result<bool, AllocError> {
+    let name = Text::copy_of(alloc, name)?;
+    Ok(is_explained(alloc, &named(name, place)))
 }
 
 #[test]
-fn explains_each_failure(rt: HostRuntime) -> Result<(), Fail> {
-    let alloc = rt.alloc();
-    for failure in failures(alloc)?.as_slice() {
-        let line = format!(in alloc; "{failure}")?;
-        let head = head_of(alloc, line.as_str())?;
-        let head = head.as_str().strip_suffix(" N").unwrap_or(head.as_str());
-        assert!(rt; line.as_str().starts_with(head), "{line}");
+fn explains_each_failure(rt: HostRuntime) {
+    for place in 0..15 {
+        assert!(rt; is_explained(rt.alloc(), &plain(place)), "{place}");
     }
-    Ok(())
+    for (place, name) in ["F", "app", "ADDR", "F"].into_iter().enumerate() {
+        let is_right = is_named_explained(rt.alloc(), place, name);
+        assert!(rt; is_right.ok() == Some(true), "{place}");
+    }
 }
 
-#[test]
-fn explains_and_lists(rt: HostRuntime) -> Result<(), Fail> {
-    let shelf = shelf(rt);
-    let wanted = "P1 BadLine
+const FIRST_CODE: &str = "P1 BadLine
 Found in: a certificate.
 That line of the certificate, from 1, is not well formed, is missing or is too many.
 Usual cause: A leading zero, a space at the end, CR LF, or a file that was cut.
 Remedy: Write the certificate anew by `omaha certify`.
 ";
-    ends(&shelf.rt, &shelf, &["explain", "P1"], "{", replied(wanted))?;
-    let all = list(shelf.rt.alloc())?;
-    ends(&shelf.rt, &shelf, &["explain"], "{", replied(all.as_str()))?;
-    let unknown = failed("omaha: no code C18\n");
-    ends(&shelf.rt, &shelf, &["explain", "C18"], "{", unknown)
+
+#[test]
+fn explains_and_lists(rt: HostRuntime) -> Result<(), Fail> {
+    let all = list(rt.alloc())?;
+    let shelf = shelf(rt);
+    let rt = &shelf.rt;
+    assert!(rt; ends(&shelf, &["explain", "P1"], "{", replied(FIRST_CODE)));
+    assert!(rt; ends(&shelf, &["explain"], "{", replied(all.as_str())));
+    assert!(rt;
+        ends(
+            &shelf,
+            &["explain", "C18"],
+            "{",
+            failed("omaha: no code C18\n")
+        )
+    );
+    Ok(())
 }

@@ -1,13 +1,17 @@
 use crate::devices::{Blank, Breaks, Full};
-use crate::ending::{ends_over, failed, replied};
+use crate::ending::{Ending, ends_over, failed, replied};
 use crate::offers::{OFFER, OLD};
 use omaha_cli::{report_unreadable, run};
+use std::alloc::Global;
 use std::io;
 use std::io::{ErrorKind, Read};
-use std::test::Fail;
+use std::net::{Net, TcpListener, TcpStream};
+use std::rt::Files;
+use std::sync::Wait;
+use std::time::Clock;
 
 #[test]
-fn rejects_an_input_that_breaks_off(rt: HostRuntime) -> Result<(), Fail> {
+fn rejects_an_input_that_breaks_off(rt: HostRuntime) {
     let rows = [
         (ErrorKind::ConnectionReset, "omaha: read\n"),
         (ErrorKind::OutOfMemory, "omaha: memory\n"),
@@ -15,55 +19,71 @@ fn rejects_an_input_that_breaks_off(rt: HostRuntime) -> Result<(), Fail> {
     for (kind, line) in rows {
         for left in [0, 1, 40] {
             let mut reader = Breaks { left, kind };
-            ends_over(&rt, &rt, &[], &mut reader, failed(line))?;
+            assert!(rt;
+                ends_over(&rt, &[], &mut reader, failed(line)),
+                "{left} bytes"
+            );
         }
     }
-    Ok(())
+}
+
+// Whether a run over a request with so many spaces after it ends so.
+fn ends_after_spaces<
+    R: Net<Listener = TcpListener, Stream = TcpStream> + Clock + Files + Wait + AllocGlobal,
+>(rt: &R, left: usize, wanted: Ending<'_>) -> bool {
+    ends_over(rt, &[], &mut OLD.as_bytes().chain(Blank { left }), wanted)
 }
 
 #[test]
-fn rejects_an_input_that_is_too_long(rt: HostRuntime) -> Result<(), Fail> {
+fn rejects_an_input_that_is_too_long(rt: HostRuntime) {
     let rows = [(262144, "omaha: J1 NotJson\n"), (262145, "omaha: read\n")];
     for (left, line) in rows {
-        ends_over(&rt, &rt, &[], &mut Blank { left }, failed(line))?;
+        assert!(rt;
+            ends_over(&rt, &[], &mut Blank { left }, failed(line)),
+            "{left} bytes"
+        );
     }
     let left = 262144 - OLD.len();
-    let mut fits = OLD.as_bytes().chain(Blank { left });
-    ends_over(&rt, &rt, &[], &mut fits, replied(OFFER))?;
-    let left = left + 1;
-    let mut too_long = OLD.as_bytes().chain(Blank { left });
-    ends_over(&rt, &rt, &[], &mut too_long, failed("omaha: read\n"))
+    assert!(rt; ends_after_spaces(&rt, left, replied(OFFER)));
+    assert!(rt; ends_after_spaces(&rt, left + 1, failed("omaha: read\n")));
+}
+
+// Whether a run reports that it couldn't write its reply to a writer that takes so many bytes.
+fn reports_write<
+    R: Net<Listener = TcpListener, Stream = TcpStream> + Clock + Files + Wait + AllocGlobal,
+>(rt: &R, left: usize) -> bool {
+    let words = Vec::new(rt.alloc());
+    let mut told = Vec::new(rt.alloc());
+    let status = run(
+        rt,
+        &words,
+        &mut OLD.as_bytes(),
+        &mut Full { left },
+        &mut told,
+    );
+    status == 1 && told.as_slice() == b"omaha: write\n".as_slice()
 }
 
 #[test]
-fn reports_that_a_reply_was_not_written(rt: HostRuntime) -> Result<(), Fail> {
-    let alloc = rt.alloc();
-    let words = Vec::new(alloc);
+fn reports_that_a_reply_was_not_written(rt: HostRuntime) {
     for left in 0..OFFER.len() {
-        let mut reader = OLD.as_bytes();
-        let mut told = Vec::new(alloc);
-        let ended = run(&rt, &words, &mut reader, &mut Full { left }, &mut told);
-        assert_eq!(rt; ended, 1);
-        assert_eq!(rt; told.as_slice(), b"omaha: write\n".as_slice());
+        assert!(rt; reports_write(&rt, left), "{left} bytes");
     }
-    Ok(())
+}
+
+// Whether unreadable arguments end so.
+fn is_unreadable(alloc: Global, kind: ErrorKind, status: u8, line: &str) -> bool {
+    let mut told = Vec::new(alloc);
+    let ended = report_unreadable(&io::Error::from(kind), &mut told);
+    ended == status && told.as_slice() == line.as_bytes()
 }
 
 #[test]
-fn reports_arguments_that_are_not_read(rt: HostRuntime) -> Result<(), Fail> {
+fn reports_arguments_that_are_not_read(rt: HostRuntime) {
     let no_text = concat!(
         "error: an argument is not valid UTF-8\n",
         "\nFor more information, try '--help'.\n",
     );
-    let rows = [
-        (ErrorKind::InvalidData, 2, no_text),
-        (ErrorKind::OutOfMemory, 1, "omaha: memory\n"),
-    ];
-    for (kind, status, line) in rows {
-        let mut told = Vec::new(rt.alloc());
-        let ended = report_unreadable(&io::Error::from(kind), &mut told);
-        assert_eq!(rt; ended, status);
-        assert_eq!(rt; told.as_slice(), line.as_bytes());
-    }
-    Ok(())
+    assert!(rt; is_unreadable(rt.alloc(), ErrorKind::InvalidData, 2, no_text));
+    assert!(rt; is_unreadable(rt.alloc(), ErrorKind::OutOfMemory, 1, "omaha: memory\n"));
 }

@@ -1,9 +1,7 @@
 // The commands `check` with a folder of packages, and `describe`.
 
 use crate::ending::{Ending, ends, failed, replied};
-use std::alloc::Global;
 use std::net::{Net, TcpListener, TcpStream};
-use std::process::Abort;
 use std::rt::Files;
 use std::sync::Wait;
 use std::test::Fail;
@@ -52,100 +50,134 @@ size = 3
 sha256 = \"9834876dcfb05cb167a5c24953eba58c4ac89b1adf57f28f2f9d09af107ee8f0\"
 ";
 
+// Writes a file of a folder.
+fn write_file<R: Files + AllocGlobal>(
+    rt: &R,
+    folder: &str,
+    name: &str,
+    text: &str,
+) -> io::Result<()> {
+    let file = format!(in rt.alloc(); "{folder}/{name}")?;
+    fs::write(rt, file.as_str(), text)
+}
+
 // Makes a folder with those files.
-fn fill<R: Files + AllocGlobal>(rt: &R, path: &str) -> io::Result<()> {
-    fs::create_dir(rt, path)?;
+fn fill<R: Files + AllocGlobal>(rt: &R, folder: &str) -> io::Result<()> {
+    fs::create_dir(rt, folder)?;
     for (name, text) in FILES {
-        let file = format!(in rt.alloc(); "{path}/{name}")?;
-        fs::write(rt, file.as_str(), text)?;
+        write_file(rt, folder, name, text)?;
     }
     Ok(())
 }
 
-// Makes a folder of a test, whose path ends so.
-fn make_folder(rt: &HostRuntime, end: &str) -> Result<String, Fail> {
+// The path of a test's folder, which ends so.
+fn path_of(rt: &HostRuntime, end: &str) -> Option<String> {
     let number = process::id(rt.process());
-    let temporary = env::temp_dir(rt)?;
-    let above = temporary.as_path().to_str().ok_or("no text")?;
-    let path = format!(in rt.alloc(); "{above}/omaha_cli_rows.{end}.{number}")?;
-    fill(rt, path.as_str())?;
-    Ok(path)
+    let temporary = env::temp_dir(rt).ok()?;
+    let above = temporary.as_path().to_str()?;
+    format!(in rt.alloc(); "{above}/omaha_cli_rows.{end}.{number}").ok()
 }
 
-// The path of a file in a folder.
-fn path_of(alloc: Global, folder: &str, name: &str) -> Result<String, Fail> {
-    Ok(format!(in alloc; "{folder}/{name}")?)
+// Makes the folder of a test, whose path ends so.
+fn make_folder(rt: &HostRuntime, end: &str) -> Option<String> {
+    let path = path_of(rt, end)?;
+    fill(rt, path.as_str()).ok()?;
+    Some(path)
 }
 
-// Tests how `check` ends with the folder's profile and its packages.
+// Whether `check` ends so with a profile of a folder and the packages of another.
 fn checks<R: Net<Listener = TcpListener, Stream = TcpStream> + Clock + Files + Wait + AllocGlobal>(
-    rt: &impl Abort,
-    files: &R,
+    rt: &R,
     folder: &str,
+    profile: &str,
+    packages: &str,
     wanted: Ending<'_>,
-) -> Result<(), Fail> {
-    let profile = path_of(files.alloc(), folder, "mini.toml")?;
-    let words = ["check", profile.as_str(), "--packages", folder];
-    ends(rt, files, &words, "{", wanted)
+) -> Option<bool> {
+    let profile = format!(in rt.alloc(); "{folder}/{profile}").ok()?;
+    let words = ["check", profile.as_str(), "--packages", packages];
+    Some(ends(rt, &words, "{", wanted))
+}
+
+// Changes two packages of a folder.
+fn change<R: Files + AllocGlobal>(rt: &R, folder: &str) -> io::Result<()> {
+    write_file(rt, folder, "mini-1-2.bin", "aaaa")?;
+    write_file(rt, folder, "mini-1.0.bin", "abd")
 }
 
 #[test]
 fn compares_the_packages_of_a_profile(rt: HostRuntime) -> Result<(), Fail> {
-    let folder = make_folder(&rt, "check")?;
-    checks(&rt, &rt, folder.as_str(), replied(SUMMARY))?;
-    let diff = path_of(rt.alloc(), folder.as_str(), "mini-1-2.bin")?;
-    fs::write(&rt, diff.as_str(), "aaaa")?;
-    let first = path_of(rt.alloc(), folder.as_str(), "mini-1.0.bin")?;
-    fs::write(&rt, first.as_str(), "abd")?;
+    let folder = make_folder(&rt, "check").ok_or("no folder")?;
+    let path = folder.as_str();
+    assert!(rt; checks(&rt, path, "mini.toml", path, replied(SUMMARY)) == Some(true));
+    change(&rt, path)?;
     let wanted = Ending {
         status: 1,
         output: "mini-1.0.bin: sha256 differs\nmini-1-2.bin: size 4, declared 3\n",
         faults: "omaha: packages 2\n",
     };
-    checks(&rt, &rt, folder.as_str(), wanted)?;
-    fs::remove_dir_all(&rt, folder.as_str())?;
+    assert!(rt; checks(&rt, path, "mini.toml", path, wanted) == Some(true));
+    fs::remove_dir_all(&rt, path)?;
     Ok(())
+}
+
+// Whether `check` ends so with a profile of a folder and the packages of one that there isn't.
+fn checks_elsewhere<
+    R: Net<Listener = TcpListener, Stream = TcpStream> + Clock + Files + Wait + AllocGlobal,
+>(rt: &R, folder: &str, profile: &str, wanted: Ending<'_>) -> Option<bool> {
+    let elsewhere = format!(in rt.alloc(); "{folder}/elsewhere").ok()?;
+    checks(rt, folder, profile, elsewhere.as_str(), wanted)
 }
 
 #[test]
 fn finds_no_package_in_another_folder(rt: HostRuntime) -> Result<(), Fail> {
-    let folder = make_folder(&rt, "missing")?;
-    let profile = path_of(rt.alloc(), folder.as_str(), "mini.toml")?;
-    let elsewhere = path_of(rt.alloc(), folder.as_str(), "elsewhere")?;
-    let words = ["check", profile.as_str(), "--packages", elsewhere.as_str()];
+    let folder = make_folder(&rt, "missing").ok_or("no folder")?;
+    let path = folder.as_str();
     let wanted = Ending {
         status: 1,
         output: "mini-1.0.bin: missing\nmini-2.0.bin: missing\nmini-1-2.bin: missing\n",
         faults: "omaha: packages 3\n",
     };
-    ends(&rt, &rt, &words, "{", wanted)?;
-    let broken = path_of(rt.alloc(), folder.as_str(), "broken.toml")?;
-    let words = ["check", broken.as_str(), "--packages", elsewhere.as_str()];
-    ends(&rt, &rt, &words, "{", failed("omaha: F1 NotToml\n"))?;
-    fs::remove_dir_all(&rt, folder.as_str())?;
+    assert!(rt; checks_elsewhere(&rt, path, "mini.toml", wanted) == Some(true));
+    let wanted = failed("omaha: F1 NotToml\n");
+    assert!(rt; checks_elsewhere(&rt, path, "broken.toml", wanted) == Some(true));
+    fs::remove_dir_all(&rt, path)?;
     Ok(())
 }
 
-// Tests how `describe` of two files ends.
+// Whether `describe` of a folder's first package ends so.
 fn describes<
     R: Net<Listener = TcpListener, Stream = TcpStream> + Clock + Files + Wait + AllocGlobal,
->(rt: &impl Abort, files: &R, first: &str, second: &str, wanted: Ending<'_>) -> Result<(), Fail> {
-    let words = ["describe", first, second];
-    ends(rt, files, &words, "{", wanted)
+>(rt: &R, folder: &str) -> Option<bool> {
+    let first = format!(in rt.alloc(); "{folder}/mini-1.0.bin").ok()?;
+    let words = ["describe", first.as_str()];
+    Some(ends(rt, &words, "{", replied(FIRST_LINES)))
+}
+
+// Whether `describe` of a folder's first package and another file ends so.
+fn describes_both<
+    R: Net<Listener = TcpListener, Stream = TcpStream> + Clock + Files + Wait + AllocGlobal,
+>(rt: &R, folder: &str, second: &str, wanted: Ending<'_>) -> Option<bool> {
+    let first = format!(in rt.alloc(); "{folder}/mini-1.0.bin").ok()?;
+    let second = format!(in rt.alloc(); "{folder}/{second}").ok()?;
+    let words = ["describe", first.as_str(), second.as_str()];
+    Some(ends(rt, &words, "{", wanted))
+}
+
+// Whether `describe` reports that a folder has no such file.
+fn describes_no_file<
+    R: Net<Listener = TcpListener, Stream = TcpStream> + Clock + Files + Wait + AllocGlobal,
+>(rt: &R, folder: &str) -> Option<bool> {
+    let line = format!(in rt.alloc(); "omaha: file {folder}/none.bin: missing\n").ok()?;
+    describes_both(rt, folder, "none.bin", failed(line.as_str()))
 }
 
 #[test]
 fn describes_files(rt: HostRuntime) -> Result<(), Fail> {
-    let folder = make_folder(&rt, "describe")?;
-    let first = path_of(rt.alloc(), folder.as_str(), "mini-1.0.bin")?;
-    let words = ["describe", first.as_str()];
-    ends(&rt, &rt, &words, "{", replied(FIRST_LINES))?;
-    let diff = path_of(rt.alloc(), folder.as_str(), "mini-1-2.bin")?;
-    describes(&rt, &rt, first.as_str(), diff.as_str(), replied(BOTH_LINES))?;
-    let none = path_of(rt.alloc(), folder.as_str(), "none.bin")?;
-    let line = format!(in rt.alloc(); "omaha: file {}: missing\n", none.as_str())?;
-    let wanted = failed(line.as_str());
-    describes(&rt, &rt, first.as_str(), none.as_str(), wanted)?;
-    fs::remove_dir_all(&rt, folder.as_str())?;
+    let folder = make_folder(&rt, "describe").ok_or("no folder")?;
+    let path = folder.as_str();
+    assert!(rt; describes(&rt, path) == Some(true));
+    assert!(rt; describes_both(&rt, path, "mini-1-2.bin", replied(BOTH_LINES)) == Some(true));
+    assert!(rt; describes_no_file(&rt, path) == Some(true));
+    fs::remove_dir_all(&rt, path)?;
     Ok(())
 }

@@ -4,9 +4,8 @@ use crate::chained::{
     BETA, CHAINED, ELSEWHERE, HELD_BETA, OF_NONE, STABLE, TOO_LOW, UNKNOWN, UNPRICED, ZERO_FIRST,
 };
 use crate::ending::{ends, replied};
-use crate::runs::first_wrong;
+use crate::runs::is_right;
 use crate::shelf::Shelf;
-use std::test::Fail;
 
 const FILES: [(&str, &str); 10] = [
     ("chained.toml", CHAINED),
@@ -21,18 +20,13 @@ const FILES: [(&str, &str); 10] = [
     ("held-beta.prices", HELD_BETA),
 ];
 
+/// The files of the tests of reports.
 pub(crate) fn shelf<R: AllocGlobal>(rt: R) -> Shelf<R> {
-    Shelf {
-        alloc: rt.alloc(),
-        rt,
-        files: FILES.as_slice(),
-        broken: "broken",
-        large: "large.toml",
-    }
+    Shelf::new(rt, FILES.as_slice())
 }
 
 #[test]
-fn reports_on_a_profile(rt: HostRuntime) -> Result<(), Fail> {
+fn reports_on_a_profile(rt: HostRuntime) {
     let shelf = shelf(rt);
     let rows: [(&[&str], &str); 5] = [
         (
@@ -50,10 +44,10 @@ fn reports_on_a_profile(rt: HostRuntime) -> Result<(), Fail> {
         (&["verify", "chained.toml", "stable.prices"], "certified\n"),
         (&["verify", "chained.toml", "beta.prices"], "certified\n"),
     ];
+    let rt = &shelf.rt;
     for (words, wanted) in rows {
-        ends(&shelf.rt, &shelf, words, "{", replied(wanted))?;
+        assert!(rt; ends(&shelf, words, "{", replied(wanted)), "{wanted}");
     }
-    Ok(())
 }
 
 // Reports that fail: nothing is read or written.
@@ -79,10 +73,10 @@ const FAILURES: &str = "1_omaha:_file_nowhere.toml~ | check nowhere.toml
 2_error:_the_following_required_arguments_were_not_provided: | verify chained.toml";
 
 #[test]
-fn reports_why_there_is_no_report(rt: HostRuntime) -> Result<(), Fail> {
+fn reports_why_there_is_no_report(rt: HostRuntime) {
     let shelf = shelf(rt);
-    let wrong = first_wrong(&shelf, FAILURES)?;
     let rt = &shelf.rt;
-    assert!(rt; wrong.is_empty(), "{wrong}");
-    Ok(())
+    for row in FAILURES.lines() {
+        assert!(rt; is_right(&shelf, row) == Some(true), "{row}");
+    }
 }

@@ -4,6 +4,7 @@ use omaha_cli::run;
 use std::alloc::{AllocError, Global};
 use std::net::{Net, TcpListener, TcpStream};
 use std::rt::Files;
+use std::str;
 use std::sync::Wait;
 use std::time::Clock;
 
@@ -21,69 +22,62 @@ fn unescaped(alloc: Global, text: &str) -> Result<String, AllocError> {
     Ok(plain)
 }
 
-fn arguments(alloc: Global, words: &str) -> Result<Vec<String>, AllocError> {
+/// The arguments of a line, with a space between two.
+pub(crate) fn arguments(alloc: Global, words: &str) -> Result<Vec<String>, AllocError> {
     let mut arguments = Vec::new(alloc);
     for word in words.split(' ') {
-        arguments.push(unescaped(alloc, word)?)?;
+        let argument = unescaped(alloc, word)?;
+        arguments.push(argument)?;
     }
     Ok(arguments)
 }
 
-fn shown(alloc: Global, bytes: Vec<u8>) -> String {
-    String::from_utf8(bytes).ok().unwrap_or(String::new(alloc))
+// Whether a line is the wanted one; of invalid arguments it may go on.
+fn is_told(told: &[u8], wanted: &str) -> bool {
+    let told = str::from_utf8(told).unwrap_or("");
+    if wanted.starts_with("1") && wanted.ends_with("\n") {
+        wanted.strip_prefix("1 ") == Some(told)
+    } else {
+        wanted
+            .strip_prefix("2 ")
+            .is_some_and(|wanted| told.starts_with(wanted))
+    }
 }
 
-// How a run over the input `{` ends: its status, what it prints on standard error, and how many bytes
-// it wrote and left, if that is not none and the one.
-fn ending<R: Net<Listener = TcpListener, Stream = TcpStream> + Clock + Files + Wait + AllocGlobal>(
+// Whether a run over the input `{` reads and writes nothing, and ends as wanted: its status, and what it prints on
+// standard error.
+fn fails_so<
+    R: Net<Listener = TcpListener, Stream = TcpStream> + Clock + Files + Wait + AllocGlobal,
+>(files: &R, words: &[String], wanted: &str) -> bool {
+    let mut reader = b"{".as_slice();
+    let mut written = Vec::new(files.alloc());
+    let mut told = Vec::new(files.alloc());
+    let status = run(files, words, &mut reader, &mut written, &mut told);
+    let digit = [b'0'.saturating_add(status)];
+    wanted.as_bytes().starts_with(&digit)
+        && is_told(&told, wanted)
+        && written.is_empty()
+        && reader.len() == 1
+}
+
+// Whether a run ends as wanted.
+fn ends_as<R: Net<Listener = TcpListener, Stream = TcpStream> + Clock + Files + Wait + AllocGlobal>(
     files: &R,
     words: &str,
-) -> Result<String, AllocError> {
-    let alloc = files.alloc();
-    let words = arguments(alloc, words)?;
-    let mut reader = b"{".as_slice();
-    let mut written = Vec::new(alloc);
-    let mut told = Vec::new(alloc);
-    let status = run(files, &words, &mut reader, &mut written, &mut told);
-    let told = shown(alloc, told);
-    let (count, left) = (written.len(), reader.len());
-    if count == 0 && left == 1 {
-        return format!(in alloc; "{status} {told}");
+    wanted: &str,
+) -> bool {
+    match arguments(files.alloc(), words) {
+        Ok(words) => fails_so(files, &words, wanted),
+        Err(_) => false,
     }
-    format!(in alloc; "{status} {told}, {count} bytes written, {left} left")
 }
 
-// What is wrong of a row, of which the run prints the wanted line, and after it nothing or the usage.
-fn wrong_row<
+/// Whether a run ends as its row says, and reads and writes nothing: it prints the wanted line, and after it nothing
+/// or the usage.
+pub(crate) fn is_right<
     R: Net<Listener = TcpListener, Stream = TcpStream> + Clock + Files + Wait + AllocGlobal,
->(files: &R, row: &str) -> Result<String, AllocError> {
-    let alloc = files.alloc();
-    let Some((want, words)) = row.split_once(" | ") else {
-        return format!(in alloc; "no row: {row}");
-    };
-    let want = unescaped(alloc, want)?;
-    let got = ending(files, words)?;
-    let is_whole = want.as_str().ends_with("\n") && want.as_str().starts_with("1");
-    let is_right = if is_whole {
-        got.as_str() == want.as_str()
-    } else {
-        got.as_str().starts_with(want.as_str())
-    };
-    if is_right {
-        return Ok(String::new(alloc));
-    }
-    format!(in alloc; "{got} in place of {row}")
-}
-
-/// The first row that ends otherwise, and how it ends.
-pub(crate) fn first_wrong<
-    R: Net<Listener = TcpListener, Stream = TcpStream> + Clock + Files + Wait + AllocGlobal,
->(files: &R, rows: &str) -> Result<String, AllocError> {
-    for row in rows.lines() {
-        let wrong = wrong_row(files, row)?;
-        if !wrong.is_empty() {
-            return Ok(wrong);
-        }
-    }
-    Ok(String::new(files.alloc()))
+>(files: &R, row: &str) -> Option<bool> {
+    let (wanted, words) = row.split_once(" | ")?;
+    let wanted = unescaped(files.alloc(), wanted).ok()?;
+    Some(ends_as(files, words, wanted.as_str()))
 }

@@ -21,6 +21,19 @@ pub(crate) struct Shelf<R> {
     pub(crate) large: &'static str,
 }
 
+impl<R: AllocGlobal> Shelf<R> {
+    /// The shelf of these files; `broken` can't be read, and `large.toml` is too large for memory.
+    pub(crate) fn new(rt: R, files: &'static [(&'static str, &'static str)]) -> Shelf<R> {
+        Shelf {
+            alloc: rt.alloc(),
+            rt,
+            files,
+            broken: "broken",
+            large: "large.toml",
+        }
+    }
+}
+
 /// A file that is read, fails, or has no end.
 #[derive(Drop)]
 pub(crate) struct Page {

@@ -164,8 +164,8 @@ pub(crate) fn releases(alloc: Global) -> Result<Batch, Fail> {
     edits(alloc, MINI)
 }
 
-/// The batch of one edit, as a script spells it.
-pub(crate) fn edit(alloc: Global, edit: &str) -> Result<Batch, Fail> {
+// The batch of one edit, as a script spells it.
+fn edit(alloc: Global, edit: &str) -> Result<Batch, Fail> {
     let text = format!(in alloc; "schema = 1\nbase = 1\nedit = [{{ {edit} }}]\n")?;
     let (_base, batch) = read_script(alloc, text.as_str().as_bytes())?;
     Ok(batch)
@@ -178,19 +178,40 @@ pub(crate) fn set_target(alloc: Global, version: &str) -> Result<Batch, Fail> {
     edit(alloc, text.as_str())
 }
 
+/// The edition after a batch.
+pub(crate) fn next_of(edition: &Edition, batch: Result<Batch, Fail>) -> Result<Edition, Fail> {
+    Ok(edition.next(batch?)?)
+}
+
+/// The first edition, of a batch.
+pub(crate) fn first_of(alloc: Global, batch: Result<Batch, Fail>) -> Result<Edition, Fail> {
+    let empty = Edition::empty(alloc);
+    next_of(&empty, batch)
+}
+
+/// The edition after one edit, as a script spells it.
+pub(crate) fn after(
+    alloc: Global,
+    edition: Result<Edition, Fail>,
+    text: &str,
+) -> Result<Edition, Fail> {
+    let edition = edition?;
+    next_of(&edition, edit(alloc, text))
+}
+
 /// The edition whose second batch sets the target of `mini` to 2.0.
 pub(crate) fn small(alloc: Global) -> Result<Edition, Fail> {
-    let first = Edition::empty(alloc).next(releases(alloc)?)?;
-    Ok(first.next(set_target(alloc, "2.0")?)?)
+    let first = first_of(alloc, releases(alloc))?;
+    next_of(&first, set_target(alloc, "2.0"))
 }
 
 /// The edition of app `demo`: half of `stable` has 4.0 and is else held at 3.0, the open `beta` has
 /// 3.0, and `idle` has no target.
 pub(crate) fn demo(alloc: Global) -> Result<Edition, Fail> {
-    Ok(Edition::empty(alloc).next(edits(alloc, DEMO)?)?)
+    first_of(alloc, edits(alloc, DEMO))
 }
 
 /// The edition of app `demo` with differentials, the stone 2.0 and the rollback of `beta`.
 pub(crate) fn stoned(alloc: Global) -> Result<Edition, Fail> {
-    Ok(Edition::empty(alloc).next(edits(alloc, STONED)?)?)
+    first_of(alloc, edits(alloc, STONED))
 }

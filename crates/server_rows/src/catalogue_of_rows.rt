@@ -1,11 +1,10 @@
 // A catalogue of two apps, whose packages are repeated letters `a`.
 
-use catalogue::Catalogue;
+use catalogue::{Batch, Catalogue};
 use http_desks::Packages;
-use package_files::compare;
+use package_files::{Finding, compare};
 use profile_toml::read_profile;
 use std::alloc::{AllocError, Global};
-use std::test::Fail;
 
 const PROFILE: &str = r#"schema = 1
 mirror = [{ name = "m0", codebase = "http://m0.example/p/", budget = 1 }]
@@ -30,12 +29,26 @@ release = [
 ]
 "#;
 
+// The edits of the profile.
+fn edits(alloc: Global) -> Option<Batch> {
+    match read_profile(alloc, PROFILE.as_bytes()) {
+        Ok((batch, _mirrors)) => Some(batch),
+        Err(_) => None,
+    }
+}
+
 /// The catalogue of the profile.
-pub(crate) fn catalogue(alloc: Global) -> Result<Catalogue, Fail> {
-    let (edits, _mirrors) = read_profile(alloc, PROFILE.as_bytes())?;
-    let mut catalogue = Catalogue::empty(alloc);
-    catalogue.apply(&edits)?;
-    Ok(catalogue)
+pub(crate) fn catalogue(alloc: Global) -> Option<Catalogue> {
+    let edits = edits(alloc)?;
+    Catalogue::empty(alloc).applied(&edits).ok()
+}
+
+// The findings, a `;` after each.
+fn push_findings(text: &mut String, findings: &[Finding]) -> Result<(), AllocError> {
+    for finding in findings {
+        write!(text, "{finding};")?;
+    }
+    Ok(())
 }
 
 /// The findings of the catalogue's packages, a `;` after each.
@@ -44,11 +57,8 @@ pub(crate) fn print_findings<P: Packages>(
     catalogue: &Catalogue,
     packages: &P,
 ) -> Result<String, AllocError> {
-    let mut text = String::new(alloc);
     let findings = compare(alloc, catalogue.apps(), packages)?;
-    for finding in findings.as_slice() {
-        let line = format!(in alloc; "{finding};")?;
-        text.push_str(line.as_str())?;
-    }
+    let mut text = String::new(alloc);
+    push_findings(&mut text, findings.as_slice())?;
     Ok(text)
 }

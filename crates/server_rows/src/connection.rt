@@ -4,6 +4,7 @@ ghost use Rattle.std.specs.Prelude.{None};
 
 use http_desks::{Clock, Packages};
 use http_wire::{Failed, Sink, Source};
+use std::alloc::Global;
 
 /// Gives what the peer sent.
 #[derive(Drop)]
@@ -29,6 +30,16 @@ impl Source for Sent<'_> {
 pub(crate) struct Received {
     pub(crate) bytes: Vec<u8>,
     pub(crate) piece: usize,
+}
+
+impl Received {
+    /// Keeps nothing yet.
+    pub(crate) fn new(alloc: Global, piece: usize) -> Received {
+        Received {
+            bytes: Vec::new(alloc),
+            piece,
+        }
+    }
 }
 
 impl Sink for Received {

@@ -1,11 +1,11 @@
 // A catalogue of four releases, one of them a stone, with the differentials between them, and of three
 // large packages.
 
+use catalogue::Batch;
 use editions::Edition;
 use profile_toml::read_profile;
 use records::Mirror;
 use std::alloc::{AllocError, Global};
-use std::test::Fail;
 use values::Text;
 
 const PROFILE: &str = r#"schema = 1
@@ -46,10 +46,18 @@ release = [
 ]
 "#;
 
+// The edits of the profile.
+fn edits(alloc: Global) -> Option<Batch> {
+    match read_profile(alloc, PROFILE.as_bytes()) {
+        Ok((batch, _mirrors)) => Some(batch),
+        Err(_) => None,
+    }
+}
+
 /// The edition of the catalogue.
-pub(crate) fn edition_of_demo(alloc: Global) -> Result<Edition, Fail> {
-    let (batch, _mirrors) = read_profile(alloc, PROFILE.as_bytes())?;
-    Ok(Edition::empty(alloc).next(batch)?)
+pub(crate) fn edition_of_demo(alloc: Global) -> Option<Edition> {
+    let batch = edits(alloc)?;
+    Edition::empty(alloc).next(batch).ok()
 }
 
 fn mirror_of(alloc: Global, index: usize, budget: u64) -> Result<Mirror, AllocError> {
@@ -76,8 +84,8 @@ pub(crate) fn mirrors_of(alloc: Global, budgets: &str) -> Result<Vec<Mirror>, Al
 const CLIENT: &str =
     r#"{"appid":"demo","cohort":"stable:0","packages":{"package":[{"fp":"1.1111111111111111111111111111111111111111111111111111111111111111"}]},"updatecheck":{},"version":"1.0"}"#;
 
-/// A message that has such a client so many times.
-pub(crate) fn message_of(alloc: Global, clients: usize) -> Result<String, AllocError> {
+// The apps of such a client so many times.
+fn apps_of(alloc: Global, clients: usize) -> Result<String, AllocError> {
     let mut apps = String::new(alloc);
     for index in 0..clients {
         if index > 0 {
@@ -85,12 +93,21 @@ pub(crate) fn message_of(alloc: Global, clients: usize) -> Result<String, AllocE
         }
         apps.push_str(CLIENT)?;
     }
-    let apps = apps.as_str();
-    let body = format!(in alloc;
+    Ok(apps)
+}
+
+// The request of such clients.
+fn body_of(alloc: Global, clients: usize) -> Result<String, AllocError> {
+    let apps = apps_of(alloc, clients)?;
+    format!(in alloc;
         "{{\"request\":{{\"app\":[{apps}],\"protocol\":\"3.1\",\"sessionid\":\"abc\"}}}}"
-    )?;
-    let length = body.as_str().len();
-    let body = body.as_str();
+    )
+}
+
+/// A message that has such a client so many times.
+pub(crate) fn message_of(alloc: Global, clients: usize) -> Result<String, AllocError> {
+    let body = body_of(alloc, clients)?;
+    let length = body.len();
     format!(in alloc;
         "POST /service/update2/json HTTP/1.1\r\nContent-Length: {length}\r\n\r\n{body}"
     )

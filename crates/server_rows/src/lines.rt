@@ -40,14 +40,9 @@ pub(crate) fn are_bounded(mirrors: &[Mirror]) -> bool
 }
 
 /// Puts each number at the end of a line, after a space.
-pub(crate) fn push_numbers(
-    alloc: Global,
-    line: &mut String,
-    numbers: &[u64],
-) -> Result<(), AllocError> {
+pub(crate) fn push_numbers(line: &mut String, numbers: &[u64]) -> Result<(), AllocError> {
     for number in numbers {
-        let word = format!(in alloc; " {number}")?;
-        line.push_str(word.as_str())?;
+        write!(line, " {number}")?;
     }
     Ok(())
 }

@@ -1,9 +1,10 @@
+use crate::connection::Received;
 use crate::demo::message_of;
-use crate::opened::{push_numbers, serve_sent};
-use std::alloc::AllocError;
+use crate::lines::push_numbers;
+use crate::opened::{Ended, serve_sent};
+use std::alloc::Global;
 use std::str;
 use std::sync::Wait;
-use std::test::Fail;
 
 const REPLY: &str = r#")]}'
 {"response":{"app":[{"appid":"demo","cohort":"stable:0","cohortname":"stable","status":"ok","updatecheck":{"manifest":{"packages":{"package":[{"fp":"1.2222222222222222222222222222222222222222222222222222222222222222","hash_sha256":"2222222222222222222222222222222222222222222222222222222222222222","hashdiff_sha256":"1212121212121212121212121212121212121212121212121212121212121212","name":"demo-2.0.bin","namediff":"demo-1.0-2.0.bin","size":1200,"sizediff":300}]},"version":"2.0"},"status":"ok","urls":{"url":[{"codebase":"http://m0.example/p/"},{"codebasediff":"http://m0.example/p/"}]}}}],"daystart":{"elapsed_days":6940,"elapsed_seconds":3661},"protocol":"3.1"}}"#;
@@ -11,23 +12,36 @@ const REPLY: &str = r#")]}'
 const BUSY: &str = r#")]}'
 {"response":{"app":[{"appid":"demo","cohort":"stable:0","cohortname":"stable","status":"ok","updatecheck":{"status":"error-internal"}}],"daystart":{"elapsed_days":6940,"elapsed_seconds":3661},"protocol":"3.1"}}"#;
 
-// What a peer gets for the message of one client over mirrors of these budgets.
-fn reply_over<R: Wait + AllocGlobal>(rt: &R, budgets: &str, wanted: &str) -> Result<bool, Fail> {
-    let alloc = rt.alloc();
-    let message = message_of(alloc, 1)?;
-    let ended = serve_sent(rt, budgets, message.as_str().as_bytes(), usize::MAX)?;
-    let length = wanted.len();
-    let whole = format!(in alloc;
-        "HTTP/1.1 200 OK\r\nContent-Type: application/json\r\nContent-Length: {length}\r\n\r\n{wanted}"
-    )?;
-    Ok(ended.written.as_slice() == whole.as_str().as_bytes())
+// Whether what was written is a reply with this body.
+fn is_whole(written: &[u8], wanted: &str) -> bool {
+    match str::from_utf8(written).unwrap_or("").split_once("\r\n\r\n") {
+        Some((head, body)) => is_head(head, wanted.len()) && body == wanted,
+        None => false,
+    }
+}
+
+// Whether it is the head of a reply that has so many bytes.
+fn is_head(head: &str, length: usize) -> bool {
+    match head.strip_prefix(
+        "HTTP/1.1 200 OK\r\nContent-Type: application/json\r\nContent-Length: ",
+    ) {
+        Some(number) => number.parse().ok() == Some(length),
+        None => false,
+    }
+}
+
+// Whether a peer gets this body for the message of one client over mirrors of these budgets.
+fn is_replied<R: Wait + AllocGlobal>(rt: &R, budgets: &str, wanted: &str) -> Option<bool> {
+    let message = message_of(rt.alloc(), 1).ok()?;
+    let mut sink = Received::new(rt.alloc(), usize::MAX);
+    let _ended = serve_sent(rt, budgets, message.as_str().as_bytes(), &mut sink)?;
+    Some(is_whole(&sink.bytes, wanted))
 }
 
 #[test]
-fn replies_with_the_offer_that_a_mirror_granted(rt: HostRuntime) -> Result<(), Fail> {
-    assert!(rt; reply_over(&rt, "1000000", REPLY)?);
-    assert!(rt; reply_over(&rt, "100 100", BUSY)?);
-    Ok(())
+fn replies_with_the_offer_that_a_mirror_granted(rt: HostRuntime) {
+    assert!(rt; is_replied(&rt, "1000000", REPLY) == Some(true));
+    assert!(rt; is_replied(&rt, "100 100", BUSY) == Some(true));
 }
 
 // A row is a message, `~` being the end of a line, how many bytes a call the peer takes, and what it gets: the
@@ -46,53 +60,45 @@ POST /service/update2/json HTTP/1.1~Content-Length: 1~~{ | 65536 = HTTP/1.1 400 
 POST /service/update2/json HTTP/1.1~Content-Length: 30~~{\"request\":{\"protocol\":\"3.0\"}} | 65536 = HTTP/1.1 400 Bad Request~Content-Length: 0~~ 0 finished 0
 ";
 
-fn expand<R: AllocGlobal>(rt: &R, text: &str) -> Result<Vec<u8>, AllocError> {
-    let mut bytes = Vec::new(rt.alloc());
-    for byte in text.as_bytes() {
-        match *byte {
-            b'~' => bytes.extend_from_slice(b"\r\n")?,
-            other => bytes.push(other)?,
-        }
-    }
-    Ok(bytes)
-}
-
-// The head of what was written, with `~` for the ends of its lines, and how many bytes follow it.
-fn shorten<R: AllocGlobal>(rt: &R, written: &[u8]) -> Result<String, Fail> {
-    let text = str::from_utf8(written)?;
-    let (head, body) = text.split_once("\r\n\r\n").ok_or("no head")?;
+// Puts the head of what was written at the end of a line, with `~` for the ends of its lines, and how many bytes
+// follow it.
+fn push_written(alloc: Global, line: &mut String, written: &[u8]) -> Option<()> {
+    let text = str::from_utf8(written).ok()?;
+    let (head, body) = text.split_once("\r\n\r\n")?;
+    let head = head.replace(alloc, "\r\n", "~").ok()?;
     let length = body.len();
-    let mut line = String::new(rt.alloc());
-    for part in head.split("\r\n") {
-        line.push_str(part)?;
-        line.push_str("~")?;
-    }
-    let end = format!(in rt.alloc(); "~ {length}")?;
-    line.push_str(end.as_str())?;
-    Ok(line)
+    write!(line, "{head}~~ {length}").ok()
 }
 
-fn print_message<R: Wait + AllocGlobal>(
-    rt: &R,
-    message: &str,
-    piece: &str,
-) -> Result<String, Fail> {
-    let sent = expand(rt, message)?;
-    let ended = serve_sent(rt, "1000", &sent, piece.parse().unwrap_or(1))?;
-    let line = shorten(rt, &ended.written)?;
-    let (line, how) = (line.as_str(), ended.how);
-    let mut printed = format!(in rt.alloc(); "{message} | {piece} = {line} {how}")?;
-    push_numbers(rt.alloc(), &mut printed, &ended.totals)?;
-    Ok(printed)
+// What a session comes to.
+fn print_session(alloc: Global, sink: &Received, ended: &Ended) -> Option<String> {
+    let mut line = String::new(alloc);
+    push_written(alloc, &mut line, &sink.bytes)?;
+    let how = ended.how;
+    write!(line, " {how}").ok()?;
+    push_numbers(&mut line, &ended.totals).ok()?;
+    Some(line)
+}
+
+// What a peer gets for a message, of which it takes so many bytes a call.
+fn print_reply<R: Wait + AllocGlobal>(rt: &R, sent: &[u8], piece: &str) -> Option<String> {
+    let mut sink = Received::new(rt.alloc(), piece.parse().unwrap_or(1));
+    let ended = serve_sent(rt, "1000", sent, &mut sink)?;
+    print_session(rt.alloc(), &sink, &ended)
+}
+
+// Whether the peer of a row gets what it says.
+fn is_served<R: Wait + AllocGlobal>(rt: &R, row: &str) -> Option<bool> {
+    let (message, others) = row.split_once(" | ")?;
+    let (piece, wanted) = others.split_once(" = ")?;
+    let sent = message.replace(rt.alloc(), "~", "\r\n").ok()?;
+    let line = print_reply(rt, sent.as_str().as_bytes(), piece)?;
+    Some(line.as_str() == wanted)
 }
 
 #[test]
-fn serves_packages_and_rejects_messages(rt: HostRuntime) -> Result<(), Fail> {
+fn serves_packages_and_rejects_messages(rt: HostRuntime) {
     for row in MESSAGES.lines() {
-        let (message, others) = row.split_once(" | ").ok_or("no bar")?;
-        let (piece, _wanted) = others.split_once(" = ").ok_or("no sign")?;
-        let printed = print_message(&rt, message, piece)?;
-        assert_eq!(rt; printed.as_str(), row);
+        assert!(rt; is_served(&rt, row) == Some(true), "{row}");
     }
-    Ok(())
 }

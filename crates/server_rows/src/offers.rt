@@ -13,8 +13,7 @@ const OFFERS: &str =
 
 #[test]
 fn offers_the_target_of_the_track(rt: HostRuntime) -> Result<(), Fail> {
-    let alloc = rt.alloc();
-    replies_with(&rt, alloc, &demo(alloc)?, true, OFFERS)
+    replies_with(&rt, rt.alloc(), demo(rt.alloc()), true, OFFERS)
 }
 
 const NO_TARGET: &str =
@@ -22,8 +21,7 @@ const NO_TARGET: &str =
 
 #[test]
 fn offers_nothing_without_a_target(rt: HostRuntime) -> Result<(), Fail> {
-    let alloc = rt.alloc();
-    replies_with(&rt, alloc, &demo(alloc)?, true, NO_TARGET)
+    replies_with(&rt, rt.alloc(), demo(rt.alloc()), true, NO_TARGET)
 }
 
 const ACKNOWLEDGED: &str =
@@ -31,6 +29,5 @@ const ACKNOWLEDGED: &str =
 
 #[test]
 fn names_the_bucket_of_the_session(rt: HostRuntime) -> Result<(), Fail> {
-    let alloc = rt.alloc();
-    replies_with(&rt, alloc, &demo(alloc)?, true, ACKNOWLEDGED)
+    replies_with(&rt, rt.alloc(), demo(rt.alloc()), true, ACKNOWLEDGED)
 }

@@ -5,6 +5,7 @@ ghost use Rattle.mirror_ledger.specs.Named.{are_bounded, IsNamed};
 
 use crate::connection::{Letters, Received, Sent, Stopped};
 use crate::demo::{edition_of_demo, mirrors_of};
+use crate::lines::are_bounded;
 use editions::Edition;
 use http_sessions::{End, Fault, Served, serve};
 use http_wire::Unwatched;
@@ -13,13 +14,11 @@ use records::Mirror;
 use std::alloc::{AllocError, Global};
 use std::marker::Brand;
 use std::sync::Wait;
-use std::test::Fail;
 use update_desk::Single;
 
-/// What a session came to: the bytes that the peer got, how it ended, and the mirrors' totals.
+/// What a session came to: how it ended, and the mirrors' totals.
 #[derive(Drop)]
 pub(crate) struct Ended {
-    pub(crate) written: Vec<u8>,
     pub(crate) how: &'static str,
     pub(crate) totals: Vec<u64>,
 }
@@ -71,7 +70,7 @@ fn serve_with<A: BudgetName, B: BudgetName, C: BudgetName, D: BudgetName, R: Wai
     mirrors: Vec<Mirror>,
     edition: Edition,
     sent: &[u8],
-    piece: usize,
+    sink: &mut Received,
 ) -> Result<Ended, AllocError>
     requires some { 0 < vec_len mirrors }
     requires few { vec_len mirrors ≤ 4 }
@@ -86,58 +85,27 @@ fn serve_with<A: BudgetName, B: BudgetName, C: BudgetName, D: BudgetName, R: Wai
     let Some(share) = shares.pop() else {
         unreachable!()
     };
-    let mut sink = Received {
-        bytes: Vec::new(alloc),
-        piece,
-    };
-    let (share, how) = serve_by(rt, &books, share, edition, sent, &mut sink);
+    let (share, how) = serve_by(rt, &books, share, edition, sent, sink);
     shares.push(share)?;
     let totals = close(rt, alloc, books, shares)?;
-    Ok(Ended {
-        written: sink.bytes,
-        how,
-        totals,
-    })
+    Ok(Ended { how, totals })
 }
 
-fn are_bounded(mirrors: &[Mirror]) -> bool
-    ensures { result ≡ are_bounded mirrors.now }
-{
-    mirrors.iter().all(|mirror| mirror.budget <= 1 << 60)
-}
-
-/// Serves a connection over mirrors of these budgets; the peer takes so many bytes a call.
+/// Serves a connection over mirrors of these budgets.
 pub(crate) fn serve_sent<R: Wait + AllocGlobal>(
     rt: &R,
     budgets: &str,
     sent: &[u8],
-    piece: usize,
-) -> Result<Ended, Fail> {
+    sink: &mut Received,
+) -> Option<Ended> {
     let alloc = rt.alloc();
-    let mirrors = mirrors_of(alloc, budgets)?;
-    if mirrors.is_empty() || mirrors.len() > 4 {
-        return Err("no mirror, or five".into());
-    }
-    if !are_bounded(&mirrors) {
-        return Err("a budget above the maximum".into());
+    let mirrors = mirrors_of(alloc, budgets).ok()?;
+    if mirrors.is_empty() || mirrors.len() > 4 || !are_bounded(&mirrors) {
+        return None;
     }
     let edition = edition_of_demo(alloc)?;
     let blanks = Blanks::new(1);
-    let ended = serve_with::<Brand, Brand, Brand, Brand, R>(
-        rt, alloc, blanks, mirrors, edition, sent, piece,
-    )?;
-    Ok(ended)
-}
-
-/// Puts each number at the end of a line, after a space.
-pub(crate) fn push_numbers(
-    alloc: Global,
-    line: &mut String,
-    numbers: &[u64],
-) -> Result<(), AllocError> {
-    for number in numbers {
-        let word = format!(in alloc; " {number}")?;
-        line.push_str(word.as_str())?;
-    }
-    Ok(())
+    serve_with::<Brand, Brand, Brand, Brand, R>(
+        rt, alloc, blanks, mirrors, edition, sent, sink,
+    ).ok()
 }

@@ -1,5 +1,5 @@
 use crate::asking::replies_with;
-use crate::batches::{releases, set_target, small};
+use crate::batches::{first_of, next_of, releases, set_target, small};
 use catalogue::Batch;
 use editions::{Edition, NextError};
 use std::alloc::{AllocError, Global};
@@ -13,19 +13,38 @@ fn shown(alloc: Global, next: Result<Edition, NextError>) -> Result<String, Allo
     }
 }
 
-#[test]
-fn takes_4096_batches_and_no_more(rt: HostRuntime) -> Result<(), Fail> {
-    let alloc = rt.alloc();
+// The edition of 4096 batches without edits.
+fn full(alloc: Global) -> Result<Edition, NextError> {
     let mut edition = Edition::empty(alloc);
-    assert_eq!(rt; edition.number(), 0);
     for _index in 0..4096u32 {
         edition = edition.next(Batch::new(Vec::new(alloc)))?;
     }
-    assert_eq!(rt; edition.number(), 4096);
-    let more = shown(alloc, edition.next(Batch::new(Vec::new(alloc))))?;
-    assert_eq!(rt; more.as_str(), "history full");
-    let bad = shown(alloc, edition.next(set_target(alloc, "2.0")?))?;
-    assert_eq!(rt; bad.as_str(), "edit 0: C1 UnknownApp");
+    Ok(edition)
+}
+
+// Whether a batch ends so.
+fn ends_so(alloc: Global, next: Result<Edition, NextError>, wanted: &str) -> bool {
+    match shown(alloc, next) {
+        Ok(text) => text.as_str() == wanted,
+        Err(_) => false,
+    }
+}
+
+// Whether a batch that sets a target of `mini` ends so.
+fn targets_so(alloc: Global, edition: &Edition, version: &str, wanted: &str) -> Result<bool, Fail> {
+    let batch = set_target(alloc, version)?;
+    Ok(ends_so(alloc, edition.next(batch), wanted))
+}
+
+#[test]
+fn takes_4096_batches_and_no_more(rt: HostRuntime) -> Result<(), Fail> {
+    let edition = full(rt.alloc())?;
+    assert!(rt; Edition::empty(rt.alloc()).number() == 0);
+    assert!(rt; edition.number() == 4096);
+    let more = edition.next(Batch::new(Vec::new(rt.alloc())));
+    assert!(rt; ends_so(rt.alloc(), more, "history full"));
+    let is_right = targets_so(rt.alloc(), &edition, "2.0", "edit 0: C1 UnknownApp")?;
+    assert!(rt; is_right);
     Ok(())
 }
 
@@ -38,20 +57,19 @@ const THIRD: &str =
 #[test]
 fn leaves_the_edition_before_as_it_was(rt: HostRuntime) -> Result<(), Fail> {
     let alloc = rt.alloc();
-    let first = Edition::empty(alloc).next(releases(alloc)?)?;
-    let second = first.next(set_target(alloc, "3.0")?)?;
-    assert_eq!(rt; first.number(), 1);
-    assert_eq!(rt; second.number(), 2);
-    replies_with(&rt, alloc, &first, true, NOTHING)?;
-    replies_with(&rt, alloc, &second, true, THIRD)
+    let first = first_of(alloc, releases(alloc))?;
+    let second = next_of(&first, set_target(alloc, "3.0"))?;
+    assert!(rt; first.number() == 1);
+    assert!(rt; second.number() == 2);
+    replies_with(&rt, alloc, Ok(first), true, NOTHING)?;
+    replies_with(&rt, alloc, Ok(second), true, THIRD)
 }
 
 #[test]
 fn prints_rejections(rt: HostRuntime) -> Result<(), Fail> {
-    let alloc = rt.alloc();
-    let bad = shown(alloc, small(alloc)?.next(set_target(alloc, "3.5")?))?;
-    assert_eq!(rt; bad.as_str(), "edit 0: C11 UnknownRelease");
-    let memory = shown(alloc, Err(NextError::Memory))?;
-    assert_eq!(rt; memory.as_str(), "memory");
+    let edition = small(rt.alloc())?;
+    let is_right = targets_so(rt.alloc(), &edition, "3.5", "edit 0: C11 UnknownRelease")?;
+    assert!(rt; is_right);
+    assert!(rt; ends_so(rt.alloc(), Err(NextError::Memory), "memory"));
     Ok(())
 }

@@ -1,9 +1,9 @@
 // Two threads that ask at once, each by a till of its own.
 
-ghost use Rattle.std.specs.Prelude.{◌≡◌, ◌≤◌, ◌<◌, true, vec_len};
+ghost use Rattle.std.specs.Prelude.{◌≡◌, ◌≤◌, ◌<◌, true, vec_len, IfOk};
 ghost use Rattle.mirror_ledger.specs.Named.{are_bounded, IsNamed};
 
-use crate::lines::{are_bounded, mirrors_of, push_numbers};
+use crate::lines::{are_bounded, mirrors_of};
 use mirror_ledger::{Blanks, Books, BudgetName, Hand, Shares, Till, close, open_books};
 use records::Mirror;
 use std::alloc::{AllocError, Global};
@@ -65,6 +65,32 @@ fn ask_at_once<
     })
 }
 
+// How many calls of two workers were granted, and their shares.
+fn ask_both<
+    A: BudgetName + Send + Sync,
+    B: BudgetName + Send + Sync,
+    C: BudgetName + Send + Sync,
+    D: BudgetName + Send + Sync,
+    R: Threads + Wait + Sync,
+>(
+    rt: &R,
+    books: &Books<A, B, C, D>,
+    shares: &mut Vec<Shares<A, B, C, D>>,
+    times: u32,
+) -> Result<u64, AllocError>
+    requires { vec_len shares.old ≡ 2 }
+    ensures { IfOk result (λ _. vec_len shares.new ≡ 2) }
+{
+    let (Some(two), Some(one)) = (shares.pop(), shares.pop()) else {
+        unreachable!()
+    };
+    let (one, two) = ask_at_once(rt, books, one, two, times)?;
+    let granted = one.granted.saturating_add(two.granted);
+    shares.push(one.shares)?;
+    shares.push(two.shares)?;
+    Ok(granted)
+}
+
 // How many calls were granted, and the totals.
 fn run_twice<
     A: BudgetName + Send + Sync,
@@ -89,13 +115,7 @@ fn run_twice<
 {
     let (books, shares) = open_books::<A, B, C, D, R>(rt, alloc, blanks, mirrors, 2)?;
     let mut shares = shares;
-    let (Some(two), Some(one)) = (shares.pop(), shares.pop()) else {
-        unreachable!()
-    };
-    let (one, two) = ask_at_once(rt, &books, one, two, times)?;
-    let granted = one.granted.saturating_add(two.granted);
-    shares.push(one.shares)?;
-    shares.push(two.shares)?;
+    let granted = ask_both(rt, &books, &mut shares, times)?;
     let totals = close(rt, alloc, books, shares)?;
     Ok((granted, totals))
 }
@@ -106,33 +126,28 @@ fn asked_twice<R: Threads + Wait + Sync>(
     alloc: Global,
     budgets: &str,
     times: u32,
-) -> Result<String, Fail> {
-    let mirrors = mirrors_of(alloc, budgets)?;
-    if mirrors.is_empty() || mirrors.len() > 4 {
-        return Err("no mirror, or five".into());
-    }
-    if !are_bounded(&mirrors) {
-        return Err("a budget above the maximum".into());
+) -> Option<(u64, Vec<u64>)> {
+    let mirrors = mirrors_of(alloc, budgets).ok()?;
+    if mirrors.is_empty() || mirrors.len() > 4 || !are_bounded(&mirrors) {
+        return None;
     }
     let blanks = Blanks::new(2);
-    let (granted, totals) = run_twice::<Brand, Brand, Brand, Brand, R>(
-        rt, alloc, blanks, mirrors, times,
-    )?;
-    let mut line = format!(in alloc; "{granted},")?;
-    push_numbers(alloc, &mut line, &totals)?;
-    Ok(line)
+    run_twice::<Brand, Brand, Brand, Brand, R>(rt, alloc, blanks, mirrors, times).ok()
 }
 
 #[test]
 fn grants_no_more_than_the_budget(rt: HostRuntime) -> Result<(), Fail> {
-    let line = asked_twice(&rt, rt.alloc(), "1000", 600)?;
-    assert_eq!(rt; line.as_str(), "1000, 1000");
+    let (granted, totals) = asked_twice(&rt, rt.alloc(), "1000", 600).ok_or("no totals")?;
+    assert!(rt; granted == 1000);
+    assert!(rt; totals.as_slice() == [1000].as_slice());
     Ok(())
 }
 
 #[test]
 fn totals_agree_with_a_hundred_thousand_grants(rt: HostRuntime) -> Result<(), Fail> {
-    let line = asked_twice(&rt, rt.alloc(), "30000 0 60000 10000", 55000)?;
-    assert_eq!(rt; line.as_str(), "100000, 30000 0 60000 10000");
+    let budgets = "30000 0 60000 10000";
+    let (granted, totals) = asked_twice(&rt, rt.alloc(), budgets, 55000).ok_or("no totals")?;
+    assert!(rt; granted == 100000);
+    assert!(rt; totals.as_slice() == [30000, 0, 60000, 10000].as_slice());
     Ok(())
 }
