@@ -42,7 +42,7 @@ NO_EDIT = {
 }
 
 # Whether each rule must have the mark of a test; False as long as the crates of tests have no marks.
-TESTS_ARE_MARKED = False
+TESTS_ARE_MARKED = True
 
 # Rules that no test shows, and why.
 NO_TEST = {

@@ -119,6 +119,7 @@ fn leaves(rt: &impl Abort, alloc: Global, row: &str) -> Result<(), Fail> {
     Ok(())
 }
 
+// rule: What an edit changes
 #[test]
 fn keeps_the_last_value_of_each_setting(rt: HostRuntime) -> Result<(), Fail> {
     for row in SETTINGS.lines() {

@@ -66,6 +66,7 @@ fn check_app(rt: &impl Abort, catalogue: &Catalogue) {
     assert_eq!(rt; catalogue.app("Other"), Some(1));
 }
 
+// rule: Release of a version
 #[test]
 fn finds_releases_in_version_order(rt: HostRuntime) -> Result<(), Fail> {
     let catalogue = two_apps(rt.alloc())?;
@@ -106,6 +107,7 @@ fn check_diffs(rt: &impl Abort, catalogue: &Catalogue) {
     assert_eq!(rt; count_of_diffs(catalogue), Some(2));
 }
 
+// rule: Differential of a pair
 #[test]
 fn finds_differentials_by_their_pair(rt: HostRuntime) -> Result<(), Fail> {
     let catalogue = two_apps(rt.alloc())?;
@@ -144,6 +146,7 @@ fn check_packages(rt: &impl Abort, catalogue: &Catalogue) {
     }
 }
 
+// rule: Package of a name
 #[test]
 fn finds_cohorts_and_packages_by_name(rt: HostRuntime) -> Result<(), Fail> {
     let catalogue = two_apps(rt.alloc())?;

@@ -32,6 +32,7 @@ fn check_apps(rt: &impl Abort, alloc: Global, count: u32, want: &str) -> Result<
     Ok(())
 }
 
+// rule: Faults of an edit, in order
 #[test]
 fn rejects_a_sixty_fifth_app(rt: HostRuntime) -> Result<(), Fail> {
     check_apps(&rt, rt.alloc(), 64, "accepted")?;
@@ -191,6 +192,9 @@ fn bounds_a_name(rt: &impl Abort, alloc: Global, row: &str) -> Result<(), AllocE
     Ok(())
 }
 
+// rule: App identifier
+// rule: Cohort name
+// rule: Package name
 #[test]
 fn bounds_the_lengths_of_names(rt: HostRuntime) -> Result<(), Fail> {
     for row in NAMES.lines() {

@@ -40,6 +40,7 @@ invalid|m0|0|http://m0.example/\/
 invalid|m0|0|http://m0.example/"/
 invalid|m0|0|http://m0 example/"#;
 
+// rule: Mirror
 #[test]
 fn says_which_mirrors_are_valid(rt: HostRuntime) -> Result<(), Fail> {
     for row in MIRRORS.lines() {

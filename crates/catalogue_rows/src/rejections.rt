@@ -42,6 +42,9 @@ fn rejects(rt: &impl Abort, alloc: Global, rows: &str) -> Result<(), ApplyError>
     Ok(())
 }
 
+// rule: Batch
+// rule: Faults of an edit, in order
+// rule: Same app
 #[test]
 fn rejects_an_app_by_its_first_fault(rt: HostRuntime) -> Result<(), Fail> {
     let rows = "C3 BadAppId | add_app _ Stable
@@ -52,6 +55,9 @@ C2 AppExists | add_app MINI stable";
     Ok(())
 }
 
+// rule: Faults of an edit, in order
+// rule: Hash
+// rule: Size
 #[test]
 fn rejects_a_release_by_its_first_fault(rt: HostRuntime) -> Result<(), Fail> {
     let rows = "C1 UnknownApp | add_release x 01 .x 0 zz
@@ -70,6 +76,7 @@ C10 NameTaken | add_release mini 3.0 mini-1.0-2.0.bin 1 444444444444444444444444
     Ok(())
 }
 
+// rule: Faults of an edit, in order
 #[test]
 fn rejects_a_differential_by_its_first_fault(rt: HostRuntime) -> Result<(), Fail> {
     let rows = "C1 UnknownApp | add_diff x 01 02 .x 0 zz
@@ -87,6 +94,7 @@ C12 DiffExists | add_diff mini 1 2.0.0 mini-1.0.bin 1 33333333333333333333333333
     Ok(())
 }
 
+// rule: Faults of an edit, in order
 #[test]
 fn rejects_a_release_setting_by_its_first_fault(rt: HostRuntime) -> Result<(), Fail> {
     let rows = "C1 UnknownApp | set_stone x 01 on
@@ -104,6 +112,7 @@ C14 UnknownCohort | set_audience mini 2.0 Beta!";
     Ok(())
 }
 
+// rule: Faults of an edit, in order
 #[test]
 fn rejects_a_cohort_by_its_first_fault(rt: HostRuntime) -> Result<(), Fail> {
     let rows = "C1 UnknownApp | add_cohort x Beta
@@ -134,6 +143,7 @@ fn prints(rt: &impl Abort, alloc: Global, error: ApplyError, text: &str) -> Resu
     Ok(())
 }
 
+// rule: Printed fault of an edit
 #[test]
 fn prints_errors_with_their_codes(rt: HostRuntime) -> Result<(), Fail> {
     let refused = Refused {

@@ -40,6 +40,8 @@ fn check_published(rt: &impl Abort, alloc: Global, row: &str) -> Result<(), Fail
     Ok(())
 }
 
+// rule: Printed version
+// rule: Version of a publisher's string
 #[test]
 fn takes_what_a_publisher_writes(rt: HostRuntime) -> Result<(), Fail> {
     for row in PUBLISHED.lines() {
@@ -62,6 +64,7 @@ fn check_sent(rt: &impl Abort, alloc: Global, row: &str) -> Result<(), AllocErro
     check_print(rt, alloc, &Version::lenient(text), printed)
 }
 
+// rule: Version of a client's string
 #[test]
 fn takes_more_of_a_client(rt: HostRuntime) -> Result<(), Fail> {
     for row in SENT.lines() {
@@ -127,6 +130,7 @@ fn check_order(rt: &impl Abort, row: &str) {
     assert!(rt; !lower.is_equal(&upper), "{row}");
 }
 
+// rule: Order of versions
 #[test]
 fn first_component_that_differs_decides(rt: HostRuntime) {
     for row in ORDERED.lines() {

@@ -52,6 +52,7 @@ fn has_parts(alloc: Global, row: &str) -> Option<bool> {
     Some(line.as_str() == wanted)
 }
 
+// rule: Parts of an address
 #[test]
 fn reads_the_parts_of_addresses(rt: HostRuntime) {
     for row in ROWS.lines() {

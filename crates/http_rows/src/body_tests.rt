@@ -44,6 +44,7 @@ fn read_from(alloc: Global, source: &mut Pieces<'_>) -> Result<&'static str, All
     Ok(read_two(source, &mut window, &mut fields))
 }
 
+// rule: Body of a request
 #[test]
 fn reads_messages_however_they_are_cut(rt: HostRuntime) {
     for end in 0..=MESSAGES.len() {
@@ -98,6 +99,7 @@ fn is_read_as(alloc: Global, length: usize, wanted: &str) -> Result<bool, AllocE
     Ok(head.len() == length && found.as_str() == wanted)
 }
 
+// rule: Head of a request
 #[test]
 fn reads_a_head_of_16384_bytes(rt: HostRuntime) {
     for (length, wanted) in [(16384, "0 open"), (16385, "long")] {

@@ -71,6 +71,8 @@ fn count_replied(alloc: Global, streams: &mut [TcpStream], rows: &str) -> Option
     Some(count)
 }
 
+// rule: Calls of a desk
+// rule: Connections of a listener
 #[test]
 fn serves_one_connection_after_the_other(rt: HostRuntime) -> Result<(), Fail> {
     let listener = TcpListener::bind(&rt, "127.0.0.1:0")?;

@@ -85,6 +85,8 @@ fn hands_on<R: Net<Listener = TcpListener, Stream = TcpStream> + Threads + Sync 
     Some(outcome.as_str() == wanted && asks_for_package(request.as_str(), host))
 }
 
+// rule: Body that a link hands on
+// rule: Body that a link opens
 #[test]
 fn downloads_over_the_loopback(rt: HostRuntime) -> Result<(), Fail> {
     let listener = TcpListener::bind(&rt, "127.0.0.1:0")?;

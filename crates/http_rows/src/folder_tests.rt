@@ -159,6 +159,8 @@ fn has_bytes<P: Packages>(alloc: Global, packages: &P, row: &str) -> Option<bool
     Some(line.as_str() == wanted)
 }
 
+// rule: Name of a file
+// rule: Read at an offset
 #[test]
 fn opens_the_files_of_its_folder(rt: HostRuntime) -> Result<(), Fail> {
     let path = make_folder(&rt, "http_rows").ok_or("no folder")?;

@@ -120,6 +120,8 @@ fn gives(alloc: Global, row: &str, piece: usize) -> Option<bool> {
     Some(told.as_str() == wanted)
 }
 
+// rule: End of a connection
+// rule: Length of a body
 #[test]
 fn reads_heads_however_they_are_cut(rt: HostRuntime) {
     for piece in [1, 7, 100000] {
@@ -153,6 +155,8 @@ fn names(row: &str) -> Option<bool> {
     Some(found == path.as_bytes() && package == name.as_bytes())
 }
 
+// rule: Path of a package
+// rule: Path of a target
 #[test]
 fn finds_the_package_of_a_target(rt: HostRuntime) {
     for row in TARGETS.lines() {

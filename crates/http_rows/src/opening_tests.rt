@@ -37,6 +37,7 @@ fn opens(rt: &HostRuntime, address: &str, wanted: &str) -> bool {
     }
 }
 
+// rule: Start of a server
 #[test]
 fn prints_ready_if_it_listens(rt: HostRuntime) -> Result<(), Fail> {
     assert!(rt; opens(&rt, "127.0.0.1:0", "ok ready\n"));

@@ -70,6 +70,7 @@ fn send(
 }
 
 // A row is the size of a package whose digest is another, and how much of it is sent.
+// rule: Download of a package
 #[test]
 fn cuts_a_package_of_another_digest(rt: HostRuntime) {
     let rows = [

@@ -82,6 +82,9 @@ fn comes_to<R: Net<Listener = TcpListener, Stream = TcpStream> + Threads + Sync 
     Some(outcome.as_str() == wanted)
 }
 
+// rule: Head of a reply that is read
+// rule: Length of a reply
+// rule: Reply that a link reads
 #[test]
 fn posts_over_the_loopback(rt: HostRuntime) -> Result<(), Fail> {
     let listener = TcpListener::bind(&rt, "127.0.0.1:0")?;
@@ -108,6 +111,8 @@ fn gets_update_check<
     Some(outcome.as_str() == "hello" && request.as_str().split_once(host) == Some(wanted))
 }
 
+// rule: Request of a post
+// rule: Request that a link writes
 #[test]
 fn posts_to_the_path_of_update_checks(rt: HostRuntime) -> Result<(), Fail> {
     let listener = TcpListener::bind(&rt, "127.0.0.1:0")?;

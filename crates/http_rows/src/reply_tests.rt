@@ -57,6 +57,7 @@ fn send_rows(sink: &mut Kept, block: &mut [u8]) -> bool {
         && send_reply(sink, block, &broken, b"").is_ok()
 }
 
+// rule: Head of a reply
 #[test]
 fn sends_replies_however_they_are_cut(rt: HostRuntime) {
     for piece in [1, 7, 1000] {
@@ -82,6 +83,7 @@ fn sends_a_reply_in_one_write(rt: HostRuntime) {
     assert!(rt; is_sent_in(rt.alloc(), &mut [0; 20], 25));
 }
 
+// rule: Sending whole
 #[test]
 fn leaves_a_first_part_where_a_write_fails(rt: HostRuntime) {
     for good in 0..REPLIES.len() {

@@ -93,6 +93,13 @@ fn is_served<R: AllocGlobal>(rt: &R, row: &str, piece: usize) -> Option<bool> {
     Some(printed.as_str() == wanted)
 }
 
+// rule: Messages of a connection
+// rule: Rejection of a message
+// rule: Reply to a message
+// rule: Route of a message
+// rule: Session
+// rule: Status lines
+// rule: Use of a message
 #[test]
 fn serves_sessions_however_they_are_cut(rt: HostRuntime) {
     for piece in [1, 7, 100000] {
@@ -106,6 +113,7 @@ fn serves_sessions_however_they_are_cut(rt: HostRuntime) {
 }
 
 // A message of 30 bytes of body, cut before each byte.
+// rule: End of a session
 #[test]
 fn gives_no_reply_to_a_part_of_a_message(rt: HostRuntime) {
     let sent =
@@ -181,6 +189,7 @@ fn serve_messages<R: AllocGlobal>(rt: &R, count: usize) -> Option<(u32, usize)> 
 }
 
 // The last reply has 19 bytes more, which say that the connection ends.
+// rule: End of a session
 #[test]
 fn closes_after_a_thousand_messages(rt: HostRuntime) {
     assert!(rt; serve_messages(&rt, 999) == Some((999, 44955)));
@@ -219,6 +228,7 @@ fn serve_head<R: AllocGlobal>(
     }
 }
 
+// rule: Length of a message
 #[test]
 fn bounds_the_fields_and_the_length_of_a_head(rt: HostRuntime) {
     let rows = [

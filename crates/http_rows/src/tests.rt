@@ -72,6 +72,7 @@ fn without_a_reply_there_is_no_line(rt: HostRuntime) {
     assert!(rt; logs(&rt, "+\n>GET /a HT\n.\n+\n.\n", ""));
 }
 
+// rule: Line of the log
 #[test]
 fn control_characters_are_escaped(rt: HostRuntime) {
     let script = "\

@@ -181,6 +181,7 @@ fn is_granted<R: Wait>(rt: &R, alloc: Global, row: &str) -> Option<bool> {
     Some(line.as_str() == wanted)
 }
 
+// rule: Reply of the program
 #[test]
 fn apps_of_one_request_share_the_budgets(rt: HostRuntime) {
     for row in ROWS.lines() {

@@ -36,6 +36,7 @@ fn serves_each_stage(rt: HostRuntime) {
     }
 }
 
+// rule: Arguments of the command line
 #[test]
 fn replies_at_the_given_time(rt: HostRuntime) {
     let shelf = shelf(rt);
@@ -85,6 +86,9 @@ const PROFILES: &str = "1_omaha:_file_nowhere.toml~ | once --profile nowhere.tom
 1_omaha:_file_a/.b:_no_package_name~ | describe a/.b a.bin
 1_omaha:_U1_Link~ | walk --to 127.0.0.1:9 --app mini --version ^";
 
+// rule: Maximum of a profile
+// rule: Service over HTTP
+// rule: Shown string
 #[test]
 fn reports_what_is_wrong_with_the_profile(rt: HostRuntime) {
     let shelf = shelf(rt);
@@ -110,6 +114,7 @@ fn replies_from_no_other_catalogue_than_the_profile(rt: HostRuntime) {
     }
 }
 
+// rule: Response of the program
 #[test]
 fn reads_the_profile_before_an_input_that_fails(rt: HostRuntime) {
     let mut reader = Breaks {
@@ -158,6 +163,9 @@ const MISTAKES: &str =
 2_error:_unexpected_argument_'staged.toml'_found~ | once staged.toml
 2_error:_a_value_is_required_for_'--profile_<F>' | once --profile";
 
+// rule: Options of the server
+// rule: Rejected arguments
+// rule: Status of the program
 #[test]
 fn accepts_no_other_arguments(rt: HostRuntime) {
     let shelf = shelf(rt);

@@ -51,6 +51,7 @@ fn is_edit_explained(alloc: Global, fault: Fault) -> bool {
     }
 }
 
+// rule: Explanation of a code
 #[test]
 fn explains_each_fault_of_an_edit(rt: HostRuntime) {
     for fault in EDITS {
@@ -152,6 +153,7 @@ Usual cause: A leading zero, a space at the end, CR LF, or a file that was cut.
 Remedy: Write the certificate anew by `omaha certify`.
 ";
 
+// rule: Report on a code
 #[test]
 fn explains_and_lists(rt: HostRuntime) -> Result<(), Fail> {
     let all = list(rt.alloc())?;

@@ -34,6 +34,8 @@ fn ends_after_spaces<
     ends_over(rt, &[], &mut OLD.as_bytes().chain(Blank { left }), wanted)
 }
 
+// rule: Maximum of the input
+// rule: Reading up to a maximum
 #[test]
 fn rejects_an_input_that_is_too_long(rt: HostRuntime) {
     let rows = [(262144, "omaha: J1 NotJson\n"), (262145, "omaha: read\n")];
@@ -64,6 +66,7 @@ fn reports_write<
     status == 1 && told.as_slice() == b"omaha: write\n".as_slice()
 }
 
+// rule: Writing whole
 #[test]
 fn reports_that_a_reply_was_not_written(rt: HostRuntime) {
     for left in 0..OFFER.len() {

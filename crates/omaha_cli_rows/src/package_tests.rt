@@ -104,6 +104,9 @@ fn change<R: Files + AllocGlobal>(rt: &R, folder: &str) -> io::Result<()> {
     write_file(rt, folder, "mini-1.0.bin", "abd")
 }
 
+// rule: Arguments of a comparison
+// rule: Lines of findings
+// rule: Report on packages
 #[test]
 fn compares_the_packages_of_a_profile(rt: HostRuntime) -> Result<(), Fail> {
     let folder = make_folder(&rt, "check").ok_or("no folder")?;
@@ -171,6 +174,9 @@ fn describes_no_file<
     describes_both(rt, folder, "none.bin", failed(line.as_str()))
 }
 
+// rule: Description of a path
+// rule: Descriptions of paths
+// rule: Printed descriptions
 #[test]
 fn describes_files(rt: HostRuntime) -> Result<(), Fail> {
     let folder = make_folder(&rt, "describe").ok_or("no folder")?;

@@ -25,6 +25,11 @@ pub(crate) fn shelf<R: AllocGlobal>(rt: R) -> Shelf<R> {
     Shelf::new(rt, FILES.as_slice())
 }
 
+// rule: Arguments of a report
+// rule: Certificate of a named track
+// rule: Named track
+// rule: Report on a profile
+// rule: Summary of an edition
 #[test]
 fn reports_on_a_profile(rt: HostRuntime) {
     let shelf = shelf(rt);
@@ -72,6 +77,9 @@ const FAILURES: &str = "1_omaha:_file_nowhere.toml~ | check nowhere.toml
 2_error:_the_following_required_arguments_were_not_provided: | check
 2_error:_the_following_required_arguments_were_not_provided: | verify chained.toml";
 
+// rule: Printed error of a certificate
+// rule: Table of a track
+// rule: Valid certificate
 #[test]
 fn reports_why_there_is_no_report(rt: HostRuntime) {
     let shelf = shelf(rt);

@@ -27,6 +27,7 @@ fn replies_from_a_profile(rt: HostRuntime) -> Result<(), Fail> {
     Ok(())
 }
 
+// rule: Built-in catalogue
 #[test]
 fn replies_from_the_builtin_catalogue(rt: HostRuntime) -> Result<(), Fail> {
     let service = builtin_service(rt.alloc())?;
@@ -51,6 +52,8 @@ fn is_wrong(alloc: Global, profile: &str, wanted: &str) -> bool {
     }
 }
 
+// rule: Printed fault of a service
+// rule: Service of a profile
 #[test]
 fn makes_no_service_of_a_rejected_profile(rt: HostRuntime) {
     assert!(rt; is_wrong(rt.alloc(), UNRELEASED, "edit 6: C11 UnknownRelease"));

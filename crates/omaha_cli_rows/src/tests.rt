@@ -29,6 +29,8 @@ fn acknowledges_apps_in_order_as_they_are_spelled(rt: HostRuntime) {
     assert!(rt; replies_with(&rt, PINGS, replied(ACKNOWLEDGED)));
 }
 
+// rule: Printed failure
+// rule: Status of the program
 #[test]
 fn fails_with_one_line(rt: HostRuntime) {
     let rows = [

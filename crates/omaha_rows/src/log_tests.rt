@@ -107,6 +107,7 @@ fn reports_its_log<
     Some(told.strip_suffix("\n") == Some(path.as_str()))
 }
 
+// rule: Run of a server
 #[test]
 fn without_its_log_no_server_listens(rt: HostRuntime) -> Result<(), Fail> {
     let site = make_site(&rt, "unlogged")?;

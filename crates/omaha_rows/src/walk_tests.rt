@@ -98,6 +98,11 @@ fn walks_and_serves<
     Some(walked.as_str() == wanted && served.as_str() == totals)
 }
 
+// rule: Lines of a walk
+// rule: Lines of the totals
+// rule: Sessions of a server
+// rule: Walk
+// rule: Walk over one catalogue
 #[test]
 fn walks_from_nothing_by_the_fewest_bytes(rt: HostRuntime) -> Result<(), Fail> {
     let site = make_site(&rt, "nothing")?;
@@ -110,6 +115,10 @@ fn walks_from_nothing_by_the_fewest_bytes(rt: HostRuntime) -> Result<(), Fail> {
     Ok(())
 }
 
+// rule: Next ask
+// rule: Options of a walk
+// rule: Request of a client
+// rule: Walk over connections
 #[test]
 fn walks_by_differentials_from_a_fingerprint(rt: HostRuntime) -> Result<(), Fail> {
     let site = make_site(&rt, "fingerprint")?;
@@ -121,6 +130,7 @@ fn walks_by_differentials_from_a_fingerprint(rt: HostRuntime) -> Result<(), Fail
     Ok(())
 }
 
+// rule: Walk of the program
 #[test]
 fn hears_no_reply_for_an_unknown_app(rt: HostRuntime) -> Result<(), Fail> {
     let site = make_site(&rt, "unknown")?;
@@ -130,6 +140,7 @@ fn hears_no_reply_for_an_unknown_app(rt: HostRuntime) -> Result<(), Fail> {
     Ok(())
 }
 
+// rule: Printed walk
 #[test]
 fn keeps_its_place_at_a_package_that_is_cut(rt: HostRuntime) -> Result<(), Fail> {
     let site = make_site(&rt, "cut")?;

@@ -93,6 +93,10 @@ fn check_rewritten(
     Ok(())
 }
 
+// rule: Bytes of a certificate
+// rule: Heading of a certificate
+// rule: Row of a certificate
+// rule: Table of a certificate
 #[test]
 fn is_written_as_it_was_read(rt: HostRuntime) -> Result<(), Fail> {
     check_rewritten(&rt, rt.alloc(), "stable", STABLE)?;
@@ -112,6 +116,7 @@ fn check_outcome(
     Ok(())
 }
 
+// rule: Certified table
 #[test]
 fn is_certified(rt: HostRuntime) -> Result<(), Fail> {
     check_outcome(&rt, rt.alloc(), "stable", STABLE, "certified")?;

@@ -110,6 +110,12 @@ stable target no|set_withdrawn demo 4.0 on| 0>1f1200 0>1d300 1>2f1500 1>2d200
 beta target yes|set_withdrawn demo 2.0 on| 1>2f1500 1>2d200 3>0f1000 3>2f1500
 beta target yes|set_target demo beta 1.0 -| 1>0f1000 2>0f1000 2>1f1200 3>0f1000 3>1f1200 3>2f1500";
 
+// rule: Audience
+// rule: Offered release
+// rule: Payloads from a release
+// rule: Rollback of a key
+// rule: Stone
+// rule: Window of a release
 #[test]
 fn lists_the_payloads_from_each_release(rt: HostRuntime) -> Result<(), Fail> {
     lists(&rt, rt.alloc(), FROM, false)?;
@@ -123,6 +129,7 @@ beta target yes|set_target demo beta 1.0 -| 1>0f1000 2>0f1000 3>0f1000 2>1f1200 
 beta target no|set_target demo beta 1.0 -|
 stable target no|set_withdrawn demo 4.0 on| 0>1f1200 0>1d300 1>2f1500 1>2d200";
 
+// rule: Payloads into a release
 #[test]
 fn lists_the_payloads_into_each_release(rt: HostRuntime) -> Result<(), Fail> {
     lists(&rt, rt.alloc(), INTO, true)?;
@@ -228,6 +235,8 @@ fn check_keys(rt: &impl Abort, alloc: Global, more: &str) -> Result<(), ApplyErr
     Ok(())
 }
 
+// rule: Graph of a track
+// rule: Permitted on a track
 #[test]
 fn agrees_with_the_rule(rt: HostRuntime) -> Result<(), Fail> {
     for more in CHANGES.lines() {

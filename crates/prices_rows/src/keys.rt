@@ -72,6 +72,7 @@ fn check_row(rt: &impl Abort, alloc: Global, row: &str) -> Result<(), Fail> {
     Ok(())
 }
 
+// rule: Key of a certificate
 #[test]
 fn looks_at_five_lines(rt: HostRuntime) -> Result<(), Fail> {
     for row in LINES.lines() {

@@ -100,6 +100,7 @@ fn check_offer(rt: &impl Abort, alloc: Global, row: &str) -> Result<(), ApplyErr
     Ok(())
 }
 
+// rule: Quote
 #[test]
 fn offers_the_first_payload_of_a_least_chain(rt: HostRuntime) -> Result<(), Fail> {
     for row in OFFERS.lines() {
@@ -164,6 +165,7 @@ fn check_table(rt: &impl Abort, alloc: Global, row: &str) -> Result<(), ApplyErr
     Ok(())
 }
 
+// rule: Table of a key
 #[test]
 fn finds_the_table_of_a_key(rt: HostRuntime) -> Result<(), Fail> {
     for row in TABLES.lines() {

@@ -93,6 +93,10 @@ fn check_rows(rt: &impl Abort, alloc: Global, catalogue: &Catalogue) -> Result<(
     Ok(())
 }
 
+// rule: Downward
+// rule: Permitted on a track
+// rule: Place of a client
+// rule: Upward
 #[test]
 fn permits_by_the_place(rt: HostRuntime) -> Result<(), Fail> {
     let catalogue = catalogue_of(rt.alloc(), DEMO, "")?;

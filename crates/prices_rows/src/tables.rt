@@ -91,6 +91,7 @@ fn check_table(rt: &impl Abort, alloc: Global, row: &str) -> Result<(), ApplyErr
     Ok(())
 }
 
+// rule: Table of best payloads
 #[test]
 fn solves_the_tables_of_tracks(rt: HostRuntime) -> Result<(), Fail> {
     for row in ROWS.lines() {
@@ -119,6 +120,7 @@ fn check_tie(rt: &impl Abort, alloc: Global, more: &str, want: &str) -> Result<(
     Ok(())
 }
 
+// rule: Best payload
 #[test]
 fn of_equal_sums_the_highest_release_and_then_the_differential_comes_first(
     rt: HostRuntime,
@@ -222,6 +224,8 @@ fn check_list(rt: &impl Abort, alloc: Global, row: &str) -> Result<(), ApplyErro
     Ok(())
 }
 
+// rule: Order of tracks
+// rule: Tables of a catalogue
 #[test]
 fn lists_the_tables_in_the_order_of_tracks(rt: HostRuntime) -> Result<(), Fail> {
     for row in LISTS.lines() {
@@ -245,6 +249,7 @@ fn agrees(alloc: Global, seed: u64) -> Result<bool, ApplyError> {
     Ok(same_as_slow(alloc, &catalogue, &key_of("stable target yes"))?)
 }
 
+// rule: Least sum
 #[test]
 fn agrees_with_a_slow_program(rt: HostRuntime) -> Result<(), Fail> {
     for seed in 0..40u64 {

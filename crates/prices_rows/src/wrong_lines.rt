@@ -69,6 +69,15 @@ fn check_row(rt: &impl Abort, alloc: Global, row: &str) -> Result<(), Fail> {
     Ok(())
 }
 
+// rule: Attained price
+// rule: Bounded price
+// rule: Broken rule
+// rule: End row
+// rule: Fault of a certificate
+// rule: First wrong row
+// rule: Flaw of a heading
+// rule: Line of a release
+// rule: Number of a certificate
 #[test]
 fn names_the_wrong_line(rt: HostRuntime) -> Result<(), Fail> {
     for row in LINES.lines() {
@@ -84,6 +93,7 @@ fn check_tie(rt: &impl Abort, alloc: Global, bytes: &[u8], want: &str) -> Result
 }
 
 // Of two ways of 450 bytes a line names the one that leads higher.
+// rule: First payload
 #[test]
 fn breaks_a_tie_by_the_higher_release(rt: HostRuntime) -> Result<(), Fail> {
     check_tie(&rt, rt.alloc(), STABLE.as_bytes(), "wrong 1 C4")?;
@@ -97,6 +107,7 @@ fn check_print(rt: &impl Abort, alloc: Global, fault: Fault, want: &str) -> Resu
     Ok(())
 }
 
+// rule: Printed fault of a certificate
 #[test]
 fn prints_its_faults(rt: HostRuntime) -> Result<(), Fail> {
     check_print(&rt, rt.alloc(), Fault::BadLine { n: 8 }, "P1 BadLine 8")?;
@@ -146,6 +157,7 @@ const PARTS: [(usize, &str, &str); 9] = [
     (200, "x", "P1 12"),
 ];
 
+// rule: Reading of a certificate
 #[test]
 fn ends_at_its_last_line_feed(rt: HostRuntime) -> Result<(), Fail> {
     for (length, more, want) in &PARTS {

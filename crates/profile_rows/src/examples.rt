@@ -280,6 +280,7 @@ codebase = "http://m0.example/p/"
 name = "m0"
 "#;
 
+// rule: Written differential
 #[test]
 fn writes_the_examples(rt: HostRuntime) -> Result<(), Fail> {
     check_written(&rt, rt.alloc(), STAGED, STAGED_WRITTEN)?;

@@ -52,6 +52,10 @@ F3 BadEntry 'a\tb\\' | 'a\tb\\' = 1
 F3 BadEntry \"a\\tb\\\"'\" | \"a\\tb\\\"'\" = 1
 F3 BadEntry \"a\\tb'\" | \"a\tb'\" = 1";
 
+// rule: A fault is one line
+// rule: Path of a key
+// rule: Schema of a profile
+// rule: Tables of a profile
 #[test]
 fn reports_the_first_fault_of_a_document(rt: HostRuntime) -> Result<(), Fail> {
     check_rows(&rt, rt.alloc(), Form::Profile, DOCUMENTS)?;
@@ -65,6 +69,7 @@ fn check_bytes(rt: &impl Abort, alloc: Global, bytes: &[u8], want: &str) -> Resu
     Ok(())
 }
 
+// rule: TOML of a profile
 #[test]
 fn reads_bytes_that_are_utf8(rt: HostRuntime) -> Result<(), Fail> {
     check_bytes(&rt, rt.alloc(), b"schema = 1\n# \xff\n", "F1 NotToml")?;
@@ -137,6 +142,10 @@ F4 BadMirror 4 | {name='D',codebase='http://m/',budget=0},{name='e',codebase='ht
 F3 BadEntry mirror[4].budget | {name='a',codebase='http://m/',budget=0},{name='e',codebase='http://m/',budget=-1}]
 F3 BadEntry app[0].id | {name='a',codebase='http://m/',budget=0}]~app = [{}]"#;
 
+// rule: Faults of a profile
+// rule: Mirror of a profile
+// rule: Mirrors of a profile
+// rule: Tables of a list
 #[test]
 fn reports_the_first_fault_of_a_mirror(rt: HostRuntime) -> Result<(), Fail> {
     check_rows(&rt, rt.alloc(), Form::Profile, MIRRORS)?;
@@ -226,6 +235,9 @@ F3 BadEntry app[0].release[0].audience[0] | audience = [['b']]
 F3 BadEntry app[0].release[0].audience[1] | audience = ['b', 1, 2]
 F3 BadEntry app[0].release[0].cohorts | audience = 1~cohorts = ['b']"#;
 
+// rule: App of a profile
+// rule: Name of a cohort in a profile
+// rule: Strings of a list
 #[test]
 fn reports_the_first_fault_of_an_app(rt: HostRuntime) -> Result<(), Fail> {
     check_rows(&rt, rt.alloc(), Form::Profile, APPS)?;
@@ -269,6 +281,11 @@ F3 BadEntry app[0].release[1].sizes | schema = 1~~[[mirror]]~name = "m0"~codebas
 F4 BadMirror 0 | schema = 1~~[[mirror]]~name = "m0"~codebase = "http://m0.example/p"~budget = 1000000~~[[app]]~id = "mini"~default = "stable"~~[[app.cohort]]~name = "stable"~target = "2.0"~~[[app.release]]~version = "1.0"~name = "mini-1.0.bin"~size = 3~sha256 = "ba7816bf8f01cfea414140de5dae2223b00361a396177a9cb410ff61f20015ad"~~[[app.release]]~version = "2.0"~name = "mini-2.0.bin"~size = 56~sha256 = "248d6a61d20638b8e5c026930c3e6039a33ce45964ff2167f6ecedd419db06c1"
 m0 http://m0.example/p/ 1000000; app demo stable; cohort demo beta; release demo 1.0 demo-1.0.bin 1000 1111111111111111111111111111111111111111111111111111111111111111; release demo 2.0 demo-2.0.bin 1200 2222222222222222222222222222222222222222222222222222222222222222; release demo 3.0 demo-3.0.bin 1500 3333333333333333333333333333333333333333333333333333333333333333; release demo 4.0 demo-4.0.bin 1600 4444444444444444444444444444444444444444444444444444444444444444; target demo stable 4.0 3.0; share demo stable 500; target demo beta 3.0 none; share demo beta 1000; open demo beta true; | schema = 1~~[[mirror]]~name = "m0"~codebase = "http://m0.example/p/"~budget = 1000000~~[[app]]~id = "demo"~default = "stable"~cohort = [~    { name = "stable", target = "4.0", held = "3.0", share = 500 },~    { name = "beta", target = "3.0", share = 1000, open = true },~]~~[[app.release]]~version = "1.0"~name = "demo-1.0.bin"~size = 1000~sha256 = "1111111111111111111111111111111111111111111111111111111111111111"~~[[app.release]]~version = "2.0"~name = "demo-2.0.bin"~size = 1200~sha256 = "2222222222222222222222222222222222222222222222222222222222222222"~~[[app.release]]~version = "3.0"~name = "demo-3.0.bin"~size = 1500~sha256 = "3333333333333333333333333333333333333333333333333333333333333333"~~[[app.release]]~version = "4.0"~name = "demo-4.0.bin"~size = 1600~sha256 = "4444444444444444444444444444444444444444444444444444444444444444""#;
 
+// rule: Cohort of a profile
+// rule: Differential of a profile
+// rule: Edits of a profile
+// rule: Edits of a release of a profile
+// rule: Release of a profile
 #[test]
 fn gives_the_edits_of_a_profile(rt: HostRuntime) -> Result<(), Fail> {
     check_rows(&rt, rt.alloc(), Form::Profile, EDITS)?;

@@ -96,6 +96,9 @@ F3 BadEntry edit[0].cohorts[1] | edit = [{ do = 'set_audience', app = 'a', versi
 F3 BadEntry edit[0].cohort | edit = [{ do = 'set_rollback', app = 'a', on = 1 }]
 F3 BadEntry edit[0].on | edit = [{ do = 'set_rollback', app = 'a', cohort = 'c' }]"#;
 
+// rule: Faults of a script
+// rule: Number of a script's edits
+// rule: Tables of a script
 #[test]
 fn reports_the_first_fault_of_a_script(rt: HostRuntime) -> Result<(), Fail> {
     check_rows(&rt, rt.alloc(), Form::Script, SCRIPTS)?;
@@ -121,6 +124,7 @@ on 7; audience a 1 []; audience a 1 [c,b,c,]; | edit = [{do='set_audience',app='
 on 7; rollback a c true; rollback a c false; | edit = [{do='set_rollback',app='a',cohort='c',on=true},{do='set_rollback',app='a',cohort='c',on=false}]
 on 7; open a c false; cohort a d; | edit = [{do='set_open',app='a',cohort='c',on=false},{do='add_cohort',app='a',cohort='d'}]"#;
 
+// rule: Edit of a script
 #[test]
 fn reads_each_kind_of_edit(rt: HostRuntime) -> Result<(), Fail> {
     check_rows(&rt, rt.alloc(), Form::Script, EDITS)?;

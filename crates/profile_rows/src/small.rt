@@ -459,6 +459,11 @@ codebase = "http://m1.example/"
 name = "m1"
 "#;
 
+// rule: Bytes of a profile
+// rule: Written app
+// rule: Written mirror
+// rule: Written profile
+// rule: Written tables
 #[test]
 fn writes_small_catalogues(rt: HostRuntime) -> Result<(), Fail> {
     check_written(&rt, rt.alloc(), MINI, MINI_WRITTEN)?;
@@ -466,6 +471,8 @@ fn writes_small_catalogues(rt: HostRuntime) -> Result<(), Fail> {
     check_written(&rt, rt.alloc(), DEMO, DEMO_WRITTEN)
 }
 
+// rule: Written cohort
+// rule: Written release
 #[test]
 fn keeps_audiences_flags_held_targets_and_shares(rt: HostRuntime) -> Result<(), Fail> {
     check_written(&rt, rt.alloc(), ODD, ODD_WRITTEN)

@@ -96,6 +96,7 @@ const NO_UPDATE: &str = r#")]}'
 const INTERNAL: &str = r#")]}'
 {"response":{"app":[{"appid":"a","cohort":"beta:7","cohortname":"beta","event":[{"status":"ok"}],"status":"ok","updatecheck":{"status":"error-internal"}}],"daystart":{"elapsed_days":6940,"elapsed_seconds":3661},"protocol":"3.1"}}"#;
 
+// rule: Bytes of a reply
 #[test]
 fn replies_without_an_offer(rt: HostRuntime) -> Result<(), Fail> {
     let alloc = rt.alloc();
@@ -159,6 +160,7 @@ const FULL: &str = r#")]}'
 const DIFFERENTIAL: &str = r#")]}'
 {"response":{"app":[{"appid":"a","cohort":"beta:7","cohortname":"beta","status":"ok","updatecheck":{"manifest":{"packages":{"package":[{"fp":"1.ab","hash_sha256":"f0f0f0f0f0f0f0f0f0f0f0f0f0f0f0f0f0f0f0f0f0f0f0f0f0f0f0f0f0f0f0f0","hashdiff_sha256":"0f0f0f0f0f0f0f0f0f0f0f0f0f0f0f0f0f0f0f0f0f0f0f0f0f0f0f0f0f0f0f0f","name":"f","namediff":"d","size":1,"sizediff":1099511627776}]},"version":"2.0"},"status":"ok","urls":{"url":[{"codebase":"http://a/"},{"codebasediff":"http://b/"}]}}}],"daystart":{"elapsed_days":6940,"elapsed_seconds":3661},"protocol":"3.1"}}"#;
 
+// rule: Offer
 #[test]
 fn offers_a_package_and_a_differential(rt: HostRuntime) -> Result<(), Fail> {
     let alloc = rt.alloc();

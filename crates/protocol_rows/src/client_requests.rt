@@ -78,6 +78,7 @@ fn check_request(rt: &impl Abort, alloc: Global, ask: AppAsk, want: &str) -> Res
 const DOWNGRADE: &str =
     r#"{"request":{"app":[{"appid":"demo","cohort":"","cohorthint":"be\"ta","packages":{"package":[{"fp":"1.x"}]},"updatecheck":{"rollback_allowed":true,"targetversionprefix":"4.","updatedisabled":false},"version":"1.0"}],"protocol":"3.1","sessionid":"abc"}}"#;
 
+// rule: Bytes of a request
 #[test]
 fn writes_an_update_check(rt: HostRuntime) -> Result<(), Fail> {
     let ask = downgrade(rt.alloc())?;

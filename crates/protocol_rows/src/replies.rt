@@ -128,6 +128,8 @@ K5 BadOffer 0 | )]}'{"response":{"app":[{"appid":1,"status":"ok"}],"protocol":"3
 K5 BadOffer 1 | )]}'{"response":{"app":[{"appid":"a","status":"x"},{"appid":"b"}],"protocol":"3.1"}}
 K5 BadOffer 0 | )]}'{"response":{"app":[{"appid":"a","status":"ok","updatecheck":{"status":"ok"}}],"protocol":"3.1"}}"#;
 
+// rule: Faults of a reply
+// rule: Printed fault of a reply
 #[test]
 fn reports_the_first_fault_of_a_reply(rt: HostRuntime) -> Result<(), Fail> {
     check_rows(&rt, rt.alloc(), FAULTS, "", "")?;
@@ -183,6 +185,8 @@ K5 BadOffer 0 | {"fp":"x","name":"n","size":1,"hash_sha256":"1111111111111111111
 K5 BadOffer 0 | {"fp":"x","name":"n","size":1,"hash_sha256":"1111111111111111111111111111111111111111111111111111111111111111","namediff":"m","sizediff":0,"hashdiff_sha256":"abababababababababababababababababababababababababababababababab"}
 K5 BadOffer 0 | {"fp":"x","name":"n","size":1,"hash_sha256":"1111111111111111111111111111111111111111111111111111111111111111","namediff":null,"sizediff":3,"hashdiff_sha256":"abababababababababababababababababababababababababababababababab"}"#;
 
+// rule: Differential in a reply
+// rule: Offer that is read
 #[test]
 fn reads_offers_at_their_limits(rt: HostRuntime) -> Result<(), Fail> {
     check_rows(&rt, rt.alloc(), OFFERS, OFFER_FRONT, OFFER_BACK)?;
@@ -202,6 +206,7 @@ K5 BadOffer 0 | {"codebasediff":"d/"}
 K5 BadOffer 0 | {"codebase":0}
 K5 BadOffer 0 | "#;
 
+// rule: Address in a reply
 #[test]
 fn reads_the_first_addresses(rt: HostRuntime) -> Result<(), Fail> {
     check_rows(&rt, rt.alloc(), ADDRESSES, ADDRESS_FRONT, ADDRESS_BACK)?;

@@ -110,6 +110,9 @@ J4 BadApp 1 | {"request":{"protocol":"3.1","app":[{"appid":"a"},7]}}
 s | {"request":{"protocol":"3.1","app":[1],"app":[]}}
 J4 BadApp 0 | {"request":{"protocol":"3.1","app":[],"app":[1]}}"#;
 
+// rule: Faults of a request
+// rule: JSON of a request
+// rule: Printed fault of a request
 #[test]
 fn reports_the_first_fault_of_a_body(rt: HostRuntime) -> Result<(), Fail> {
     check_rows(&rt, rt.alloc(), FAULTS, "", "")?;
@@ -171,6 +174,8 @@ sx; a v f c h false 0 | {"appid":"a","version":"1","version":2}
 sx; a"\ v f cé h false 0 | {"appid":"\u0061\"\\","cohort":"\u00e9"}
 sx; A v f c h true 0; a v f c h false 1 | {"appid":"A","ping":{}},{"appid":"a","event":[{}]}"#;
 
+// rule: Ask
+// rule: Missing member
 #[test]
 fn reads_what_is_asked_for_an_app(rt: HostRuntime) -> Result<(), Fail> {
     check_rows(&rt, rt.alloc(), ASKS, FRONT, BACK)?;
@@ -245,6 +250,7 @@ a 257 J4 BadApp 0
 é 128 s; éé
 é 129 J4 BadApp 0";
 
+// rule: Identifier in a request
 #[test]
 fn takes_identifiers_of_1_to_256_bytes(rt: HostRuntime) -> Result<(), Fail> {
     for row in IDENTIFIERS.lines() {
@@ -272,6 +278,7 @@ const COUNTS: &str = r#"255 {"appid":"b"}]}} s; a v
 256 {}]}} J4 BadApp 256
 300 null]}} J4 BadApp 300"#;
 
+// rule: Faults of a request
 #[test]
 fn counts_apps_after_reading_each(rt: HostRuntime) -> Result<(), Fail> {
     for row in COUNTS.lines() {
@@ -301,6 +308,7 @@ const LEVELS: &str = "100 s
 126 J1 NotJson
 200 J1 NotJson";
 
+// rule: JSON of a request
 #[test]
 fn nests_at_most_127_levels(rt: HostRuntime) -> Result<(), Fail> {
     for row in LEVELS.lines() {

@@ -157,6 +157,9 @@ const WALKS: &str =
 1.0 a-0 s:7 | 1 offer - 2.0 b- abc;1 check noupdate | abc |  = 1 steps 3 bytes, 2.0 b-0 s:7, 0, u/full.bin , full 2.0 b-0 3;
 1.0 a-0 s:7 | 1 offer - 2.0 b- a*131072;1 check noupdate | a*131072 | 1 = 1 steps 131072 bytes, 2.0 b-0 s:7, 0, u/full.bin , full 2.0 b-0 131072;"#;
 
+// rule: Address of a download
+// rule: Client after a step
+// rule: Steps of a walk
 #[test]
 fn installs_what_is_offered(rt: HostRuntime) -> Result<(), Fail> {
     check_rows(&rt, rt.alloc(), WALKS)?;
@@ -186,6 +189,9 @@ const FAULTS: &str = r#"1.0 a s | 1 {} |  |  = U2 Reply, 1.0 a s, 0, ,
 1.0 a s | 1 offer t 2.0 b- abc;1 offer t 3.0 c- abc | abc abd |  = U4 BadHash, 2.0 b-0 t, 0, u/full.bin u/full.bin , full 2.0 b-0 3;
 1.0 a s | 1 offer t 2.0 b- abc;1 check error-internal | abc |  = U8 Busy, 2.0 b-0 t, 0, u/full.bin , full 2.0 b-0 3;"#;
 
+// rule: Download that is installed
+// rule: Printed fault of a client
+// rule: Reply that a client hears
 #[test]
 fn reports_each_fault(rt: HostRuntime) -> Result<(), Fail> {
     check_rows(&rt, rt.alloc(), FAULTS)?;
@@ -221,6 +227,7 @@ fn check_walk(rt: &impl Abort, alloc: Global, replies: &str, want: &str) -> Resu
     Ok(())
 }
 
+// rule: Walk of a client
 #[test]
 fn makes_at_most_1024_steps(rt: HostRuntime) -> Result<(), Fail> {
     check_walk(

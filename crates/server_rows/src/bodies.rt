@@ -20,6 +20,7 @@ fn is_dated(
     Some(is_body(alloc, &told, "", days, seconds))
 }
 
+// rule: Elapsed days and seconds
 #[test]
 fn reports_days_and_seconds(rt: HostRuntime) {
     let edition = Edition::empty(rt.alloc());
@@ -59,6 +60,9 @@ const NO_UPDATE: &str =
 {"appid":"mini","cohort":"stable:0","cohortname":"stable","status":"ok","updatecheck":{"status":"noupdate"}} | {"appid":"mini","cohort":"stable:0","packages":{"package":[{"fp":"1.ba7816bf8f01cfea414140de5dae2223b00361a396177a9cb410ff61f20015ad"}]},"updatecheck":{"updatedisabled":true},"version":"1.0"}
 {"appid":"mini","cohort":"stable:0","cohortname":"stable","status":"ok","updatecheck":{"status":"noupdate"}} | {"appid":"mini","cohort":"stable:0","packages":{"package":[{"fp":"1.ba7816bf8f01cfea414140de5dae2223b00361a396177a9cb410ff61f20015ad"}]},"updatecheck":{"targetversionprefix":"2"},"version":"1.0"}"#;
 
+// rule: App that wants an update
+// rule: No update
+// rule: Status of an update check
 #[test]
 fn offers_nothing_without_a_chain(rt: HostRuntime) -> Result<(), Fail> {
     replies_with(&rt, rt.alloc(), small(rt.alloc()), true, NO_UPDATE)
@@ -67,6 +71,7 @@ fn offers_nothing_without_a_chain(rt: HostRuntime) -> Result<(), Fail> {
 const IN_ORDER: &str =
     r#"{"appid":"MINI","cohort":"stable:0","cohortname":"stable","ping":{"status":"ok"},"status":"ok"},{"appid":"nope","status":"error-unknownApplication"},{"appid":"Mini","cohort":"stable:0","cohortname":"stable","event":[{"status":"ok"},{"status":"ok"}],"status":"ok"} | {"appid":"MINI","cohort":"stable:0","ping":{},"version":"1.0"},{"appid":"nope"},{"appid":"Mini","cohort":"stable:0","event":[1,2]}"#;
 
+// rule: Reply
 #[test]
 fn replies_to_apps_in_order_as_they_are_spelled(rt: HostRuntime) -> Result<(), Fail> {
     replies_with(&rt, rt.alloc(), small(rt.alloc()), true, IN_ORDER)
@@ -75,6 +80,8 @@ fn replies_to_apps_in_order_as_they_are_spelled(rt: HostRuntime) -> Result<(), F
 const NOT_GRANTED: &str =
     r#"{"appid":"mini","cohort":"stable:0","cohortname":"stable","status":"ok","updatecheck":{"status":"error-internal"}} | {"appid":"mini","cohort":"stable:0","packages":{"package":[{"fp":"1.ba7816bf8f01cfea414140de5dae2223b00361a396177a9cb410ff61f20015ad"}]},"updatecheck":{},"version":"1.0"}"#;
 
+// rule: Outcome of an update check
+// rule: Status of an update check
 #[test]
 fn reports_an_update_without_a_mirror_as_internal(rt: HostRuntime) -> Result<(), Fail> {
     replies_with(&rt, rt.alloc(), small(rt.alloc()), false, NOT_GRANTED)
@@ -120,6 +127,8 @@ pub(crate) fn planned(alloc: Global, edition: &Edition, apps: &str) -> Option<St
     print_choices(alloc, edition, &request)
 }
 
+// rule: Client of an app
+// rule: Requested bytes
 #[test]
 fn plans_a_payload_for_each_app_that_wants_one(rt: HostRuntime) -> Result<(), Fail> {
     let edition = small(rt.alloc())?;

@@ -88,6 +88,7 @@ fn is_offered<R: Wait + AllocGlobal>(rt: &R, row: &str) -> Option<bool> {
     Some(line.as_str() == wanted)
 }
 
+// rule: Asks of a plan
 #[test]
 fn offers_what_the_mirrors_grant(rt: HostRuntime) {
     for row in ROWS.lines() {

@@ -59,6 +59,9 @@ full 1 for 1200, | 5,beta:0,true
 none, | 5,beta:0,false
 differential 0 for 300, | 1,beta:0,true";
 
+// rule: Chosen payload
+// rule: Key of a client
+// rule: Rollback of a track
 #[test]
 fn chooses_the_first_payload_of_a_least_chain(rt: HostRuntime) -> Result<(), Fail> {
     chooses(&rt, rt.alloc(), stoned(rt.alloc()), CHOICES)
@@ -69,6 +72,7 @@ differential 0 for 300, | 1,stable:0,false
 none, | 2,stable:500,false
 differential 4 for 250, | 3,stable:0,false";
 
+// rule: Tables of an edition
 #[test]
 fn goes_round_a_withdrawn_release(rt: HostRuntime) -> Result<(), Fail> {
     let edit = "do = 'set_withdrawn', app = 'demo', version = '3.0', on = true";
@@ -81,6 +85,7 @@ none, | 0,stable:0,false
 differential 2 for 200, | 2,stable:0,false
 differential 0 for 300, | 1,beta:0,false";
 
+// rule: Stone
 #[test]
 fn jumps_no_stone_that_is_closed(rt: HostRuntime) -> Result<(), Fail> {
     let edit = "do = 'set_audience', app = 'demo', version = '2.0', cohorts = ['beta']";
@@ -92,6 +97,7 @@ const DIFFERENTIAL: &str =
     r#"{"appid":"demo","cohort":"stable:0","cohortname":"stable","status":"ok","updatecheck":{"manifest":{"packages":{"package":[{"fp":"1.2222222222222222222222222222222222222222222222222222222222222222","hash_sha256":"2222222222222222222222222222222222222222222222222222222222222222","hashdiff_sha256":"1212121212121212121212121212121212121212121212121212121212121212","name":"demo-2.0.bin","namediff":"demo-1.0-2.0.bin","size":1200,"sizediff":300}]},"version":"2.0"},"status":"ok","urls":{"url":[{"codebase":"http://m0.example/p/"},{"codebasediff":"http://m0.example/p/"}]}}} | {"appid":"demo","cohort":"stable:0","packages":{"package":[{"fp":"1.1111111111111111111111111111111111111111111111111111111111111111"}]},"updatecheck":{},"version":"1.0"}
 {"appid":"demo","cohort":"stable:0","cohortname":"stable","status":"ok","updatecheck":{"manifest":{"packages":{"package":[{"fp":"1.2222222222222222222222222222222222222222222222222222222222222222","hash_sha256":"2222222222222222222222222222222222222222222222222222222222222222","name":"demo-2.0.bin","size":1200}]},"version":"2.0"},"status":"ok","urls":{"url":[{"codebase":"http://m0.example/p/"}]}}} | {"appid":"demo","cohort":"stable:0","updatecheck":{},"version":"x.y"}"#;
 
+// rule: Offer of a payload
 #[test]
 fn offers_a_differential_with_its_full_package(rt: HostRuntime) -> Result<(), Fail> {
     replies_with(&rt, rt.alloc(), stoned(rt.alloc()), true, DIFFERENTIAL)

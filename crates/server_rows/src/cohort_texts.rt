@@ -44,6 +44,7 @@ fn is_read(alloc: Global, row: &str) -> Option<bool> {
     Some(told.as_str() == wanted)
 }
 
+// rule: Cohort text
 #[test]
 fn reads_well_formed_cohort_texts(rt: HostRuntime) {
     for row in TEXTS.lines() {

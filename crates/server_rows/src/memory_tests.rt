@@ -24,6 +24,8 @@ fn is_found(alloc: Global, catalogue: &Catalogue, row: &str) -> Option<bool> {
     Some(text.as_str() == wanted)
 }
 
+// rule: File of a package
+// rule: Findings of a catalogue
 #[test]
 fn finds_the_files_that_differ(rt: HostRuntime) -> Result<(), Fail> {
     let catalogue = catalogue(rt.alloc()).ok_or("no catalogue")?;
@@ -68,6 +70,8 @@ fn is_described(alloc: Global, row: &str) -> Option<bool> {
     has_lines(text.as_str(), name, size, hash)
 }
 
+// rule: Description of a file
+// rule: Hash of a file
 #[test]
 fn describes_a_file_as_a_profile_does(rt: HostRuntime) {
     for row in DESCRIPTIONS.lines() {
@@ -108,6 +112,7 @@ fn print_missing(alloc: Global, name: &str) -> Result<String, AllocError> {
     format!(in alloc; "{finding}")
 }
 
+// rule: Printed finding
 #[test]
 fn escapes_the_control_characters_of_a_name(rt: HostRuntime) -> Result<(), Fail> {
     let text = print_missing(rt.alloc(), "a\n\u{7f}\u{9b}b")?;

@@ -38,6 +38,7 @@ fn is_replied<R: Wait + AllocGlobal>(rt: &R, budgets: &str, wanted: &str) -> Opt
     Some(is_whole(&sink.bytes, wanted))
 }
 
+// rule: Reply to an input
 #[test]
 fn replies_with_the_offer_that_a_mirror_granted(rt: HostRuntime) {
     assert!(rt; is_replied(&rt, "1000000", REPLY) == Some(true));
@@ -96,6 +97,7 @@ fn is_served<R: Wait + AllocGlobal>(rt: &R, row: &str) -> Option<bool> {
     Some(line.as_str() == wanted)
 }
 
+// rule: Desk of update checks
 #[test]
 fn serves_packages_and_rejects_messages(rt: HostRuntime) {
     for row in MESSAGES.lines() {

@@ -11,6 +11,7 @@ const OFFERS: &str =
 {"appid":"demo","cohort":"stable:500","cohortname":"stable","status":"ok","updatecheck":{"manifest":{"packages":{"package":[{"fp":"1.3333333333333333333333333333333333333333333333333333333333333333","hash_sha256":"3333333333333333333333333333333333333333333333333333333333333333","name":"demo-3.0.bin","size":1500}]},"version":"3.0"},"status":"ok","urls":{"url":[{"codebase":"http://m0.example/p/"}]}}} | {"appid":"demo","cohort":"gone:500","cohorthint":"","packages":{"package":[{"fp":"1.1111111111111111111111111111111111111111111111111111111111111111"}]},"updatecheck":{},"version":"1.0"}
 {"appid":"demo","cohort":"beta:7","cohortname":"beta","status":"ok","updatecheck":{"manifest":{"packages":{"package":[{"fp":"1.3333333333333333333333333333333333333333333333333333333333333333","hash_sha256":"3333333333333333333333333333333333333333333333333333333333333333","name":"demo-3.0.bin","size":1500}]},"version":"3.0"},"status":"ok","urls":{"url":[{"codebase":"http://m0.example/p/"}]}}} | {"appid":"demo","cohort":"stable:7","cohorthint":"beta","packages":{"package":[{"fp":"1.1111111111111111111111111111111111111111111111111111111111111111"}]},"updatecheck":{},"version":"1.0"}"#;
 
+// rule: Cohort that a reply names
 #[test]
 fn offers_the_target_of_the_track(rt: HostRuntime) -> Result<(), Fail> {
     replies_with(&rt, rt.alloc(), demo(rt.alloc()), true, OFFERS)
@@ -27,6 +28,7 @@ fn offers_nothing_without_a_target(rt: HostRuntime) -> Result<(), Fail> {
 const ACKNOWLEDGED: &str =
     r#"{"appid":"DEMO","cohort":"stable:319","cohortname":"stable","ping":{"status":"ok"},"status":"ok"},{"appid":"nope","status":"error-unknownApplication"},{"appid":"Demo","cohort":"stable:319","cohortname":"stable","event":[{"status":"ok"},{"status":"ok"}],"status":"ok"} | {"appid":"DEMO","ping":{}},{"appid":"nope"},{"appid":"Demo","event":[1,2]}"#;
 
+// rule: Bucket of a session
 #[test]
 fn names_the_bucket_of_the_session(rt: HostRuntime) -> Result<(), Fail> {
     replies_with(&rt, rt.alloc(), demo(rt.alloc()), true, ACKNOWLEDGED)

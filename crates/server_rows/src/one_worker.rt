@@ -125,6 +125,10 @@ fn comes_to<R: Wait>(rt: &R, alloc: Global, row: &str) -> Option<bool> {
     Some(line.as_str() == wanted)
 }
 
+// rule: Ask of a worker
+// rule: First mirror with room
+// rule: Grant of bytes
+// rule: Shares at the opening
 #[test]
 fn asks_mirrors_in_their_order(rt: HostRuntime) {
     for row in ROWS.lines() {

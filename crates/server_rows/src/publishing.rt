@@ -36,6 +36,8 @@ fn targets_so(alloc: Global, edition: &Edition, version: &str, wanted: &str) -> 
     Ok(ends_so(alloc, edition.next(batch), wanted))
 }
 
+// rule: A rejected batch before a full history
+// rule: Room for 4096 batches
 #[test]
 fn takes_4096_batches_and_no_more(rt: HostRuntime) -> Result<(), Fail> {
     let edition = full(rt.alloc())?;
@@ -54,6 +56,7 @@ const NOTHING: &str =
 const THIRD: &str =
     r#"{"appid":"mini","cohort":"stable:0","cohortname":"stable","status":"ok","updatecheck":{"manifest":{"packages":{"package":[{"fp":"1.3333333333333333333333333333333333333333333333333333333333333333","hash_sha256":"3333333333333333333333333333333333333333333333333333333333333333","name":"mini-3.0.bin","size":7}]},"version":"3.0"},"status":"ok","urls":{"url":[{"codebase":"http://m0.example/p/"}]}}} | {"appid":"mini","cohort":"stable:0","updatecheck":{}}"#;
 
+// rule: The next edition
 #[test]
 fn leaves_the_edition_before_as_it_was(rt: HostRuntime) -> Result<(), Fail> {
     let alloc = rt.alloc();
@@ -65,6 +68,7 @@ fn leaves_the_edition_before_as_it_was(rt: HostRuntime) -> Result<(), Fail> {
     replies_with(&rt, alloc, Ok(second), true, THIRD)
 }
 
+// rule: Printed error of a batch
 #[test]
 fn prints_rejections(rt: HostRuntime) -> Result<(), Fail> {
     let edition = small(rt.alloc())?;

@@ -72,6 +72,8 @@ fn assigns(
     Ok(())
 }
 
+// rule: Bucket of a client
+// rule: Cohort of a client
 #[test]
 fn assigns_by_hint_cohort_text_and_session(rt: HostRuntime) -> Result<(), Fail> {
     let rows = "stable:500 held 3.0 | stable:500,,abc
@@ -113,6 +115,7 @@ stable:999 held 3.0 | stable:999,,abc";
     assigns(&rt, rt.alloc(), changed(rt.alloc(), edit), rows)
 }
 
+// rule: Lane
 #[test]
 fn serves_bucket_0_at_share_1(rt: HostRuntime) -> Result<(), Fail> {
     let rows = "stable:0 target 4.0 | stable:0,,abc
@@ -129,6 +132,7 @@ stable:999 target 4.0 | stable:999,,abc";
     assigns(&rt, rt.alloc(), changed(rt.alloc(), edit), rows)
 }
 
+// rule: Target of a lane
 #[test]
 fn holds_without_a_held_target(rt: HostRuntime) -> Result<(), Fail> {
     let rows = "beta:6 target 3.0 | beta:6,,abc

@@ -135,6 +135,7 @@ fn asked_twice<R: Threads + Wait + Sync>(
     run_twice::<Brand, Brand, Brand, Brand, R>(rt, alloc, blanks, mirrors, times).ok()
 }
 
+// rule: Budget of a mirror
 #[test]
 fn grants_no_more_than_the_budget(rt: HostRuntime) -> Result<(), Fail> {
     let (granted, totals) = asked_twice(&rt, rt.alloc(), "1000", 600).ok_or("no totals")?;
@@ -143,6 +144,8 @@ fn grants_no_more_than_the_budget(rt: HostRuntime) -> Result<(), Fail> {
     Ok(())
 }
 
+// rule: Shares and asks
+// rule: Total of a mirror
 #[test]
 fn totals_agree_with_a_hundred_thousand_grants(rt: HostRuntime) -> Result<(), Fail> {
     let budgets = "30000 0 60000 10000";
