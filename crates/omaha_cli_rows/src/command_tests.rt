@@ -1,7 +1,7 @@
 use crate::devices::Breaks;
 use crate::ending::{ends, ends_over, failed, replied, shows};
 use crate::offers::OLD;
-use crate::runs::is_right;
+use crate::runs::ends_as_wanted;
 use crate::shelf::Shelf;
 use crate::staged::{
     BETA, DATED, HELD, HINTED, LAST_DATED, SHARED, STAGED, TARGET, UNRELEASED, WAITING,
@@ -94,7 +94,7 @@ fn reports_what_is_wrong_with_the_profile(rt: HostRuntime) {
     let shelf = shelf(rt);
     let rt = &shelf.rt;
     for row in PROFILES.lines() {
-        assert!(rt; is_right(&shelf, row) == Some(true), "{row}");
+        assert!(rt; ends_as_wanted(&shelf, row) == Some(true), "{row}");
     }
 }
 
@@ -171,7 +171,7 @@ fn accepts_no_other_arguments(rt: HostRuntime) {
     let shelf = shelf(rt);
     let rt = &shelf.rt;
     for row in MISTAKES.lines() {
-        assert!(rt; is_right(&shelf, row) == Some(true), "{row}");
+        assert!(rt; ends_as_wanted(&shelf, row) == Some(true), "{row}");
     }
 }
 

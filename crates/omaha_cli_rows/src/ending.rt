@@ -77,20 +77,20 @@ pub(crate) fn ends<
 }
 
 // Whether bytes have a string, in lines of at most 100 columns.
-fn has_text(bytes: &[u8], text: &str) -> bool {
+fn has_string(bytes: &[u8], text: &str) -> bool {
     let shown = str::from_utf8(bytes).unwrap_or("");
     shown.contains(text) && shown.lines().all(|line| line.len() <= 100)
 }
 
 // Whether a run writes help that has the string, and reports nothing.
-fn writes_text<
+fn writes_string<
     R: Net<Listener = TcpListener, Stream = TcpStream> + Clock + Files + Wait + AllocGlobal,
 >(files: &R, words: &[String], text: &str) -> bool {
     let mut reader = b"{".as_slice();
     let mut written = Vec::new(files.alloc());
     let mut told = Vec::new(files.alloc());
     let status = run(files, words, &mut reader, &mut written, &mut told);
-    status == 0 && told.is_empty() && has_text(&written, text)
+    status == 0 && told.is_empty() && has_string(&written, text)
 }
 
 /// Whether arguments, with a space between two, ask for help that has the string, in lines of at most 100 columns.
@@ -98,7 +98,7 @@ pub(crate) fn shows<
     R: Net<Listener = TcpListener, Stream = TcpStream> + Clock + Files + Wait + AllocGlobal,
 >(files: &R, words: &str, text: &str) -> bool {
     match arguments(files.alloc(), words) {
-        Ok(words) => writes_text(files, &words, text),
+        Ok(words) => writes_string(files, &words, text),
         Err(_) => false,
     }
 }

@@ -141,8 +141,8 @@ fn explains_each_failure(rt: HostRuntime) {
         assert!(rt; is_explained(rt.alloc(), &plain(place)), "{place}");
     }
     for (place, name) in ["F", "app", "ADDR", "F"].into_iter().enumerate() {
-        let is_right = is_named_explained(rt.alloc(), place, name);
-        assert!(rt; is_right.ok() == Some(true), "{place}");
+        let ends_as_wanted = is_named_explained(rt.alloc(), place, name);
+        assert!(rt; ends_as_wanted.ok() == Some(true), "{place}");
     }
 }
 

@@ -4,7 +4,7 @@ use crate::chained::{
     BETA, CHAINED, ELSEWHERE, HELD_BETA, OF_NONE, STABLE, TOO_LOW, UNKNOWN, UNPRICED, ZERO_FIRST,
 };
 use crate::ending::{ends, replied};
-use crate::runs::is_right;
+use crate::runs::ends_as_wanted;
 use crate::shelf::Shelf;
 
 const FILES: [(&str, &str); 10] = [
@@ -85,6 +85,6 @@ fn reports_why_there_is_no_report(rt: HostRuntime) {
     let shelf = shelf(rt);
     let rt = &shelf.rt;
     for row in FAILURES.lines() {
-        assert!(rt; is_right(&shelf, row) == Some(true), "{row}");
+        assert!(rt; ends_as_wanted(&shelf, row) == Some(true), "{row}");
     }
 }

@@ -33,7 +33,7 @@ pub(crate) fn arguments(alloc: Global, words: &str) -> Result<Vec<String>, Alloc
 }
 
 // Whether a line is the wanted one; of invalid arguments it may go on.
-fn is_told(told: &[u8], wanted: &str) -> bool {
+fn is_printed(told: &[u8], wanted: &str) -> bool {
     let told = str::from_utf8(told).unwrap_or("");
     if wanted.starts_with("1") && wanted.ends_with("\n") {
         wanted.strip_prefix("1 ") == Some(told)
@@ -55,7 +55,7 @@ fn fails_so<
     let status = run(files, words, &mut reader, &mut written, &mut told);
     let digit = [b'0'.saturating_add(status)];
     wanted.as_bytes().starts_with(&digit)
-        && is_told(&told, wanted)
+        && is_printed(&told, wanted)
         && written.is_empty()
         && reader.len() == 1
 }
@@ -74,7 +74,7 @@ fn ends_as<R: Net<Listener = TcpListener, Stream = TcpStream> + Clock + Files + 
 
 /// Whether a run ends as its row says, and reads and writes nothing: it prints the wanted line, and after it nothing
 /// or the usage.
-pub(crate) fn is_right<
+pub(crate) fn ends_as_wanted<
     R: Net<Listener = TcpListener, Stream = TcpStream> + Clock + Files + Wait + AllocGlobal,
 >(files: &R, row: &str) -> Option<bool> {
     let (wanted, words) = row.split_once(" | ")?;

@@ -29,7 +29,7 @@ fn check_reply(rt: &impl Abort, alloc: Global, app: AppReply, want: &str) -> Res
     Ok(())
 }
 
-fn two_texts(alloc: Global, first: &str, second: &str) -> Result<(Text, Text), AllocError> {
+fn two_strings(alloc: Global, first: &str, second: &str) -> Result<(Text, Text), AllocError> {
     let first = Text::copy_of(alloc, first)?;
     let second = Text::copy_of(alloc, second)?;
     Ok((first, second))
@@ -45,7 +45,7 @@ fn known(
     requires { IsCheckWritable check }
     ensures { IfOk result (λ state. IsStateWritable state) }
 {
-    let (cohort, name) = two_texts(alloc, "beta:7", "beta")?;
+    let (cohort, name) = two_strings(alloc, "beta:7", "beta")?;
     Ok(AppState::Known(KnownApp {
         cohort,
         name,
@@ -117,7 +117,7 @@ fn part(
     size: u64,
     byte: u8,
 ) -> Result<Part, AllocError> {
-    let (codebase, name) = two_texts(alloc, codebase, name)?;
+    let (codebase, name) = two_strings(alloc, codebase, name)?;
     Ok(Part {
         codebase,
         name,
@@ -129,7 +129,7 @@ fn part(
 // A version and its full package of one byte.
 fn full_offer(alloc: Global) -> Result<Offer, AllocError> {
     let full = part(alloc, "http://a/", "f", 1, 0xf0)?;
-    let (version, fp) = two_texts(alloc, "2.0", "1.ab")?;
+    let (version, fp) = two_strings(alloc, "2.0", "1.ab")?;
     Ok(Offer {
         version,
         fp,

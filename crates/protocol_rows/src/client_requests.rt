@@ -7,7 +7,7 @@ use std::process::Abort;
 use std::test::Fail;
 use values::{Items, Text};
 
-fn two_texts(alloc: Global, first: &str, second: &str) -> Result<(Text, Text), AllocError> {
+fn two_strings(alloc: Global, first: &str, second: &str) -> Result<(Text, Text), AllocError> {
     let first = Text::copy_of(alloc, first)?;
     let second = Text::copy_of(alloc, second)?;
     Ok((first, second))
@@ -19,7 +19,7 @@ fn ask(alloc: Global, fp: &str) -> Result<AppAsk, AllocError>
 {
     let appid = Text::copy_of(alloc, "demo")?;
     let version = Text::copy_of(alloc, "1.0")?;
-    let (fp, hint) = two_texts(alloc, fp, "be\"ta")?;
+    let (fp, hint) = two_strings(alloc, fp, "be\"ta")?;
     Ok(AppAsk {
         appid,
         version,

@@ -1,4 +1,4 @@
-// Rows of text, and what is found for them.
+// Rows, and what is found for them.
 
 use std::alloc::{AllocError, Global};
 use std::process::Abort;

@@ -15,8 +15,8 @@ fn push_copy(alloc: Global, texts: &mut Vec<Text>, word: &str) -> Result<(), All
     Ok(())
 }
 
-// The words of a line, the last one first; `-` is the empty string.
-fn texts_of(alloc: Global, line: &str) -> Result<Vec<Text>, AllocError> {
+// The parts of a line, the last one first; `-` is the empty string.
+fn strings_of(alloc: Global, line: &str) -> Result<Vec<Text>, AllocError> {
     let mut texts = Vec::new(alloc);
     for word in line.rsplit(' ') {
         push_copy(alloc, &mut texts, word)?;
@@ -33,7 +33,7 @@ fn next_of(alloc: Global, texts: &mut Vec<Text>) -> Text {
 
 // A client of an app in a session: `APP SESSION VERSION FP COHORT`, and `down` if it allows a downgrade.
 fn client_of_line(alloc: Global, line: &str) -> Result<Client, AllocError> {
-    let mut texts = texts_of(alloc, line)?;
+    let mut texts = strings_of(alloc, line)?;
     let app = next_of(alloc, &mut texts);
     let session = next_of(alloc, &mut texts);
     let version = next_of(alloc, &mut texts);

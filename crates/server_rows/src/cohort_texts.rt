@@ -10,7 +10,7 @@ fn shown(alloc: Global, text: &str) -> Result<String, AllocError> {
 }
 
 // A row is a string, and what it is read as.
-const TEXTS: &str = "\
+const READ: &str = "\
 stable:319 = stable 319
 a:0 = a 0
 a-9:999 = a-9 999
@@ -47,7 +47,7 @@ fn is_read(alloc: Global, row: &str) -> Option<bool> {
 // rule: Cohort text
 #[test]
 fn reads_well_formed_cohort_texts(rt: HostRuntime) {
-    for row in TEXTS.lines() {
+    for row in READ.lines() {
         assert!(rt; is_read(rt.alloc(), row) == Some(true), "{row}");
     }
 }
