@@ -36,11 +36,11 @@ pub(crate) fn arguments(alloc: Global, words: &str) -> Result<Vec<String>, Alloc
 fn is_printed(told: &[u8], wanted: &str) -> bool {
     let told = str::from_utf8(told).unwrap_or("");
     if wanted.starts_with("1") && wanted.ends_with("\n") {
-        wanted.strip_prefix("1 ") == Some(told)
-    } else {
-        wanted
-            .strip_prefix("2 ")
-            .is_some_and(|wanted| told.starts_with(wanted))
+        return wanted.strip_prefix("1 ") == Some(told);
+    }
+    match wanted.strip_prefix("2 ") {
+        Some(message) => told.starts_with(message),
+        None => false,
     }
 }
 
