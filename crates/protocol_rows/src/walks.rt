@@ -31,10 +31,10 @@ fn next_of(alloc: Global, texts: &mut Vec<Text>) -> Text {
     }
 }
 
-// A client of an app in a session: `APP SESSION VERSION FP COHORT`, and `down` if it allows a downgrade.
-fn client_of_line(alloc: Global, line: &str) -> Result<Client, AllocError> {
+// A client of `demo` in a session: `SESSION VERSION FP COHORT`, and `down` if it allows a downgrade.
+fn client_in_session(alloc: Global, line: &str) -> Result<Client, AllocError> {
     let mut texts = strings_of(alloc, line)?;
-    let app = next_of(alloc, &mut texts);
+    let app = Text::copy_of(alloc, "demo")?;
     let session = next_of(alloc, &mut texts);
     let version = next_of(alloc, &mut texts);
     let fp = next_of(alloc, &mut texts);
@@ -46,8 +46,8 @@ fn client_of_line(alloc: Global, line: &str) -> Result<Client, AllocError> {
 
 // A client of `demo`: `VERSION FP COHORT`, and `down` if it allows a downgrade.
 fn client_of(alloc: Global, line: &str) -> Result<Client, AllocError> {
-    let line = format!(in alloc; "demo abc {line}")?;
-    client_of_line(alloc, line.as_str())
+    let line = format!(in alloc; "abc {line}")?;
+    client_in_session(alloc, line.as_str())
 }
 
 fn push_end(text: &mut String, walked: &Result<Walk, ReadError<Fault>>) -> Result<(), AllocError> {
