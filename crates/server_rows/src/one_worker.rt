@@ -9,6 +9,7 @@ use records::Mirror;
 use std::alloc::{AllocError, Global};
 use std::marker::Brand;
 use std::sync::Wait;
+use values::Text;
 
 // The index of the mirror that grants each number of bytes, `-` for none.
 fn push_grants<A: BudgetName, B: BudgetName, C: BudgetName, D: BudgetName, R: Wait>(
@@ -54,15 +55,14 @@ fn push_asks<A: BudgetName, B: BudgetName, C: BudgetName, D: BudgetName, R: Wait
     line.push_str(",")
 }
 
-// Puts what the asks come to at the end of a line, and returns the totals.
+// The indexes for one worker's asks, what the first mirror says of 50 bytes more, and the totals.
 fn opened<A: BudgetName, B: BudgetName, C: BudgetName, D: BudgetName, R: Wait>(
     rt: &R,
     alloc: Global,
     blanks: Blanks,
     mirrors: Vec<Mirror>,
-    asks: &str,
-    line: &mut String,
-) -> Result<Vec<u64>, AllocError>
+    asks: &Text,
+) -> Result<String, AllocError>
     requires some { 0 < vec_len mirrors }
     requires few { vec_len mirrors ≤ 4 }
     requires bounded { are_bounded mirrors.items ≡ true }
@@ -73,34 +73,22 @@ fn opened<A: BudgetName, B: BudgetName, C: BudgetName, D: BudgetName, R: Wait>(
 {
     let (books, shares) = open_books::<A, B, C, D, R>(rt, alloc, blanks, mirrors, 1)?;
     let mut shares = shares;
-    let pushed = push_asks(rt, line, &books, &mut shares[0], asks);
-    let totals = close(rt, alloc, books, shares);
+    let mut line = String::new(alloc);
+    let pushed = push_asks(rt, &mut line, &books, &mut shares[0], asks.as_str());
+    let totals = close(rt, alloc, books, shares)?;
     pushed?;
-    totals
+    push_numbers(&mut line, &totals)?;
+    Ok(line)
 }
 
-// Puts what the asks of a worker come to at the end of a line, and returns the totals.
-fn asked<R: Wait>(
-    rt: &R,
-    alloc: Global,
-    budgets: &str,
-    asks: &str,
-    line: &mut String,
-) -> Option<Vec<u64>> {
+// What the asks of a worker come to.
+fn asked<R: Wait>(rt: &R, alloc: Global, budgets: &str, asks: &Text) -> Option<String> {
     let mirrors = mirrors_of(alloc, budgets).ok()?;
     if mirrors.is_empty() || mirrors.len() > 4 || !are_bounded(&mirrors) {
         return None;
     }
     let blanks = Blanks::new(1);
-    opened::<Brand, Brand, Brand, Brand, R>(rt, alloc, blanks, mirrors, asks, line).ok()
-}
-
-// What the asks of a worker come to.
-fn print_asks<R: Wait>(rt: &R, alloc: Global, budgets: &str, asks: &str) -> Option<String> {
-    let mut line = String::new(alloc);
-    let totals = asked(rt, alloc, budgets, asks, &mut line)?;
-    push_numbers(&mut line, &totals).ok()?;
-    Some(line)
+    opened::<Brand, Brand, Brand, Brand, R>(rt, alloc, blanks, mirrors, asks).ok()
 }
 
 // Each row: budgets, asks, and then the indexes of the granting mirrors, what the first mirror says of 50 bytes
@@ -121,7 +109,8 @@ const ROWS: &str = "500 1000|450 300 700 1 50| 0 1 1 0 -, 49, 451 1000
 fn comes_to<R: Wait>(rt: &R, alloc: Global, row: &str) -> Option<bool> {
     let (budgets, others) = row.split_once('|')?;
     let (asks, wanted) = others.split_once('|')?;
-    let line = print_asks(rt, alloc, budgets, asks)?;
+    let asks = Text::copy_of(alloc, asks).ok()?;
+    let line = asked(rt, alloc, budgets, &asks)?;
     Some(line.as_str() == wanted)
 }
 
