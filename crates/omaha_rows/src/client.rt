@@ -1,7 +1,5 @@
 // Clients that send bytes.
 
-use std::alloc::Global;
-use std::io;
 use std::io::{Read, Write};
 use std::net::{Net, Shutdown, TcpListener, TcpStream};
 
@@ -18,25 +16,6 @@ pub(crate) fn connect<R: Net<Listener = TcpListener, Stream = TcpStream>>(
     None
 }
 
-// Sends a message byte by byte, a line of it ending at each `~`.
-fn send(stream: &mut TcpStream, message: &str) -> io::Result<()> {
-    stream.set_nodelay(true)?;
-    for byte in message.as_bytes() {
-        match *byte {
-            b'~' => stream.write_all(b"\r\n")?,
-            other => stream.write_all(&[other])?,
-        }
-    }
-    stream.shutdown(Shutdown::Write)
-}
-
-// Returns what comes back until the end, with `~` for the ends of lines.
-fn receive(alloc: Global, stream: &mut TcpStream) -> Option<String> {
-    let mut text = String::new(alloc);
-    stream.read_to_string(&mut text).ok()?;
-    text.as_str().replace(alloc, "\r\n", "~").ok()
-}
-
 /// Sends a message byte by byte, a line of it ending at each `~`, and returns what comes back until the end, with `~`
 /// for the ends of lines.
 pub(crate) fn exchange<R: Net<Listener = TcpListener, Stream = TcpStream> + AllocGlobal>(
@@ -45,6 +24,15 @@ pub(crate) fn exchange<R: Net<Listener = TcpListener, Stream = TcpStream> + Allo
     message: &str,
 ) -> Option<String> {
     let mut stream = connect(rt, host)?;
-    send(&mut stream, message).ok()?;
-    receive(rt.alloc(), &mut stream)
+    stream.set_nodelay(true).ok()?;
+    for byte in message.as_bytes() {
+        match *byte {
+            b'~' => stream.write_all(b"\r\n").ok()?,
+            other => stream.write_all(&[other]).ok()?,
+        }
+    }
+    stream.shutdown(Shutdown::Write).ok()?;
+    let mut text = String::new(rt.alloc());
+    stream.read_to_string(&mut text).ok()?;
+    text.as_str().replace(rt.alloc(), "\r\n", "~").ok()
 }

@@ -7,7 +7,7 @@ use std::rt::Files;
 use std::sync::Wait;
 use std::test::Fail;
 use std::time::Clock;
-use std::{env, fs, io, process, str};
+use std::{env, fs, io, process};
 
 // The profile, with HOST for the address.
 const PROFILE: &str = r#"schema = 1
@@ -50,24 +50,19 @@ const LETTERS: [(&str, u8, usize); 4] = [
 #[derive(Drop)]
 pub(crate) struct Site {
     pub(crate) folder: String,
+    pub(crate) profile: String,
     pub(crate) host: String,
 }
 
-// Where a listener listens.
-fn host_of(alloc: Global, listener: &TcpListener) -> io::Result<String> {
-    let address = listener.local_addr()?;
-    Ok(format!(in alloc; "{address}")?)
-}
-
 // An address of the loopback that nobody listens on.
-fn free_host(rt: &HostRuntime) -> io::Result<String> {
+fn free_host(rt: &HostRuntime) -> Result<String, Fail> {
     let listener = TcpListener::bind(rt, "127.0.0.1:0")?;
-    host_of(rt.alloc(), &listener)
+    Ok(format!(in rt.alloc(); "{}", listener.local_addr()?)?)
 }
 
 /// Writes a file of a folder.
-pub(crate) fn write_file<R: Files + AllocGlobal>(
-    rt: &R,
+pub(crate) fn write_file(
+    rt: &HostRuntime,
     folder: &str,
     name: &str,
     bytes: &[u8],
@@ -76,127 +71,91 @@ pub(crate) fn write_file<R: Files + AllocGlobal>(
     fs::write(rt, file.as_str(), bytes)
 }
 
-// Writes a file of so many letters.
-fn write_letters<R: Files + AllocGlobal>(
-    rt: &R,
-    folder: &str,
-    name: &str,
-    letter: u8,
-    size: usize,
-) -> io::Result<()> {
-    let bytes = vec![in rt.alloc(); letter; size]?;
-    write_file(rt, folder, name, bytes.as_slice())
-}
-
-// Writes the profile, whose mirror is at an address.
-fn write_profile<R: Files + AllocGlobal>(rt: &R, folder: &str, host: &str) -> io::Result<()> {
-    let text = PROFILE.replace(rt.alloc(), "HOST", host)?;
-    write_file(rt, folder, "mini.toml", text.as_str().as_bytes())
-}
-
 // Makes a folder with the profile and the packages.
-fn fill<R: Files + AllocGlobal>(rt: &R, folder: &str, host: &str) -> io::Result<()> {
+fn fill(rt: &HostRuntime, folder: &str, profile: &str) -> io::Result<()> {
     fs::create_dir(rt, folder)?;
-    write_profile(rt, folder, host)?;
+    write_file(rt, folder, "mini.toml", profile.as_bytes())?;
     write_file(rt, folder, "mini-1.0.bin", b"abc")?;
     write_file(rt, folder, "mini-2.0.bin", SECOND.as_bytes())?;
     for (name, letter, size) in LETTERS {
-        write_letters(rt, folder, name, letter, size)?;
+        let bytes = vec![in rt.alloc(); letter; size]?;
+        write_file(rt, folder, name, bytes.as_slice())?;
     }
     Ok(())
 }
 
-// The path of a test's folder, which ends so.
-fn path_of(rt: &HostRuntime, end: &str) -> Option<String> {
-    let number = process::id(rt.process());
-    let temporary = env::temp_dir(rt).ok()?;
-    let above = temporary.as_path().to_str()?;
-    format!(in rt.alloc(); "{above}/omaha_rows.{end}.{number}").ok()
-}
-
-// Makes the folder of a test, whose mirror is at an address.
-fn make_folder(rt: &HostRuntime, end: &str, host: &str) -> Option<String> {
-    let path = path_of(rt, end)?;
-    fill(rt, path.as_str(), host).ok()?;
-    Some(path)
-}
-
 /// Makes the site of a test, whose folder's path ends so.
 pub(crate) fn make_site(rt: &HostRuntime, end: &str) -> Result<Site, Fail> {
+    let number = process::id(rt.process());
+    let temporary = env::temp_dir(rt)?;
+    let above = temporary.as_path().to_str().ok_or("no text")?;
+    let folder = format!(in rt.alloc(); "{above}/omaha_rows.{end}.{number}")?;
     let host = free_host(rt)?;
-    let folder = make_folder(rt, end, host.as_str()).ok_or("no folder")?;
-    Ok(Site { folder, host })
+    let text = PROFILE.replace(rt.alloc(), "HOST", host.as_str())?;
+    fill(rt, folder.as_str(), text.as_str())?;
+    let profile = format!(in rt.alloc(); "{}/mini.toml", folder.as_str())?;
+    Ok(Site {
+        folder,
+        profile,
+        host,
+    })
 }
 
 fn strings(alloc: Global, words: &[&str]) -> Result<Vec<String>, AllocError> {
     let mut strings = Vec::new(alloc);
     for word in words {
-        let string = String::from_str(alloc, word)?;
-        strings.push(string)?;
+        strings.push(String::from_str(alloc, word)?)?;
     }
     Ok(strings)
-}
-
-// A status, the output and what is reported.
-fn print_run(alloc: Global, status: u8, written: &[u8], told: &[u8]) -> Option<String> {
-    let written = str::from_utf8(written).ok()?;
-    let told = str::from_utf8(told).ok()?;
-    format!(in alloc; "{status} {written}{told}").ok()
 }
 
 /// Runs the program, and returns its status, its output and what it reports.
 pub(crate) fn run_program<
     R: Net<Listener = TcpListener, Stream = TcpStream> + Clock + Files + Wait + AllocGlobal,
 >(rt: &R, words: &[&str]) -> Option<String> {
-    let words = strings(rt.alloc(), words).ok()?;
-    let mut written = Vec::new(rt.alloc());
-    let mut told = Vec::new(rt.alloc());
+    let alloc = rt.alloc();
+    let words = strings(alloc, words).ok()?;
+    let mut written = Vec::new(alloc);
+    let mut told = Vec::new(alloc);
     let status = run(rt, &words, &mut b"".as_slice(), &mut written, &mut told);
-    print_run(rt.alloc(), status, &written, &told)
+    let written = String::from_utf8(written).ok()?;
+    let told = String::from_utf8(told).ok()?;
+    format!(in alloc; "{status} {written}{told}").ok()
+}
+
+// Serves so many sessions of a site, with more arguments.
+fn serve_with<
+    R: Net<Listener = TcpListener, Stream = TcpStream> + Clock + Files + Wait + AllocGlobal,
+>(rt: &R, site: &Site, sessions: &str, more: &[&str]) -> Option<String> {
+    let mut words = Vec::new(rt.alloc());
+    let first = [
+        "serve",
+        "--profile",
+        site.profile.as_str(),
+        "--packages",
+        site.folder.as_str(),
+        "--listen",
+        site.host.as_str(),
+        "--sessions",
+        sessions,
+        "--timeout",
+        "20",
+    ];
+    words.extend_from_slice(&first).ok()?;
+    words.extend_from_slice(more).ok()?;
+    run_program(rt, words.as_slice())
 }
 
 /// Serves so many sessions of a site.
 pub(crate) fn serve<
     R: Net<Listener = TcpListener, Stream = TcpStream> + Clock + Files + Wait + AllocGlobal,
 >(rt: &R, site: &Site, sessions: &str) -> Option<String> {
-    let folder = site.folder.as_str();
-    let profile = format!(in rt.alloc(); "{folder}/mini.toml").ok()?;
-    let words = [
-        "serve",
-        "--profile",
-        profile.as_str(),
-        "--packages",
-        folder,
-        "--listen",
-        site.host.as_str(),
-        "--sessions",
-        sessions,
-        "--timeout",
-        "20",
-    ];
-    run_program(rt, &words)
+    serve_with(rt, site, sessions, &[])
 }
 
 /// The same with a log.
 pub(crate) fn serve_logged<
     R: Net<Listener = TcpListener, Stream = TcpStream> + Clock + Files + Wait + AllocGlobal,
 >(rt: &R, site: &Site, sessions: &str, log: &str) -> Option<String> {
-    let folder = site.folder.as_str();
-    let profile = format!(in rt.alloc(); "{folder}/mini.toml").ok()?;
-    let words = [
-        "serve",
-        "--profile",
-        profile.as_str(),
-        "--packages",
-        folder,
-        "--listen",
-        site.host.as_str(),
-        "--sessions",
-        sessions,
-        "--timeout",
-        "20",
-        "--log",
-        log,
-    ];
-    run_program(rt, &words)
+    serve_with(rt, site, sessions, &["--log", log])
 }
