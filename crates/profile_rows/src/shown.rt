@@ -274,11 +274,11 @@ pub(crate) fn check_rows(
     form: Form,
     rows: &str,
 ) -> Result<(), AllocError> {
-    let mut front = "";
+    let mut front = String::new(alloc);
     for row in rows.lines() {
         match row.strip_prefix("> ") {
-            Some(line) => front = line,
-            None => check_row(rt, alloc, form, front, row)?,
+            Some(line) => front = String::from_str(alloc, line)?,
+            None => check_row(rt, alloc, form, front.as_str(), row)?,
         }
     }
     Ok(())
