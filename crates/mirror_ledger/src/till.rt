@@ -18,6 +18,9 @@ pub trait Till {
     // What was asked so far: the bytes, and the index of the mirror that granted them.
     ghost asks: { Self → List Ask };
 
+    // That what was granted here is what was asked here.
+    ghost tallied: { Self → Type 0 };
+
     // That nothing else is granted on these mirrors: what they granted so far is what was asked here.
     ghost alone: { Self → Type 0 };
 
@@ -34,7 +37,10 @@ pub trait Till {
         ensures mirrors { mirrors self.new ≡ mirrors self.old }
         ensures range { IfSome result (λ index. index < length (mirrors self.old)) }
         ensures first_with_room { alone self.old → IsFirstWithRoom (mirrors self.old) (asks self.old) bytes result }
+        ensures tallied { tallied self.old → tallied self.new }
         ensures alone { alone self.old → alone self.new };
+
+    ghost alone_is_tallied: { (till : Self) → alone till → tallied till };
 }
 
 /// A till over borrowed books, with a worker's shares of them.
@@ -69,6 +75,9 @@ impl<'a, A: BudgetName, B: BudgetName, C: BudgetName, D: BudgetName> Till for Ha
 
     ghost asks = { λ hand. hand.shares.asks };
 
+    ghost tallied = { λ hand.
+        AreTallied hand.shares.first hand.shares.second hand.shares.third hand.shares.fourth hand.shares.asks };
+
     ghost alone = { λ hand.
         HaveOnePart A.parts B.parts C.parts D.parts
         × AreTallied hand.shares.first hand.shares.second hand.shares.third hand.shares.fourth hand.shares.asks };
@@ -92,7 +101,11 @@ impl<'a, A: BudgetName, B: BudgetName, C: BudgetName, D: BudgetName> Till for Ha
             × AreTallied self.old.shares.first self.old.shares.second self.old.shares.third self.old.shares.fourth self.old.shares.asks
             → HaveOnePart A.parts B.parts C.parts D.parts
             × AreTallied self.new.shares.first self.new.shares.second self.new.shares.third self.new.shares.fourth self.new.shares.asks }
+        ensures tallied { AreTallied self.old.shares.first self.old.shares.second self.old.shares.third self.old.shares.fourth self.old.shares.asks
+            → AreTallied self.new.shares.first self.new.shares.second self.new.shares.third self.new.shares.fourth self.new.shares.asks }
     {
         self.shares.grant_first(rt, self.books, bytes)
     }
+
+    ghost alone_is_tallied = { λ _ alone. alone.1 };
 }
