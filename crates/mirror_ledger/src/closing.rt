@@ -74,10 +74,10 @@ pub(crate) fn gather_tills<A: BudgetName, B: BudgetName, C: BudgetName, D: Budge
 ) -> Parts<A, B, C, D>
     requires some { 0 < vec_len tills }
     requires tallied { All (λ t. AreTallied t.shares.first t.shares.second t.shares.third t.shares.fourth t.shares.asks) tills.items }
-    ensures first { (result.first.parts ≡ vec_len tills) × (result.first.amount ≡ granted_by (map (λ t. t.shares.asks) tills.items) 0) }
-    ensures second { (result.second.parts ≡ vec_len tills) × (result.second.amount ≡ granted_by (map (λ t. t.shares.asks) tills.items) 1) }
-    ensures third { (result.third.parts ≡ vec_len tills) × (result.third.amount ≡ granted_by (map (λ t. t.shares.asks) tills.items) 2) }
-    ensures fourth { (result.fourth.parts ≡ vec_len tills) × (result.fourth.amount ≡ granted_by (map (λ t. t.shares.asks) tills.items) 3) }
+    ensures first { (result.first.parts ≡ vec_len tills.entry) × (result.first.amount ≡ granted_by (map (λ t. t.shares.asks) tills.entry.items) 0) }
+    ensures second { (result.second.parts ≡ vec_len tills.entry) × (result.second.amount ≡ granted_by (map (λ t. t.shares.asks) tills.entry.items) 1) }
+    ensures third { (result.third.parts ≡ vec_len tills.entry) × (result.third.amount ≡ granted_by (map (λ t. t.shares.asks) tills.entry.items) 2) }
+    ensures fourth { (result.fourth.parts ≡ vec_len tills.entry) × (result.fourth.amount ≡ granted_by (map (λ t. t.shares.asks) tills.entry.items) 3) }
 {
     let mut tills = tills;
     let Some(last) = tills.pop() else {

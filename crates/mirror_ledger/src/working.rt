@@ -2,7 +2,7 @@
 
 ghost use Rattle.std.specs.Prelude.{◌≡◌, ◌⊎◌, ◌<◌, ◌≤◌, List, All, IfOk, OnErr, length, map, true, vec_len};
 ghost use Rattle.records.specs.declared.mirror.Mirror.{Mirror};
-ghost use Rattle.mirror_ledger.specs.Asks.{Ask, AreUnused};
+ghost use Rattle.mirror_ledger.specs.Asks.{AreTallied, AreUnused, Ask};
 ghost use Rattle.mirror_ledger.specs.Named.{IsNamed, are_bounded};
 ghost use Rattle.mirror_ledger.specs.Order.{HaveOnePart};
 ghost use Rattle.mirror_ledger.specs.Tills.{AreOpened, AreTotalsOf};
@@ -34,17 +34,24 @@ pub trait Work<R> {
             × comes_to self.old self.new mirrors (map T.asks tills.new.items) result };
 }
 
-// A till for each worker's shares of the books.
+// A till for each worker's shares of the books, which are those of the ledgers.
 fn tills_of<'a, A: BudgetName, B: BudgetName, C: BudgetName, D: BudgetName>(
     alloc: Global,
     books: &'a Books<A, B, C, D>,
     shares: Vec<Shares<A, B, C, D>>,
 ) -> Result<Vec<Hand<'a, A, B, C, D>>, AllocError>
-    requires { All (λ s. AreUnused s.first s.second s.third s.fourth s.asks) shares.items }
+    requires unused { All (λ s. AreUnused s.first s.second s.third s.fourth s.asks) shares.items }
+    requires first { vec_len shares ≡ A.parts }
+    requires second { vec_len shares ≡ B.parts }
+    requires third { vec_len shares ≡ C.parts }
+    requires fourth { vec_len shares ≡ D.parts }
     ensures many { IfOk result (λ tills. vec_len tills ≡ vec_len shares) }
-    ensures mirrors { IfOk result (λ tills. All (λ till. till.books.now ≡ books.now) tills.items) }
-    ensures unused { IfOk result (λ tills.
-        All (λ till. AreUnused till.shares.first till.shares.second till.shares.third till.shares.fourth till.shares.asks) tills.items) }
+    ensures opened { IfOk result (λ tills. (mirrors : List Mirror) → books.now ≡ mirrors
+        → AreOpened (λ till. till.books.now) (λ till. till.shares.asks)
+        (λ till. AreTallied till.shares.first till.shares.second till.shares.third till.shares.fourth till.shares.asks)
+        (λ till. HaveOnePart A.parts B.parts C.parts D.parts
+        × AreTallied till.shares.first till.shares.second till.shares.third till.shares.fourth till.shares.asks)
+        mirrors tills.items) }
 {
     let mut shares = shares;
     let mut tills = Vec::new(alloc);
