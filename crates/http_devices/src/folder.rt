@@ -8,7 +8,6 @@ use http_desks::Packages;
 use http_wire::Failed;
 use std::alloc::{AllocError, Global};
 use std::cell::RefCell;
-use std::fs::OpenFile;
 use std::io::{Read, Seek, SeekFrom};
 
 // The file that was opened last, the name that it was opened by, and room for its path.
@@ -25,13 +24,13 @@ struct Opened<F: Drop> {
 /// is not mixed with it. A symbolic link, a folder and what is no regular file are no package, and a name
 /// that could leave the folder opens nothing.
 #[derive(Drop)]
-pub struct Folder<'a, S: RegularFiles<F>, F: OpenFile + Drop> {
+pub struct Folder<'a, S: RegularFiles<F>, F: Drop> {
     files: &'a S,
     path: &'a str,
     opened: RefCell<Opened<F>>,
 }
 
-impl<'a, S: RegularFiles<F>, F: OpenFile + Drop> Folder<'a, S, F> {
+impl<'a, S: RegularFiles<F>, F: Drop> Folder<'a, S, F> {
     /// Makes the packages of the folder at a path, which isn't looked at.
     pub fn new(alloc: Global, files: &'a S, path: &'a str) -> Folder<'a, S, F> {
         Folder {
@@ -56,7 +55,7 @@ fn set_path(path: &mut String, folder: &str, name: &str) -> Result<(), AllocErro
     path.push_str(name)
 }
 
-impl<F: OpenFile + Drop> Opened<F> {
+impl<F: Drop> Opened<F> {
     // Opens the file of a name, and returns its size, if it is a regular file.
     fn open<S: RegularFiles<F>>(&mut self, files: &S, folder: &str, name: &str) -> Option<u64>
         ensures name { OnSome result (string_bytes self.new.name ≡ name.now) }
@@ -87,7 +86,7 @@ fn read_from<F: Read + Seek>(file: &mut F, at: u64, into: &mut [u8]) -> Result<(
     }
 }
 
-impl<'a, S: RegularFiles<F>, F: OpenFile + Drop> Packages for Folder<'a, S, F> {
+impl<'a, S: RegularFiles<F>, F: Read + Seek + Drop> Packages for Folder<'a, S, F> {
     // a size is that of a file of the folder
     ghost sizes = { λ _ name size. IfSome size (λ _. is_file_name name ≡ true) };
 
