@@ -14,6 +14,7 @@ use std::sync::Wait;
 use values::ReadError;
 
 // The reply to one input by the till of one worker.
+#[derive(Drop)]
 struct OneReply<'a> {
     alloc: Global,
     edition: &'a Edition,
@@ -35,10 +36,21 @@ impl<R: Wait> Work<R> for OneReply<'_> {
         rt: &R,
         tills: &mut Vec<T>,
     ) -> Result<Vec<u8>, ReadError<RequestFault>> {
-        let Some(till) = tills.first_mut() else {
+        let Some(mut till) = tills.pop() else {
             return Err(ReadError::Memory);
         };
-        update_desk::answer(rt, self.alloc, self.edition, till, self.moment, self.input)
+        let reply = update_desk::answer(
+            rt,
+            self.alloc,
+            self.edition,
+            &mut till,
+            self.moment,
+            self.input,
+        );
+        if tills.push(till).is_err() {
+            unreachable!()
+        }
+        reply
     }
 }
 

@@ -43,6 +43,7 @@ pub struct Place {
 }
 
 // The sessions of a listener, by the till of one worker.
+#[derive(Drop)]
 struct Sessions<'a, V> {
     edition: &'a Edition,
     place: &'a Place,
