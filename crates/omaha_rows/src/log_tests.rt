@@ -1,71 +1,54 @@
-use crate::client::exchange;
-use crate::site::{Site, make_site, serve_logged};
-use std::fs;
-use std::net::{Net, TcpListener, TcpStream};
-use std::test::Fail;
-use std::thread::join;
+use crate::runs::{SAME, Serving, are_printed};
 
 // Two messages on a connection, and one on the next.
-fn ask_thrice<R: Net<Listener = TcpListener, Stream = TcpStream> + AllocGlobal>(
-    rt: &R,
-    site: &Site,
-) -> Option<()> {
-    let host = site.host.as_str();
-    let first = "GET /p/mini-1.0.bin HTTP/1.1~User-Agent: row/1~~HEAD /p/mini-2.0.bin HTTP/1.1~~";
-    exchange(rt, host, first)?;
-    exchange(rt, host, "GET /none HTTP/1.1~~")?;
-    Some(())
+const MESSAGES: &str = "\
+GET /p/mini-1.0.bin HTTP/1.1~User-Agent: row/1~~HEAD /p/mini-2.0.bin HTTP/1.1~~
+GET /none HTTP/1.1~~";
+
+// The lines of the log, without their times.
+const LINES: &str = r#"127.0.0.1 - - [] "GET /p/mini-1.0.bin HTTP/1.1" 200 3 "-" "row/1"
+127.0.0.1 - - [] "HEAD /p/mini-2.0.bin HTTP/1.1" 405 0 "-" "-"
+127.0.0.1 - - [] "GET /none HTTP/1.1" 404 0 "-" "-""#;
+
+// Whether a line is the wanted one, but for its time.
+fn is_line(line: &str, wanted: &str) -> Option<bool> {
+    let (before, others) = line.split_once("[")?;
+    let (time, after) = others.split_once("]")?;
+    let (wanted_before, wanted_after) = wanted.split_once("[]")?;
+    let is_time = time.len() == 26 && time.ends_with(" +0000");
+    Some(is_time && before == wanted_before && after == wanted_after)
 }
 
-// A line as it was before its time, and as it was after it.
-fn without_time(rt: &HostRuntime, line: &str) -> Result<String, Fail> {
-    let (before, rest) = line.split_once("[").ok_or("no time")?;
-    let (time, after) = rest.split_once("]").ok_or("no end of the time")?;
-    if time.len() != 26 || !time.ends_with(" +0000") {
-        return Err(Fail::from("another time"));
+// Whether a log has those lines and no others.
+fn is_log(log: &str) -> Option<bool> {
+    let mut left = log;
+    for wanted in LINES.lines() {
+        let (line, others) = left.split_once('\n')?;
+        if is_line(line, wanted) != Some(true) {
+            return Some(false);
+        }
+        left = others;
     }
-    Ok(format!(in rt.alloc(); "{before}[]{after}")?)
+    Some(left.is_empty())
+}
+
+// Whether a server ended with the status 0, and its log goes on with those lines.
+fn is_logged(lines: Option<String>) -> Option<bool> {
+    let lines = lines?;
+    let (printed, log) = lines.as_str().split_once("kept\n")?;
+    Some(printed.starts_with("0 ready\nm0 0\n") && is_log(log) == Some(true))
 }
 
 #[test]
-fn each_reply_is_logged(rt: HostRuntime) -> Result<(), Fail> {
-    let site = make_site(&rt, "log")?;
-    let path = format!(in rt.alloc(); "{}/access.log", site.folder.as_str())?;
-    fs::write(&rt, path.as_str(), b"kept\n")?;
-    let (served, asked) = join(
-        &rt,
-        || serve_logged(&rt, &site, "2", path.as_str()),
-        || ask_thrice(&rt, &site),
-    );
-    let log = fs::read_to_string(&rt, path.as_str())?;
-    fs::remove_dir_all(&rt, site.folder.as_str())?;
-    asked.ok_or("no exchange")?;
-    let served = served.ok_or("no server")?;
-    assert_eq!(rt; served.as_str(), "0 ready\nm0 0\n");
-    let mut lines = log.as_str().lines();
-    assert_eq!(rt; lines.next(), Some("kept"));
-    for wanted in [
-        r#"127.0.0.1 - - [] "GET /p/mini-1.0.bin HTTP/1.1" 200 3 "-" "row/1""#,
-        r#"127.0.0.1 - - [] "HEAD /p/mini-2.0.bin HTTP/1.1" 405 0 "-" "-""#,
-        r#"127.0.0.1 - - [] "GET /none HTTP/1.1" 404 0 "-" "-""#,
-    ] {
-        let line = lines.next().ok_or("no line")?;
-        let line = without_time(&rt, line)?;
-        assert_eq!(rt; line.as_str(), wanted);
-    }
-    assert!(rt; lines.next().is_none());
-    Ok(())
+fn each_reply_is_logged(rt: HostRuntime) {
+    let log = ("access.log", "kept\n");
+    let lines = rt.serve("omaha_rows.log", log, "2", "/access.log", MESSAGES);
+    assert!(rt; is_logged(lines) == Some(true));
 }
 
 // rule: Run of a server
 #[test]
-fn without_its_log_no_server_listens(rt: HostRuntime) -> Result<(), Fail> {
-    let site = make_site(&rt, "unlogged")?;
-    let path = format!(in rt.alloc(); "{}/none/access.log", site.folder.as_str())?;
-    let served = serve_logged(&rt, &site, "1", path.as_str());
-    fs::remove_dir_all(&rt, site.folder.as_str())?;
-    let served = served.ok_or("no server")?;
-    let wanted = format!(in rt.alloc(); "1 omaha: file {}\n", path.as_str())?;
-    assert_eq!(rt; served.as_str(), wanted.as_str());
-    Ok(())
+fn without_its_log_no_server_listens(rt: HostRuntime) {
+    let lines = rt.serve("omaha_rows.unlogged", SAME, "1", "/none/access.log", "");
+    assert!(rt; are_printed(lines, "1 omaha: file FOLDER/none/access.log\n"));
 }

@@ -1,16 +1,19 @@
-use crate::client::exchange;
-use crate::site::{Site, make_site, serve, write_file};
-use std::fs;
-use std::net::{Net, TcpListener, TcpStream};
-use std::test::Fail;
-use std::thread::join;
+use crate::runs::{SAME, Serving, are_printed};
 
-// A client at the first release.
-const BODY: &str = concat!(
-    r#"{"request":{"app":[{"appid":"mini","cohort":"stable:0","packages":{"package":[{"fp":"1."#,
-    r#"ba7816bf8f01cfea414140de5dae2223b00361a396177a9cb410ff61f20015ad"}]},"updatecheck":{},"#,
-    r#""version":"1.0"}],"protocol":"3.1","sessionid":"abc"}}"#,
-);
+// The update check of a client at the first release, but for its last byte.
+macro_rules! ask {
+    () => {
+        concat!(
+            "POST /service/update2/json HTTP/1.1~Content-Length: 227~~",
+            r#"{"request":{"app":[{"appid":"mini","cohort":"stable:0","packages":{"package":[{"fp":"1."#,
+            r#"ba7816bf8f01cfea414140de5dae2223b00361a396177a9cb410ff61f20015ad"}]},"updatecheck":{},"#,
+            r#""version":"1.0"}],"protocol":"3.1","sessionid":"abc"}"#,
+        )
+    };
+}
+
+// A whole update check, and one without its last byte.
+const ASKS: &str = concat!(ask!(), "}\n", ask!());
 
 // What the reply begins with, but for its length: the differential to the second release.
 const OFFER: &str = concat!(
@@ -24,42 +27,19 @@ const OFFER: &str = concat!(
     r#""status":"ok","urls":{"url":[{"codebase":"http://"#,
 );
 
-// The message of an update check.
-fn ask<R: AllocGlobal>(rt: &R) -> Option<String> {
-    let length = BODY.len();
-    format!(in rt.alloc();
-        "POST /service/update2/json HTTP/1.1~Content-Length: {length}~~{BODY}"
-    ).ok()
-}
-
-// The replies to a whole update check, and to one without its last byte.
-fn ask_twice<R: Net<Listener = TcpListener, Stream = TcpStream> + AllocGlobal>(
-    rt: &R,
-    site: &Site,
-) -> Option<(String, String)> {
-    let message = ask(rt)?;
-    let message = message.as_str();
-    let whole = exchange(rt, site.host.as_str(), message)?;
-    let cut = exchange(rt, site.host.as_str(), message.strip_suffix("}")?)?;
-    Some((whole, cut))
+// Whether a server granted ten bytes, and its client got the offer alone.
+fn is_offered(lines: Option<String>) -> Option<bool> {
+    let lines = lines?;
+    let reply = lines.as_str().strip_prefix("0 ready\nm0 10\n")?;
+    let (offer, others) = reply.split_once("\"protocol\":\"3.1\"}}\n")?;
+    let is_json = offer.starts_with("HTTP/1.1 200 OK~Content-Type: application/json");
+    Some(is_json && offer.contains(OFFER) && others.is_empty())
 }
 
 #[test]
-fn replies_to_a_whole_update_check_alone(rt: HostRuntime) -> Result<(), Fail> {
-    let site = make_site(&rt, "asks")?;
-    let (served, replies) = join(&rt, || serve(&rt, &site, "2"), || ask_twice(&rt, &site));
-    fs::remove_dir_all(&rt, site.folder.as_str())?;
-    let (whole, cut) = replies.ok_or("no exchange")?;
-    assert!(rt;
-        whole
-            .as_str()
-            .starts_with("HTTP/1.1 200 OK~Content-Type: application/json")
-    );
-    assert!(rt; whole.as_str().contains(OFFER), "{whole}");
-    assert!(rt; cut.is_empty());
-    let served = served.ok_or("no server")?;
-    assert_eq!(rt; served.as_str(), "0 ready\nm0 10\n");
-    Ok(())
+fn replies_to_a_whole_update_check_alone(rt: HostRuntime) {
+    let lines = rt.serve("omaha_rows.asks", SAME, "2", "", ASKS);
+    assert!(rt; is_offered(lines) == Some(true));
 }
 
 // A row is what a client sends, and what it gets.
@@ -69,36 +49,10 @@ GET /p/mini-1.0.bin?x=1 HTTP/1.0~~ = HTTP/1.1 200 OK~Content-Type: application/o
 GET /p/mini-1.0.bin HTTP/1.1~~GET /p/mini-2-3.bin HTTP/1.1~~ = HTTP/1.1 200 OK~Content-Type: application/octet-stream~Content-Length: 3~~abcHTTP/1.1 200 OK~Content-Type: application/octet-stream~Content-Length: 1~~a
 GET /p/mini.toml HTTP/1.1~~ = HTTP/1.1 404 Not Found~Content-Length: 0~~";
 
-// The first row that gets something else.
-fn first_wrong<R: Net<Listener = TcpListener, Stream = TcpStream> + AllocGlobal>(
-    rt: &R,
-    host: &str,
-    rows: &str,
-) -> Option<String> {
-    for row in rows.lines() {
-        let (message, wanted) = row.split_once(" = ")?;
-        let got = exchange(rt, host, message)?;
-        if got.as_str() != wanted {
-            return format!(in rt.alloc(); "{got} in place of {row}").ok();
-        }
-    }
-    Some(String::new(rt.alloc()))
-}
-
 #[test]
-fn sends_packages(rt: HostRuntime) -> Result<(), Fail> {
-    let site = make_site(&rt, "packages")?;
-    let (served, wrong) = join(
-        &rt,
-        || serve(&rt, &site, "4"),
-        || first_wrong(&rt, site.host.as_str(), ROWS),
-    );
-    fs::remove_dir_all(&rt, site.folder.as_str())?;
-    let wrong = wrong.ok_or("no exchange")?;
-    assert!(rt; wrong.is_empty(), "{wrong}");
-    let served = served.ok_or("no server")?;
-    assert_eq!(rt; served.as_str(), "0 ready\nm0 0\n");
-    Ok(())
+fn sends_packages(rt: HostRuntime) {
+    let lines = rt.serve("omaha_rows.packages", SAME, "4", "", ROWS);
+    assert!(rt; are_printed(lines, "0 ready\nm0 0\n"));
 }
 
 // The same for a package that isn't what the profile says.
@@ -106,36 +60,24 @@ const CUT: &str = "\
 GET /p/mini-1.0.bin HTTP/1.1~~ = HTTP/1.1 200 OK~Content-Type: application/octet-stream~Content-Length: 3~~";
 
 #[test]
-fn sends_no_package_of_another_size_or_hash(rt: HostRuntime) -> Result<(), Fail> {
-    let site = make_site(&rt, "wrong")?;
+fn sends_no_package_of_another_size_or_hash(rt: HostRuntime) {
     for bytes in ["abd", "ab", "abcd"] {
-        write_file(&rt, site.folder.as_str(), "mini-1.0.bin", bytes.as_bytes())?;
-        let (served, wrong) = join(
-            &rt,
-            || serve(&rt, &site, "1"),
-            || first_wrong(&rt, site.host.as_str(), CUT),
-        );
-        let wrong = wrong.ok_or("no exchange")?;
-        assert!(rt; wrong.is_empty(), "{wrong}");
-        assert!(rt; served.is_some());
+        let change = ("mini-1.0.bin", bytes);
+        let lines = rt.serve("omaha_rows.wrong", change, "1", "", CUT);
+        assert!(rt; are_printed(lines, "0 ready\nm0 0\n"), "{bytes}");
     }
-    fs::remove_dir_all(&rt, site.folder.as_str())?;
-    Ok(())
+}
+
+// Whether a server granted nothing, and its client got all of a large package but its last block.
+fn is_cut(lines: Option<String>) -> Option<bool> {
+    let lines = lines?;
+    let reply = lines.as_str().strip_prefix("0 ready\nm0 0\n")?;
+    let (head, body) = reply.split_once("~~")?;
+    Some(head.ends_with("~Content-Length: 65537") && body.len() == 65537 && body.ends_with("\n"))
 }
 
 #[test]
-fn cuts_a_large_package_before_its_last_block(rt: HostRuntime) -> Result<(), Fail> {
-    let site = make_site(&rt, "large")?;
-    let (served, got) = join(
-        &rt,
-        || serve(&rt, &site, "1"),
-        || exchange(&rt, site.host.as_str(), "GET /p/large-1.0.bin HTTP/1.1~~"),
-    );
-    fs::remove_dir_all(&rt, site.folder.as_str())?;
-    let got = got.ok_or("no exchange")?;
-    let (head, body) = got.as_str().split_once("~~").ok_or("no head")?;
-    assert!(rt; head.ends_with("~Content-Length: 65537"), "{head}");
-    assert_eq!(rt; body.len(), 65536);
-    assert!(rt; served.is_some());
-    Ok(())
+fn cuts_a_large_package_before_its_last_block(rt: HostRuntime) {
+    let lines = rt.serve("omaha_rows.large", SAME, "1", "", "GET /p/large-1.0.bin HTTP/1.1~~");
+    assert!(rt; is_cut(lines) == Some(true));
 }

@@ -1,40 +1,4 @@
-use crate::client::connect;
-use crate::site::{Site, make_site, run_program, serve, write_file};
-use std::fs;
-use std::net::{Net, TcpListener, TcpStream};
-use std::rt::Files;
-use std::sync::Wait;
-use std::test::Fail;
-use std::thread::join;
-use std::time::Clock;
-
-// The fingerprint of the first release.
-const FIRST: &str = "1.ba7816bf8f01cfea414140de5dae2223b00361a396177a9cb410ff61f20015ad";
-
-// Walks as a client at a version, once the server listens, which takes a connection.
-fn walk<R: Net<Listener = TcpListener, Stream = TcpStream> + Clock + Files + Wait + AllocGlobal>(
-    rt: &R,
-    site: &Site,
-    app: &str,
-    version: &str,
-    fp: &str,
-) -> Option<String> {
-    connect(rt, site.host.as_str())?;
-    let words = [
-        "walk",
-        "--to",
-        site.host.as_str(),
-        "--app",
-        app,
-        "--version",
-        version,
-        "--fp",
-        fp,
-        "--cohort",
-        "stable:0",
-    ];
-    run_program(rt, &words)
-}
+use crate::runs::{SAME, Serving, are_printed};
 
 // rule: Lines of a walk
 // rule: Lines of the totals
@@ -42,79 +6,40 @@ fn walk<R: Net<Listener = TcpListener, Stream = TcpStream> + Clock + Files + Wai
 // rule: Walk
 // rule: Walk over one catalogue
 #[test]
-fn walks_from_nothing_by_the_fewest_bytes(rt: HostRuntime) -> Result<(), Fail> {
-    let site = make_site(&rt, "nothing")?;
-    let (served, walked) = join(
-        &rt,
-        || serve(&rt, &site, "8"),
-        || walk(&rt, &site, "mini", "", ""),
-    );
-    fs::remove_dir_all(&rt, site.folder.as_str())?;
-    let walked = walked.ok_or("no walk")?;
-    assert_eq!(rt;
-        walked.as_str(),
-        "0 step 1 full 1.0 3\nstep 2 diff 2.0 10\nstep 3 diff 3.0 1\ndone 3 steps 14 bytes\n"
-    );
-    let served = served.ok_or("no server")?;
-    assert_eq!(rt; served.as_str(), "0 ready\nm0 14\n");
-    Ok(())
+fn walks_from_nothing_by_the_fewest_bytes(rt: HostRuntime) {
+    let lines = rt.serve("omaha_rows.nothing", SAME, "8", "", "walk|mini||");
+    let wanted =
+        "0 ready\nm0 14\n0 step 1 full 1.0 3\nstep 2 diff 2.0 10\nstep 3 diff 3.0 1\ndone 3 steps 14 bytes\n";
+    assert!(rt; are_printed(lines, wanted));
 }
+
+// A client at the first release of an app.
+const FIRST: &str =
+    "walk|MINI|1.0|1.ba7816bf8f01cfea414140de5dae2223b00361a396177a9cb410ff61f20015ad";
 
 // rule: Next ask
 // rule: Options of a walk
 // rule: Request of a client
 // rule: Walk over connections
 #[test]
-fn walks_by_differentials_from_a_fingerprint(rt: HostRuntime) -> Result<(), Fail> {
-    let site = make_site(&rt, "fingerprint")?;
-    let (served, walked) = join(
-        &rt,
-        || serve(&rt, &site, "6"),
-        || walk(&rt, &site, "MINI", "1.0", FIRST),
-    );
-    fs::remove_dir_all(&rt, site.folder.as_str())?;
-    let walked = walked.ok_or("no walk")?;
-    assert_eq!(rt;
-        walked.as_str(),
-        "0 step 1 diff 2.0 10\nstep 2 diff 3.0 1\ndone 2 steps 11 bytes\n"
-    );
-    let served = served.ok_or("no server")?;
-    assert_eq!(rt; served.as_str(), "0 ready\nm0 11\n");
-    Ok(())
+fn walks_by_differentials_from_a_fingerprint(rt: HostRuntime) {
+    let lines = rt.serve("omaha_rows.fingerprint", SAME, "6", "", FIRST);
+    let wanted =
+        "0 ready\nm0 11\n0 step 1 diff 2.0 10\nstep 2 diff 3.0 1\ndone 2 steps 11 bytes\n";
+    assert!(rt; are_printed(lines, wanted));
 }
 
 // rule: Walk of the program
 #[test]
-fn hears_no_reply_for_an_unknown_app(rt: HostRuntime) -> Result<(), Fail> {
-    let site = make_site(&rt, "unknown")?;
-    let (served, walked) = join(
-        &rt,
-        || serve(&rt, &site, "2"),
-        || walk(&rt, &site, "nope", "1.0", ""),
-    );
-    fs::remove_dir_all(&rt, site.folder.as_str())?;
-    let walked = walked.ok_or("no walk")?;
-    assert_eq!(rt; walked.as_str(), "1 omaha: U2 Reply\n");
-    assert!(rt; served.is_some());
-    Ok(())
+fn hears_no_reply_for_an_unknown_app(rt: HostRuntime) {
+    let lines = rt.serve("omaha_rows.unknown", SAME, "2", "", "walk|nope|1.0|");
+    assert!(rt; are_printed(lines, "0 ready\nm0 0\n1 omaha: U2 Reply\n"));
 }
 
 // rule: Printed walk
 #[test]
-fn keeps_its_place_at_a_package_that_is_cut(rt: HostRuntime) -> Result<(), Fail> {
-    let site = make_site(&rt, "cut")?;
-    write_file(&rt, site.folder.as_str(), "mini-2-3.bin", b"b")?;
-    let (served, walked) = join(
-        &rt,
-        || serve(&rt, &site, "5"),
-        || walk(&rt, &site, "mini", "1.0", FIRST),
-    );
-    fs::remove_dir_all(&rt, site.folder.as_str())?;
-    let walked = walked.ok_or("no walk")?;
-    assert_eq!(rt;
-        walked.as_str(),
-        "1 step 1 diff 2.0 10\nomaha: U3 BadLength\n"
-    );
-    assert!(rt; served.is_some());
-    Ok(())
+fn keeps_its_place_at_a_package_that_is_cut(rt: HostRuntime) {
+    let lines = rt.serve("omaha_rows.cut", ("mini-2-3.bin", "b"), "5", "", FIRST);
+    let wanted = "0 ready\nm0 11\n1 step 1 diff 2.0 10\nomaha: U3 BadLength\n";
+    assert!(rt; are_printed(lines, wanted));
 }

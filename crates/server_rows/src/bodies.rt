@@ -1,38 +1,31 @@
-use crate::asking::{is_body, replies_with, reply_to, request};
-use crate::batches::small;
+use crate::asking::{is_reply, reply_to, request, wrong_reply};
+use crate::batches::{MINI, small};
 use editions::Edition;
-use omaha_json::Request;
+use fixtures::edition_of;
 use payload_graph::Payload;
-use replies::{Choice, Plan, plan};
-use std::alloc::{AllocError, Global};
-use std::test::Fail;
+use replies::{Choice, plan};
+use std::alloc::Global;
 
-// Whether an edition without apps replies at a time with these days and seconds.
-fn is_dated(
-    alloc: Global,
-    edition: &Edition,
-    moment: u64,
-    days: u64,
-    seconds: u64,
-) -> Option<bool> {
+// A row is a time, and what the reply says of its day.
+const DATES: &str = r#"0 "elapsed_days":0,"elapsed_seconds":0
+1167609599 "elapsed_days":0,"elapsed_seconds":86399
+1167609600 "elapsed_days":0,"elapsed_seconds":0
+1767229261 "elapsed_days":6940,"elapsed_seconds":3661"#;
+
+// Whether the reply to a request without apps is dated as its row says.
+fn is_dated(alloc: Global, row: &str) -> Option<bool> {
+    let (moment, day) = row.split_once(' ')?;
+    let moment = moment.parse().ok()?;
     let asked = br#"{"request":{"app":[],"protocol":"3.1","sessionid":"abc"}}"#;
-    let told = reply_to(alloc, edition, asked, true, moment)?;
-    Some(is_body(alloc, &told, "", days, seconds))
+    let reply = reply_to(alloc, edition_of(alloc, MINI)?, asked, true, moment)?;
+    is_reply(&reply, "", day)
 }
 
 // rule: Elapsed days and seconds
 #[test]
 fn reports_days_and_seconds(rt: HostRuntime) {
-    let edition = Edition::empty(rt.alloc());
-    let rows = [
-        (0, 0, 0),
-        (1167609599, 0, 86399),
-        (1167609600, 0, 0),
-        (1767229261, 6940, 3661),
-    ];
-    for (moment, days, seconds) in rows {
-        let is_right = is_dated(rt.alloc(), &edition, moment, days, seconds);
-        assert!(rt; is_right == Some(true), "{moment}");
+    for row in DATES.lines() {
+        assert!(rt; is_dated(rt.alloc(), row) == Some(true), "{row}");
     }
 }
 
@@ -43,12 +36,16 @@ const STORED: &str =
 const STORED_REPLY: &str = r#")]}'
 {"response":{"app":[{"appid":"mini","cohort":"stable:0","cohortname":"stable","status":"ok","updatecheck":{"manifest":{"packages":{"package":[{"fp":"1.248d6a61d20638b8e5c026930c3e6039a33ce45964ff2167f6ecedd419db06c1","hash_sha256":"248d6a61d20638b8e5c026930c3e6039a33ce45964ff2167f6ecedd419db06c1","name":"mini-2.0.bin","size":56}]},"version":"2.0"},"status":"ok","urls":{"url":[{"codebase":"http://m0.example/p/"}]}}}],"daystart":{"elapsed_days":0,"elapsed_seconds":0},"protocol":"3.1"}}"#;
 
+// Whether the edition whose target is 2.0 replies so.
+fn is_replied(alloc: Global, asked: &[u8], wanted: &[u8]) -> Option<bool> {
+    let reply = reply_to(alloc, small(alloc)?, asked, true, 0)?;
+    Some(reply.as_slice() == wanted)
+}
+
 #[test]
-fn offers_the_full_package_of_the_target(rt: HostRuntime) -> Result<(), Fail> {
-    let edition = small(rt.alloc())?;
-    let told = reply_to(rt.alloc(), &edition, STORED.as_bytes(), true, 0).ok_or("no reply")?;
-    assert!(rt; told.as_slice() == STORED_REPLY.as_bytes());
-    Ok(())
+fn offers_the_full_package_of_the_target(rt: HostRuntime) {
+    let is_right = is_replied(rt.alloc(), STORED.as_bytes(), STORED_REPLY.as_bytes());
+    assert!(rt; is_right == Some(true));
 }
 
 const NO_UPDATE: &str =
@@ -64,8 +61,9 @@ const NO_UPDATE: &str =
 // rule: No update
 // rule: Status of an update check
 #[test]
-fn offers_nothing_without_a_chain(rt: HostRuntime) -> Result<(), Fail> {
-    replies_with(&rt, rt.alloc(), small(rt.alloc()), true, NO_UPDATE)
+fn offers_nothing_without_a_chain(rt: HostRuntime) {
+    let wrong = wrong_reply(rt.alloc(), small(rt.alloc()), true, NO_UPDATE);
+    assert!(rt; wrong.is_empty(), "{wrong}");
 }
 
 const IN_ORDER: &str =
@@ -73,8 +71,9 @@ const IN_ORDER: &str =
 
 // rule: Reply
 #[test]
-fn replies_to_apps_in_order_as_they_are_spelled(rt: HostRuntime) -> Result<(), Fail> {
-    replies_with(&rt, rt.alloc(), small(rt.alloc()), true, IN_ORDER)
+fn replies_to_apps_in_order_as_they_are_spelled(rt: HostRuntime) {
+    let wrong = wrong_reply(rt.alloc(), small(rt.alloc()), true, IN_ORDER);
+    assert!(rt; wrong.is_empty(), "{wrong}");
 }
 
 const NOT_GRANTED: &str =
@@ -83,61 +82,56 @@ const NOT_GRANTED: &str =
 // rule: Outcome of an update check
 // rule: Status of an update check
 #[test]
-fn reports_an_update_without_a_mirror_as_internal(rt: HostRuntime) -> Result<(), Fail> {
-    replies_with(&rt, rt.alloc(), small(rt.alloc()), false, NOT_GRANTED)
+fn reports_an_update_without_a_mirror_as_internal(rt: HostRuntime) {
+    let wrong = wrong_reply(rt.alloc(), small(rt.alloc()), false, NOT_GRANTED);
+    assert!(rt; wrong.is_empty(), "{wrong}");
 }
 
-// Puts a choice at the end of a line, as `full 1 for 56` or `differential 0 for 300`, or `none`.
-fn push_choice(text: &mut String, choice: Option<Choice>) -> Result<(), AllocError> {
-    match choice {
-        Some(
-            Choice {
-                payload: Payload::Full(release),
-                bytes,
-            },
-        ) => write!(text, "full {release} for {bytes}, "),
-        Some(
-            Choice {
-                payload: Payload::Differ(index),
-                bytes,
-            },
-        ) => write!(text, "differential {index} for {bytes}, "),
-        None => text.push_str("none, "),
+// Whether a choice is as `full 1 for 56` or `differential 0 for 300`, or `none`.
+fn is_choice(choice: Option<Choice>, wanted: &str) -> Option<bool> {
+    let Some(choice) = choice else {
+        return Some(wanted == "none");
+    };
+    let (kind, index) = match choice.payload {
+        Payload::Full(release) => ("full ", release),
+        Payload::Differ(index) => ("differential ", index),
+    };
+    let (number, bytes) = wanted.strip_prefix(kind)?.split_once(" for ")?;
+    Some(number.parse() == Ok(index) && bytes.parse() == Ok(choice.bytes))
+}
+
+// Whether these are the choices, with a comma and a space after each.
+fn are_choices(choices: &[Option<Choice>], wanted: &str) -> bool {
+    for (choice, word) in choices.iter().zip(wanted.split(", ")) {
+        if is_choice(*choice, word) != Some(true) {
+            return false;
+        }
     }
+    wanted.split(", ").count() == choices.len().saturating_add(1)
 }
 
-// The choices of a plan.
-fn print_plan(alloc: Global, plan: &Plan) -> Result<String, AllocError> {
-    let mut text = String::new(alloc);
-    for choice in plan.choices.as_slice() {
-        push_choice(&mut text, *choice)?;
-    }
-    Ok(text)
-}
-
-// What a plan chooses for each app of a request.
-fn print_choices(alloc: Global, edition: &Edition, request: &Request) -> Option<String> {
-    let plan = plan(alloc, edition, request).ok()?;
-    print_plan(alloc, &plan).ok()
-}
-
-/// What a plan chooses for each app of a request of session `abc`.
-pub(crate) fn planned(alloc: Global, edition: &Edition, apps: &str) -> Option<String> {
+/// Whether an edition chooses so for the apps of a request of session `abc`.
+pub(crate) fn is_planned(
+    alloc: Global,
+    edition: &Edition,
+    apps: &str,
+    wanted: &str,
+) -> Option<bool> {
     let request = request(alloc, apps, "abc")?;
-    print_choices(alloc, edition, &request)
+    let plan = plan(alloc, edition, &request).ok()?;
+    Some(are_choices(plan.choices.as_slice(), wanted))
+}
+
+fn plans(alloc: Global, apps: &str, wanted: &str) -> Option<bool> {
+    is_planned(alloc, small(alloc)?, apps, wanted)
 }
 
 // rule: Client of an app
 // rule: Requested bytes
 #[test]
-fn plans_a_payload_for_each_app_that_wants_one(rt: HostRuntime) -> Result<(), Fail> {
-    let edition = small(rt.alloc())?;
+fn plans_a_payload_for_each_app_that_wants_one(rt: HostRuntime) {
     let apps =
         r#"{"appid":"mini","updatecheck":{}},{"appid":"nope","updatecheck":{}},{"appid":"MINI","updatecheck":{},"version":"x"}"#;
-    let text = planned(rt.alloc(), &edition, apps).ok_or("no plan")?;
-    assert!(rt;
-        text.as_str() == "full 1 for 56, none, full 1 for 56, ",
-        "{text}"
-    );
-    Ok(())
+    let wanted = "full 1 for 56, none, full 1 for 56, ";
+    assert!(rt; plans(rt.alloc(), apps, wanted) == Some(true));
 }

@@ -1,71 +1,10 @@
 use crate::connection::Received;
-use crate::demo::message_of;
-use crate::lines::push_numbers;
-use crate::opened::{Ended, serve_sent};
-use std::alloc::{AllocError, Global};
+use crate::messages::message_of;
+use crate::opened::serve_sent;
+use fixtures::counts_in;
+use std::alloc::Global;
 use std::str;
 use std::sync::Wait;
-
-fn count_of(text: &str, words: &str) -> u64 {
-    let mut count: u64 = 0;
-    for _part in text.split(words) {
-        count = count.saturating_add(1);
-    }
-    count.saturating_sub(1)
-}
-
-// How many offers a reply has of the mirror of an index.
-fn push_offers(
-    alloc: Global,
-    line: &mut String,
-    text: &str,
-    mirror: usize,
-) -> Result<(), AllocError> {
-    let words = format!(in alloc; "\"codebase\":\"http://m{mirror}.example/p/\"")?;
-    push_numbers(line, &[count_of(text, words.as_str())])
-}
-
-// How many offers a reply has of each mirror, how many clients get `error-internal`, and the totals.
-fn push_reply(
-    alloc: Global,
-    line: &mut String,
-    text: &str,
-    totals: &[u64],
-) -> Result<(), AllocError> {
-    for mirror in 0..totals.len() {
-        push_offers(alloc, line, text, mirror)?;
-    }
-    line.push_str(",")?;
-    push_numbers(line, &[count_of(text, "error-internal")])?;
-    line.push_str(",")?;
-    push_numbers(line, totals)
-}
-
-// Serves so many clients over mirrors of these budgets, and returns their totals.
-fn serve_clients<R: Wait + AllocGlobal>(
-    rt: &R,
-    budgets: &str,
-    clients: usize,
-    sink: &mut Received,
-) -> Option<Ended> {
-    let message = message_of(rt.alloc(), clients).ok()?;
-    serve_sent(rt, budgets, message.as_str().as_bytes(), sink)
-}
-
-// What a session comes to.
-fn print_session(alloc: Global, sink: &Received, ended: &Ended) -> Option<String> {
-    let text = str::from_utf8(&sink.bytes).ok()?;
-    let mut line = String::new(alloc);
-    push_reply(alloc, &mut line, text, &ended.totals).ok()?;
-    Some(line)
-}
-
-// What the clients of a row get of its budgets.
-fn print_row<R: Wait + AllocGlobal>(rt: &R, budgets: &str, clients: &str) -> Option<String> {
-    let mut sink = Received::new(rt.alloc(), usize::MAX);
-    let ended = serve_clients(rt, budgets, clients.parse().unwrap_or(0), &mut sink)?;
-    print_session(rt.alloc(), &sink, &ended)
-}
 
 // A row is budgets and how many clients ask, each for 300 bytes; then how many offers each mirror gets, how
 // many clients get `error-internal`, and the totals.
@@ -80,12 +19,36 @@ const ROWS: &str = "1000000|1| 1, 0, 300
 300 600 0 900|7| 1 2 0 3, 1, 300 600 0 900
 30000 299 15000 31500|256| 100 0 50 105, 1, 30000 0 15000 31500";
 
+// Whether a reply has so many offers of each mirror and so many clients with `error-internal`.
+fn has_counts(alloc: Global, reply: &[u8], mirrors: usize, wanted: &str) -> Option<bool> {
+    let line = counts_in(alloc, str::from_utf8(reply).ok()?, mirrors).ok()?;
+    Some(line.as_str() == wanted)
+}
+
+// Whether so many clients get such offers over these budgets, and the mirrors have these totals.
+fn is_granted<R: Wait + AllocGlobal>(
+    rt: &R,
+    budgets: &str,
+    clients: &str,
+    offers: &str,
+    totals: &str,
+) -> Option<bool> {
+    let message = message_of(rt.alloc(), clients.parse().ok()?).ok()?;
+    let mut sink = Received::new(rt.alloc(), usize::MAX);
+    let ended = serve_sent(rt, budgets, message.as_str().as_bytes(), &mut sink)?;
+    let mirrors = totals.split(' ').count().saturating_sub(1);
+    Some(
+        ended.as_str().strip_prefix("finished") == Some(totals)
+            && has_counts(rt.alloc(), &sink.bytes, mirrors, offers) == Some(true),
+    )
+}
+
 // Whether the clients of a row get what it says.
 fn is_offered<R: Wait + AllocGlobal>(rt: &R, row: &str) -> Option<bool> {
     let (budgets, others) = row.split_once('|')?;
     let (clients, wanted) = others.split_once('|')?;
-    let line = print_row(rt, budgets, clients)?;
-    Some(line.as_str() == wanted)
+    let (offers, totals) = wanted.rsplit_once(',')?;
+    is_granted(rt, budgets, clients, offers, totals)
 }
 
 // rule: Asks of a plan

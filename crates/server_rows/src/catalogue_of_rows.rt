@@ -1,9 +1,9 @@
 // A catalogue of two apps, whose packages are repeated letters `a`.
 
-use catalogue::{Batch, Catalogue};
+use catalogue::Catalogue;
+use fixtures::catalogue_of_profile;
 use http_desks::Packages;
 use package_files::{Finding, compare};
-use profile_toml::read_profile;
 use std::alloc::{AllocError, Global};
 
 const PROFILE: &str = r#"schema = 1
@@ -29,36 +29,28 @@ release = [
 ]
 "#;
 
-// The edits of the profile.
-fn edits(alloc: Global) -> Option<Batch> {
-    match read_profile(alloc, PROFILE.as_bytes()) {
-        Ok((batch, _mirrors)) => Some(batch),
-        Err(_) => None,
-    }
-}
-
-/// The catalogue of the profile.
-pub(crate) fn catalogue(alloc: Global) -> Option<Catalogue> {
-    let edits = edits(alloc)?;
-    Catalogue::empty(alloc).applied(&edits).ok()
-}
-
 // The findings, a `;` after each.
-fn push_findings(text: &mut String, findings: &[Finding]) -> Result<(), AllocError> {
+fn push_findings(line: &mut String, findings: &[Finding]) -> Result<(), AllocError> {
     for finding in findings {
-        write!(text, "{finding};")?;
+        write!(line, "{finding};")?;
     }
     Ok(())
 }
 
-/// The findings of the catalogue's packages, a `;` after each.
-pub(crate) fn print_findings<P: Packages>(
+fn print_findings<P: Packages>(
     alloc: Global,
     catalogue: &Catalogue,
     packages: &P,
 ) -> Result<String, AllocError> {
     let findings = compare(alloc, catalogue.apps(), packages)?;
-    let mut text = String::new(alloc);
-    push_findings(&mut text, findings.as_slice())?;
-    Ok(text)
+    let mut line = String::new(alloc);
+    push_findings(&mut line, findings.as_slice())?;
+    Ok(line)
+}
+
+/// Whether these are the findings of the catalogue's packages, a `;` after each.
+pub(crate) fn are_found<P: Packages>(alloc: Global, packages: &P, wanted: &str) -> Option<bool> {
+    let catalogue = catalogue_of_profile(alloc, PROFILE)?;
+    let line = print_findings(alloc, catalogue, packages).ok()?;
+    Some(line.as_str() == wanted)
 }

@@ -1,16 +1,15 @@
 // Plans by least chains, of full packages and differentials.
 
-use crate::asking::replies_with;
-use crate::batches::{after, stoned};
-use crate::bodies::planned;
+use crate::asking::wrong_reply;
+use crate::bodies::is_planned;
 use editions::Edition;
+use fixtures::{CHAINED, edition_after, edition_of};
 use std::alloc::Global;
-use std::process::Abort;
-use std::test::Fail;
 
-// The app of a client whose fingerprint has the digit of its release, and which may be downgraded
-// or not.
-fn client(alloc: Global, digit: &str, cohort: &str, down: &str) -> Option<String> {
+// The app of a client by a release's digit, which its fingerprint has, its cohort, and whether it may be downgraded.
+fn client(alloc: Global, row: &str) -> Option<String> {
+    let (digit, others) = row.split_once(',')?;
+    let (cohort, down) = others.split_once(',')?;
     let hash = digit.repeat(alloc, 64).ok()?;
     format!(in alloc;
         "{{\"appid\":\"demo\",\"cohort\":\"{cohort}\",\"packages\":{{\"package\":[{{\"fp\":\"1.{hash}\"}}]}},\"updatecheck\":{{\"rollback_allowed\":{down}}},\"version\":\"{digit}.0\"}}"
@@ -19,26 +18,23 @@ fn client(alloc: Global, digit: &str, cohort: &str, down: &str) -> Option<String
 
 // Whether the choice is that of its row.
 fn chooses_so(alloc: Global, edition: &Edition, row: &str) -> Option<bool> {
-    let (wanted, client_of) = row.split_once(", | ")?;
-    let (digit, others) = client_of.split_once(',')?;
-    let (cohort, down) = others.split_once(',')?;
-    let app = client(alloc, digit, cohort, down)?;
-    let text = planned(alloc, edition, app.as_str())?;
-    Some(text.as_str().strip_suffix(", ") == Some(wanted))
+    let (wanted, client_of) = row.split_once("| ")?;
+    let app = client(alloc, client_of)?;
+    is_planned(alloc, edition, app.as_str(), wanted)
 }
 
-// Tests rows: the choice, a bar, then the release's digit, the cohort and whether it may be downgraded.
-fn chooses(
-    rt: &impl Abort,
-    alloc: Global,
-    edition: Result<Edition, Fail>,
-    rows: &str,
-) -> Result<(), Fail> {
-    let edition = edition?;
+// The first wrong row after edits, or `""`. A row is the choice, a bar, then the release's digit, the cohort and whether
+// the client may be downgraded.
+fn wrong_choice(alloc: Global, edits: &str, rows: &'static str) -> &'static str {
+    let Some(edition) = edition_after(alloc, CHAINED, edits) else {
+        return "no edition";
+    };
     for row in rows.lines() {
-        assert!(rt; chooses_so(alloc, &edition, row) == Some(true), "{row}");
+        if chooses_so(alloc, edition, row) != Some(true) {
+            return row;
+        }
     }
-    Ok(())
+    ""
 }
 
 // The digits 0 and 5 are of no release, so such a client is at 0.0 or 5.0.
@@ -63,8 +59,9 @@ differential 0 for 300, | 1,beta:0,true";
 // rule: Key of a client
 // rule: Rollback of a track
 #[test]
-fn chooses_the_first_payload_of_a_least_chain(rt: HostRuntime) -> Result<(), Fail> {
-    chooses(&rt, rt.alloc(), stoned(rt.alloc()), CHOICES)
+fn chooses_the_first_payload_of_a_least_chain(rt: HostRuntime) {
+    let wrong = wrong_choice(rt.alloc(), "", CHOICES);
+    assert!(rt; wrong.is_empty(), "{wrong}");
 }
 
 const WITHDRAWN: &str = "differential 3 for 500, | 2,stable:0,false
@@ -74,10 +71,9 @@ differential 4 for 250, | 3,stable:0,false";
 
 // rule: Tables of an edition
 #[test]
-fn goes_round_a_withdrawn_release(rt: HostRuntime) -> Result<(), Fail> {
-    let edit = "do = 'set_withdrawn', app = 'demo', version = '3.0', on = true";
-    let edition = after(rt.alloc(), stoned(rt.alloc()), edit);
-    chooses(&rt, rt.alloc(), edition, WITHDRAWN)
+fn goes_round_a_withdrawn_release(rt: HostRuntime) {
+    let wrong = wrong_choice(rt.alloc(), "set_withdrawn demo 3.0 on", WITHDRAWN);
+    assert!(rt; wrong.is_empty(), "{wrong}");
 }
 
 const CLOSED: &str = "none, | 1,stable:0,false
@@ -87,10 +83,9 @@ differential 0 for 300, | 1,beta:0,false";
 
 // rule: Stone
 #[test]
-fn jumps_no_stone_that_is_closed(rt: HostRuntime) -> Result<(), Fail> {
-    let edit = "do = 'set_audience', app = 'demo', version = '2.0', cohorts = ['beta']";
-    let edition = after(rt.alloc(), stoned(rt.alloc()), edit);
-    chooses(&rt, rt.alloc(), edition, CLOSED)
+fn jumps_no_stone_that_is_closed(rt: HostRuntime) {
+    let wrong = wrong_choice(rt.alloc(), "set_audience demo 2.0 beta", CLOSED);
+    assert!(rt; wrong.is_empty(), "{wrong}");
 }
 
 const DIFFERENTIAL: &str =
@@ -99,6 +94,12 @@ const DIFFERENTIAL: &str =
 
 // rule: Offer of a payload
 #[test]
-fn offers_a_differential_with_its_full_package(rt: HostRuntime) -> Result<(), Fail> {
-    replies_with(&rt, rt.alloc(), stoned(rt.alloc()), true, DIFFERENTIAL)
+fn offers_a_differential_with_its_full_package(rt: HostRuntime) {
+    let wrong = wrong_reply(
+        rt.alloc(),
+        edition_of(rt.alloc(), CHAINED),
+        true,
+        DIFFERENTIAL,
+    );
+    assert!(rt; wrong.is_empty(), "{wrong}");
 }

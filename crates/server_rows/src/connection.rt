@@ -1,8 +1,8 @@
-// A connection, packages and a clock in memory.
+// A connection and a clock in memory.
 
 ghost use Rattle.std.specs.Prelude.{None};
 
-use http_desks::{Clock, Packages};
+use http_desks::Clock;
 use http_wire::{Failed, Sink, Source};
 use std::alloc::Global;
 
@@ -51,32 +51,6 @@ impl Sink for Received {
         let count = bytes.len().min(self.piece.max(1));
         let _ = self.bytes.extend_from_slice(&bytes[..count]);
         Ok(count)
-    }
-}
-
-/// Three files of letters `a`.
-#[derive(Drop)]
-pub(crate) struct Letters;
-
-impl Packages for Letters {
-    ghost reads = { λ _ _ _ _ _. Unit {0} };
-
-    ghost sizes = { λ _ _ _. Unit {0} };
-
-    fn size(&self, name: &[u8]) -> Option<u64> {
-        match name {
-            b"mebibyte.bin" => Some(1048576),
-            b"block.bin" => Some(65536),
-            b"letters.bin" => Some(131072),
-            _ => None,
-        }
-    }
-
-    fn read_at(&self, _name: &[u8], _at: u64, into: &mut [u8]) -> Result<(), Failed> {
-        for byte in into.iter_mut() {
-            *byte = b'a';
-        }
-        Ok(())
     }
 }
 

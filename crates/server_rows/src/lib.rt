@@ -23,8 +23,6 @@ mod cohort_texts;
 #[cfg(test)]
 mod connection;
 #[cfg(test)]
-mod demo;
-#[cfg(test)]
 mod folder_tests;
 #[cfg(test)]
 mod lines;
@@ -32,6 +30,8 @@ mod lines;
 mod memory_tests;
 #[cfg(test)]
 mod message_tests;
+#[cfg(test)]
+mod messages;
 #[cfg(test)]
 mod offers;
 #[cfg(test)]

@@ -1,7 +1,6 @@
 use crate::connection::Received;
-use crate::demo::message_of;
-use crate::lines::push_numbers;
-use crate::opened::{Ended, serve_sent};
+use crate::messages::message_of;
+use crate::opened::serve_sent;
 use std::alloc::Global;
 use std::str;
 use std::sync::Wait;
@@ -12,22 +11,13 @@ const REPLY: &str = r#")]}'
 const BUSY: &str = r#")]}'
 {"response":{"app":[{"appid":"demo","cohort":"stable:0","cohortname":"stable","status":"ok","updatecheck":{"status":"error-internal"}}],"daystart":{"elapsed_days":6940,"elapsed_seconds":3661},"protocol":"3.1"}}"#;
 
-// Whether what was written is a reply with this body.
-fn is_whole(written: &[u8], wanted: &str) -> bool {
-    match str::from_utf8(written).unwrap_or("").split_once("\r\n\r\n") {
-        Some((head, body)) => is_head(head, wanted.len()) && body == wanted,
-        None => false,
-    }
-}
+const HEAD: &str = "HTTP/1.1 200 OK\r\nContent-Type: application/json\r\nContent-Length: ";
 
-// Whether it is the head of a reply that has so many bytes.
-fn is_head(head: &str, length: usize) -> bool {
-    match head.strip_prefix(
-        "HTTP/1.1 200 OK\r\nContent-Type: application/json\r\nContent-Length: ",
-    ) {
-        Some(number) => number.parse().ok() == Some(length),
-        None => false,
-    }
+// Whether what was written is a reply with this body.
+fn is_whole(written: &[u8], wanted: &str) -> Option<bool> {
+    let (head, body) = str::from_utf8(written).ok()?.split_once("\r\n\r\n")?;
+    let length = head.strip_prefix(HEAD)?.parse().ok()?;
+    Some(body == wanted && body.len() == length)
 }
 
 // Whether a peer gets this body for the message of one client over mirrors of these budgets.
@@ -35,7 +25,7 @@ fn is_replied<R: Wait + AllocGlobal>(rt: &R, budgets: &str, wanted: &str) -> Opt
     let message = message_of(rt.alloc(), 1).ok()?;
     let mut sink = Received::new(rt.alloc(), usize::MAX);
     let _ended = serve_sent(rt, budgets, message.as_str().as_bytes(), &mut sink)?;
-    Some(is_whole(&sink.bytes, wanted))
+    is_whole(&sink.bytes, wanted)
 }
 
 // rule: Reply to an input
@@ -61,31 +51,21 @@ POST /service/update2/json HTTP/1.1~Content-Length: 1~~{ | 65536 = HTTP/1.1 400 
 POST /service/update2/json HTTP/1.1~Content-Length: 30~~{\"request\":{\"protocol\":\"3.0\"}} | 65536 = HTTP/1.1 400 Bad Request~Content-Length: 0~~ 0 finished 0
 ";
 
-// Puts the head of what was written at the end of a line, with `~` for the ends of its lines, and how many bytes
-// follow it.
-fn push_written(alloc: Global, line: &mut String, written: &[u8]) -> Option<()> {
-    let text = str::from_utf8(written).ok()?;
-    let (head, body) = text.split_once("\r\n\r\n")?;
-    let head = head.replace(alloc, "\r\n", "~").ok()?;
-    let length = body.len();
-    write!(line, "{head}~~ {length}").ok()
+// Whether what was written has this head, with `~` for the ends of its lines, and so many bytes after it.
+fn is_written(alloc: Global, written: &[u8], head: &str, length: &str) -> Option<bool> {
+    let (found, body) = str::from_utf8(written).ok()?.split_once("\r\n\r\n")?;
+    let found = found.replace(alloc, "\r\n", "~").ok()?;
+    Some(found.as_str() == head && length.parse() == Ok(body.len()))
 }
 
-// What a session comes to.
-fn print_session(alloc: Global, sink: &Received, ended: &Ended) -> Option<String> {
-    let mut line = String::new(alloc);
-    push_written(alloc, &mut line, &sink.bytes)?;
-    let how = ended.how;
-    write!(line, " {how}").ok()?;
-    push_numbers(&mut line, &ended.totals).ok()?;
-    Some(line)
-}
-
-// What a peer gets for a message, of which it takes so many bytes a call.
-fn print_reply<R: Wait + AllocGlobal>(rt: &R, sent: &[u8], piece: &str) -> Option<String> {
-    let mut sink = Received::new(rt.alloc(), piece.parse().unwrap_or(1));
+// Whether a peer that takes so many bytes a call gets what a row wants for a message.
+fn is_sent<R: Wait + AllocGlobal>(rt: &R, sent: &[u8], piece: &str, wanted: &str) -> Option<bool> {
+    let (head, others) = wanted.split_once("~~ ")?;
+    let (length, end) = others.split_once(' ')?;
+    let mut sink = Received::new(rt.alloc(), piece.parse().ok()?);
     let ended = serve_sent(rt, "1000", sent, &mut sink)?;
-    print_session(rt.alloc(), &sink, &ended)
+    let is_right = is_written(rt.alloc(), &sink.bytes, head, length);
+    Some(ended.as_str() == end && is_right == Some(true))
 }
 
 // Whether the peer of a row gets what it says.
@@ -93,8 +73,7 @@ fn is_served<R: Wait + AllocGlobal>(rt: &R, row: &str) -> Option<bool> {
     let (message, others) = row.split_once(" | ")?;
     let (piece, wanted) = others.split_once(" = ")?;
     let sent = message.replace(rt.alloc(), "~", "\r\n").ok()?;
-    let line = print_reply(rt, sent.as_str().as_bytes(), piece)?;
-    Some(line.as_str() == wanted)
+    is_sent(rt, sent.as_str().as_bytes(), piece, wanted)
 }
 
 // rule: Desk of update checks

@@ -1,6 +1,5 @@
-use crate::asking::replies_with;
-use crate::batches::demo;
-use std::test::Fail;
+use crate::asking::wrong_reply;
+use crate::batches::{IDLE, demo};
 
 // Clients at 1.0, by cohort and hint.
 const OFFERS: &str =
@@ -13,16 +12,18 @@ const OFFERS: &str =
 
 // rule: Cohort that a reply names
 #[test]
-fn offers_the_target_of_the_track(rt: HostRuntime) -> Result<(), Fail> {
-    replies_with(&rt, rt.alloc(), demo(rt.alloc()), true, OFFERS)
+fn offers_the_target_of_the_track(rt: HostRuntime) {
+    let wrong = wrong_reply(rt.alloc(), demo(rt.alloc(), IDLE), true, OFFERS);
+    assert!(rt; wrong.is_empty(), "{wrong}");
 }
 
 const NO_TARGET: &str =
     r#"{"appid":"demo","cohort":"idle:7","cohortname":"idle","status":"ok","updatecheck":{"status":"noupdate"}} | {"appid":"demo","cohort":"idle:7","cohorthint":"","packages":{"package":[{"fp":"1.1111111111111111111111111111111111111111111111111111111111111111"}]},"updatecheck":{},"version":"1.0"}"#;
 
 #[test]
-fn offers_nothing_without_a_target(rt: HostRuntime) -> Result<(), Fail> {
-    replies_with(&rt, rt.alloc(), demo(rt.alloc()), true, NO_TARGET)
+fn offers_nothing_without_a_target(rt: HostRuntime) {
+    let wrong = wrong_reply(rt.alloc(), demo(rt.alloc(), IDLE), true, NO_TARGET);
+    assert!(rt; wrong.is_empty(), "{wrong}");
 }
 
 const ACKNOWLEDGED: &str =
@@ -30,6 +31,7 @@ const ACKNOWLEDGED: &str =
 
 // rule: Bucket of a session
 #[test]
-fn names_the_bucket_of_the_session(rt: HostRuntime) -> Result<(), Fail> {
-    replies_with(&rt, rt.alloc(), demo(rt.alloc()), true, ACKNOWLEDGED)
+fn names_the_bucket_of_the_session(rt: HostRuntime) {
+    let wrong = wrong_reply(rt.alloc(), demo(rt.alloc(), IDLE), true, ACKNOWLEDGED);
+    assert!(rt; wrong.is_empty(), "{wrong}");
 }

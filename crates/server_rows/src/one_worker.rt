@@ -3,7 +3,8 @@
 ghost use Rattle.std.specs.Prelude.{◌≡◌, ◌≤◌, ◌<◌, true, vec_len};
 ghost use Rattle.mirror_ledger.specs.Named.{are_bounded, IsNamed};
 
-use crate::lines::{are_bounded, mirrors_of, number_of, push_numbers};
+use crate::lines::{are_bounded, number_of, push_numbers};
+use fixtures::mirrors_of;
 use mirror_ledger::{Blanks, Books, BudgetName, Shares, close, open_books};
 use records::Mirror;
 use std::alloc::{AllocError, Global};

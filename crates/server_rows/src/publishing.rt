@@ -1,53 +1,38 @@
-use crate::asking::replies_with;
-use crate::batches::{first_of, next_of, releases, set_target, small};
-use catalogue::Batch;
+use crate::asking::gets_reply;
+use crate::batches::{MINI, TARGET, small};
 use editions::{Edition, NextError};
-use std::alloc::{AllocError, Global};
-use std::test::Fail;
+use fixtures::{edition_of, edition_of_batches, next_of};
+use std::alloc::Global;
 
-// The error, or `accepted` with the next edition's number.
-fn shown(alloc: Global, next: Result<Edition, NextError>) -> Result<String, AllocError> {
-    match next {
-        Ok(edition) => format!(in alloc; "accepted as {}", edition.number()),
-        Err(error) => format!(in alloc; "{error}"),
-    }
-}
-
-// The edition of 4096 batches without edits.
-fn full(alloc: Global) -> Result<Edition, NextError> {
-    let mut edition = Edition::empty(alloc);
-    for _index in 0..4096u32 {
-        edition = edition.next(Batch::new(Vec::new(alloc)))?;
-    }
-    Ok(edition)
-}
-
-// Whether a batch ends so.
-fn ends_so(alloc: Global, next: Result<Edition, NextError>, wanted: &str) -> bool {
-    match shown(alloc, next) {
-        Ok(text) => text.as_str() == wanted,
+fn is_printed(alloc: Global, error: &NextError, wanted: &str) -> bool {
+    match format!(in alloc; "{error}") {
+        Ok(line) => line.as_str() == wanted,
         Err(_) => false,
     }
 }
 
-// Whether a batch that sets a target of `mini` ends so.
-fn targets_so(alloc: Global, edition: &Edition, version: &str, wanted: &str) -> Result<bool, Fail> {
-    let batch = set_target(alloc, version)?;
-    Ok(ends_so(alloc, edition.next(batch), wanted))
+// Whether edits after an edition are rejected so.
+fn rejects(alloc: Global, edition: &Edition, edits: &str, wanted: &str) -> bool {
+    match next_of(alloc, edition, edits) {
+        Ok(_next) => false,
+        Err(error) => is_printed(alloc, &error, wanted),
+    }
+}
+
+// Whether the edition of 4096 batches accepts none, and reports an edit that is rejected first.
+fn is_full(alloc: Global) -> Option<bool> {
+    let edition = edition_of_batches(alloc, 4096)?;
+    let is_last = edition.number() == 4096 && rejects(alloc, edition, "", "history full");
+    Some(is_last && rejects(alloc, edition, TARGET, "edit 0: C1 UnknownApp"))
 }
 
 // rule: A rejected batch before a full history
 // rule: Room for 4096 batches
 #[test]
-fn takes_4096_batches_and_no_more(rt: HostRuntime) -> Result<(), Fail> {
-    let edition = full(rt.alloc())?;
-    assert!(rt; Edition::empty(rt.alloc()).number() == 0);
-    assert!(rt; edition.number() == 4096);
-    let more = edition.next(Batch::new(Vec::new(rt.alloc())));
-    assert!(rt; ends_so(rt.alloc(), more, "history full"));
-    let is_right = targets_so(rt.alloc(), &edition, "2.0", "edit 0: C1 UnknownApp")?;
-    assert!(rt; is_right);
-    Ok(())
+fn takes_4096_batches_and_no_more(rt: HostRuntime) {
+    let first = edition_of_batches(rt.alloc(), 0);
+    assert!(rt; matches!(first, Some(edition) if edition.number() == 0));
+    assert!(rt; is_full(rt.alloc()) == Some(true));
 }
 
 const NOTHING: &str =
@@ -56,24 +41,30 @@ const NOTHING: &str =
 const THIRD: &str =
     r#"{"appid":"mini","cohort":"stable:0","cohortname":"stable","status":"ok","updatecheck":{"manifest":{"packages":{"package":[{"fp":"1.3333333333333333333333333333333333333333333333333333333333333333","hash_sha256":"3333333333333333333333333333333333333333333333333333333333333333","name":"mini-3.0.bin","size":7}]},"version":"3.0"},"status":"ok","urls":{"url":[{"codebase":"http://m0.example/p/"}]}}} | {"appid":"mini","cohort":"stable:0","updatecheck":{}}"#;
 
+// Whether the first edition is kept after the second.
+fn is_kept(alloc: Global) -> Option<bool> {
+    let first = edition_of(alloc, MINI)?;
+    let second = next_of(alloc, first, "set_target mini stable 3.0 -").ok()?;
+    let are_numbered = first.number() == 1 && second.number() == 2;
+    let is_first = gets_reply(alloc, first, true, NOTHING)?;
+    let is_second = gets_reply(alloc, second, true, THIRD)?;
+    Some(are_numbered && is_first && is_second)
+}
+
 // rule: The next edition
 #[test]
-fn leaves_the_edition_before_as_it_was(rt: HostRuntime) -> Result<(), Fail> {
-    let alloc = rt.alloc();
-    let first = first_of(alloc, releases(alloc))?;
-    let second = next_of(&first, set_target(alloc, "3.0"))?;
-    assert!(rt; first.number() == 1);
-    assert!(rt; second.number() == 2);
-    replies_with(&rt, alloc, Ok(first), true, NOTHING)?;
-    replies_with(&rt, alloc, Ok(second), true, THIRD)
+fn leaves_the_edition_before_as_it_was(rt: HostRuntime) {
+    assert!(rt; is_kept(rt.alloc()) == Some(true));
+}
+
+fn rejects_next(alloc: Global, edits: &str, wanted: &str) -> Option<bool> {
+    Some(rejects(alloc, small(alloc)?, edits, wanted))
 }
 
 // rule: Printed error of a batch
 #[test]
-fn prints_rejections(rt: HostRuntime) -> Result<(), Fail> {
-    let edition = small(rt.alloc())?;
-    let is_right = targets_so(rt.alloc(), &edition, "3.5", "edit 0: C11 UnknownRelease")?;
-    assert!(rt; is_right);
-    assert!(rt; ends_so(rt.alloc(), Err(NextError::Memory), "memory"));
-    Ok(())
+fn prints_rejections(rt: HostRuntime) {
+    let edits = "set_target mini stable 3.5 -";
+    assert!(rt; rejects_next(rt.alloc(), edits, "edit 0: C11 UnknownRelease") == Some(true));
+    assert!(rt; is_printed(rt.alloc(), &NextError::Memory, "memory"));
 }

@@ -1,12 +1,9 @@
 use crate::asking::request;
-use crate::batches::{after, demo};
+use crate::batches::{IDLE, demo};
 use catalogue::Catalogue;
 use cohorts::{CohortText, Lane, Track, assign};
-use editions::Edition;
 use omaha_json::Request;
 use std::alloc::Global;
-use std::process::Abort;
-use std::test::Fail;
 
 // The request of a client that names its cohort and a hint so, and that may be downgraded.
 fn client(alloc: Global, cohort: &str, hint: &str, session: &str) -> Option<Request> {
@@ -55,27 +52,24 @@ fn is_assigned(alloc: Global, catalogue: &Catalogue, row: &str) -> Option<bool> 
     Some(track.as_str() == wanted)
 }
 
-// Tests rows: the track, a bar, then cohort, hint and session, separated by commas.
-fn assigns(
-    rt: &impl Abort,
-    alloc: Global,
-    edition: Result<Edition, Fail>,
-    rows: &str,
-) -> Result<(), Fail> {
-    let edition = edition?;
+// The first wrong row after edits, or `""`. A row is the track, a bar, then cohort, hint and session, separated by
+// commas.
+fn wrong_track(alloc: Global, edits: &str, rows: &'static str) -> &'static str {
+    let Some(edition) = demo(alloc, edits) else {
+        return "no edition";
+    };
     for row in rows.lines() {
-        assert!(rt;
-            is_assigned(alloc, edition.catalogue(), row) == Some(true),
-            "{row}"
-        );
+        if is_assigned(alloc, edition.catalogue(), row) != Some(true) {
+            return row;
+        }
     }
-    Ok(())
+    ""
 }
 
 // rule: Bucket of a client
 // rule: Cohort of a client
 #[test]
-fn assigns_by_hint_cohort_text_and_session(rt: HostRuntime) -> Result<(), Fail> {
+fn assigns_by_hint_cohort_text_and_session(rt: HostRuntime) {
     let rows = "stable:500 held 3.0 | stable:500,,abc
 stable:499 target 4.0 | stable:499,,abc
 stable:319 target 4.0 | ,,abc
@@ -99,52 +93,48 @@ stable:319 target 4.0 | :5,,abc
 stable:319 target 4.0 | :,,abc
 stable:319 target 4.0 | abcdefghijklmnopqrstuvwxyzabcdefg:5,,abc
 stable:319 target 4.0 | BETA:7,,abc";
-    assigns(&rt, rt.alloc(), demo(rt.alloc()), rows)
-}
-
-// The edition of `demo` after one edit of a cohort.
-fn changed(alloc: Global, edit: &str) -> Result<Edition, Fail> {
-    after(alloc, demo(alloc), edit)
+    let wrong = wrong_track(rt.alloc(), IDLE, rows);
+    assert!(rt; wrong.is_empty(), "{wrong}");
 }
 
 #[test]
-fn serves_no_bucket_at_share_0(rt: HostRuntime) -> Result<(), Fail> {
+fn serves_no_bucket_at_share_0(rt: HostRuntime) {
     let rows = "stable:0 held 3.0 | stable:0,,abc
 stable:999 held 3.0 | stable:999,,abc";
-    let edit = "do = 'set_share', app = 'demo', cohort = 'stable', share = 0";
-    assigns(&rt, rt.alloc(), changed(rt.alloc(), edit), rows)
+    let wrong = wrong_track(rt.alloc(), "set_share demo stable 0", rows);
+    assert!(rt; wrong.is_empty(), "{wrong}");
 }
 
 // rule: Lane
 #[test]
-fn serves_bucket_0_at_share_1(rt: HostRuntime) -> Result<(), Fail> {
+fn serves_bucket_0_at_share_1(rt: HostRuntime) {
     let rows = "stable:0 target 4.0 | stable:0,,abc
 stable:1 held 3.0 | stable:1,,abc";
-    let edit = "do = 'set_share', app = 'demo', cohort = 'stable', share = 1";
-    assigns(&rt, rt.alloc(), changed(rt.alloc(), edit), rows)
+    let wrong = wrong_track(rt.alloc(), "set_share demo stable 1", rows);
+    assert!(rt; wrong.is_empty(), "{wrong}");
 }
 
 #[test]
-fn serves_every_bucket_at_share_1000(rt: HostRuntime) -> Result<(), Fail> {
+fn serves_every_bucket_at_share_1000(rt: HostRuntime) {
     let rows = "stable:0 target 4.0 | stable:0,,abc
 stable:999 target 4.0 | stable:999,,abc";
-    let edit = "do = 'set_share', app = 'demo', cohort = 'stable', share = 1000";
-    assigns(&rt, rt.alloc(), changed(rt.alloc(), edit), rows)
+    let wrong = wrong_track(rt.alloc(), "set_share demo stable 1000", rows);
+    assert!(rt; wrong.is_empty(), "{wrong}");
 }
 
 // rule: Target of a lane
 #[test]
-fn holds_without_a_held_target(rt: HostRuntime) -> Result<(), Fail> {
+fn holds_without_a_held_target(rt: HostRuntime) {
     let rows = "beta:6 target 3.0 | beta:6,,abc
 beta:7 held | beta:7,,abc";
-    let edit = "do = 'set_share', app = 'demo', cohort = 'beta', share = 7";
-    assigns(&rt, rt.alloc(), changed(rt.alloc(), edit), rows)
+    let wrong = wrong_track(rt.alloc(), "set_share demo beta 7", rows);
+    assert!(rt; wrong.is_empty(), "{wrong}");
 }
 
 #[test]
-fn takes_a_closed_cohort_from_the_cohort_text_alone(rt: HostRuntime) -> Result<(), Fail> {
+fn takes_a_closed_cohort_from_the_cohort_text_alone(rt: HostRuntime) {
     let rows = "beta:7 target 3.0 | beta:7,,abc
 stable:7 target 4.0 | stable:7,beta,abc";
-    let edit = "do = 'set_open', app = 'demo', cohort = 'beta', on = false";
-    assigns(&rt, rt.alloc(), changed(rt.alloc(), edit), rows)
+    let wrong = wrong_track(rt.alloc(), "set_open demo beta off", rows);
+    assert!(rt; wrong.is_empty(), "{wrong}");
 }

@@ -3,7 +3,8 @@
 ghost use Rattle.std.specs.Prelude.{◌≡◌, ◌≤◌, ◌<◌, true, vec_len, IfOk};
 ghost use Rattle.mirror_ledger.specs.Named.{are_bounded, IsNamed};
 
-use crate::lines::{are_bounded, mirrors_of};
+use crate::lines::are_bounded;
+use fixtures::mirrors_of;
 use mirror_ledger::{Blanks, Books, BudgetName, Hand, Shares, Till, close, open_books};
 use records::Mirror;
 use std::alloc::{AllocError, Global};
