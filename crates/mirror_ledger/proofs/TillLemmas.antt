@@ -45,19 +45,12 @@ pub AreOpened-unused :
     All (λ till. AreUnused (first till) (second till) (third till) (fourth till) (asks_of till)) tills →
     length tills ≡ workers →
     one ≡ workers → two ≡ workers → three ≡ workers → four ≡ workers →
-    AreOpened mirrors_of asks_of
-    (λ till. AreTallied (first till) (second till) (third till) (fourth till) (asks_of till))
-    (λ till. HaveOnePart one two three four × AreTallied (first till) (second till) (third till) (fourth till) (asks_of till))
-    mirrors tills
+    AreOpened mirrors_of asks_of (λ _. HaveOnePart one two three four) mirrors tills
 AreOpened-unused {T} mirrors_of first second third fourth asks_of one two three four workers books mirrors tills same given unused many a b c d =
     let Unused : T → Type 0 = λ till. AreUnused (first till) (second till) (third till) (fourth till) (asks_of till) in
-    let Tallied : T → Type 0 = λ till. AreTallied (first till) (second till) (third till) (fourth till) (asks_of till) in
-    let tallied : All Tallied tills =
-    All-weaker Unused Tallied (λ till none. AreTallied-unused (first till) (second till) (third till) (fourth till) (asks_of till) none) tills unused in
     record {
       mirrored = All-weaker (λ till. mirrors_of till ≡ books) (λ till. mirrors_of till ≡ mirrors) (λ till its. its ∙ same) tills given;
       unused = All-weaker Unused (λ till. asks_of till ≡ []) (λ till none. none.none_asked) tills unused;
-      tallied = tallied;
       alone = λ single.
           let parts : HaveOnePart one two three four = record {
             at_first = omega arith;
@@ -65,7 +58,7 @@ AreOpened-unused {T} mirrors_of first second third fourth asks_of one two three 
             at_third = omega arith;
             at_fourth = omega arith;
           } in
-          All-weaker Tallied (λ till. HaveOnePart one two three four × Tallied till) (λ till sums. (parts, sums)) tills tallied;
+          All-weaker Unused (λ _. HaveOnePart one two three four) (λ till none. parts) tills unused;
     }
 
 -- the totals of books that are closed by what the tills' asks came to

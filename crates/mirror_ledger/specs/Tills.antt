@@ -6,11 +6,10 @@ use Rattle.mirror_ledger.specs.Named.{budget_at, totals_of}
 
 -- rule: Tills of workers
 -- tills that have asked for nothing yet, all of the same mirrors; one that has no other beside it is alone
-pub record AreOpened {T : Type 0} (mirrors_of : T → List Mirror) (asks_of : T → List Ask) (Tallied Alone : T → Type 0)
+pub record AreOpened {T : Type 0} (mirrors_of : T → List Mirror) (asks_of : T → List Ask) (Alone : T → Type 0)
     (mirrors : List Mirror) (tills : List T) : Type 0 where
   pub mirrored : All (λ till. mirrors_of till ≡ mirrors) tills
   pub unused : All (λ till. asks_of till ≡ []) tills
-  pub tallied : All Tallied tills
   pub alone : length tills ≡ 1 → All Alone tills
 
 -- what the mirror at an index granted, by the asks of each worker

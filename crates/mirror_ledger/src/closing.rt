@@ -1,7 +1,6 @@
 //! How books are closed.
 
-ghost use Rattle.std.specs.Prelude.{◌≡◌, ℕ, ◌+◌, ◌<◌, ◌≤◌, All, IfOk, length, map, slice_index, sum_by, vec_len};
-ghost use Rattle.mirror_ledger.specs.Asks.{AreTallied};
+ghost use Rattle.std.specs.Prelude.{◌≡◌, ℕ, ◌+◌, ◌<◌, ◌≤◌, IfOk, length, map, slice_index, sum_by, vec_len};
 ghost use Rattle.mirror_ledger.specs.Named.{budget_at, totals_of};
 ghost use Rattle.mirror_ledger.specs.Tills.{granted_by};
 
@@ -72,8 +71,7 @@ fn gathered<A: BudgetName, B: BudgetName, C: BudgetName, D: BudgetName>(
 pub(crate) fn gather_tills<A: BudgetName, B: BudgetName, C: BudgetName, D: BudgetName>(
     tills: Vec<Hand<'_, A, B, C, D>>,
 ) -> Parts<A, B, C, D>
-    requires some { 0 < vec_len tills }
-    requires tallied { All (λ t. AreTallied t.shares.first t.shares.second t.shares.third t.shares.fourth t.shares.asks) tills.items }
+    requires { 0 < vec_len tills }
     ensures first { (result.first.parts ≡ vec_len tills.entry) × (result.first.amount ≡ granted_by (map (λ t. t.shares.asks) tills.entry.items) 0) }
     ensures second { (result.second.parts ≡ vec_len tills.entry) × (result.second.amount ≡ granted_by (map (λ t. t.shares.asks) tills.entry.items) 1) }
     ensures third { (result.third.parts ≡ vec_len tills.entry) × (result.third.amount ≡ granted_by (map (λ t. t.shares.asks) tills.entry.items) 2) }

@@ -2,7 +2,7 @@
 
 ghost use Rattle.std.specs.Prelude.{◌≡◌, ◌⊎◌, ◌<◌, ◌≤◌, List, All, IfOk, OnErr, length, map, true, vec_len};
 ghost use Rattle.records.specs.declared.mirror.Mirror.{Mirror};
-ghost use Rattle.mirror_ledger.specs.Asks.{AreTallied, AreUnused, Ask};
+ghost use Rattle.mirror_ledger.specs.Asks.{AreUnused, Ask};
 ghost use Rattle.mirror_ledger.specs.Named.{IsNamed, are_bounded};
 ghost use Rattle.mirror_ledger.specs.Order.{HaveOnePart};
 ghost use Rattle.mirror_ledger.specs.Tills.{AreOpened, AreTotalsOf};
@@ -28,10 +28,8 @@ pub trait Work<R> {
     /// Does the work, with the tills of the workers.
     fn work<T: Till + Send + Drop>(&mut self, rt: &R, tills: &mut Vec<T>) -> Self::End
         ensures many { vec_len tills.new ≡ vec_len tills.old }
-        ensures works { (mirrors : List Mirror)
-            → AreOpened T.mirrors T.asks T.tallied T.alone mirrors tills.old.items
-            → All T.tallied tills.new.items
-            × comes_to self.old self.new mirrors (map T.asks tills.new.items) result };
+        ensures works { (mirrors : List Mirror) → AreOpened T.mirrors T.asks T.alone mirrors tills.old.items
+            → comes_to self.old self.new mirrors (map T.asks tills.new.items) result };
 }
 
 // A till for each worker's shares of the books, which are those of the ledgers.
@@ -47,10 +45,7 @@ fn tills_of<'a, A: BudgetName, B: BudgetName, C: BudgetName, D: BudgetName>(
     requires fourth { vec_len shares ≡ D.parts }
     ensures many { IfOk result (λ tills. vec_len tills ≡ vec_len shares) }
     ensures opened { IfOk result (λ tills. (mirrors : List Mirror) → books.now ≡ mirrors
-        → AreOpened (λ till. till.books.now) (λ till. till.shares.asks)
-        (λ till. AreTallied till.shares.first till.shares.second till.shares.third till.shares.fourth till.shares.asks)
-        (λ till. HaveOnePart A.parts B.parts C.parts D.parts
-        × AreTallied till.shares.first till.shares.second till.shares.third till.shares.fourth till.shares.asks)
+        → AreOpened (λ till. till.books.now) (λ till. till.shares.asks) (λ _. HaveOnePart A.parts B.parts C.parts D.parts)
         mirrors tills.items) }
 {
     let mut shares = shares;

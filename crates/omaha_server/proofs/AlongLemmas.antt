@@ -1,6 +1,5 @@
 -- Sessions seen by a part of the desk's state.
 use Rattle.std.proofs.Common.{◌≡◌, ◌∙◌, ℕ, List, [], ◌∷◌, Option, Result, ap, codes, length, refl, subst, sym}
-use Rattle.std.specs.Prelude.{⊤}
 use Rattle.http_connections.specs.Connections.{IsSession, Unaccepted, Visit, Visited, Visits, limit_of}
 use Rattle.http_desks.specs.Calls.{Call, Leads}
 use Rattle.http_desks.specs.Uses.{IsUse}
@@ -80,17 +79,6 @@ Visits-along part Kept steps along follows path kind tells sizes reads (Visited 
     let first = Visits-along part Kept steps along follows path kind tells sizes reads earlier before visits.0 kept visits.1 in
     let last = IsSession-along part Kept steps along follows path kind tells sizes reads visits.0 behind result first.0 visits.2 in
     (last.0, (part visits.0, first.1, last.1))
-
--- what each step keeps stays through all sessions
-pub kept-along :
-    {D : Type 0} (Kept : D → Type 0) (steps : D → Call → D → Type 0)
-    (path kind : List ℕ) (tells : ℕ → Type 0) (sizes : List ℕ → Option ℕ → Type 0) (reads : List ℕ → Reads)
-    (visits : List Visit) (before behind : D)
-    → ((old : D) (call : Call) (new : D) → steps old call new → Kept old → Kept new)
-    → Kept before → Visits (IsSession (λ d. path) (λ d. kind) steps tells sizes reads) before visits behind → Kept behind
-kept-along {D} Kept steps path kind tells sizes reads visits before behind keeps kept served =
-    let follows : Follows (λ (d : D). d) Kept steps (λ _ _ _. ⊤) = λ old call new held stepped. (keeps old call new stepped held, tt) in
-    (Visits-along (λ (d : D). d) Kept steps (λ _ _ _. ⊤) follows path kind tells sizes reads visits before behind kept served).0
 
 -- what stays of a desk's state: the content, the mirrors, and that nobody else is granted on them
 pub AreServed-along :

@@ -37,20 +37,13 @@ only_till {T} asks_of (first ∷ rest) till asks same =
     let long : length (map asks_of (first ∷ rest ++ till ∷ [])) ≡ 1 = ap (λ (all : List (List Ask)). length all) same in
     absurd (omega (arith, rest_long, long))
 
--- the last of opened tills, and those before it
-pub tallied_last :
-    {T : Type 0} (mirrors_of : T → List Mirror) (asks_of : T → List Ask) (Tallied Alone : T → Type 0) (mirrors : List Mirror)
-    (tills rest : List T) (till : T) →
-    tills ≡ rest ++ till ∷ [] → AreOpened mirrors_of asks_of Tallied Alone mirrors tills → All Tallied rest × Tallied till
-tallied_last mirrors_of asks_of Tallied Alone mirrors tills rest till same opened = All-pop Tallied tills rest (Some till) same opened.tallied
-
 -- the only one of opened tills is alone, and was asked for nothing
 pub alone_last :
-    {T : Type 0} (mirrors_of : T → List Mirror) (asks_of : T → List Ask) (Tallied Alone : T → Type 0) (mirrors : List Mirror)
+    {T : Type 0} (mirrors_of : T → List Mirror) (asks_of : T → List Ask) (Alone : T → Type 0) (mirrors : List Mirror)
     (tills rest : List T) (till : T) →
-    tills ≡ rest ++ till ∷ [] → AreOpened mirrors_of asks_of Tallied Alone mirrors tills → length rest ≡ 0 →
+    tills ≡ rest ++ till ∷ [] → AreOpened mirrors_of asks_of Alone mirrors tills → length rest ≡ 0 →
     (mirrors_of till ≡ mirrors) × (asks_of till ≡ []) × Alone till
-alone_last {T} mirrors_of asks_of Tallied Alone mirrors tills rest till same opened none =
+alone_last {T} mirrors_of asks_of Alone mirrors tills rest till same opened none =
     let one : length tills ≡ 1 = ap (λ (all : List T). length all) same ∙ length-append rest (till ∷ []) ∙ ap (λ (k : ℕ). k + 1) none in (
       (All-pop (λ t. mirrors_of t ≡ mirrors) tills rest (Some till) same opened.mirrored).1,
       (All-pop (λ t. asks_of t ≡ []) tills rest (Some till) same opened.unused).1,

@@ -30,7 +30,6 @@ fn reply_to<T: Till, R: Wait>(
         (HasBegun (record { content = content_of edition.now; mirrors = T.mirrors till.old }) request.now
         (T.asks till.old) (T.asks till.new)) }
     ensures mirrors { T.mirrors till.new ≡ T.mirrors till.old }
-    ensures tallied { T.tallied till.old → T.tallied till.new }
     ensures alone { T.alone till.old
         → T.alone till.new × GrantsFirst (T.mirrors till.old) (T.asks till.old) (T.asks till.new) }
 {
@@ -75,7 +74,6 @@ pub fn answer<T: Till, R: Wait>(
         Answers (record { content = content_of edition.now; mirrors = T.mirrors till.old }) input.now moment
         (T.asks till.old) (T.asks till.new) (Err error)) }
     ensures mirrors { T.mirrors till.new ≡ T.mirrors till.old }
-    ensures tallied { T.tallied till.old → T.tallied till.new }
     ensures alone { T.alone till.old
         → T.alone till.new × GrantsFirst (T.mirrors till.old) (T.asks till.old) (T.asks till.new) }
 {

@@ -14,7 +14,6 @@ fn ask_for<T: Till, R: Wait>(rt: &R, till: &mut T, choice: Option<Choice>) -> Op
     ensures asks { T.asks till.new ≡ T.asks till.old ++ asks_for choice result }
     ensures mirrors { T.mirrors till.new ≡ T.mirrors till.old }
     ensures outcome { IsOutcome (T.mirrors till.old) choice result }
-    ensures tallied { T.tallied till.old → T.tallied till.new }
     ensures alone { T.alone till.old
         → T.alone till.new × GrantsFirst (T.mirrors till.old) (T.asks till.old) (T.asks till.new) }
 {
@@ -39,7 +38,6 @@ pub(crate) fn ask_each<T: Till, R: Wait>(
         AsksFor (T.mirrors till.old) plan.now outcomes.items (T.asks till.old) (T.asks till.new)) }
     ensures err { OnErr result (AsksFirst (T.mirrors till.old) plan.now (T.asks till.old) (T.asks till.new)) }
     ensures mirrors { T.mirrors till.new ≡ T.mirrors till.old }
-    ensures tallied { T.tallied till.old → T.tallied till.new }
     ensures alone { T.alone till.old
         → T.alone till.new × GrantsFirst (T.mirrors till.old) (T.asks till.old) (T.asks till.new) }
 {

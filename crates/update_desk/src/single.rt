@@ -38,7 +38,6 @@ impl<R: Wait + AllocGlobal, T: Till> Desk for Single<'_, R, T> {
         × (T.mirrors new.till ≡ T.mirrors old.till)
         × IsCall (record { content = content_of old.edition.now; mirrors = T.mirrors old.till })
         (T.asks old.till) call (T.asks new.till)
-        × (T.tallied old.till → T.tallied new.till)
         × (T.alone old.till
         → T.alone new.till × GrantsFirst (T.mirrors old.till) (T.asks old.till) (T.asks new.till)) };
 

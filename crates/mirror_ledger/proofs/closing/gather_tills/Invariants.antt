@@ -1,6 +1,5 @@
 -- The parts so far and the tills that are left are those that were handed in.
-use Rattle.std.proofs.Common.{◌≡◌, ◌+◌, All, map, vec_len}
-use Rattle.mirror_ledger.specs.Asks.{AreTallied}
+use Rattle.std.proofs.Common.{◌≡◌, ◌+◌, map, vec_len}
 use Rattle.mirror_ledger.specs.Tills.{granted_by}
 use Rattle.mirror_ledger.proofs.closing.gather_tills.Given as goal
 
@@ -17,4 +16,3 @@ invariant-loop-next g l =
     × (l.parts.third.amount + granted_by (map (λ t. t.shares.asks) l.tills.items) 2 ≡ granted_by (map (λ t. t.shares.asks) l.fn.tills.items) 2)
     × (l.parts.fourth.parts + vec_len l.tills ≡ vec_len l.fn.tills)
     × (l.parts.fourth.amount + granted_by (map (λ t. t.shares.asks) l.tills.items) 3 ≡ granted_by (map (λ t. t.shares.asks) l.fn.tills.items) 3)
-    × All (λ t. AreTallied t.shares.first t.shares.second t.shares.third t.shares.fourth t.shares.asks) l.tills.items

@@ -2,14 +2,10 @@ use Rattle.std.proofs.Common.{arith, inr, map}
 use Rattle.mirror_ledger.proofs.TillLemmas.{AreTotalsOf-parts, OnErr-any, length-asks}
 use Rattle.mirror_ledger.proofs.working.work_over.Goals as goal
 
-pub gather_tills-parts-requires-clause-tallied : goal.gather_tills-parts-requires-clause-tallied
-gather_tills-parts-requires-clause-tallied g c =
-    (c.work-end.ensures.works c.args.mirrors.items (c.in_ok-tills.ensures.opened c.args.mirrors.items c.in_ok-books.ensures.given)).0
-
 pub returns-in_err-totals-clause-err : goal.returns-in_err-totals-clause-err
 returns-in_err-totals-clause-err g c =
     let worked = c.work-end.ensures.works c.args.mirrors.items (c.in_ok-tills.ensures.opened c.args.mirrors.items c.in_ok-books.ensures.given) in
-    OnErr-any c.from_residual-in_err-totals.result (inr (map (λ t. t.shares.asks) c.work-end.new.tills.items, c.work-end.result, worked.1))
+    OnErr-any c.from_residual-in_err-totals.result (inr (map (λ t. t.shares.asks) c.work-end.new.tills.items, c.work-end.result, worked))
 
 pub returns-clause-ok : goal.returns-clause-ok
 returns-clause-ok g c =
@@ -25,7 +21,7 @@ returns-clause-ok g c =
         c.in_ok-tills.ensures.many,
         c.in_ok-books.ensures.workers,
       ),
-      worked.1,
+      worked,
       AreTotalsOf-parts _ c.args.mirrors.items (map (λ t. t.shares.asks) c.work-end.new.tills.items) c.in_ok-totals.totals.items
           parts.first.amount parts.second.amount parts.third.amount parts.fourth.amount c.in_ok-books.ensures.given
           c.in_ok-totals.ensures.totals gathered.first.1 gathered.second.1 gathered.third.1 gathered.fourth.1 c.in_ok-totals.ensures.within,

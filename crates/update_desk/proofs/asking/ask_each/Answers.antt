@@ -23,7 +23,6 @@ pub loop-choice-init : goal.loop-choice-init
 loop-choice-init g c = record {
   same = refl;
   asks = rw c.in-Ok.ensures.items (AsksFor-none (g.T.Till.mirrors c.args.till.now) (g.T.Till.asks c.args.till.now));
-  tallied = λ tallied. tallied;
   alone = λ alone. (alone, GrantsFirst-none (g.T.Till.mirrors c.args.till.now) (g.T.Till.asks c.args.till.now));
 }
 
@@ -47,7 +46,6 @@ loop-choice-preserved g c =
           (AsksFor-next (g.T.Till.mirrors c.args.till.now) c.args.plan.now c.loop-choice.choice-index c.loop-choice.outcomes.items c.ask_for-outcome.result
           (g.T.Till.asks c.args.till.now) (g.T.Till.asks c.loop-choice.till) (g.T.Till.asks c.ask_for-outcome.new.till)
           c.loop-choice-test.true c.loop-choice.invariant.asks outcome c.ask_for-outcome.ensures.asks);
-      tallied = λ tallied. c.ask_for-outcome.ensures.tallied (c.loop-choice.invariant.tallied tallied);
       alone =
           alone-trans (g.T.Till.alone c.args.till.now) (g.T.Till.alone c.loop-choice.till) (g.T.Till.alone c.ask_for-outcome.new.till) (g.T.Till.mirrors c.args.till.now)
           (g.T.Till.asks c.args.till.now) (g.T.Till.asks c.loop-choice.till) (g.T.Till.asks c.ask_for-outcome.new.till)

@@ -7,6 +7,5 @@ abbrev pub invariant-loop-choice : goal.invariant-loop-choice
 invariant-loop-choice g l = record {
   same : g.T.Till.mirrors l.till ≡ g.T.Till.mirrors l.fn.till;
   asks : AsksFor (g.T.Till.mirrors l.fn.till) (take l.choice-index l.plan) l.outcomes.items (g.T.Till.asks l.fn.till) (g.T.Till.asks l.till);
-  tallied : g.T.Till.tallied l.fn.till → g.T.Till.tallied l.till;
   alone : g.T.Till.alone l.fn.till → g.T.Till.alone l.till × GrantsFirst (g.T.Till.mirrors l.fn.till) (g.T.Till.asks l.fn.till) (g.T.Till.asks l.till);
 }
