@@ -6,7 +6,10 @@
 - the functions whose clause says `result ≡ NAME ..` with their own name;
 - the source files of libraries with fewer than 60 lines;
 - the lemmas with a line of more than 200 columns;
-- the names that specs define in two crates or more.
+- the names that specs define in two crates or more;
+- the functions of libraries with more than 7 arguments, or with more than 4 type parameters;
+- the types of errors, and the files for a thousand source lines;
+- the crates whose proofs cite lemmas of another crate of the repository.
 """
 
 import os
@@ -17,6 +20,9 @@ CRATES = os.path.join(TOP, "crates")
 FUNCTION = re.compile(r"(?:^|\n)\s*(?:pub(?:\([a-z]+\))? )?fn (\w+)(.*?)(?=\n\s*\{|\n\s*;)", re.DOTALL)
 DEFINITION = re.compile(r"(?m)^(?:abbrev pub|unfoldable pub|pub record|pub data) ([^\s:]+)")
 EDIT = re.compile(r"(?m)^    (\w+)\(\1\),$")
+SIGNATURE = re.compile(r"(?m)^ *(?:pub(?:\([a-z]+\))? )?(?:const )?fn (\w+)")
+ERROR = re.compile(r"(?m)^pub(?:\([a-z]+\))? (?:enum|struct) (\w*(?:Fault|Error|Failure|Failed|Refused|NoRoom))\b")
+CITATION = re.compile(r"Rattle\.(\w+)\.proofs\.")
 LEMMA = re.compile(r"(?m)^ *(?:pub )?([^\s:(){}|]+) :(?=\s)")
 
 
@@ -35,6 +41,32 @@ def percent(part, whole):
     return f"{part} of {whole}, {100 * part // max(whole, 1)}%"
 
 
+def parts_between(text, start):
+    """The parts at the top level between the bracket at a place and the one that closes it, and where that is."""
+    depth, part, parts = 0, "", []
+    for index in range(start, len(text)):
+        letter = text[index]
+        depth += (letter in "(<[{") - (letter in ")]}" or (letter == ">" and text[index - 1] != "-"))
+        if depth == 0:
+            return [it for it in parts + [part[1:] if not parts else part] if it.strip()], index + 1
+        if letter == "," and depth == 1:
+            parts.append(part[1:] if not parts else part)
+            part = ""
+        else:
+            part += letter
+    return [], start
+
+
+def signatures(text):
+    """The name of each function of a file, with how many arguments and type parameters it has."""
+    for found in SIGNATURE.finditer(text):
+        place, types = found.end(), []
+        if text[place] == "<":
+            types, place = parts_between(text, place)
+        arguments, _ = parts_between(text, place) if text[place] == "(" else ([], place)
+        yield found[1], len(arguments), sum(1 for it in types if not it.strip().startswith("'"))
+
+
 def main():
     every = [text for suffix in (".rt", ".antt", ".edit") for _, _, text in texts(("src", "specs", "proofs", "must-fail"), suffix)]
     with open(os.path.join(CRATES, "catalogue", "src", "edit.rt"), encoding="utf-8") as file:
@@ -48,6 +80,24 @@ def main():
 
     sources = [text.count("\n") for crate, _, text in texts(("src",), ".rt") if not crate.endswith("_rows")]
     print("source files of fewer than 60 lines:", percent(sum(1 for lines in sources if lines < 60), len(sources)))
+
+    libraries = [(crate, text) for crate, _, text in texts(("src",), ".rt") if not crate.endswith("_rows")]
+    shapes = [(f"{crate}::{name}", count, types) for crate, text in libraries for name, count, types in signatures(text)]
+    many = sorted(name for name, count, _ in shapes if count > 7)
+    print(f"functions with more than 7 arguments: {len(many)}: {', '.join(many)}")
+    many = sorted(name for name, _, types in shapes if types > 4)
+    print(f"functions with more than 4 type parameters: {len(many)}: {', '.join(many)}")
+    errors = sorted(f"{crate}::{name}" for crate, text in libraries for name in ERROR.findall(text))
+    print(f"types of errors: {len(errors)}: {', '.join(errors)}")
+    lines = sum(text.count("\n") for _, text in libraries)
+    files = sum(1 for kind in (".rt", ".antt") for _ in texts(("src", "specs", "proofs"), kind))
+    print(f"files for a thousand source lines: {1000 * files / max(lines, 1):.0f}")
+    crates = set(os.listdir(CRATES))
+    cited = sorted({
+        f"{crate} of {other}" for kind in (".rt", ".antt") for crate, _, text in texts(("src", "specs", "proofs"), kind)
+        for other in CITATION.findall(text) if other != crate and other in crates
+    })
+    print(f"crates whose proofs cite lemmas of another: {len(cited)}: {', '.join(cited)}")
 
     lemmas = wide = 0
     for _, _, text in texts(("proofs",), "Lemmas.antt"):
