@@ -1,10 +1,11 @@
 ghost use Rattle.std.specs.Prelude.{◌≡◌, length};
 
 use crate::devices::Pieces;
-use crate::head_tests::print_head;
+use crate::head_tests::is_head;
+use crate::lines::make_head;
 use http_wire::{Head, MAX_FIELDS, Window, read_body, read_head};
 use httparse::spans::{EMPTY_HEADER_SPAN, HeaderSpan};
-use std::alloc::{AllocError, Global};
+use std::alloc::Global;
 
 // Two messages after each other, the first with a body that looks like a head.
 const MESSAGES: &[u8] =
@@ -38,10 +39,10 @@ fn read_two(source: &mut Pieces<'_>, window: &mut Window, fields: &mut [HeaderSp
 }
 
 // How far it comes over a source.
-fn read_from(alloc: Global, source: &mut Pieces<'_>) -> Result<&'static str, AllocError> {
-    let mut window = Window::new(alloc)?;
-    let mut fields = vec![in alloc; EMPTY_HEADER_SPAN; MAX_FIELDS]?;
-    Ok(read_two(source, &mut window, &mut fields))
+fn read_from(alloc: Global, source: &mut Pieces<'_>) -> Option<&'static str> {
+    let fields = vec![in alloc; EMPTY_HEADER_SPAN; MAX_FIELDS].ok()?.leak();
+    let mut window = Window::new(alloc).ok()?;
+    Some(read_two(source, &mut window, fields))
 }
 
 // rule: Body of a request
@@ -57,7 +58,7 @@ fn reads_messages_however_they_are_cut(rt: HostRuntime) {
         for piece in [1, 7, 1000] {
             let mut source = Pieces::new(&MESSAGES[..end], piece);
             let found = read_from(rt.alloc(), &mut source);
-            assert!(rt; found.ok() == Some(expected), "{end} bytes, {piece} a call");
+            assert!(rt; found == Some(expected), "{end} bytes, {piece} a call");
         }
     }
 }
@@ -78,32 +79,23 @@ fn reports_each_read_that_fails(rt: HostRuntime) {
             failed: false,
         };
         let found = read_from(rt.alloc(), &mut source);
-        assert!(rt; found.ok() == Some(expected), "after {good} reads");
+        assert!(rt; found == Some(expected), "after {good} reads");
     }
-}
-
-// A head of one field that has so many bytes.
-fn make_head(alloc: Global, length: usize) -> Result<Vec<u8>, AllocError> {
-    let mut head = Vec::from_slice(alloc, b"GET / HTTP/1.1\r\nX: ")?;
-    for _ in head.len()..length.saturating_sub(4) {
-        head.push(b'a')?;
-    }
-    head.extend_from_slice(b"\r\n\r\n")?;
-    Ok(head)
 }
 
 // Whether a head of so many bytes is read as that.
-fn is_read_as(alloc: Global, length: usize, wanted: &str) -> Result<bool, AllocError> {
-    let head = make_head(alloc, length)?;
-    let found = print_head(alloc, &head, 5000)?;
-    Ok(head.len() == length && found.as_str() == wanted)
+fn is_read_as(alloc: Global, length: usize, wanted: &str) -> Option<bool> {
+    let head = make_head(alloc, 1, length)?;
+    if head.len() == length {
+        is_head(alloc, head, 5000, wanted)
+    } else {
+        None
+    }
 }
 
 // rule: Head of a request
 #[test]
 fn reads_a_head_of_16384_bytes(rt: HostRuntime) {
-    for (length, wanted) in [(16384, "0 open"), (16385, "long")] {
-        let is_right = is_read_as(rt.alloc(), length, wanted);
-        assert!(rt; is_right.ok() == Some(true), "{length} bytes");
-    }
+    assert!(rt; is_read_as(rt.alloc(), 16384, "0 open") == Some(true));
+    assert!(rt; is_read_as(rt.alloc(), 16385, "long") == Some(true));
 }

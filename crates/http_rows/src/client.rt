@@ -1,16 +1,16 @@
 // A listener on the loopback with its clients, and the server of so many connections.
 
-ghost use Rattle.std.specs.Prelude.{◌≡◌, ◌<◌};
-
-use crate::counter::{Counter, Nothing, Stopped};
-use http_connections::{Door, serve_connections};
+use crate::counter::Counter;
+use crate::desks::Files;
+use crate::lines::expand;
+use crate::writers::Stopped;
+use http_connections::serve_listener;
+use http_sessions::Site;
 use http_wire::Unwatched;
 use std::alloc::Global;
 use std::io;
 use std::io::{Read, Write};
-use std::marker::Brand;
 use std::net::{Shutdown, TcpListener, TcpStream};
-use std::sync::ledger::{Blank, Ledger};
 
 /// Sends a byte of a message: `~` is the end of a line, and `#` is 1000 letters.
 pub(crate) fn send_byte(stream: &mut TcpStream, byte: u8) -> io::Result<()> {
@@ -45,49 +45,26 @@ pub(crate) fn connect(
     Ok(stream)
 }
 
-// Returns all that the server sent.
-fn read_all(alloc: Global, stream: &mut TcpStream) -> io::Result<String> {
-    let mut text = String::new(alloc);
-    stream.read_to_string(&mut text)?;
-    Ok(text)
-}
-
-/// Returns what the server sent, with `~` for the ends of lines.
-pub(crate) fn receive(alloc: Global, stream: &mut TcpStream) -> io::Result<String> {
-    let text = read_all(alloc, stream)?;
-    Ok(text.as_str().replace(alloc, "\r\n", "~")?)
-}
-
-// Serves by a door of a ledger, and returns how often the desk was asked.
-fn serve_by<L: Ledger>(
-    rt: &HostRuntime,
-    listener: &TcpListener,
-    blank: Blank,
-    limit: u64,
-    seconds: u64,
-) -> u8
-    requires name { blank.name ≡ L.name }
-    requires parts { blank.parts ≡ L.parts }
-    requires some { 0 < blank.parts }
-    requires limited { 0 < seconds }
-{
-    let mut door = Door::<L>::new(listener, seconds, blank);
-    let mut desk = Counter { asked: 0 };
-    serve_connections(
-        rt,
-        &mut door,
-        &mut desk,
-        &Nothing,
-        &Stopped,
-        Some(limit),
-        &Unwatched,
-    );
-    desk.asked
+/// Whether the server sent this, and no more.
+pub(crate) fn is_sent(alloc: Global, stream: &mut TcpStream, wanted: &str) -> Option<bool> {
+    let wanted = expand(alloc, wanted)?;
+    let mut bytes = Vec::new(alloc);
+    stream.read_to_end(&mut bytes).ok()?;
+    Some(bytes.as_slice() == wanted)
 }
 
 /// Serves so many connections, with a limit of one second for each read and write, and returns how often the
 /// desk was asked.
 pub(crate) fn serve_some(rt: &HostRuntime, listener: &TcpListener, limit: u64) -> u8 {
-    let blank = Blank::new(1);
-    serve_by::<Brand>(rt, listener, blank, limit, 1)
+    let site = Site {
+        packages: &Files,
+        clock: &Stopped,
+        watch: &Unwatched,
+    };
+    let mut desk = Counter {
+        alloc: rt.alloc(),
+        asked: 0,
+    };
+    serve_listener(rt, listener, 1, &mut desk, &site, Some(limit));
+    desk.asked
 }

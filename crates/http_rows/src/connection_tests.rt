@@ -1,4 +1,5 @@
-use crate::client::{connect, receive, serve_some};
+use crate::client::{connect, is_sent, serve_some};
+use crate::server::listen;
 use std::alloc::Global;
 use std::net::{TcpListener, TcpStream};
 use std::test::Fail;
@@ -15,27 +16,19 @@ POST /ask HTTP/1.1~Content-Le =
 POST /ask HTTP/1.1~Content-Le+ = 
  = ";
 
-// Whether a client gets what its row says.
-fn is_sent(alloc: Global, stream: &mut TcpStream, wanted: &str) -> bool {
-    match receive(alloc, stream) {
-        Ok(line) => line.as_str() == wanted,
-        Err(_) => false,
-    }
-}
-
 // Whether the client of a row gets what the row says.
 fn is_replied(rt: &HostRuntime, listener: &TcpListener, row: &str) -> Option<bool> {
     let (message, wanted) = row.split_once(" = ")?;
     let mut stream = connect(rt, listener, message).ok()?;
     let _ = serve_some(rt, listener, 1);
-    Some(is_sent(rt.alloc(), &mut stream, wanted))
+    is_sent(rt.alloc(), &mut stream, wanted)
 }
 
 #[test]
 fn replies_over_the_loopback(rt: HostRuntime) -> Result<(), Fail> {
-    let listener = TcpListener::bind(&rt, "127.0.0.1:0")?;
+    let (listener, _) = listen(&rt).ok_or("no listener")?;
     for row in ROWS.lines() {
-        assert!(rt; is_replied(&rt, &listener, row) == Some(true), "{row}");
+        assert!(rt; is_replied(&rt, listener, row) == Some(true), "{row}");
     }
     Ok(())
 }
@@ -49,14 +42,17 @@ POST /ask HTTP/1.1~Content-Length: 0~~ = HTTP/1.1 200 OK~Content-Type: text/plai
 POST /ask HTTP/1.1~Content-Length: 0~~ = HTTP/1.1 200 OK~Content-Type: text/plain~Content-Length: 1~~a";
 
 // Connects the clients of rows.
-fn connect_all(rt: &HostRuntime, listener: &TcpListener, rows: &str) -> Option<Vec<TcpStream>> {
-    let mut streams = Vec::new(rt.alloc());
+fn connect_all(
+    rt: &HostRuntime,
+    listener: &TcpListener,
+    streams: &mut Vec<TcpStream>,
+    rows: &str,
+) -> Option<()> {
     for row in rows.lines() {
         let (message, _) = row.split_once(" = ")?;
-        let stream = connect(rt, listener, message).ok()?;
-        streams.push(stream).ok()?;
+        streams.push(connect(rt, listener, message).ok()?).ok()?;
     }
-    Some(streams)
+    Some(())
 }
 
 // How many clients get what their rows say.
@@ -64,7 +60,7 @@ fn count_replied(alloc: Global, streams: &mut [TcpStream], rows: &str) -> Option
     let mut count: usize = 0;
     for (stream, row) in streams.iter_mut().zip(rows.lines()) {
         let (_, wanted) = row.split_once(" = ")?;
-        if is_sent(alloc, stream, wanted) {
+        if is_sent(alloc, stream, wanted) == Some(true) {
             count = count.saturating_add(1);
         }
     }
@@ -75,10 +71,11 @@ fn count_replied(alloc: Global, streams: &mut [TcpStream], rows: &str) -> Option
 // rule: Connections of a listener
 #[test]
 fn serves_one_connection_after_the_other(rt: HostRuntime) -> Result<(), Fail> {
-    let listener = TcpListener::bind(&rt, "127.0.0.1:0")?;
-    let mut streams = connect_all(&rt, &listener, CLIENTS).ok_or("no connection")?;
-    assert!(rt; serve_some(&rt, &listener, 3) == 2);
-    assert!(rt; serve_some(&rt, &listener, 1) == 1);
+    let (listener, _) = listen(&rt).ok_or("no listener")?;
+    let mut streams = Vec::new(rt.alloc());
+    assert!(rt; connect_all(&rt, listener, &mut streams, CLIENTS).is_some());
+    assert!(rt; serve_some(&rt, listener, 3) == 2);
+    assert!(rt; serve_some(&rt, listener, 1) == 1);
     assert!(rt; count_replied(rt.alloc(), &mut streams, CLIENTS) == Some(4));
     Ok(())
 }
@@ -86,18 +83,20 @@ fn serves_one_connection_after_the_other(rt: HostRuntime) -> Result<(), Fail> {
 // How often a server of two connections is asked that accepts one.
 fn ask_once(rt: &HostRuntime, listener: &TcpListener) -> Option<u8> {
     let message = "POST /ask HTTP/1.1~Content-Length: 0~~";
+    let wanted = "HTTP/1.1 200 OK~Content-Type: text/plain~Content-Length: 1~~a";
     let mut stream = connect(rt, listener, message).ok()?;
     let asked = serve_some(rt, listener, 2);
-    let line = receive(rt.alloc(), &mut stream).ok()?;
-    line.as_str().strip_suffix("~~a")?;
-    Some(asked)
+    match is_sent(rt.alloc(), &mut stream, wanted) {
+        Some(true) => Some(asked),
+        _ => None,
+    }
 }
 
 #[test]
 fn a_connection_that_is_not_accepted_counts(rt: HostRuntime) -> Result<(), Fail> {
-    let listener = TcpListener::bind(&rt, "127.0.0.1:0")?;
+    let (listener, _) = listen(&rt).ok_or("no listener")?;
     listener.set_nonblocking(true)?;
-    assert!(rt; serve_some(&rt, &listener, 2) == 0);
-    assert!(rt; ask_once(&rt, &listener) == Some(1));
+    assert!(rt; serve_some(&rt, listener, 2) == 0);
+    assert!(rt; ask_once(&rt, listener) == Some(1));
     Ok(())
 }

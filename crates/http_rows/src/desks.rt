@@ -1,10 +1,11 @@
-// A desk, packages and a clock in memory.
+// A desk, and packages in memory.
 
 ghost use Rattle.std.specs.Prelude.{codes};
 ghost use Rattle.http_desks.specs.Calls.{Call};
 
-use http_desks::{Answer, Clock, Declared, Desk, DeskStatus, Off, Packages};
+use http_desks::{Answer, Declared, Desk, DeskStatus, Off, Packages};
 use http_wire::Failed;
+use std::alloc::Global;
 
 /// The SHA-256 of `abc`, as FIPS 180 has it.
 pub(crate) const ABC: [u8; 32] = [
@@ -15,11 +16,35 @@ pub(crate) const ABC: [u8; 32] = [
 const EMPTY_REPLY: &[u8] =
     b")]}'\n{\"response\":{\"app\":[],\"daystart\":{\"elapsed_days\":0,\"elapsed_seconds\":0},\"protocol\":\"3.1\"}}";
 
+// Bodies, and the statuses and the bodies of their replies.
+const REPLIES: [(&[u8], DeskStatus, &[u8]); 4] = [
+    (b"{", DeskStatus::BadRequest, b""),
+    (b"base", DeskStatus::Conflict, b"stale 2\n"),
+    (b"fault", DeskStatus::UnprocessableContent, b"refused 0\n"),
+    (
+        b"{\"request\":{\"protocol\":\"3.1\"}}",
+        DeskStatus::Success,
+        EMPTY_REPLY,
+    ),
+];
+
+// The status and the body of the reply to a body; what isn't known is echoed.
+fn reply_to(body: &[u8]) -> (DeskStatus, &[u8]) {
+    for (known, status, reply) in &REPLIES {
+        if *known == body {
+            return (*status, reply);
+        }
+    }
+    (DeskStatus::Success, body)
+}
+
 /// Replies to some bodies with a status, to one as an update service, and to others with the body.
 #[derive(Drop)]
-pub(crate) struct Echo;
+pub(crate) struct Echo {
+    pub(crate) alloc: Global,
+}
 
-impl<R: AllocGlobal> Desk<R> for Echo {
+impl Desk for Echo {
     ghost path = { λ _. codes "/service/update2/json" };
 
     ghost content_type = { λ _. codes "application/json" };
@@ -34,19 +59,17 @@ impl<R: AllocGlobal> Desk<R> for Echo {
         "application/json"
     }
 
-    fn answer(&mut self, rt: &R, body: &[u8], _moment: u64) -> Result<Answer, Off> {
-        let (status, text) = match body {
-            b"{" => (DeskStatus::BadRequest, b"".as_slice()),
-            b"base" => (DeskStatus::Conflict, b"stale 2\n".as_slice()),
-            b"fault" => (DeskStatus::UnprocessableContent, b"refused 0\n".as_slice()),
-            b"memory" => return Err(Off::Memory),
-            b"closed" => return Err(Off::Closed),
-            b"{\"request\":{\"protocol\":\"3.1\"}}" => (DeskStatus::Success, EMPTY_REPLY),
-            other => (DeskStatus::Success, other),
-        };
-        match Vec::from_slice(rt.alloc(), text) {
-            Ok(body) => Ok(Answer { status, body }),
-            Err(_) => Err(Off::Memory),
+    fn answer(&mut self, body: &[u8], _moment: u64) -> Result<Answer, Off> {
+        if body == b"closed".as_slice() {
+            return Err(Off::Closed);
+        }
+        let (status, reply) = reply_to(body);
+        match Vec::from_slice(self.alloc, reply) {
+            Ok(reply) if body != b"memory".as_slice() => Ok(Answer {
+                status,
+                body: reply,
+            }),
+            _ => Err(Off::Memory),
         }
     }
 
@@ -89,17 +112,5 @@ impl Packages for Files {
         let count = into.len();
         into.copy_from_slice(&file[..count]);
         Ok(())
-    }
-}
-
-/// Always 1970.
-#[derive(Drop)]
-pub(crate) struct Stopped;
-
-impl Clock for Stopped {
-    ghost tells = { λ _ _. Unit {0} };
-
-    fn now(&self) -> u64 {
-        0
     }
 }

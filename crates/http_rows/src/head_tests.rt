@@ -3,10 +3,11 @@ ghost use Rattle.http_wire.specs.Heads.{IsWholeWithin};
 
 use crate::devices::Pieces;
 use crate::lines::expand;
+use crate::rows::wrong_row;
 use http_heads::{Status, framing, package_name, path_of, wants_close};
 use http_wire::{Head, MAX_FIELDS, Window, read_head};
 use httparse::spans::{EMPTY_HEADER_SPAN, HeaderSpan, RequestSpans};
-use std::alloc::{AllocError, Global};
+use std::alloc::Global;
 
 // A row is a head and what it gives: the length of the body or the error status, and whether the
 // connection ends; or why there is no head. `~` is CR LF, `^` a lone LF, `@` NUL.
@@ -66,58 +67,54 @@ fn code(status: Status) -> &'static str {
     }
 }
 
-fn print_fields(
-    alloc: Global,
+// Whether the length of a whole head's body or its error status, and whether the connection ends, are the wanted ones.
+fn has_fields(
     bytes: &[u8],
     spans: RequestSpans,
     fields: &[HeaderSpan],
-) -> Result<String, AllocError>
+    wanted: &str,
+) -> Option<bool>
     requires { IsWholeWithin bytes.now fields.now spans }
 {
+    let (length, end) = wanted.split_once(' ')?;
     let fields = &fields[..spans.headers];
-    let end = if wants_close(spans.version, bytes, fields) {
-        "close"
-    } else {
-        "open"
+    let closes = wants_close(spans.version, bytes, fields);
+    let is_length = match framing(spans.method.of(bytes), bytes, fields) {
+        Ok(found) => length.parse() == Ok(found),
+        Err(status) => length == code(status),
     };
-    match framing(spans.method.of(bytes), bytes, fields) {
-        Ok(length) => format!(in alloc; "{length} {end}"),
-        Err(status) => format!(in alloc; "{} {end}", code(status)),
-    }
+    Some(is_length && closes == (end == "close"))
 }
 
-// What is read of a source: a whole head's fields, or why there is no head.
-fn print_read(
-    alloc: Global,
+// Whether what is read of a source is the wanted: a whole head's fields, or why there is no head.
+fn is_read(
     source: &mut Pieces<'_>,
     window: &mut Window,
     fields: &mut [HeaderSpan],
-) -> Result<String, AllocError>
+    wanted: &str,
+) -> Option<bool>
     requires { length fields.old ≡ 5461 }
 {
     match read_head(source, window, fields) {
-        Ok(Head::Whole(spans)) => print_fields(alloc, window.bytes(), spans, fields),
-        Ok(Head::Ended) => String::from_str(alloc, "ended"),
-        Ok(Head::Bad) => String::from_str(alloc, "bad"),
-        Ok(Head::Long) => String::from_str(alloc, "long"),
-        Err(_) => String::from_str(alloc, "failed"),
+        Ok(Head::Whole(spans)) => has_fields(window.bytes(), spans, fields, wanted),
+        Ok(Head::Ended) => Some(wanted == "ended"),
+        Ok(Head::Bad) => Some(wanted == "bad"),
+        Ok(Head::Long) => Some(wanted == "long"),
+        Err(_) => Some(wanted == "failed"),
     }
 }
 
-/// What is read of a head that comes so many bytes a call.
-pub(crate) fn print_head(alloc: Global, head: &[u8], piece: usize) -> Result<String, AllocError> {
-    let mut window = Window::new(alloc)?;
-    let mut fields = vec![in alloc; EMPTY_HEADER_SPAN; MAX_FIELDS]?;
-    let mut source = Pieces::new(head, piece);
-    print_read(alloc, &mut source, &mut window, &mut fields)
+/// Whether what is read of a head that comes so many bytes a call is the wanted.
+pub(crate) fn is_head(alloc: Global, head: &[u8], piece: usize, wanted: &str) -> Option<bool> {
+    let fields = vec![in alloc; EMPTY_HEADER_SPAN; MAX_FIELDS].ok()?.leak();
+    let mut window = Window::new(alloc).ok()?;
+    is_read(&mut Pieces::new(head, piece), &mut window, fields, wanted)
 }
 
-// Whether a head gives what its row says.
-fn gives(alloc: Global, row: &str, piece: usize) -> Option<bool> {
+/// Whether a head that comes so many bytes a call gives what its row says.
+pub(crate) fn gives(alloc: Global, row: &str, piece: usize) -> Option<bool> {
     let (text, wanted) = row.split_once(" = ")?;
-    let head = expand(alloc, text).ok()?;
-    let told = print_head(alloc, &head, piece).ok()?;
-    Some(told.as_str() == wanted)
+    is_head(alloc, expand(alloc, text)?, piece, wanted)
 }
 
 // rule: End of a connection
@@ -125,12 +122,8 @@ fn gives(alloc: Global, row: &str, piece: usize) -> Option<bool> {
 #[test]
 fn reads_heads_however_they_are_cut(rt: HostRuntime) {
     for piece in [1, 7, 100000] {
-        for row in HEADS.lines() {
-            assert!(rt;
-                gives(rt.alloc(), row, piece) == Some(true),
-                "{row}, {piece} a call"
-            );
-        }
+        let wrong = wrong_row(&rt, "head", piece, HEADS);
+        assert!(rt; wrong.is_empty(), "{wrong}, {piece} a call");
     }
 }
 
@@ -146,8 +139,8 @@ const TARGETS: &str = "\
 //p/a = //p/a = none
 /P/a = /P/a = none";
 
-// Whether a target has the path and the package of its row.
-fn names(row: &str) -> Option<bool> {
+/// Whether a target has the path and the package of its row.
+pub(crate) fn names(row: &str) -> Option<bool> {
     let (target, others) = row.split_once(" = ")?;
     let (path, name) = others.split_once(" = ")?;
     let found = path_of(target.as_bytes());
@@ -159,7 +152,6 @@ fn names(row: &str) -> Option<bool> {
 // rule: Path of a target
 #[test]
 fn finds_the_package_of_a_target(rt: HostRuntime) {
-    for row in TARGETS.lines() {
-        assert!(rt; names(row) == Some(true), "{row}");
-    }
+    let wrong = wrong_row(&rt, "target", 0, TARGETS);
+    assert!(rt; wrong.is_empty(), "{wrong}");
 }

@@ -22,7 +22,7 @@ mod device_tests;
 #[cfg(test)]
 mod devices;
 #[cfg(test)]
-mod download_tests;
+mod exchange_tests;
 #[cfg(test)]
 mod folder_tests;
 #[cfg(test)]
@@ -36,9 +36,9 @@ mod opening_tests;
 #[cfg(test)]
 mod package_tests;
 #[cfg(test)]
-mod post_tests;
-#[cfg(test)]
 mod reply_tests;
+#[cfg(test)]
+mod rows;
 #[cfg(test)]
 mod scripted;
 #[cfg(test)]

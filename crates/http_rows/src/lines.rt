@@ -2,16 +2,36 @@
 
 use std::alloc::{AllocError, Global};
 
-/// The bytes of a row: `~` is CR LF, `^` a lone LF, `@` NUL.
-pub(crate) fn expand(alloc: Global, text: &str) -> Result<Vec<u8>, AllocError> {
+/// The bytes of a row, which are kept for good: `~` is CR LF, `^` a lone LF, `@` NUL.
+pub(crate) fn expand(alloc: Global, text: &str) -> Option<&'static [u8]> {
     let mut bytes = Vec::new(alloc);
     for byte in text.as_bytes() {
-        match *byte {
-            b'~' => bytes.extend_from_slice(b"\r\n")?,
-            b'^' => bytes.push(b'\n')?,
-            b'@' => bytes.push(0)?,
-            other => bytes.push(other)?,
-        }
+        let pushed = match *byte {
+            b'~' => bytes.extend_from_slice(b"\r\n"),
+            b'^' => bytes.extend_from_slice(b"\n"),
+            b'@' => bytes.extend_from_slice(b"\0"),
+            other => bytes.extend_from_slice(&[other]),
+        };
+        pushed.ok()?;
     }
-    Ok(bytes)
+    Some(bytes.leak())
+}
+
+fn push_head(head: &mut Vec<u8>, fields: usize, length: usize) -> Result<(), AllocError> {
+    head.extend_from_slice(b"GET / HTTP/1.1\r\n")?;
+    for _ in 1..fields {
+        head.extend_from_slice(b"X: y\r\n")?;
+    }
+    head.extend_from_slice(b"X: ")?;
+    if head.len() < length.saturating_sub(4) {
+        head.resize(length.saturating_sub(4), b'y')?;
+    }
+    head.extend_from_slice(b"\r\n\r\n")
+}
+
+/// A head of so many fields, the last of which fills it up to so many bytes. It is kept for good.
+pub(crate) fn make_head(alloc: Global, fields: usize, length: usize) -> Option<&'static [u8]> {
+    let mut head = Vec::new(alloc);
+    push_head(&mut head, fields, length).ok()?;
+    Some(head.leak())
 }

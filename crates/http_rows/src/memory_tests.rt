@@ -2,17 +2,19 @@
 
 ghost use Rattle.std.specs.Prelude.{codes};
 
-use crate::desks::{ABC, Files, Stopped};
+use crate::desks::{ABC, Files};
 use crate::devices::{Kept, Pieces};
+use crate::writers::Stopped;
 use http_desks::{Answer, Declared, Desk, Off};
-use http_sessions::{Buffers, End, Served, Session, Turn};
+use http_sessions::{Buffers, End, Served, Session, Site, Turn};
+use http_wire::Unwatched;
 use std::alloc::Global;
 
 // Out of memory whenever it is asked; each package is `abc`.
 #[derive(Drop)]
 struct Poor;
 
-impl Desk<()> for Poor {
+impl Desk for Poor {
     ghost path = { λ _. codes "/service/update2/json" };
 
     ghost content_type = { λ _. codes "application/json" };
@@ -27,7 +29,7 @@ impl Desk<()> for Poor {
         "application/json"
     }
 
-    fn answer(&mut self, _rt: &(), _body: &[u8], _moment: u64) -> Result<Answer, Off> {
+    fn answer(&mut self, _body: &[u8], _moment: u64) -> Result<Answer, Off> {
         Err(Off::Memory)
     }
 
@@ -42,16 +44,19 @@ const SENT: &[u8] =
 const WRITTEN: &[u8] =
     b"HTTP/1.1 200 OK\r\nContent-Type: application/octet-stream\r\nContent-Length: 3\r\n\r\nabcHTTP/1.1 500 Internal Server Error\r\nContent-Length: 0\r\nConnection: close\r\n\r\n";
 
-// What comes after one message. The session gets `()` as its handle, so that neither it nor its desk can allocate.
+// What comes after one message. Neither the session nor its desk is given an allocator.
 fn take_turn(
     session: Session,
     buffers: &mut Buffers,
     source: &mut Pieces<'_>,
     sink: &mut Kept,
 ) -> Option<Turn> {
-    session
-        .turn(&(), buffers, source, sink, &mut Poor, &Files, &Stopped)
-        .ok()
+    let site = Site {
+        packages: &Files,
+        clock: &Stopped,
+        watch: &Unwatched,
+    };
+    session.turn(buffers, source, sink, &mut Poor, &site).ok()
 }
 
 // What a session comes to after two messages.

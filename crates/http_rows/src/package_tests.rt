@@ -1,6 +1,7 @@
 ghost use Rattle.std.specs.Prelude.{◌≡◌, length};
 
 use crate::devices::Kept;
+use crate::rows::wrong_row;
 use http_desks::{Packages, send_package};
 use http_wire::Failed;
 use std::alloc::Global;
@@ -37,81 +38,70 @@ impl Packages for Letters {
     }
 }
 
-// Sends a package of letters, of which so many can be read; returns how that ended.
+// Sends a package of letters; returns how that ended.
 fn send_letters(
     sink: &mut Kept,
     block: &mut [u8],
+    packages: &Letters,
     size: u64,
-    readable: u64,
     hash: &[u8],
 ) -> &'static str
     requires { length block.old ≡ 65536 }
 {
-    let packages = Letters { readable };
-    match send_package(sink, block, &packages, b"a.bin", size, hash) {
+    match send_package(sink, block, packages, b"a.bin", size, hash) {
         Ok(true) => "whole",
         Ok(false) => "cut",
         Err(_) => "failed",
     }
 }
 
-// How much of a package is sent to a sink whose first writes don't fail, and how that ends.
-fn send(
-    alloc: Global,
-    good: usize,
-    size: u64,
-    readable: u64,
-    hash: &[u8],
-) -> Option<(usize, &'static str)> {
-    let mut block = vec![in alloc; 0; 65536].ok()?;
-    let mut sink = Kept::new(alloc, 65536, good);
-    let end = send_letters(&mut sink, &mut block, size, readable, hash);
-    Some((sink.bytes.len(), end))
+// Each row: the size of a package of letters, how many of them can be read, whether its digest is that of a million, how
+// many writes don't fail; then how many letters are sent, and how that ends.
+const ROWS: &str = "\
+1000000 1000000 another 99|983040 cut
+1048576 1048576 another 99|983040 cut
+65537 65537 another 99|65536 cut
+65536 65536 another 99|0 cut
+3 3 another 99|0 cut
+1000000 1000000 million 99|1000000 whole
+1000000 983040 million 99|983040 cut
+1000000 65536 million 99|65536 cut
+1000000 0 million 99|0 cut
+1000000 1000000 million 0|0 failed
+1000000 1000000 million 3|196608 failed
+1000000 1000000 million 15|983040 failed
+1000000 1000000 million 16|1000000 whole";
+
+/// Whether so much of a package is sent as its row says.
+pub(crate) fn is_sent_so(alloc: Global, row: &str) -> Option<bool> {
+    let (package, wanted) = row.split_once('|')?;
+    let (size, others) = package.split_once(' ')?;
+    let (readable, others) = others.split_once(' ')?;
+    let (digest, good) = others.split_once(' ')?;
+    let hash = if digest == "million" {
+        MILLION
+    } else {
+        [0; 32]
+    };
+    let packages = Letters {
+        readable: readable.parse().ok()?,
+    };
+    let block = vec![in alloc; 0; 65536].ok()?.leak();
+    let mut sink = Kept::new(alloc, 65536, good.parse().unwrap_or(0));
+    let end = send_letters(
+        &mut sink,
+        block,
+        &packages,
+        size.parse().unwrap_or(0),
+        &hash,
+    );
+    let (sent, how) = wanted.split_once(' ').unwrap_or((wanted, ""));
+    Some(sent.parse() == Ok(sink.bytes.leak().len()) && end == how)
 }
 
-// A row is the size of a package whose digest is another, and how much of it is sent.
 // rule: Download of a package
 #[test]
-fn cuts_a_package_of_another_digest(rt: HostRuntime) {
-    let rows = [
-        (1000000, 983040),
-        (1048576, 983040),
-        (65537, 65536),
-        (65536, 0),
-        (3, 0),
-    ];
-    for (size, sent) in rows {
-        let ended = send(rt.alloc(), usize::MAX, size, size, &[0; 32]);
-        assert!(rt; ended == Some((sent, "cut")), "{size} bytes");
-    }
-}
-
-// A row is how many of a million letters can be read, how many are sent, and how that ends.
-#[test]
-fn cuts_a_package_that_cannot_be_read(rt: HostRuntime) {
-    let rows = [
-        (1000000, 1000000, "whole"),
-        (983040, 983040, "cut"),
-        (65536, 65536, "cut"),
-        (0, 0, "cut"),
-    ];
-    for (readable, sent, end) in rows {
-        let ended = send(rt.alloc(), usize::MAX, 1000000, readable, &MILLION);
-        assert!(rt; ended == Some((sent, end)), "{readable} bytes");
-    }
-}
-
-// A row is how many writes don't fail, how many of a million letters are sent, and how that ends.
-#[test]
-fn sends_a_first_part_where_a_write_fails(rt: HostRuntime) {
-    let rows = [
-        (0, 0, "failed"),
-        (3, 196608, "failed"),
-        (15, 983040, "failed"),
-        (16, 1000000, "whole"),
-    ];
-    for (good, sent, end) in rows {
-        let ended = send(rt.alloc(), good, 1000000, 1000000, &MILLION);
-        assert!(rt; ended == Some((sent, end)), "{good} writes");
-    }
+fn cuts_a_package_that_is_not_as_declared(rt: HostRuntime) {
+    let wrong = wrong_row(&rt, "package", 0, ROWS);
+    assert!(rt; wrong.is_empty(), "{wrong}");
 }

@@ -24,12 +24,11 @@ fn read_request(stream: &mut TcpStream, bytes: &mut Vec<u8>) -> Option<()> {
     Some(())
 }
 
-// Reads a request, and returns it with `~` for the ends of its lines.
-fn receive(alloc: Global, stream: &mut TcpStream) -> Option<String> {
+// Reads a request, which is kept for good.
+fn receive(alloc: Global, stream: &mut TcpStream) -> Option<&'static str> {
     let mut bytes = Vec::new(alloc);
     read_request(stream, &mut bytes)?;
-    let request = str::from_utf8(&bytes).ok()?;
-    request.replace(alloc, "\r\n", "~").ok()
+    str::from_utf8(bytes.leak()).ok()
 }
 
 // Sends a reply: a line of it ends at each `~`, and each `#` is 1000 letters.
@@ -43,21 +42,39 @@ fn send(stream: &mut TcpStream, reply: &str) -> io::Result<()> {
 
 /// Accepts a connection, reads a request, sends the reply, a byte or a line end at a time, and closes; returns
 /// the request. A client that closes first is no failure.
-pub(crate) fn serve_once(alloc: Global, listener: &TcpListener, reply: &str) -> Option<String> {
+pub(crate) fn serve_once(
+    alloc: Global,
+    listener: &TcpListener,
+    reply: &str,
+) -> Option<&'static str> {
     let (mut stream, _) = listener.accept().ok()?;
-    let request = receive(alloc, &mut stream)?;
+    let request = receive(alloc, &mut stream);
     let _ = send(&mut stream, reply);
-    Some(request)
+    request
 }
 
-/// Where a listener listens.
-pub(crate) fn host_of(alloc: Global, listener: &TcpListener) -> io::Result<String> {
-    let address = listener.local_addr()?;
-    Ok(format!(in alloc; "{address}")?)
+// Where a listener listens.
+fn host_of(alloc: Global, listener: &TcpListener) -> Option<&'static str> {
+    let address = listener.local_addr().ok()?;
+    let host = format!(in alloc; "{address}").ok()?;
+    str::from_utf8(host.into_bytes().leak()).ok()
+}
+
+/// A listener on the loopback that is kept for good, and where it listens.
+pub(crate) fn listen(rt: &HostRuntime) -> Option<(&'static TcpListener, &'static str)> {
+    let listener = TcpListener::bind(rt, "127.0.0.1:0").ok()?;
+    match Box::new(rt.alloc(), listener) {
+        Ok(kept) => {
+            let listener = Box::leak(kept);
+            let host = host_of(rt.alloc(), listener)?;
+            Some((listener, host))
+        }
+        Err(_) => None,
+    }
 }
 
 /// An address of the loopback that nobody listens on.
-pub(crate) fn free_host(rt: &HostRuntime) -> io::Result<String> {
-    let listener = TcpListener::bind(rt, "127.0.0.1:0")?;
+pub(crate) fn free_host(rt: &HostRuntime) -> Option<&'static str> {
+    let listener = TcpListener::bind(rt, "127.0.0.1:0").ok()?;
     host_of(rt.alloc(), &listener)
 }

@@ -1,9 +1,9 @@
-use crate::desks::{Echo, Files, Stopped};
+use crate::desks::{Echo, Files};
 use crate::devices::{Kept, Pieces};
-use crate::lines::expand;
+use crate::lines::{expand, make_head};
+use crate::rows::wrong_row;
+use crate::writers::Stopped;
 use http_sessions::{End, Fault, Served, serve};
-use http_wire::Unwatched;
-use std::alloc::AllocError;
 
 // A row is what a connection sends, and what it gets: the replies, how many were begun and how the
 // session ended. `~` is CR LF, `^` a lone LF.
@@ -40,20 +40,6 @@ GET / HTTP/1.1~~~ = HTTP/1.1 404 Not Found~Content-Length: 0~~ | 1 unfinished
 GET / HTTP/1.1~~GET  / HTTP/1.1~~ = HTTP/1.1 404 Not Found~Content-Length: 0~~HTTP/1.1 400 Bad Request~Content-Length: 0~Connection: close~~ | 2 refused
 ";
 
-// The bytes, with `~` and `^` for the ends of lines.
-fn shorten<R: AllocGlobal>(rt: &R, bytes: &[u8]) -> Result<String, AllocError> {
-    let mut text = String::new(rt.alloc());
-    for byte in bytes {
-        match *byte {
-            b'\r' => text.push('~')?,
-            b'\n' if text.as_bytes().last() == Some(&b'~') => {}
-            b'\n' => text.push('^')?,
-            other => text.push(char::from(other))?,
-        }
-    }
-    Ok(text)
-}
-
 fn end_of(served: Result<Served, Fault>) -> (u32, &'static str) {
     match served {
         Ok(served) => match served.end {
@@ -68,29 +54,33 @@ fn end_of(served: Result<Served, Fault>) -> (u32, &'static str) {
     }
 }
 
-// Serves what a connection sends, in pieces.
-fn serve_pieces<R: AllocGlobal>(
-    rt: &R,
-    source: &mut Pieces<'_>,
-    sink: &mut Kept,
-) -> (u32, &'static str) {
-    end_of(serve(rt, source, sink, &mut Echo, &Files, &Stopped, &Unwatched))
+// Serves what a connection sends, and returns how many replies were begun and how the session ended.
+fn serve_pieces(rt: &HostRuntime, source: &mut Pieces<'_>, sink: &mut Kept) -> (u32, &'static str) {
+    end_of(serve(
+        rt,
+        source,
+        sink,
+        &mut Echo { alloc: rt.alloc() },
+        &Files,
+        &Stopped,
+    ))
 }
 
-// What a connection gets that sends these bytes: the replies, how many were begun and how the session ended.
-fn print_session<R: AllocGlobal>(rt: &R, sent: &[u8], piece: usize) -> Result<String, AllocError> {
+// Whether a connection that sends these bytes gets the replies, of which so many were begun, and its session ends so.
+fn gets(rt: &HostRuntime, sent: &[u8], piece: usize, replies: &[u8], ending: &str) -> Option<bool> {
+    let (requests, how) = ending.split_once(' ')?;
     let mut sink = Kept::new(rt.alloc(), piece, usize::MAX);
-    let (requests, how) = serve_pieces(rt, &mut Pieces::new(sent, piece), &mut sink);
-    let written = shorten(rt, &sink.bytes)?;
-    format!(in rt.alloc(); "{written} | {requests} {how}")
+    let ended = serve_pieces(rt, &mut Pieces::new(sent, piece), &mut sink);
+    let is_ended = ended.1 == how && requests.parse() == Ok(ended.0);
+    Some(is_ended && sink.bytes.as_slice() == replies)
 }
 
-// Whether a connection gets what its row says.
-fn is_served<R: AllocGlobal>(rt: &R, row: &str, piece: usize) -> Option<bool> {
+/// Whether a connection that gives and takes so many bytes a call gets what its row says.
+pub(crate) fn is_served(rt: &HostRuntime, row: &str, piece: usize) -> Option<bool> {
     let (text, wanted) = row.split_once(" = ")?;
-    let sent = expand(rt.alloc(), text).ok()?;
-    let printed = print_session(rt, &sent, piece).ok()?;
-    Some(printed.as_str() == wanted)
+    let (replies, ending) = wanted.split_once(" | ")?;
+    let sent = expand(rt.alloc(), text)?;
+    gets(rt, sent, piece, expand(rt.alloc(), replies)?, ending)
 }
 
 // rule: Messages of a connection
@@ -103,26 +93,39 @@ fn is_served<R: AllocGlobal>(rt: &R, row: &str, piece: usize) -> Option<bool> {
 #[test]
 fn serves_sessions_however_they_are_cut(rt: HostRuntime) {
     for piece in [1, 7, 100000] {
-        for row in SESSIONS.lines() {
-            assert!(rt;
-                is_served(&rt, row, piece) == Some(true),
-                "{row}, {piece} a call"
-            );
-        }
+        let wrong = wrong_row(&rt, "session", piece, SESSIONS);
+        assert!(rt; wrong.is_empty(), "{wrong}, {piece} a call");
     }
 }
 
+// Whether a source that gives a byte a call, and fails after so many, and a sink that takes so many calls, lead to so
+// many replies, that end and so many bytes of replies.
+fn ends_with(
+    rt: &HostRuntime,
+    mut source: Pieces<'_>,
+    good: usize,
+    wanted: (u32, &str),
+    size: usize,
+) -> bool {
+    let mut sink = Kept::new(rt.alloc(), 1, good);
+    let ended = serve_pieces(rt, &mut source, &mut sink);
+    ended == wanted && sink.bytes.len() == size
+}
+
 // A message of 30 bytes of body, cut before each byte.
+const MESSAGE: &[u8] =
+    b"POST /service/update2/json HTTP/1.1\r\nContent-Length: 30\r\n\r\n{\"request\":{\"protocol\":\"3.1\"}}";
+
 // rule: End of a session
 #[test]
 fn gives_no_reply_to_a_part_of_a_message(rt: HostRuntime) {
-    let sent =
-        b"POST /service/update2/json HTTP/1.1\r\nContent-Length: 30\r\n\r\n{\"request\":{\"protocol\":\"3.1\"}}";
-    for end in 0..sent.len() {
+    for end in 0..MESSAGE.len() {
         let how = if end == 0 { "finished" } else { "unfinished" };
-        let mut sink = Kept::new(rt.alloc(), 100, usize::MAX);
-        let ended = serve_pieces(&rt, &mut Pieces::new(&sent[..end], 7), &mut sink);
-        assert!(rt; ended == (0, how) && sink.bytes.is_empty(), "{end} bytes");
+        let source = Pieces::new(&MESSAGE[..end], 7);
+        assert!(rt;
+            ends_with(&rt, source, usize::MAX, (0, how), 0),
+            "{end} bytes"
+        );
     }
 }
 
@@ -132,22 +135,20 @@ const TWO: &[u8] = b"GET / HTTP/1.1\r\n\r\nGET / HTTP/1.1\r\n\r\n";
 #[test]
 fn replies_to_whole_messages_before_a_read_that_fails(rt: HostRuntime) {
     for good in 0..38 {
-        let mut sink = Kept::new(rt.alloc(), 100, usize::MAX);
-        let mut source = Pieces {
+        let wanted = if good < 37 {
+            (0, "read failed")
+        } else {
+            (2, "finished")
+        };
+        let source = Pieces {
             left: TWO,
             piece: 1,
             good,
             failed: false,
         };
-        let ended = serve_pieces(&rt, &mut source, &mut sink);
-        let expected = if good < 37 {
-            (0, "read failed")
-        } else {
-            (2, "finished")
-        };
-        assert!(rt; ended == expected, "after {good} reads");
+        let size = good.min(36) / 18 * 45;
         assert!(rt;
-            sink.bytes.len() == good.min(36) / 18 * 45,
+            ends_with(&rt, source, usize::MAX, wanted, size),
             "after {good} reads"
         );
     }
@@ -156,90 +157,65 @@ fn replies_to_whole_messages_before_a_read_that_fails(rt: HostRuntime) {
 #[test]
 fn writes_a_first_part_before_a_write_that_fails(rt: HostRuntime) {
     for good in 0..91 {
-        let mut sink = Kept::new(rt.alloc(), 1, good);
-        let ended = serve_pieces(&rt, &mut Pieces::new(TWO, 100), &mut sink);
-        let expected = if good < 90 {
+        let wanted = if good < 90 {
             (0, "write failed")
         } else {
             (2, "finished")
         };
+        let source = Pieces::new(TWO, 100);
         assert!(rt;
-            ended == expected && sink.bytes.len() == good,
+            ends_with(&rt, source, good, wanted, good),
             "after {good} writes"
         );
     }
 }
 
-fn make_messages<R: AllocGlobal>(rt: &R, count: usize) -> Result<Vec<u8>, AllocError> {
-    let mut sent = Vec::new(rt.alloc());
-    for _ in 0..count {
-        sent.extend_from_slice(b"GET / HTTP/1.1\r\n\r\n")?;
-    }
-    Ok(sent)
-}
-
-// How many of so many messages get a reply, and how many bytes are written.
-fn serve_messages<R: AllocGlobal>(rt: &R, count: usize) -> Option<(u32, usize)> {
-    let sent = make_messages(rt, count).ok()?;
+// Whether a session ends as its row says: how many fields and bytes its head has, or how many messages there are with
+// no such head; then how many of them get a reply, the size of the replies or how they begin, and how it ends.
+pub(crate) fn ends_so(rt: &HostRuntime, row: &str) -> Option<bool> {
+    let (sent, wanted) = row.split_once(" = ")?;
+    let (start, ending) = wanted.split_once(" | ")?;
+    let sent = match sent.split_once(' ') {
+        Some((fields, length)) => {
+            make_head(rt.alloc(), fields.parse().ok()?, length.parse().ok()?)?
+        }
+        None => TWO[..18]
+            .repeat(rt.alloc(), sent.parse().ok()?)
+            .ok()?
+            .leak(),
+    };
     let mut sink = Kept::new(rt.alloc(), 1000, usize::MAX);
-    match serve_pieces(rt, &mut Pieces::new(&sent, 1000), &mut sink) {
-        (requests, "finished") => Some((requests, sink.bytes.len())),
-        _ => None,
-    }
+    let (requests, how) = serve_pieces(rt, &mut Pieces::new(sent, 1000), &mut sink);
+    let replies = sink.bytes.leak();
+    let is_started = start.parse() == Ok(replies.len()) || replies.starts_with(start.as_bytes());
+    let (count, end) = ending.split_once(' ')?;
+    Some(is_started && count.parse() == Ok(requests) && end == how)
 }
 
 // The last reply has 19 bytes more, which say that the connection ends.
+const MESSAGES: &str = "\
+999 = 44955 | 999 finished
+1000 = 45019 | 1000 finished
+1001 = 45019 | 1000 finished";
+
 // rule: End of a session
 #[test]
 fn closes_after_a_thousand_messages(rt: HostRuntime) {
-    assert!(rt; serve_messages(&rt, 999) == Some((999, 44955)));
-    assert!(rt; serve_messages(&rt, 1000) == Some((1000, 45019)));
-    assert!(rt; serve_messages(&rt, 1001) == Some((1000, 45019)));
+    let wrong = wrong_row(&rt, "end", 0, MESSAGES);
+    assert!(rt; wrong.is_empty(), "{wrong}");
 }
 
-// A head of so many fields, the last of which fills it up to so many bytes.
-fn make_head<R: AllocGlobal>(rt: &R, fields: usize, length: usize) -> Result<Vec<u8>, AllocError> {
-    let mut sent = Vec::from_slice(rt.alloc(), b"GET / HTTP/1.1\r\n")?;
-    for _ in 1..fields {
-        sent.extend_from_slice(b"X: y\r\n")?;
-    }
-    sent.extend_from_slice(b"X: ")?;
-    for _ in sent.len()..length.saturating_sub(4) {
-        sent.push(b'y')?;
-    }
-    sent.extend_from_slice(b"\r\n\r\n")?;
-    Ok(sent)
-}
-
-// How a session of one such head ends, if its reply begins so.
-fn serve_head<R: AllocGlobal>(
-    rt: &R,
-    fields: usize,
-    length: usize,
-    line: &str,
-) -> Option<(u32, &'static str)> {
-    let sent = make_head(rt, fields, length).ok()?;
-    let mut sink = Kept::new(rt.alloc(), 1000, usize::MAX);
-    let ended = serve_pieces(rt, &mut Pieces::new(&sent, 1000), &mut sink);
-    if sink.bytes.starts_with(line.as_bytes()) {
-        Some(ended)
-    } else {
-        None
-    }
-}
+// A head of so many fields and bytes.
+const HEADS: &str = "\
+64 0 = HTTP/1.1 404 | 1 finished
+65 0 = HTTP/1.1 400 | 1 refused
+1 16384 = HTTP/1.1 404 | 1 finished
+1 16385 = HTTP/1.1 431 | 1 refused
+65 16385 = HTTP/1.1 431 | 1 refused";
 
 // rule: Length of a message
 #[test]
 fn bounds_the_fields_and_the_length_of_a_head(rt: HostRuntime) {
-    let rows = [
-        (64, 0, "HTTP/1.1 404", "finished"),
-        (65, 0, "HTTP/1.1 400", "refused"),
-        (1, 16384, "HTTP/1.1 404", "finished"),
-        (1, 16385, "HTTP/1.1 431", "refused"),
-        (65, 16385, "HTTP/1.1 431", "refused"),
-    ];
-    for (fields, length, line, how) in rows {
-        let ended = serve_head(&rt, fields, length, line);
-        assert!(rt; ended == Some((1, how)), "{fields} fields, {length} bytes");
-    }
+    let wrong = wrong_row(&rt, "end", 0, HEADS);
+    assert!(rt; wrong.is_empty(), "{wrong}");
 }
