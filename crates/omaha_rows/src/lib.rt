@@ -12,6 +12,8 @@ mod log_tests;
 #[cfg(test)]
 mod message_tests;
 #[cfg(test)]
+mod narrow;
+#[cfg(test)]
 mod site;
 #[cfg(test)]
 mod walk_tests;

@@ -1,5 +1,6 @@
 // A folder with a profile and its packages, an address of the loopback, and runs of the program over them.
 
+use crate::narrow::Narrow;
 use omaha_cli::run;
 use std::alloc::{AllocError, Global};
 use std::net::{Net, TcpListener, TcpStream};
@@ -109,18 +110,28 @@ fn strings(alloc: Global, words: &[&str]) -> Result<Vec<String>, AllocError> {
     Ok(strings)
 }
 
-/// Runs the program, and returns its status, its output and what it reports.
+/// Runs the program with an output that takes so many bytes, and returns its status, its output and what it reports.
+pub(crate) fn run_within<
+    R: Net<Listener = TcpListener, Stream = TcpStream> + Clock + Files + Wait + AllocGlobal,
+>(rt: &R, words: &[&str], left: usize) -> Option<String> {
+    let alloc = rt.alloc();
+    let words = strings(alloc, words).ok()?;
+    let mut written = Narrow {
+        bytes: Vec::new(alloc),
+        left,
+    };
+    let mut told = Vec::new(alloc);
+    let status = run(rt, &words, &mut b"".as_slice(), &mut written, &mut told);
+    let written = String::from_utf8(written.bytes).ok()?;
+    let told = String::from_utf8(told).ok()?;
+    format!(in alloc; "{status} {written}{told}").ok()
+}
+
+/// Runs the program with an output that takes all bytes.
 pub(crate) fn run_program<
     R: Net<Listener = TcpListener, Stream = TcpStream> + Clock + Files + Wait + AllocGlobal,
 >(rt: &R, words: &[&str]) -> Option<String> {
-    let alloc = rt.alloc();
-    let words = strings(alloc, words).ok()?;
-    let mut written = Vec::new(alloc);
-    let mut told = Vec::new(alloc);
-    let status = run(rt, &words, &mut b"".as_slice(), &mut written, &mut told);
-    let written = String::from_utf8(written).ok()?;
-    let told = String::from_utf8(told).ok()?;
-    format!(in alloc; "{status} {written}{told}").ok()
+    run_within(rt, words, usize::MAX)
 }
 
 // Serves so many sessions of a site, with more arguments.

@@ -1,5 +1,5 @@
 use crate::client::connect;
-use crate::site::{Site, make_site, run_program, serve, write_file};
+use crate::site::{Site, make_site, run_within, serve, write_file};
 use std::fs;
 use std::net::{Net, TcpListener, TcpStream};
 use std::rt::Files;
@@ -11,14 +11,10 @@ use std::time::Clock;
 // The fingerprint of the first release.
 const FIRST: &str = "1.ba7816bf8f01cfea414140de5dae2223b00361a396177a9cb410ff61f20015ad";
 
-// Walks as a client at a version, once the server listens, which takes a connection.
-fn walk<R: Net<Listener = TcpListener, Stream = TcpStream> + Clock + Files + Wait + AllocGlobal>(
-    rt: &R,
-    site: &Site,
-    app: &str,
-    version: &str,
-    fp: &str,
-) -> Option<String> {
+// Walks as a client at a version, once the server listens, which takes a connection. The output takes so many bytes.
+fn walk_within<
+    R: Net<Listener = TcpListener, Stream = TcpStream> + Clock + Files + Wait + AllocGlobal,
+>(rt: &R, site: &Site, app: &str, version: &str, fp: &str, left: usize) -> Option<String> {
     connect(rt, site.host.as_str())?;
     let words = [
         "walk",
@@ -33,7 +29,18 @@ fn walk<R: Net<Listener = TcpListener, Stream = TcpStream> + Clock + Files + Wai
         "--cohort",
         "stable:0",
     ];
-    run_program(rt, &words)
+    run_within(rt, &words, left)
+}
+
+// Walks as such a client, with an output that takes all bytes.
+fn walk<R: Net<Listener = TcpListener, Stream = TcpStream> + Clock + Files + Wait + AllocGlobal>(
+    rt: &R,
+    site: &Site,
+    app: &str,
+    version: &str,
+    fp: &str,
+) -> Option<String> {
+    walk_within(rt, site, app, version, fp, usize::MAX)
 }
 
 // rule: Lines of a walk
@@ -116,5 +123,45 @@ fn keeps_its_place_at_a_package_that_is_cut(rt: HostRuntime) -> Result<(), Fail>
         "1 step 1 diff 2.0 10\nomaha: U3 BadLength\n"
     );
     assert!(rt; served.is_some());
+    Ok(())
+}
+
+// A row is how many bytes an output takes, how many sessions that needs, and what a walk of two steps comes to: a line
+// breaks at its beginning or within it, of the first step, of the second one, and the last line.
+const NARROW: [(usize, &str, &str); 6] = [
+    (0, "3", "1 omaha: U5 Install\n"),
+    (6, "3", "1 step 1omaha: U5 Install\n"),
+    (19, "5", "1 step 1 diff 2.0 10\nomaha: U5 Install\n"),
+    (
+        36,
+        "5",
+        "1 step 1 diff 2.0 10\nstep 2 diff 3.0 1omaha: U5 Install\n",
+    ),
+    (
+        37,
+        "6",
+        "1 step 1 diff 2.0 10\nstep 2 diff 3.0 1\nomaha: write\n",
+    ),
+    (
+        41,
+        "6",
+        "1 step 1 diff 2.0 10\nstep 2 diff 3.0 1\ndoneomaha: write\n",
+    ),
+];
+
+// rule: Printed walk
+#[test]
+fn commits_no_step_whose_line_breaks(rt: HostRuntime) -> Result<(), Fail> {
+    let site = make_site(&rt, "narrow")?;
+    for (left, sessions, wanted) in NARROW {
+        let (served, walked) = join(
+            &rt,
+            || serve(&rt, &site, sessions),
+            || walk_within(&rt, &site, "mini", "1.0", FIRST, left),
+        );
+        assert!(rt; served.is_some());
+        assert_eq!(rt; walked.as_deref(), Some(wanted), "{left} bytes");
+    }
+    fs::remove_dir_all(&rt, site.folder.as_str())?;
     Ok(())
 }
