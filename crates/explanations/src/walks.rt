@@ -41,7 +41,7 @@ Remedy: Compare the packages with the profile: `omaha check F --packages DIR`.
         "U5",
         "U5 Install
 Found in: a walk.
-The line of a step couldn't be written.
+The line of a step couldn't be written, or there was no memory for it; the step isn't committed.
 Usual cause: A full disk, or a pipe whose reader ended.
 Remedy: Make room, or read all of the output.
 ",

@@ -1,4 +1,3 @@
-mod BrokenLemmas
 mod HandingLemmas
 mod KnownLemmas
 mod ReplyLemmas

@@ -116,10 +116,10 @@ pub(crate) fn post_to<R: Net<Listener = TcpListener, Stream = TcpStream>>(
     path: &str,
     body: &[u8],
 ) -> Result<Vec<u8>, LinkFault> {
-    match connect_limited(rt, host, seconds) {
-        Ok(stream) => post_once(alloc, &stream, &Post { host, path, body }),
-        Err(_) => Err(LinkFault::Connect),
-    }
+    let Ok(stream) = connect_limited(rt, host, seconds) else {
+        return Err(LinkFault::Connect);
+    };
+    post_once(alloc, &stream, &Post { host, path, body })
 }
 
 /// Opens the download at an address, over a connection of its own.
@@ -136,10 +136,8 @@ pub(crate) fn open_at<R: Net<Listener = TcpListener, Stream = TcpStream>>(
         return Err(LinkFault::Connect);
     };
     let (reads, writes) = (Blank::new(1), Blank::new(1));
-    match open_on::<Brand, Brand>(alloc, &stream, reads, writes, &address) {
-        Ok(body) => Ok((stream, body)),
-        Err(fault) => Err(fault),
-    }
+    let body = open_on::<Brand, Brand>(alloc, &stream, reads, writes, &address)?;
+    Ok((stream, body))
 }
 
 /// Reads some bytes of a download over its connection, as `Body::read` does.

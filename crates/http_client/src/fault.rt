@@ -1,4 +1,5 @@
 use http_client_heads::ReplyFault;
+use std::alloc::AllocError;
 
 /// Why a post or a download failed.
 #[derive(Clone, Copy, Debug, Drop, PartialEq, Eq)]
@@ -19,4 +20,26 @@ pub enum LinkFault {
     Ended,
     /// The body of a post's reply is announced with more than `MAX_REPLY` bytes.
     Long,
+}
+
+impl From<AllocError> for LinkFault {
+    ghost use Rattle.std.specs.Prelude.{◌≡◌};
+    ghost use Rattle.http_client.specs.declared.fault.LinkFault.TheVariants.{Memory};
+
+    ghost from_gives = { λ _ fault. fault ≡ Memory };
+
+    fn from(_refused: AllocError) -> LinkFault {
+        LinkFault::Memory
+    }
+}
+
+impl From<ReplyFault> for LinkFault {
+    ghost use Rattle.std.specs.Prelude.{◌≡◌};
+    ghost use Rattle.http_client.specs.declared.fault.LinkFault.TheVariants.{Head};
+
+    ghost from_gives = { λ why fault. fault ≡ Head why };
+
+    fn from(why: ReplyFault) -> LinkFault {
+        LinkFault::Head(why)
+    }
 }

@@ -19,14 +19,12 @@ fn read_opening<S: Source>(alloc: Global, source: &mut S) -> Result<Body, LinkFa
 {
     let mut held = Vec::new(alloc);
     let mut block = [0; BLOCK];
-    match read_head(source, &mut held, &mut block) {
-        Ok(start) => Ok(Body {
-            held,
-            at: start.head,
-            left: start.body,
-        }),
-        Err(fault) => Err(fault),
-    }
+    let start = read_head(source, &mut held, &mut block)?;
+    Ok(Body {
+        held,
+        at: start.head,
+        left: start.body,
+    })
 }
 
 // rule: Request that a link writes
@@ -45,11 +43,9 @@ pub fn open_over<S: Source, W: Sink>(
     ensures reads { S.failures source.new ≡ S.failures source.old + failed_reads result }
     ensures writes { W.failures sink.new ≡ W.failures sink.old + failed_writes result }
 {
-    let Ok(text) = get_request(alloc, address) else {
-        return Err(LinkFault::Memory);
+    let text = get_request(alloc, address)?;
+    let Ok(()) = send(sink, &text) else {
+        return Err(LinkFault::Write);
     };
-    match send(sink, &text) {
-        Ok(()) => read_opening(alloc, source),
-        Err(_) => Err(LinkFault::Write),
-    }
+    read_opening(alloc, source)
 }

@@ -25,10 +25,8 @@ fn read_rest<S: Source>(
     ensures failed { S.failures source.new ≡ S.failures source.old + failed_reads result }
 {
     while body.len() < size {
-        match read_more(source, body, block, size - body.len()) {
-            Ok(0) => return Err(LinkFault::Ended),
-            Ok(_) => {}
-            Err(fault) => return Err(fault),
+        if read_more(source, body, block, size - body.len())? == 0 {
+            return Err(LinkFault::Ended);
         }
     }
     Ok(())
@@ -44,22 +42,15 @@ fn read_reply<S: Source>(alloc: Global, source: &mut S) -> Result<Vec<u8>, LinkF
 {
     let mut held = Vec::new(alloc);
     let mut block = [0; BLOCK];
-    let start = match read_head(source, &mut held, &mut block) {
-        Ok(start) => start,
-        Err(fault) => return Err(fault),
-    };
+    let start = read_head(source, &mut held, &mut block)?;
     if start.body > MAX_REPLY {
         return Err(LinkFault::Long);
     }
     let size = start.body as usize;
     let waiting = &held[start.head..];
-    let Ok(mut body) = Vec::from_slice(alloc, &waiting[..waiting.len().min(size)]) else {
-        return Err(LinkFault::Memory);
-    };
-    match read_rest(source, &mut body, &mut block, size) {
-        Ok(()) => Ok(body),
-        Err(fault) => Err(fault),
-    }
+    let mut body = Vec::from_slice(alloc, &waiting[..waiting.len().min(size)])?;
+    read_rest(source, &mut body, &mut block, size)?;
+    Ok(body)
 }
 
 // rule: Request that a link writes
@@ -82,11 +73,9 @@ pub fn post_over<S: Source, W: Sink>(
     ensures reads { S.failures source.new ≡ S.failures source.old + failed_reads result }
     ensures writes { W.failures sink.new ≡ W.failures sink.old + failed_writes result }
 {
-    let Ok(text) = post_request(alloc, host, path, body) else {
-        return Err(LinkFault::Memory);
+    let text = post_request(alloc, host, path, body)?;
+    let Ok(()) = send(sink, &text) else {
+        return Err(LinkFault::Write);
     };
-    match send(sink, &text) {
-        Ok(()) => read_reply(alloc, source),
-        Err(_) => Err(LinkFault::Write),
-    }
+    read_reply(alloc, source)
 }

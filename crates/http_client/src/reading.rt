@@ -26,13 +26,11 @@ pub(crate) fn read_more<S: Source>(
     ensures block { length block.new ≡ length block.old }
 {
     let room = room.min(block.len());
-    match source.read(&mut block[..room]) {
-        Ok(count) => match held.extend_from_slice(&block[..count]) {
-            Ok(()) => Ok(count),
-            Err(_) => Err(LinkFault::Memory),
-        },
-        Err(_) => Err(LinkFault::Read),
-    }
+    let Ok(count) = source.read(&mut block[..room]) else {
+        return Err(LinkFault::Read);
+    };
+    held.extend_from_slice(&block[..count])?;
+    Ok(count)
 }
 
 // rule: Reply that a link reads
@@ -51,15 +49,11 @@ pub(crate) fn read_head<S: Source>(
     ensures block { length block.new ≡ length block.old }
 {
     'reads: loop {
-        match read_start(held) {
-            Ok(Some(start)) => return Ok(start),
-            Ok(None) => {}
-            Err(fault) => return Err(LinkFault::Head(fault)),
+        if let Some(start) = read_start(held)? {
+            return Ok(start);
         }
-        match read_more(source, held, block, MAX_HEAD - held.len()) {
-            Ok(0) => return Err(LinkFault::Ended),
-            Ok(_) => {}
-            Err(fault) => return Err(fault),
+        if read_more(source, held, block, MAX_HEAD - held.len())? == 0 {
+            return Err(LinkFault::Ended);
         }
     }
 }

@@ -87,7 +87,7 @@ fn reports_each_read_that_fails(rt: HostRuntime) {
 fn is_read_as(alloc: Global, length: usize, wanted: &str) -> Option<bool> {
     let head = make_head(alloc, 1, length)?;
     if head.len() == length {
-        is_head(alloc, head, 5000, wanted)
+        is_head(alloc, head, 5000, wanted, "open")
     } else {
         None
     }
@@ -96,6 +96,6 @@ fn is_read_as(alloc: Global, length: usize, wanted: &str) -> Option<bool> {
 // rule: Head of a request
 #[test]
 fn reads_a_head_of_16384_bytes(rt: HostRuntime) {
-    assert!(rt; is_read_as(rt.alloc(), 16384, "0 open") == Some(true));
+    assert!(rt; is_read_as(rt.alloc(), 16384, "0") == Some(true));
     assert!(rt; is_read_as(rt.alloc(), 16385, "long") == Some(true));
 }

@@ -6,19 +6,19 @@ use std::test::Fail;
 
 // A row is what a client sends, and what it gets.
 const ROWS: &str = "\
-POST /ask HTTP/1.1~Content-Length: 0~~ = HTTP/1.1 200 OK~Content-Type: text/plain~Content-Length: 1~~a
-POST /ask HTTP/1.1~Content-Length: 0~~POST /ask HTTP/1.1~Content-Length: 0~Connection: close~~ = HTTP/1.1 200 OK~Content-Type: text/plain~Content-Length: 1~~aHTTP/1.1 200 OK~Content-Type: text/plain~Content-Length: 1~Connection: close~~b
-GET /p/a.bin HTTP/1.1~~ = HTTP/1.1 404 Not Found~Content-Length: 0~~
-POST /ask HTTP/1.1~Content-Length: 300000~~######################################## = HTTP/1.1 413 Content Too Large~Content-Length: 0~Connection: close~~
-NO HTTP~~ = HTTP/1.1 400 Bad Request~Content-Length: 0~Connection: close~~
-GET /ask HTTP/1.1~Part: ########################################+ = HTTP/1.1 431 Request Header Fields Too Large~Content-Length: 0~Connection: close~~
-POST /ask HTTP/1.1~Content-Le = 
-POST /ask HTTP/1.1~Content-Le+ = 
- = ";
+POST /ask HTTP/1.1~Content-Length: 0~~|HTTP/1.1 200 OK~Content-Type: text/plain~Content-Length: 1~~a
+POST /ask HTTP/1.1~Content-Length: 0~~POST /ask HTTP/1.1~Content-Length: 0~Connection: close~~|HTTP/1.1 200 OK~Content-Type: text/plain~Content-Length: 1~~aHTTP/1.1 200 OK~Content-Type: text/plain~Content-Length: 1~Connection: close~~b
+GET /p/a.bin HTTP/1.1~~|HTTP/1.1 404 Not Found~Content-Length: 0~~
+POST /ask HTTP/1.1~Content-Length: 300000~~########################################|HTTP/1.1 413 Content Too Large~Content-Length: 0~Connection: close~~
+NO HTTP~~|HTTP/1.1 400 Bad Request~Content-Length: 0~Connection: close~~
+GET /ask HTTP/1.1~Part: ########################################+|HTTP/1.1 431 Request Header Fields Too Large~Content-Length: 0~Connection: close~~
+POST /ask HTTP/1.1~Content-Le|
+POST /ask HTTP/1.1~Content-Le+|
+|";
 
 // Whether the client of a row gets what the row says.
 fn is_replied(rt: &HostRuntime, listener: &TcpListener, row: &str) -> Option<bool> {
-    let (message, wanted) = row.split_once(" = ")?;
+    let (message, wanted) = row.split_once('|')?;
     let mut stream = connect(rt, listener, message).ok()?;
     let _ = serve_some(rt, listener, 1);
     is_sent(rt.alloc(), &mut stream, wanted)
@@ -36,10 +36,10 @@ fn replies_over_the_loopback(rt: HostRuntime) -> Result<(), Fail> {
 // Clients that connect one after the other, the second of which sends nothing. The first three are of one server, and
 // the last is of the next.
 const CLIENTS: &str = "\
-POST /ask HTTP/1.1~Content-Length: 0~~ = HTTP/1.1 200 OK~Content-Type: text/plain~Content-Length: 1~~a
-+ = 
-POST /ask HTTP/1.1~Content-Length: 0~~ = HTTP/1.1 200 OK~Content-Type: text/plain~Content-Length: 1~~b
-POST /ask HTTP/1.1~Content-Length: 0~~ = HTTP/1.1 200 OK~Content-Type: text/plain~Content-Length: 1~~a";
+POST /ask HTTP/1.1~Content-Length: 0~~|HTTP/1.1 200 OK~Content-Type: text/plain~Content-Length: 1~~a
++|
+POST /ask HTTP/1.1~Content-Length: 0~~|HTTP/1.1 200 OK~Content-Type: text/plain~Content-Length: 1~~b
+POST /ask HTTP/1.1~Content-Length: 0~~|HTTP/1.1 200 OK~Content-Type: text/plain~Content-Length: 1~~a";
 
 // Connects the clients of rows.
 fn connect_all(
@@ -49,7 +49,7 @@ fn connect_all(
     rows: &str,
 ) -> Option<()> {
     for row in rows.lines() {
-        let (message, _) = row.split_once(" = ")?;
+        let (message, _) = row.split_once('|')?;
         streams.push(connect(rt, listener, message).ok()?).ok()?;
     }
     Some(())
@@ -59,7 +59,7 @@ fn connect_all(
 fn count_replied(alloc: Global, streams: &mut [TcpStream], rows: &str) -> Option<usize> {
     let mut count: usize = 0;
     for (stream, row) in streams.iter_mut().zip(rows.lines()) {
-        let (_, wanted) = row.split_once(" = ")?;
+        let (_, wanted) = row.split_once('|')?;
         if is_sent(alloc, stream, wanted) == Some(true) {
             count = count.saturating_add(1);
         }

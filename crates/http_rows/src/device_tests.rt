@@ -1,5 +1,6 @@
 ghost use Rattle.std.specs.Prelude.{◌≡◌, ◌<◌};
 
+use crate::lines::columns;
 use crate::rows::wrong_row;
 use crate::scripted::Scripted;
 use http_desks::Clock;
@@ -56,12 +57,11 @@ iiii9i1|4 1 0|4 1 failed
 01|0 1 0|failed 1 failed";
 
 /// Whether the calls of a row come to what it says.
-pub(crate) fn comes_to_its_ends(row: &str) -> Option<bool> {
-    let (script, others) = row.split_once('|')?;
-    let (read, written) = others.split_once('|')?;
+pub(crate) fn comes_to_its_ends(row: &str) -> bool {
+    let [script, read, written, _, _, _] = columns(row);
     let (blank, other) = (Blank::new(1), Blank::new(1));
     let is_read = are(&read_thrice::<Brand>(script.as_bytes(), blank), read);
-    Some(is_read && are(&write_thrice::<Brand>(script.as_bytes(), other), written))
+    is_read && are(&write_thrice::<Brand>(script.as_bytes(), other), written)
 }
 
 #[test]

@@ -86,7 +86,7 @@ fn comes_to<R: Net<Listener = TcpListener, Stream = TcpStream> + Threads + Sync>
     address: &str,
     row: &str,
 ) -> Option<bool> {
-    let (reply, wanted) = row.split_once(" = ")?;
+    let (reply, wanted) = row.split_once('|')?;
     let (request, outcome) = join(
         rt,
         || serve_once(alloc, listener, reply),
@@ -95,7 +95,7 @@ fn comes_to<R: Net<Listener = TcpListener, Stream = TcpStream> + Threads + Sync>
     Some(is_request(request?, host, address.is_empty()) && outcome == Some(wanted))
 }
 
-// The address of a package of a host, which is kept for good.
+// The address of a package of a host; it is never freed.
 fn address_of(alloc: Global, host: &str, query: &str) -> Option<&'static str> {
     let address = format!(in alloc; "http://{host}/p/a.bin{query}").ok()?;
     str::from_utf8(address.into_bytes().leak()).ok()
@@ -103,28 +103,28 @@ fn address_of(alloc: Global, host: &str, query: &str) -> Option<&'static str> {
 
 // A row is what a server sends, and what a post comes to.
 const POSTS: &str = "\
-HTTP/1.1 200 OK~Content-Length: 5~~hello = hello
-HTTP/1.0 200 OK~content-length: 5~~hello = hello
-HTTP/1.1 200 OK~Content-Length: 0~~ = 
-HTTP/1.1 200 OK~Content-Length: 5~~hello, world = hello
-HTTP/1.1 500 Internal Server Error~Content-Length: 0~~ = failed
-HTTP/1.1 204 No Content~Content-Length: 0~~ = failed
-HTTP/1.1 302 Found~Location: http://localhost/~Content-Length: 0~~ = failed
-HTTP/1.1 100 Continue~~HTTP/1.1 200 OK~Content-Length: 5~~hello = failed
-HTTP/1.1 200 OK~~hello = failed
-HTTP/1.1 200 OK~Content-Length: 5~Content-Length: 5~~hello = failed
-HTTP/1.1 200 OK~Content-Length: 5, 5~~hello = failed
-HTTP/1.1 200 OK~Content-Length: +5~~hello = failed
-HTTP/1.1 200 OK~Content-Length: 18446744073709551616~~hello = failed
-HTTP/1.1 200 OK~Content-Length: 16777217~~hello = failed
-HTTP/1.1 200 OK~Transfer-Encoding: chunked~~5~hello~0~~ = failed
-HTTP/1.1 200 OK~Part: ################~Content-Length: 5~~hello = hello
-HTTP/1.1 200 OK~Part: #################~Content-Length: 5~~hello = failed
-HTTP/1.1 200 OK~Transfer-Encoding: identity~Content-Length: 5~~hello = failed
-HTTP/1.1 200 OK~Content-Length: 6~~hello = failed
-HTTP/1.1 200 OK~Content-Len = failed
-NO HTTP~~ = failed
- = failed";
+HTTP/1.1 200 OK~Content-Length: 5~~hello|hello
+HTTP/1.0 200 OK~content-length: 5~~hello|hello
+HTTP/1.1 200 OK~Content-Length: 0~~|
+HTTP/1.1 200 OK~Content-Length: 5~~hello, world|hello
+HTTP/1.1 500 Internal Server Error~Content-Length: 0~~|failed
+HTTP/1.1 204 No Content~Content-Length: 0~~|failed
+HTTP/1.1 302 Found~Location: http://localhost/~Content-Length: 0~~|failed
+HTTP/1.1 100 Continue~~HTTP/1.1 200 OK~Content-Length: 5~~hello|failed
+HTTP/1.1 200 OK~~hello|failed
+HTTP/1.1 200 OK~Content-Length: 5~Content-Length: 5~~hello|failed
+HTTP/1.1 200 OK~Content-Length: 5, 5~~hello|failed
+HTTP/1.1 200 OK~Content-Length: +5~~hello|failed
+HTTP/1.1 200 OK~Content-Length: 18446744073709551616~~hello|failed
+HTTP/1.1 200 OK~Content-Length: 16777217~~hello|failed
+HTTP/1.1 200 OK~Transfer-Encoding: chunked~~5~hello~0~~|failed
+HTTP/1.1 200 OK~Part: ################~Content-Length: 5~~hello|hello
+HTTP/1.1 200 OK~Part: #################~Content-Length: 5~~hello|failed
+HTTP/1.1 200 OK~Transfer-Encoding: identity~Content-Length: 5~~hello|failed
+HTTP/1.1 200 OK~Content-Length: 6~~hello|failed
+HTTP/1.1 200 OK~Content-Len|failed
+NO HTTP~~|failed
+|failed";
 
 // rule: Head of a reply that is read
 // rule: Length of a reply
@@ -135,22 +135,22 @@ NO HTTP~~ = failed
 fn posts_over_the_loopback(rt: HostRuntime) -> Result<(), Fail> {
     let (listener, host) = listen(&rt).ok_or("no listener")?;
     for row in POSTS.lines() {
-        let is_right = comes_to(&rt, rt.alloc(), listener, host, "", row);
-        assert!(rt; is_right == Some(true), "{row}");
+        let is_so = comes_to(&rt, rt.alloc(), listener, host, "", row);
+        assert!(rt; is_so == Some(true), "{row}");
     }
     Ok(())
 }
 
 // A row is what a server sends, and the bytes that a download hands on, `!` at their end.
 const DOWNLOADS: &str = "\
-HTTP/1.1 200 OK~Content-Length: 12~~hello, world = hello, world!
-HTTP/1.1 200 OK~Content-Length: 20~~hello, world = hello, world!
-HTTP/1.1 200 OK~Content-Length: 3~~hello, world = hel!
-HTTP/1.1 200 OK~Content-Length: 0~~hello, world = !
-HTTP/1.1 404 Not Found~Content-Length: 0~~ = failed
-HTTP/1.1 301 Moved Permanently~Location: http://localhost/~Content-Length: 0~~ = failed
-HTTP/1.1 200 OK~~hello, world = failed
-HTTP/1.1 200 OK~Transfer-Encoding: chunked~~5~hello~0~~ = failed";
+HTTP/1.1 200 OK~Content-Length: 12~~hello, world|hello, world!
+HTTP/1.1 200 OK~Content-Length: 20~~hello, world|hello, world!
+HTTP/1.1 200 OK~Content-Length: 3~~hello, world|hel!
+HTTP/1.1 200 OK~Content-Length: 0~~hello, world|!
+HTTP/1.1 404 Not Found~Content-Length: 0~~|failed
+HTTP/1.1 301 Moved Permanently~Location: http://localhost/~Content-Length: 0~~|failed
+HTTP/1.1 200 OK~~hello, world|failed
+HTTP/1.1 200 OK~Transfer-Encoding: chunked~~5~hello~0~~|failed";
 
 // rule: Body that a link hands on
 // rule: Body that a link opens
@@ -159,8 +159,8 @@ fn downloads_over_the_loopback(rt: HostRuntime) -> Result<(), Fail> {
     let (listener, host) = listen(&rt).ok_or("no listener")?;
     let address = address_of(rt.alloc(), host, "?x=1").ok_or("no address")?;
     for row in DOWNLOADS.lines() {
-        let is_right = comes_to(&rt, rt.alloc(), listener, host, address, row);
-        assert!(rt; is_right == Some(true), "{row}");
+        let is_so = comes_to(&rt, rt.alloc(), listener, host, address, row);
+        assert!(rt; is_so == Some(true), "{row}");
     }
     Ok(())
 }

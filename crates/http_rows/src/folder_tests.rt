@@ -1,3 +1,4 @@
+use crate::lines::columns;
 use http_desks::Packages;
 use http_devices::Folder;
 use std::alloc::Global;
@@ -6,7 +7,7 @@ use std::rt::Files;
 use std::test::Fail;
 use std::{env, fs, process, str};
 
-// The path of a name in a folder, which is kept for good.
+// The path of a name in a folder; it is never freed.
 fn path_in(alloc: Global, folder: &str, name: &str) -> Option<&'static str> {
     let path = format!(in alloc; "{folder}/{name}").ok()?;
     str::from_utf8(path.into_bytes().leak()).ok()
@@ -64,38 +65,30 @@ fn has_bytes(folder: &Folder<'_, HostRuntime, File>, name: &str, at: u64, wanted
 
 // A row is a name, an offset, the package's size and three bytes from there.
 const ROWS: &str = "\
-a.bin|0|10 012
-a.bin|7|10 789
-a.bin|8|10 failed
-a.bin|18446744073709551615|10 failed
-empty|0|0 failed
-.a.bin|0|none failed
-inner|0|none failed
-link|0|none failed
-missing|0|none failed
-inner/../a.bin|0|none failed
-./a.bin|0|none failed
-.|0|none failed
-|0|none failed";
-
-// Whether a package has the size and the bytes of its row.
-fn has_row(folder: &Folder<'_, HostRuntime, File>, row: &str) -> Option<bool> {
-    let (name, others) = row.split_once('|')?;
-    let (at, wanted) = others.split_once('|')?;
-    let (size, bytes) = wanted.split_once(' ')?;
-    Some(has(folder, name, at.parse().unwrap_or(0), size, bytes))
-}
+a.bin|0|10|012
+a.bin|7|10|789
+a.bin|8|10|failed
+a.bin|18446744073709551615|10|failed
+empty|0|0|failed
+.a.bin|0|none|failed
+inner|0|none|failed
+link|0|none|failed
+missing|0|none|failed
+inner/../a.bin|0|none|failed
+./a.bin|0|none|failed
+.|0|none|failed
+|0|none|failed";
 
 // The first row that the packages of a folder don't have; empty if there is none.
 fn wrong_row<'a>(rt: &HostRuntime, path: &str, rows: &'a str) -> &'a str {
     let folder = Folder::new(rt.alloc(), rt, path);
-    let mut wrong = "";
     for row in rows.lines() {
-        if wrong.is_empty() && has_row(&folder, row) != Some(true) {
-            wrong = row;
+        let [name, at, size, bytes, _, _] = columns(row);
+        if !has(&folder, name, at.parse().unwrap_or(0), size, bytes) {
+            return row;
         }
     }
-    wrong
+    ""
 }
 
 // rule: Name of a file
@@ -128,8 +121,8 @@ fn is_kept(rt: &HostRuntime, path: &str) -> bool {
 #[test]
 fn reads_the_file_that_it_opened(rt: HostRuntime) -> Result<(), Fail> {
     let path = make_folder(&rt, "http_devices_replaced").ok_or("no folder")?;
-    let is_right = is_kept(&rt, path);
+    let is_read = is_kept(&rt, path);
     fs::remove_dir_all(&rt, path)?;
-    assert!(rt; is_right);
+    assert!(rt; is_read);
     Ok(())
 }

@@ -2,7 +2,7 @@ ghost use Rattle.std.specs.Prelude.{◌≡◌, length};
 ghost use Rattle.http_wire.specs.Heads.{IsWholeWithin};
 
 use crate::devices::Pieces;
-use crate::lines::expand;
+use crate::lines::{columns, expand};
 use crate::rows::wrong_row;
 use http_heads::{Status, framing, package_name, path_of, wants_close};
 use http_wire::{Head, MAX_FIELDS, Window, read_head};
@@ -12,49 +12,49 @@ use std::alloc::Global;
 // A row is a head and what it gives: the length of the body or the error status, and whether the
 // connection ends; or why there is no head. `~` is CR LF, `^` a lone LF, `@` NUL.
 const HEADS: &str = "\
-GET / HTTP/1.1~~ = 0 open
-GET / HTTP/1.1^^ = 0 open
-~^GET / HTTP/1.1~~ = 0 open
-GET / HTTP/1.0~~ = 0 close
-GET / HTTP/1.0~Connection: keep-alive~~ = 0 close
-GET / HTTP/1.1~Connection: close~~ = 0 close
-GET / HTTP/1.1~connection:keep-alive ,\tCLOSE~~ = 0 close
-GET / HTTP/1.1~Connection: closed, x close~~ = 0 open
-GET / HTTP/1.1~Connection: upgrade~CONNECTION: close,~~ = 0 close
-GET / HTTP/1.1~X: close~~ = 0 open
-GET / HTTP/3.9~~ = bad
-GET / HTTP/2.0~~ = bad
-GET  / HTTP/1.1~~ = bad
-GET / HTTP/1.1~X : y~~ = bad
-GET / HTTP/1.1~X: y~ z~~ = bad
-GET / HTTP/1.1~: y~~ = bad
-GET / HTTP/1.1~X: @~~ = bad
-GET / HTTP/1.1~ = ended
-GET / HTTP/1.1~Content-Length: 5~ = ended
-~~ = ended
-POST / HTTP/1.1~~ = 411 open
-post / HTTP/1.1~~ = 0 open
-POST / HTTP/1.1~Content-Length: 5~~ = 5 open
-POST / HTTP/1.1~CONTENT-LENGTH:\t5 ~~ = 5 open
-POST / HTTP/1.1~Content-Length: 00~~ = 0 open
-POST / HTTP/1.1~Content-Length: 0000000000000000000000000000005~~ = 5 open
-POST / HTTP/1.1~Content-Length: 262144~~ = 262144 open
-POST / HTTP/1.1~Content-Length: 262145~~ = 413 open
-GET / HTTP/1.1~Content-Length: 262145~~ = 413 open
-POST / HTTP/1.1~Content-Length: 18446744073709551616~~ = 413 open
-POST / HTTP/1.1~Content-Length: 18446744073709551621~~ = 413 open
-POST / HTTP/1.1~Content-Length: 5x~~ = 400 open
-POST / HTTP/1.1~Content-Length: +5~~ = 400 open
-POST / HTTP/1.1~Content-Length: -1~~ = 400 open
-POST / HTTP/1.1~Content-Length: 5, 5~~ = 400 open
-POST / HTTP/1.1~Content-Length: 0x5~~ = 400 open
-POST / HTTP/1.1~Content-Length:~~ = 400 open
-POST / HTTP/1.1~Content-Length: 5~Content-Length: 5~~ = 400 open
-GET / HTTP/1.1~Content-Length: 5~content-length: 6~~ = 400 open
-POST / HTTP/1.1~Transfer-Encoding: chunked~~ = 501 open
-POST / HTTP/1.1~Transfer-Encoding:~~ = 501 open
-POST / HTTP/1.1~Content-Length: 5~Transfer-Encoding: identity~~ = 501 open
-POST / HTTP/1.1~Content-Length: 5~Content-Length: 6~transfer-encoding: x~~ = 501 open
+GET / HTTP/1.1~~|0|open
+GET / HTTP/1.1^^|0|open
+~^GET / HTTP/1.1~~|0|open
+GET / HTTP/1.0~~|0|close
+GET / HTTP/1.0~Connection: keep-alive~~|0|close
+GET / HTTP/1.1~Connection: close~~|0|close
+GET / HTTP/1.1~connection:keep-alive ,\tCLOSE~~|0|close
+GET / HTTP/1.1~Connection: closed, x close~~|0|open
+GET / HTTP/1.1~Connection: upgrade~CONNECTION: close,~~|0|close
+GET / HTTP/1.1~X: close~~|0|open
+GET / HTTP/3.9~~|bad
+GET / HTTP/2.0~~|bad
+GET  / HTTP/1.1~~|bad
+GET / HTTP/1.1~X : y~~|bad
+GET / HTTP/1.1~X: y~ z~~|bad
+GET / HTTP/1.1~: y~~|bad
+GET / HTTP/1.1~X: @~~|bad
+GET / HTTP/1.1~|ended
+GET / HTTP/1.1~Content-Length: 5~|ended
+~~|ended
+POST / HTTP/1.1~~|411|open
+post / HTTP/1.1~~|0|open
+POST / HTTP/1.1~Content-Length: 5~~|5|open
+POST / HTTP/1.1~CONTENT-LENGTH:\t5 ~~|5|open
+POST / HTTP/1.1~Content-Length: 00~~|0|open
+POST / HTTP/1.1~Content-Length: 0000000000000000000000000000005~~|5|open
+POST / HTTP/1.1~Content-Length: 262144~~|262144|open
+POST / HTTP/1.1~Content-Length: 262145~~|413|open
+GET / HTTP/1.1~Content-Length: 262145~~|413|open
+POST / HTTP/1.1~Content-Length: 18446744073709551616~~|413|open
+POST / HTTP/1.1~Content-Length: 18446744073709551621~~|413|open
+POST / HTTP/1.1~Content-Length: 5x~~|400|open
+POST / HTTP/1.1~Content-Length: +5~~|400|open
+POST / HTTP/1.1~Content-Length: -1~~|400|open
+POST / HTTP/1.1~Content-Length: 5, 5~~|400|open
+POST / HTTP/1.1~Content-Length: 0x5~~|400|open
+POST / HTTP/1.1~Content-Length:~~|400|open
+POST / HTTP/1.1~Content-Length: 5~Content-Length: 5~~|400|open
+GET / HTTP/1.1~Content-Length: 5~content-length: 6~~|400|open
+POST / HTTP/1.1~Transfer-Encoding: chunked~~|501|open
+POST / HTTP/1.1~Transfer-Encoding:~~|501|open
+POST / HTTP/1.1~Content-Length: 5~Transfer-Encoding: identity~~|501|open
+POST / HTTP/1.1~Content-Length: 5~Content-Length: 6~transfer-encoding: x~~|501|open
 ";
 
 fn code(status: Status) -> &'static str {
@@ -72,18 +72,18 @@ fn has_fields(
     bytes: &[u8],
     spans: RequestSpans,
     fields: &[HeaderSpan],
-    wanted: &str,
-) -> Option<bool>
+    length: &str,
+    end: &str,
+) -> bool
     requires { IsWholeWithin bytes.now fields.now spans }
 {
-    let (length, end) = wanted.split_once(' ')?;
     let fields = &fields[..spans.headers];
     let closes = wants_close(spans.version, bytes, fields);
     let is_length = match framing(spans.method.of(bytes), bytes, fields) {
         Ok(found) => length.parse() == Ok(found),
         Err(status) => length == code(status),
     };
-    Some(is_length && closes == (end == "close"))
+    is_length && closes == (end == "close")
 }
 
 // Whether what is read of a source is the wanted: a whole head's fields, or why there is no head.
@@ -91,30 +91,38 @@ fn is_read(
     source: &mut Pieces<'_>,
     window: &mut Window,
     fields: &mut [HeaderSpan],
-    wanted: &str,
-) -> Option<bool>
+    length: &str,
+    end: &str,
+) -> bool
     requires { length fields.old ≡ 5461 }
 {
     match read_head(source, window, fields) {
-        Ok(Head::Whole(spans)) => has_fields(window.bytes(), spans, fields, wanted),
-        Ok(Head::Ended) => Some(wanted == "ended"),
-        Ok(Head::Bad) => Some(wanted == "bad"),
-        Ok(Head::Long) => Some(wanted == "long"),
-        Err(_) => Some(wanted == "failed"),
+        Ok(Head::Whole(spans)) => has_fields(window.bytes(), spans, fields, length, end),
+        Ok(Head::Ended) => length == "ended",
+        Ok(Head::Bad) => length == "bad",
+        Ok(Head::Long) => length == "long",
+        Err(_) => false,
     }
 }
 
 /// Whether what is read of a head that comes so many bytes a call is the wanted.
-pub(crate) fn is_head(alloc: Global, head: &[u8], piece: usize, wanted: &str) -> Option<bool> {
+pub(crate) fn is_head(
+    alloc: Global,
+    head: &[u8],
+    piece: usize,
+    length: &str,
+    end: &str,
+) -> Option<bool> {
     let fields = vec![in alloc; EMPTY_HEADER_SPAN; MAX_FIELDS].ok()?.leak();
     let mut window = Window::new(alloc).ok()?;
-    is_read(&mut Pieces::new(head, piece), &mut window, fields, wanted)
+    let mut source = Pieces::new(head, piece);
+    Some(is_read(&mut source, &mut window, fields, length, end))
 }
 
 /// Whether a head that comes so many bytes a call gives what its row says.
 pub(crate) fn gives(alloc: Global, row: &str, piece: usize) -> Option<bool> {
-    let (text, wanted) = row.split_once(" = ")?;
-    is_head(alloc, expand(alloc, text)?, piece, wanted)
+    let [head, length, end, _, _, _] = columns(row);
+    is_head(alloc, expand(alloc, head)?, piece, length, end)
 }
 
 // rule: End of a connection
@@ -129,23 +137,22 @@ fn reads_heads_however_they_are_cut(rt: HostRuntime) {
 
 // A row is a target, its path and the package that it names.
 const TARGETS: &str = "\
-/p/mini-1.0.bin?x=1 = /p/mini-1.0.bin = mini-1.0.bin
-/p/a? = /p/a = a
-/p/a#b = /p/a#b = a#b
-/p/a%2Db/c = /p/a%2Db/c = a%2Db/c
-/p/ = /p/ = 
-/p?/p/a = /p = none
-?/p/a =  = none
-//p/a = //p/a = none
-/P/a = /P/a = none";
+/p/mini-1.0.bin?x=1|/p/mini-1.0.bin|mini-1.0.bin
+/p/a?|/p/a|a
+/p/a#b|/p/a#b|a#b
+/p/a%2Db/c|/p/a%2Db/c|a%2Db/c
+/p/|/p/|
+/p?/p/a|/p|none
+?/p/a||none
+//p/a|//p/a|none
+/P/a|/P/a|none";
 
 /// Whether a target has the path and the package of its row.
-pub(crate) fn names(row: &str) -> Option<bool> {
-    let (target, others) = row.split_once(" = ")?;
-    let (path, name) = others.split_once(" = ")?;
+pub(crate) fn names(row: &str) -> bool {
+    let [target, path, name, _, _, _] = columns(row);
     let found = path_of(target.as_bytes());
     let package = package_name(found).unwrap_or(b"none");
-    Some(found == path.as_bytes() && package == name.as_bytes())
+    found == path.as_bytes() && package == name.as_bytes()
 }
 
 // rule: Path of a package

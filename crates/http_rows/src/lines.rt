@@ -2,7 +2,18 @@
 
 use std::alloc::{AllocError, Global};
 
-/// The bytes of a row, which are kept for good: `~` is CR LF, `^` a lone LF, `@` NUL.
+/// The columns of a row, with a bar between two; those that there aren't are empty.
+pub(crate) fn columns(row: &str) -> [&str; 6] {
+    let mut columns = [""; 6];
+    for (index, part) in row.split('|').enumerate() {
+        if let Some(column) = columns.get_mut(index) {
+            *column = part;
+        }
+    }
+    columns
+}
+
+/// The bytes of a row, which are never freed: `~` is CR LF, `^` a lone LF, `@` NUL.
 pub(crate) fn expand(alloc: Global, text: &str) -> Option<&'static [u8]> {
     let mut bytes = Vec::new(alloc);
     for byte in text.as_bytes() {
@@ -29,7 +40,7 @@ fn push_head(head: &mut Vec<u8>, fields: usize, length: usize) -> Result<(), All
     head.extend_from_slice(b"\r\n\r\n")
 }
 
-/// A head of so many fields, the last of which fills it up to so many bytes. It is kept for good.
+/// A head of so many fields, the last of which fills it up to so many bytes. It is never freed.
 pub(crate) fn make_head(alloc: Global, fields: usize, length: usize) -> Option<&'static [u8]> {
     let mut head = Vec::new(alloc);
     push_head(&mut head, fields, length).ok()?;

@@ -6,13 +6,13 @@ use crate::head_tests::{gives, names};
 use crate::package_tests::is_sent_so;
 use crate::session_tests::{ends_so, is_served};
 
-// Whether a row of that kind is right, over devices that give and take so many bytes a call.
-fn is_right(rt: &HostRuntime, kind: &str, piece: usize, row: &str) -> Option<bool> {
+// Whether what a row of that kind says is so, over devices that give and take so many bytes a call.
+fn is_so(rt: &HostRuntime, kind: &str, piece: usize, row: &str) -> Option<bool> {
     match kind {
-        "address" => has_parts(row),
-        "device" => comes_to_its_ends(row),
+        "address" => Some(has_parts(row)),
+        "device" => Some(comes_to_its_ends(row)),
         "head" => gives(rt.alloc(), row, piece),
-        "target" => names(row),
+        "target" => Some(names(row)),
         "package" => is_sent_so(rt.alloc(), row),
         "session" => is_served(rt, row, piece),
         _ => ends_so(rt, row),
@@ -22,7 +22,7 @@ fn is_right(rt: &HostRuntime, kind: &str, piece: usize, row: &str) -> Option<boo
 /// The first of rows that is wrong; empty if there is none.
 pub(crate) fn wrong_row<'a>(rt: &HostRuntime, kind: &str, piece: usize, rows: &'a str) -> &'a str {
     for row in rows.lines() {
-        if is_right(rt, kind, piece, row) != Some(true) {
+        if is_so(rt, kind, piece, row) != Some(true) {
             return row;
         }
     }

@@ -24,7 +24,7 @@ fn read_request(stream: &mut TcpStream, bytes: &mut Vec<u8>) -> Option<()> {
     Some(())
 }
 
-// Reads a request, which is kept for good.
+// Reads a request, which is never freed.
 fn receive(alloc: Global, stream: &mut TcpStream) -> Option<&'static str> {
     let mut bytes = Vec::new(alloc);
     read_request(stream, &mut bytes)?;
@@ -60,7 +60,7 @@ fn host_of(alloc: Global, listener: &TcpListener) -> Option<&'static str> {
     str::from_utf8(host.into_bytes().leak()).ok()
 }
 
-/// A listener on the loopback that is kept for good, and where it listens.
+/// A listener on the loopback that is never closed, and where it listens.
 pub(crate) fn listen(rt: &HostRuntime) -> Option<(&'static TcpListener, &'static str)> {
     let listener = TcpListener::bind(rt, "127.0.0.1:0").ok()?;
     match Box::new(rt.alloc(), listener) {

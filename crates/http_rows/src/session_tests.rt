@@ -1,43 +1,44 @@
 use crate::desks::{Echo, Files};
 use crate::devices::{Kept, Pieces};
-use crate::lines::{expand, make_head};
+use crate::lines::{columns, expand, make_head};
 use crate::rows::wrong_row;
 use crate::writers::Stopped;
 use http_sessions::{End, Fault, Served, serve};
+use std::alloc::Global;
 
-// A row is what a connection sends, and what it gets: the replies, how many were begun and how the
+// A row is what a connection sends, and what it gets: the replies, how many were begun, and how the
 // session ended. `~` is CR LF, `^` a lone LF.
 const SESSIONS: &str = "\
-GET / HTTP/1.1~~ = HTTP/1.1 404 Not Found~Content-Length: 0~~ | 1 finished
-GET /service/update2/json HTTP/1.1~~ = HTTP/1.1 405 Method Not Allowed~Allow: POST~Content-Length: 0~~ | 1 finished
-HEAD /p/mini-1.0.bin HTTP/1.1~~ = HTTP/1.1 405 Method Not Allowed~Allow: GET~Content-Length: 0~~ | 1 finished
-HEAD /p/none.bin HTTP/1.1~~ = HTTP/1.1 404 Not Found~Content-Length: 0~~ | 1 finished
-GET / HTTP/3.9~~ = HTTP/1.1 400 Bad Request~Content-Length: 0~Connection: close~~ | 1 refused
-POST / HTTP/1.1~Transfer-Encoding: chunked~~ = HTTP/1.1 501 Not Implemented~Content-Length: 0~Connection: close~~ | 1 refused
-POST / HTTP/1.1~Content-Length: 3~Transfer-Encoding: chunked~~abc = HTTP/1.1 501 Not Implemented~Content-Length: 0~Connection: close~~ | 1 refused
-POST / HTTP/1.1~Content-Length: 3~Transfer-Encoding: chunked~Content-Length: 4~~abcd = HTTP/1.1 501 Not Implemented~Content-Length: 0~Connection: close~~ | 1 refused
-POST / HTTP/1.1~Content-Length: 3~Content-Length: 3~~abc = HTTP/1.1 400 Bad Request~Content-Length: 0~Connection: close~~ | 1 refused
-POST / HTTP/1.1~~ = HTTP/1.1 411 Length Required~Content-Length: 0~Connection: close~~ | 1 refused
-POST / HTTP/1.1~Content-Length: 5x~~ = HTTP/1.1 400 Bad Request~Content-Length: 0~Connection: close~~ | 1 refused
-POST / HTTP/1.1~Content-Length: 262145~~ = HTTP/1.1 413 Content Too Large~Content-Length: 0~Connection: close~~ | 1 refused
-POST / HTTP/1.1~Content-Length: 18446744073709551616~~ = HTTP/1.1 413 Content Too Large~Content-Length: 0~Connection: close~~ | 1 refused
-post /service/update2/json HTTP/1.1~~ = HTTP/1.1 405 Method Not Allowed~Allow: POST~Content-Length: 0~~ | 1 finished
-POST /service/update2/json HTTP/1.1~Content-Length: 1~~{ = HTTP/1.1 400 Bad Request~Content-Length: 0~~ | 1 finished
-POST /service/update2/json HTTP/1.1~Content-Length: 4~~base = HTTP/1.1 409 Conflict~Content-Type: application/json~Content-Length: 8~~stale 2^ | 1 finished
-POST /service/update2/json HTTP/1.1~Content-Length: 5~~fault = HTTP/1.1 422 Unprocessable Content~Content-Type: application/json~Content-Length: 10~~refused 0^ | 1 finished
-POST /service/update2/json HTTP/1.1~Content-Length: 6~~memory = HTTP/1.1 500 Internal Server Error~Content-Length: 0~Connection: close~~ | 1 refused
-POST /service/update2/json HTTP/1.1~Content-Length: 6~~closedGET / HTTP/1.1~~ = HTTP/1.1 500 Internal Server Error~Content-Length: 0~Connection: close~~ | 1 refused
-POST /service/update2/json HTTP/1.1~Content-Length: 30~~{\"request\":{\"protocol\":\"3.1\"}} = HTTP/1.1 200 OK~Content-Type: application/json~Content-Length: 95~~)]}'^{\"response\":{\"app\":[],\"daystart\":{\"elapsed_days\":0,\"elapsed_seconds\":0},\"protocol\":\"3.1\"}} | 1 finished
-POST /service/update2/json?x HTTP/1.1~Content-Length: 18~~GET / HTTP/1.1~~GET = HTTP/1.1 200 OK~Content-Type: application/json~Content-Length: 18~~GET / HTTP/1.1~~ | 1 unfinished
-GET /p/mini-1.0.bin?x=1 HTTP/1.1~~ = HTTP/1.1 200 OK~Content-Type: application/octet-stream~Content-Length: 3~~abc | 1 finished
-GET /p/mini-1.0.bin?x=1 HTTP/1.0~~ = HTTP/1.1 200 OK~Content-Type: application/octet-stream~Content-Length: 3~Connection: close~~abc | 1 finished
-GET /p/changed.bin HTTP/1.1~~ = HTTP/1.1 200 OK~Content-Type: application/octet-stream~Content-Length: 3~~ | 1 cut
-GET /p/short.bin HTTP/1.1~~GET / HTTP/1.1~~ = HTTP/1.1 200 OK~Content-Type: application/octet-stream~Content-Length: 3~~ | 1 cut
-GET /p/missing.bin HTTP/1.0~~ = HTTP/1.1 200 OK~Content-Type: application/octet-stream~Content-Length: 3~Connection: close~~ | 1 cut
-GET /p/a HTTP/1.1~Content-Length: 4~~{ ^~GET / HTTP/1.1~~ = HTTP/1.1 200 OK~Content-Type: application/octet-stream~Content-Length: 3~~abcHTTP/1.1 404 Not Found~Content-Length: 0~~ | 2 finished
-GET / HTTP/1.1~Connection: x, Close~~GET / HTTP/1.1~~ = HTTP/1.1 404 Not Found~Content-Length: 0~Connection: close~~ | 1 finished
-GET / HTTP/1.1~~~ = HTTP/1.1 404 Not Found~Content-Length: 0~~ | 1 unfinished
-GET / HTTP/1.1~~GET  / HTTP/1.1~~ = HTTP/1.1 404 Not Found~Content-Length: 0~~HTTP/1.1 400 Bad Request~Content-Length: 0~Connection: close~~ | 2 refused
+GET / HTTP/1.1~~|HTTP/1.1 404 Not Found~Content-Length: 0~~|1|finished
+GET /service/update2/json HTTP/1.1~~|HTTP/1.1 405 Method Not Allowed~Allow: POST~Content-Length: 0~~|1|finished
+HEAD /p/mini-1.0.bin HTTP/1.1~~|HTTP/1.1 405 Method Not Allowed~Allow: GET~Content-Length: 0~~|1|finished
+HEAD /p/none.bin HTTP/1.1~~|HTTP/1.1 404 Not Found~Content-Length: 0~~|1|finished
+GET / HTTP/3.9~~|HTTP/1.1 400 Bad Request~Content-Length: 0~Connection: close~~|1|refused
+POST / HTTP/1.1~Transfer-Encoding: chunked~~|HTTP/1.1 501 Not Implemented~Content-Length: 0~Connection: close~~|1|refused
+POST / HTTP/1.1~Content-Length: 3~Transfer-Encoding: chunked~~abc|HTTP/1.1 501 Not Implemented~Content-Length: 0~Connection: close~~|1|refused
+POST / HTTP/1.1~Content-Length: 3~Transfer-Encoding: chunked~Content-Length: 4~~abcd|HTTP/1.1 501 Not Implemented~Content-Length: 0~Connection: close~~|1|refused
+POST / HTTP/1.1~Content-Length: 3~Content-Length: 3~~abc|HTTP/1.1 400 Bad Request~Content-Length: 0~Connection: close~~|1|refused
+POST / HTTP/1.1~~|HTTP/1.1 411 Length Required~Content-Length: 0~Connection: close~~|1|refused
+POST / HTTP/1.1~Content-Length: 5x~~|HTTP/1.1 400 Bad Request~Content-Length: 0~Connection: close~~|1|refused
+POST / HTTP/1.1~Content-Length: 262145~~|HTTP/1.1 413 Content Too Large~Content-Length: 0~Connection: close~~|1|refused
+POST / HTTP/1.1~Content-Length: 18446744073709551616~~|HTTP/1.1 413 Content Too Large~Content-Length: 0~Connection: close~~|1|refused
+post /service/update2/json HTTP/1.1~~|HTTP/1.1 405 Method Not Allowed~Allow: POST~Content-Length: 0~~|1|finished
+POST /service/update2/json HTTP/1.1~Content-Length: 1~~{|HTTP/1.1 400 Bad Request~Content-Length: 0~~|1|finished
+POST /service/update2/json HTTP/1.1~Content-Length: 4~~base|HTTP/1.1 409 Conflict~Content-Type: application/json~Content-Length: 8~~stale 2^|1|finished
+POST /service/update2/json HTTP/1.1~Content-Length: 5~~fault|HTTP/1.1 422 Unprocessable Content~Content-Type: application/json~Content-Length: 10~~refused 0^|1|finished
+POST /service/update2/json HTTP/1.1~Content-Length: 6~~memory|HTTP/1.1 500 Internal Server Error~Content-Length: 0~Connection: close~~|1|refused
+POST /service/update2/json HTTP/1.1~Content-Length: 6~~closedGET / HTTP/1.1~~|HTTP/1.1 500 Internal Server Error~Content-Length: 0~Connection: close~~|1|refused
+POST /service/update2/json HTTP/1.1~Content-Length: 30~~{\"request\":{\"protocol\":\"3.1\"}}|HTTP/1.1 200 OK~Content-Type: application/json~Content-Length: 95~~)]}'^{\"response\":{\"app\":[],\"daystart\":{\"elapsed_days\":0,\"elapsed_seconds\":0},\"protocol\":\"3.1\"}}|1|finished
+POST /service/update2/json?x HTTP/1.1~Content-Length: 18~~GET / HTTP/1.1~~GET|HTTP/1.1 200 OK~Content-Type: application/json~Content-Length: 18~~GET / HTTP/1.1~~|1|unfinished
+GET /p/mini-1.0.bin?x=1 HTTP/1.1~~|HTTP/1.1 200 OK~Content-Type: application/octet-stream~Content-Length: 3~~abc|1|finished
+GET /p/mini-1.0.bin?x=1 HTTP/1.0~~|HTTP/1.1 200 OK~Content-Type: application/octet-stream~Content-Length: 3~Connection: close~~abc|1|finished
+GET /p/changed.bin HTTP/1.1~~|HTTP/1.1 200 OK~Content-Type: application/octet-stream~Content-Length: 3~~|1|cut
+GET /p/short.bin HTTP/1.1~~GET / HTTP/1.1~~|HTTP/1.1 200 OK~Content-Type: application/octet-stream~Content-Length: 3~~|1|cut
+GET /p/missing.bin HTTP/1.0~~|HTTP/1.1 200 OK~Content-Type: application/octet-stream~Content-Length: 3~Connection: close~~|1|cut
+GET /p/a HTTP/1.1~Content-Length: 4~~{ ^~GET / HTTP/1.1~~|HTTP/1.1 200 OK~Content-Type: application/octet-stream~Content-Length: 3~~abcHTTP/1.1 404 Not Found~Content-Length: 0~~|2|finished
+GET / HTTP/1.1~Connection: x, Close~~GET / HTTP/1.1~~|HTTP/1.1 404 Not Found~Content-Length: 0~Connection: close~~|1|finished
+GET / HTTP/1.1~~~|HTTP/1.1 404 Not Found~Content-Length: 0~~|1|unfinished
+GET / HTTP/1.1~~GET  / HTTP/1.1~~|HTTP/1.1 404 Not Found~Content-Length: 0~~HTTP/1.1 400 Bad Request~Content-Length: 0~Connection: close~~|2|refused
 ";
 
 fn end_of(served: Result<Served, Fault>) -> (u32, &'static str) {
@@ -66,21 +67,15 @@ fn serve_pieces(rt: &HostRuntime, source: &mut Pieces<'_>, sink: &mut Kept) -> (
     ))
 }
 
-// Whether a connection that sends these bytes gets the replies, of which so many were begun, and its session ends so.
-fn gets(rt: &HostRuntime, sent: &[u8], piece: usize, replies: &[u8], ending: &str) -> Option<bool> {
-    let (requests, how) = ending.split_once(' ')?;
+/// Whether a connection that gives and takes so many bytes a call gets what its row says.
+pub(crate) fn is_served(rt: &HostRuntime, row: &str, piece: usize) -> Option<bool> {
+    let [sent, replies, requests, how, _, _] = columns(row);
+    let sent = expand(rt.alloc(), sent)?;
+    let replies = expand(rt.alloc(), replies)?;
     let mut sink = Kept::new(rt.alloc(), piece, usize::MAX);
     let ended = serve_pieces(rt, &mut Pieces::new(sent, piece), &mut sink);
     let is_ended = ended.1 == how && requests.parse() == Ok(ended.0);
     Some(is_ended && sink.bytes.as_slice() == replies)
-}
-
-/// Whether a connection that gives and takes so many bytes a call gets what its row says.
-pub(crate) fn is_served(rt: &HostRuntime, row: &str, piece: usize) -> Option<bool> {
-    let (text, wanted) = row.split_once(" = ")?;
-    let (replies, ending) = wanted.split_once(" | ")?;
-    let sent = expand(rt.alloc(), text)?;
-    gets(rt, sent, piece, expand(rt.alloc(), replies)?, ending)
 }
 
 // rule: Messages of a connection
@@ -170,33 +165,38 @@ fn writes_a_first_part_before_a_write_that_fails(rt: HostRuntime) {
     }
 }
 
-// Whether a session ends as its row says: how many fields and bytes its head has, or how many messages there are with
-// no such head; then how many of them get a reply, the size of the replies or how they begin, and how it ends.
+// The messages of a row: a head of so many fields and bytes, or, if no fields are named, so many messages.
+fn make_messages(alloc: Global, fields: &str, count: &str) -> Option<&'static [u8]> {
+    let count = count.parse().unwrap_or(0);
+    match fields.parse() {
+        Ok(fields) => make_head(alloc, fields, count),
+        Err(_) => Some(
+            "GET / HTTP/1.1\r\n\r\n"
+                .repeat(alloc, count)
+                .ok()?
+                .into_bytes()
+                .leak(),
+        ),
+    }
+}
+
+/// Whether a session ends as its row says: what is sent, the size of the replies or how they begin, how many there are,
+/// and how it ends.
 pub(crate) fn ends_so(rt: &HostRuntime, row: &str) -> Option<bool> {
-    let (sent, wanted) = row.split_once(" = ")?;
-    let (start, ending) = wanted.split_once(" | ")?;
-    let sent = match sent.split_once(' ') {
-        Some((fields, length)) => {
-            make_head(rt.alloc(), fields.parse().ok()?, length.parse().ok()?)?
-        }
-        None => TWO[..18]
-            .repeat(rt.alloc(), sent.parse().ok()?)
-            .ok()?
-            .leak(),
-    };
+    let [fields, count, start, requests, how, _] = columns(row);
+    let sent = make_messages(rt.alloc(), fields, count)?;
     let mut sink = Kept::new(rt.alloc(), 1000, usize::MAX);
-    let (requests, how) = serve_pieces(rt, &mut Pieces::new(sent, 1000), &mut sink);
-    let replies = sink.bytes.leak();
+    let ended = serve_pieces(rt, &mut Pieces::new(sent, 1000), &mut sink);
+    let replies = sink.bytes.as_slice();
     let is_started = start.parse() == Ok(replies.len()) || replies.starts_with(start.as_bytes());
-    let (count, end) = ending.split_once(' ')?;
-    Some(is_started && count.parse() == Ok(requests) && end == how)
+    Some(is_started && ended.1 == how && requests.parse() == Ok(ended.0))
 }
 
 // The last reply has 19 bytes more, which say that the connection ends.
 const MESSAGES: &str = "\
-999 = 44955 | 999 finished
-1000 = 45019 | 1000 finished
-1001 = 45019 | 1000 finished";
+|999|44955|999|finished
+|1000|45019|1000|finished
+|1001|45019|1000|finished";
 
 // rule: End of a session
 #[test]
@@ -207,11 +207,11 @@ fn closes_after_a_thousand_messages(rt: HostRuntime) {
 
 // A head of so many fields and bytes.
 const HEADS: &str = "\
-64 0 = HTTP/1.1 404 | 1 finished
-65 0 = HTTP/1.1 400 | 1 refused
-1 16384 = HTTP/1.1 404 | 1 finished
-1 16385 = HTTP/1.1 431 | 1 refused
-65 16385 = HTTP/1.1 431 | 1 refused";
+64|0|HTTP/1.1 404|1|finished
+65|0|HTTP/1.1 400|1|refused
+1|16384|HTTP/1.1 404|1|finished
+1|16385|HTTP/1.1 431|1|refused
+65|16385|HTTP/1.1 431|1|refused";
 
 // rule: Length of a message
 #[test]

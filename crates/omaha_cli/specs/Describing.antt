@@ -1,5 +1,5 @@
 -- What the command `describe` prints; this project's profile.
-use Rattle.std.specs.Prelude.{◌≡◌, ⊤, ℕ, List, Result, Ok, Err}
+use Rattle.std.specs.Prelude.{◌≡◌, ℕ, List, Result, Ok, Err}
 use Rattle.package_files.specs.Paths.{AreDescribed, IsUndescribed}
 use Rattle.package_files.specs.Storages.{Storage}
 use Rattle.package_files.specs.declared.paths.PathError.{PathError}

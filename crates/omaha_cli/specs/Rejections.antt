@@ -2,14 +2,13 @@
 use Rattle.omaha_json.specs.declared.fault.RequestFault.{RequestFault}
 use Rattle.omaha_server.specs.declared.fault.ServiceFault.{ServiceFault}
 use Rattle.omaha_server.specs.declared.fault.ServiceFault.TheVariants as service
-use Rattle.omaha_client.specs.declared.error.WalkError.{WalkError}
-use Rattle.omaha_client.specs.declared.error.WalkError.TheVariants as walk
 use Rattle.package_files.specs.declared.paths.PathError.{PathError}
 use Rattle.package_files.specs.declared.paths.PathError.TheVariants as paths
 use Rattle.reports.specs.declared.fault.CertificateError.{CertificateError}
 use Rattle.reports.specs.declared.fault.CertificateError.TheVariants as certificate
 use Rattle.streams.specs.declared.reading.ReadFailure.{ReadFailure}
 use Rattle.streams.specs.declared.reading.ReadFailure.TheVariants as input
+use Rattle.update_client.specs.declared.fault.Fault.{Fault}
 use Rattle.values.specs.declared.read_error.ReadError.{ReadError}
 use Rattle.values.specs.declared.read_error.ReadError.TheVariants as errors
 use Rattle.omaha_cli.specs.declared.failure.Failure.{Failure}
@@ -37,7 +36,6 @@ abbrev pub failure_of_path : PathError → Failure
 failure_of_path (paths.File path reason) = failure.Undescribed path reason
 failure_of_path paths.Memory = failure.Memory
 
-abbrev pub failure_of_walk : WalkError → Failure
-failure_of_walk (walk.Fault found) = failure.Walk found
-failure_of_walk walk.Write = failure.Write
-failure_of_walk walk.Memory = failure.Memory
+abbrev pub failure_of_walk : ReadError Fault → Failure
+failure_of_walk errors.Memory = failure.Memory
+failure_of_walk (errors.Fault fault) = failure.Walk fault

@@ -1,11 +1,15 @@
 -- What the command `walk` does; this project's profile.
-use Rattle.std.specs.Prelude.{◌≡◌, ◌⊎◌, [], Result, Ok, Err}
+use Rattle.std.specs.Prelude.{◌≡◌, ◌⊎◌, ℕ, List, [], Result, Ok, Err}
 use Rattle.streams.specs.Streams.{Known}
+use Rattle.values.specs.declared.read_error.ReadError.{ReadError}
 use Rattle.omaha_arguments.specs.declared.command.Walk.{Walk}
-use Rattle.omaha_client.specs.Walking.{IsWalkOver}
-use Rattle.omaha_client.specs.declared.error.WalkError.{WalkError}
 use Rattle.update_client.specs.Installed.{Installed}
+use Rattle.update_client.specs.declared.fault.Fault.{Fault}
+use Rattle.update_client.specs.declared.walking.Walk.{Walk as Walked}
+use Rattle.omaha_client.specs.Lines.{done_line}
+use Rattle.omaha_client.specs.Walking.{IsWalkOver}
 use Rattle.omaha_cli.specs.Rejections.{failure_of_walk}
+use Rattle.omaha_cli.specs.Reports.{Prints}
 use Rattle.omaha_cli.specs.Streams.{Streams}
 use Rattle.omaha_cli.specs.declared.failure.Failure.{Failure}
 use Rattle.omaha_cli.specs.declared.failure.Failure.TheVariants as failure
@@ -23,19 +27,24 @@ client_of walk =
       session = walk.session;
     }
 
--- how the command ends by the end of its walk
-abbrev pub end_of : Result (Unit {0}) WalkError → Result (Unit {0}) Failure
-end_of (Ok done) = Ok tt
-end_of (Err error) = Err (failure_of_walk error)
+-- the last line of a walk, unless memory runs out; after an error there is none
+abbrev pub IsLastLine : Result Walked (ReadError Fault) → Result (List ℕ) Failure → Type 0
+IsLastLine (Ok walked) (Ok line) = line ≡ done_line walked
+IsLastLine (Ok walked) (Err refusal) = refusal ≡ failure.Memory
+IsLastLine (Err error) line = line ≡ Err (failure_of_walk error)
 
--- the client walks and that is printed, or memory ran out before
-abbrev pub IsWalked : Walk → Known → Known → Result (Unit {0}) Failure → Type 0
-IsWalked walk before after result =
-    ((end : Installed) × (walked : Result (Unit {0}) WalkError)
-    × IsWalkOver (client_of walk) end before after walked × (result ≡ end_of walked))
-    ⊎ ((result ≡ Err failure.Memory) × (after ≡ before))
+-- the client walks, and what that prints is followed by the last line
+pub record IsWalked (walk : Walk) (old new : Streams) (result : Result (Unit {0}) Failure) : Type 0 where
+  pub end : Installed
+  pub walked : Result Walked (ReadError Fault)
+  pub between : Known
+  pub line : Result (List ℕ) Failure
+  pub walks : IsWalkOver (client_of walk) end old.output between walked
+  pub last : IsLastLine walked line
+  pub printed : Prints line (record old { output = between }) new result
 
 -- rule: Walk of the program
--- a walk reads no input
+-- the client walks and that is printed, or memory ran out before; a walk reads no input
 abbrev pub WalksOn : Walk → Streams → Streams → Result (Unit {0}) Failure → Type 0
-WalksOn walk old new result = IsWalked walk old.output new.output result × (new.input ≡ old.input)
+WalksOn walk old new result =
+    IsWalked walk old new result ⊎ ((result ≡ Err failure.Memory) × (new ≡ old))

@@ -2,7 +2,6 @@ ghost use Rattle.std.specs.Prelude.{Some};
 ghost use Rattle.omaha_cli.specs.Failures.{failure_string};
 
 use catalogue::Refused;
-use omaha_client::WalkError;
 use omaha_json::RequestFault;
 use omaha_server::ServiceFault;
 use package_files::{DescribeError, PathError};
@@ -180,17 +179,16 @@ impl From<PathError> for Failure {
     }
 }
 
-impl From<WalkError> for Failure {
+impl From<ReadError<Fault>> for Failure {
     ghost use Rattle.std.specs.Prelude.{◌≡◌};
     ghost use Rattle.omaha_cli.specs.Rejections.{failure_of_walk};
 
     ghost from_gives = { λ error failure. failure ≡ failure_of_walk error };
 
-    fn from(error: WalkError) -> Failure {
+    fn from(error: ReadError<Fault>) -> Failure {
         match error {
-            WalkError::Fault(fault) => Failure::Walk(fault),
-            WalkError::Write => Failure::Write,
-            WalkError::Memory => Failure::Memory,
+            ReadError::Fault(fault) => Failure::Walk(fault),
+            ReadError::Memory => Failure::Memory,
         }
     }
 }

@@ -1,16 +1,18 @@
 // The command `walk`.
 
-ghost use Rattle.std.specs.Prelude.{◌≡◌, IfOk};
+ghost use Rattle.std.specs.Prelude.{◌≡◌, IfOk, IfErr, Ok, Err, string_bytes};
 ghost use Rattle.omaha_json_client.specs.RequestWriting.{IsAppid};
-ghost use Rattle.omaha_cli.specs.Walking.{IsWalked, WalksOn, client_of, end_of};
+ghost use Rattle.omaha_client.specs.Lines.{done_line};
+ghost use Rattle.omaha_cli.specs.Walking.{WalksOn, client_of};
 ghost use Rattle.streams.specs.Streams.{Known};
 
 use crate::failure::Failure;
+use crate::printing::print;
 use omaha_arguments::Walk;
-use omaha_client::{Connector, WalkError};
+use omaha_client::{Connector, DoneLine};
 use std::alloc::{AllocError, Global};
 use streams::WriteWhole;
-use update_client::Client;
+use update_client::{Client, Walk as Walked};
 use values::Text;
 
 // The client of a walk.
@@ -29,30 +31,12 @@ fn client_of(alloc: Global, asked: &Walk) -> Result<Client, AllocError>
     ))
 }
 
-// The end of the command by the end of its walk.
-fn end_of(walked: Result<(), WalkError>) -> Result<(), Failure>
-    ensures { result ≡ end_of walked }
+// The line after a walk.
+fn last_line(alloc: Global, walk: Walked) -> Result<String, AllocError>
+    ensures { IfOk result (λ line. string_bytes line ≡ done_line walk) }
 {
-    match walked {
-        Ok(()) => Ok(()),
-        Err(error) => Err(Failure::from(error)),
-    }
-}
-
-// Walks the client that is asked for.
-fn walk_client<R: Connector, W: WriteWhole>(
-    alloc: Global,
-    rt: &R,
-    asked: &Walk,
-    writer: &mut W,
-) -> Result<(), Failure>
-    requires { IsAppid asked.now.app }
-    ensures { IsWalked asked.now (W.output writer.old) (W.output writer.new) result }
-{
-    let Ok(mut client) = client_of(alloc, asked) else {
-        return Err(Failure::Memory);
-    };
-    end_of(rt.walk_app_at(alloc, asked.to.as_str(), &mut client, writer))
+    let line = DoneLine { walk };
+    format!(in alloc; "{line}")
 }
 
 // rule: Walk of the program
@@ -70,5 +54,8 @@ pub(crate) fn walk_on<R: Connector, W: WriteWhole>(
         (record { input = input; output = W.output writer.old })
         (record { input = input; output = W.output writer.new }) result }
 {
-    walk_client(alloc, rt, asked, writer)
+    let mut client = client_of(alloc, asked)?;
+    let walk = rt.walk_app_at(alloc, asked.to.as_str(), &mut client, writer)?;
+    let line = last_line(alloc, walk)?;
+    print(line.as_bytes(), writer)
 }

@@ -1,1 +1,2 @@
+mod KeepingLemmas
 mod WalkLemmas

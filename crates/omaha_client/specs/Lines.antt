@@ -1,9 +1,9 @@
--- The lines that a walk prints; this project's profile.
-use Rattle.std.specs.Prelude.{ℕ, ◌+◌, Bool, List, [], ◌∷◌, ◌++◌, codes, decimal, length, map, if◌then◌else◌}
+-- The lines of a walk; this project's profile.
+use Rattle.std.specs.Prelude.{ℕ, ◌+◌, Bool, List, [], ◌∷◌, ◌++◌, codes, decimal, if◌then◌else◌}
 use Rattle.streams.specs.Strings.{shown_string}
-use Rattle.update_client.specs.Clients.{step_of}
-use Rattle.update_client.specs.Walks.{Turn, bytes_of}
+use Rattle.update_client.specs.Walks.{Commit}
 use Rattle.update_client.specs.declared.installer.Step.{Step}
+use Rattle.update_client.specs.declared.walking.Walk.{Walk}
 
 -- the kind of a file
 abbrev pub kind_of : Bool → List ℕ
@@ -15,15 +15,15 @@ step_line number step = codes "step " ++ decimal number ++ codes " " ++ kind_of 
     ++ shown_string step.version ++ codes " " ++ decimal step.bytes ++ codes "\n"
 
 -- the last line: how many steps there were, and how many bytes they had
-abbrev pub done_line : ℕ → ℕ → List ℕ
-done_line steps bytes = codes "done " ++ decimal steps ++ codes " steps " ++ decimal bytes ++ codes " bytes\n"
+abbrev pub done_line : Walk → List ℕ
+done_line walk = codes "done " ++ decimal walk.steps ++ codes " steps " ++ decimal walk.bytes ++ codes " bytes\n"
 
--- the lines of steps, whose first one has that number
-abbrev pub lines_from : ℕ → List Turn → List ℕ
+-- the lines of commits, the first of which has that number
+abbrev pub lines_from : ℕ → List Commit → List ℕ
 lines_from number [] = []
-lines_from number (turn ∷ turns) = step_line number (step_of turn.accepted.offer) ++ lines_from (number + 1) turns
+lines_from number (commit ∷ commits) = step_line number commit.0 ++ lines_from (number + 1) commits
 
 -- rule: Lines of a walk
--- a line for each step, numbered from 1, and the last line
-abbrev pub report_of : List Turn → List ℕ
-report_of turns = lines_from 1 turns ++ done_line (length turns) (bytes_of turns)
+-- a line for each step that was committed, numbered from 1
+abbrev pub lines_of : List Commit → List ℕ
+lines_of commits = lines_from 1 commits

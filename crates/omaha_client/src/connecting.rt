@@ -2,13 +2,13 @@
 
 ghost use Rattle.omaha_client.specs.Walking.{IsWalkOver};
 
-use crate::error::WalkError;
 use crate::walking::walk_app;
 use http_client::HttpLink;
 use std::alloc::Global;
 use std::net::{Net, TcpListener, TcpStream};
 use streams::WriteWhole;
-use update_client::Client;
+use update_client::{Client, Fault, Walk};
+use values::ReadError;
 
 /// How many seconds each read and each write of a connection may take.
 const SECONDS: u64 = 30;
@@ -26,7 +26,7 @@ pub trait Connector {
         address: &str,
         client: &mut Client,
         out: &mut W,
-    ) -> Result<(), WalkError>
+    ) -> Result<Walk, ReadError<Fault>>
         ensures { IsWalkOver client.old client.new (W.output out.old) (W.output out.new) result };
 }
 
@@ -37,7 +37,7 @@ impl<R: Net<Listener = TcpListener, Stream = TcpStream>> Connector for R {
         address: &str,
         client: &mut Client,
         out: &mut W,
-    ) -> Result<(), WalkError> {
+    ) -> Result<Walk, ReadError<Fault>> {
         let mut link = HttpLink::new(alloc, self, address, SECONDS);
         walk_app(alloc, client, &mut link, out)
     }

@@ -5,7 +5,7 @@ ghost use Rattle.omaha_client.specs.Lines.{done_line, step_line};
 
 use std::fmt;
 use streams::Shown;
-use update_client::Step;
+use update_client::{Step, Walk};
 
 /// The line of a step: its number, what kind of file, the version and how many bytes.
 #[derive(Clone, Copy)]
@@ -32,20 +32,18 @@ impl fmt::Display for StepLine<'_> {
 }
 
 /// The last line of a walk: how many steps there were, and how many bytes they had.
-#[derive(Clone, Copy)]
-pub(crate) struct DoneLine {
-    /// How many steps there were.
-    pub(crate) steps: u64,
-    /// How many bytes they had.
-    pub(crate) bytes: u128,
+#[derive(Clone, Copy, Drop)]
+pub struct DoneLine {
+    /// The walk.
+    pub walk: Walk,
 }
 
 impl fmt::Display for DoneLine {
-    ghost output = { λ line. Some (done_line line.steps line.bytes) };
+    ghost output = { λ line. Some (done_line line.walk) };
 
     fn fmt<W: fmt::Write>(&self, f: &mut fmt::Formatter<W>) -> fmt::Result {
-        let steps = self.steps;
-        let bytes = self.bytes;
+        let steps = self.walk.steps;
+        let bytes = self.walk.bytes;
         write!(f, "done {steps} steps {bytes} bytes\n")
     }
 }

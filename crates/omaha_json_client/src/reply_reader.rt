@@ -70,10 +70,7 @@ fn read_size(json: &Value, name: &str) -> Option<u64>
 fn read_hash(json: &Value, name: &str) -> Option<[u8; 32]>
     ensures { result ≡ hash_at name.now (view json.now) }
 {
-    match string_member(json, name) {
-        Some(digits) => <[u8; 32] as FromHex>::from_hex(digits).ok(),
-        None => None,
-    }
+    <[u8; 32] as FromHex>::from_hex(string_member(json, name)?).ok()
 }
 
 fn find_string<'v>(items: &'v [Value], name: &str) -> Option<&'v str>

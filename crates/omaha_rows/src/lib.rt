@@ -12,6 +12,8 @@ mod log_tests;
 #[cfg(test)]
 mod message_tests;
 #[cfg(test)]
+mod narrow;
+#[cfg(test)]
 mod runs;
 #[cfg(test)]
 mod site;

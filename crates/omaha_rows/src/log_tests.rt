@@ -1,4 +1,5 @@
-use crate::runs::{SAME, Serving, are_printed};
+use crate::runs::{Running, SAME, serve};
+use fixtures::two_parts;
 
 // Two messages on a connection, and one on the next.
 const MESSAGES: &str = "\
@@ -11,44 +12,45 @@ const LINES: &str = r#"127.0.0.1 - - [] "GET /p/mini-1.0.bin HTTP/1.1" 200 3 "-"
 127.0.0.1 - - [] "GET /none HTTP/1.1" 404 0 "-" "-""#;
 
 // Whether a line is the wanted one, but for its time.
-fn is_line(line: &str, wanted: &str) -> Option<bool> {
-    let (before, others) = line.split_once("[")?;
-    let (time, after) = others.split_once("]")?;
-    let (wanted_before, wanted_after) = wanted.split_once("[]")?;
+fn is_line(line: &str, wanted: &str) -> bool {
+    let (before, others) = two_parts(line, "[");
+    let (time, after) = two_parts(others, "]");
+    let (wanted_before, wanted_after) = two_parts(wanted, "[]");
     let is_time = time.len() == 26 && time.ends_with(" +0000");
-    Some(is_time && before == wanted_before && after == wanted_after)
+    is_time && before == wanted_before && after == wanted_after
 }
 
 // Whether a log has those lines and no others.
-fn is_log(log: &str) -> Option<bool> {
-    let mut left = log;
-    for wanted in LINES.lines() {
-        let (line, others) = left.split_once('\n')?;
-        if is_line(line, wanted) != Some(true) {
-            return Some(false);
+fn is_log(log: &str) -> bool {
+    for (line, wanted) in log.lines().zip(LINES.lines()) {
+        if !is_line(line, wanted) {
+            return false;
         }
-        left = others;
     }
-    Some(left.is_empty())
+    log.lines().count() == LINES.lines().count()
 }
 
-// Whether a server ended with the status 0, and its log goes on with those lines.
-fn is_logged(lines: Option<String>) -> Option<bool> {
-    let lines = lines?;
-    let (printed, log) = lines.as_str().split_once("kept\n")?;
-    Some(printed.starts_with("0 ready\nm0 0\n") && is_log(log) == Some(true))
+// Whether a server ends with the status 0, and its log goes on with those lines.
+fn logs<R: Running>(rt: &R, files: &HostRuntime) -> Option<bool> {
+    let change = ("access.log", "kept\n");
+    let lines = serve(rt, files, change, "2", "/access.log", MESSAGES)?;
+    let (printed, log) = two_parts(lines.as_str(), "kept\n");
+    Some(printed.starts_with("0 ready\nm0 0\n") && is_log(log))
 }
 
 #[test]
 fn each_reply_is_logged(rt: HostRuntime) {
-    let log = ("access.log", "kept\n");
-    let lines = rt.serve("omaha_rows.log", log, "2", "/access.log", MESSAGES);
-    assert!(rt; is_logged(lines) == Some(true));
+    assert!(rt; logs(&rt, &rt) == Some(true));
+}
+
+// Whether a server without a folder for its log reports the log's path.
+fn reports_the_log<R: Running>(rt: &R, files: &HostRuntime) -> Option<bool> {
+    let lines = serve(rt, files, SAME, "1", "/none/access.log", "")?;
+    Some(lines.as_str() == "1 omaha: file FOLDER/none/access.log\n")
 }
 
 // rule: Run of a server
 #[test]
 fn without_its_log_no_server_listens(rt: HostRuntime) {
-    let lines = rt.serve("omaha_rows.unlogged", SAME, "1", "/none/access.log", "");
-    assert!(rt; are_printed(lines, "1 omaha: file FOLDER/none/access.log\n"));
+    assert!(rt; reports_the_log(&rt, &rt) == Some(true));
 }

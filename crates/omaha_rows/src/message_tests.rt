@@ -1,19 +1,16 @@
-use crate::runs::{SAME, Serving, are_printed};
+use crate::runs::{Running, SAME, prints, serve};
+use fixtures::two_parts;
 
-// The update check of a client at the first release, but for its last byte.
-macro_rules! ask {
-    () => {
-        concat!(
-            "POST /service/update2/json HTTP/1.1~Content-Length: 227~~",
-            r#"{"request":{"app":[{"appid":"mini","cohort":"stable:0","packages":{"package":[{"fp":"1."#,
-            r#"ba7816bf8f01cfea414140de5dae2223b00361a396177a9cb410ff61f20015ad"}]},"updatecheck":{},"#,
-            r#""version":"1.0"}],"protocol":"3.1","sessionid":"abc"}"#,
-        )
+macro_rules! asks {
+    ($ask:literal) => {
+        concat!($ask, "}\n", $ask)
     };
 }
 
-// A whole update check, and one without its last byte.
-const ASKS: &str = concat!(ask!(), "}\n", ask!());
+// The update check of a client at the first release, whole and without its last byte.
+const ASKS: &str = asks!(
+    r#"POST /service/update2/json HTTP/1.1~Content-Length: 227~~{"request":{"app":[{"appid":"mini","cohort":"stable:0","packages":{"package":[{"fp":"1.ba7816bf8f01cfea414140de5dae2223b00361a396177a9cb410ff61f20015ad"}]},"updatecheck":{},"version":"1.0"}],"protocol":"3.1","sessionid":"abc"}"#
+);
 
 // What the reply begins with, but for its length: the differential to the second release.
 const OFFER: &str = concat!(
@@ -27,19 +24,18 @@ const OFFER: &str = concat!(
     r#""status":"ok","urls":{"url":[{"codebase":"http://"#,
 );
 
-// Whether a server granted ten bytes, and its client got the offer alone.
-fn is_offered(lines: Option<String>) -> Option<bool> {
-    let lines = lines?;
-    let reply = lines.as_str().strip_prefix("0 ready\nm0 10\n")?;
-    let (offer, others) = reply.split_once("\"protocol\":\"3.1\"}}\n")?;
-    let is_json = offer.starts_with("HTTP/1.1 200 OK~Content-Type: application/json");
-    Some(is_json && offer.contains(OFFER) && others.is_empty())
+// Whether a server grants ten bytes, and its client gets the offer for the whole update check and nothing for the other.
+fn offers<R: Running>(rt: &R, files: &HostRuntime) -> Option<bool> {
+    let lines = serve(rt, files, SAME, "2", "", ASKS)?;
+    let head = "HTTP/1.1 200 OK~Content-Type: application/json";
+    let (printed, reply) = two_parts(lines.as_str(), head);
+    let (offer, others) = two_parts(reply, "\"protocol\":\"3.1\"}}\n");
+    Some(printed == "0 ready\nm0 10\n" && offer.contains(OFFER) && others.is_empty())
 }
 
 #[test]
 fn replies_to_a_whole_update_check_alone(rt: HostRuntime) {
-    let lines = rt.serve("omaha_rows.asks", SAME, "2", "", ASKS);
-    assert!(rt; is_offered(lines) == Some(true));
+    assert!(rt; offers(&rt, &rt) == Some(true));
 }
 
 // A row is what a client sends, and what it gets.
@@ -49,35 +45,39 @@ GET /p/mini-1.0.bin?x=1 HTTP/1.0~~ = HTTP/1.1 200 OK~Content-Type: application/o
 GET /p/mini-1.0.bin HTTP/1.1~~GET /p/mini-2-3.bin HTTP/1.1~~ = HTTP/1.1 200 OK~Content-Type: application/octet-stream~Content-Length: 3~~abcHTTP/1.1 200 OK~Content-Type: application/octet-stream~Content-Length: 1~~a
 GET /p/mini.toml HTTP/1.1~~ = HTTP/1.1 404 Not Found~Content-Length: 0~~";
 
+// What a server prints that grants nothing.
+const GRANTS_NOTHING: &str = "0 ready\nm0 0\n";
+
 #[test]
 fn sends_packages(rt: HostRuntime) {
-    let lines = rt.serve("omaha_rows.packages", SAME, "4", "", ROWS);
-    assert!(rt; are_printed(lines, "0 ready\nm0 0\n"));
+    assert!(rt; prints(&rt, &rt, SAME, "4", ROWS, GRANTS_NOTHING));
 }
 
 // The same for a package that isn't what the profile says.
 const CUT: &str = "\
 GET /p/mini-1.0.bin HTTP/1.1~~ = HTTP/1.1 200 OK~Content-Type: application/octet-stream~Content-Length: 3~~";
 
+// Whether it is so with these bytes.
+fn cuts<R: Running>(rt: &R, files: &HostRuntime, bytes: &str) -> bool {
+    prints(rt, files, ("mini-1.0.bin", bytes), "1", CUT, GRANTS_NOTHING)
+}
+
 #[test]
 fn sends_no_package_of_another_size_or_hash(rt: HostRuntime) {
     for bytes in ["abd", "ab", "abcd"] {
-        let change = ("mini-1.0.bin", bytes);
-        let lines = rt.serve("omaha_rows.wrong", change, "1", "", CUT);
-        assert!(rt; are_printed(lines, "0 ready\nm0 0\n"), "{bytes}");
+        assert!(rt; cuts(&rt, &rt, bytes), "{bytes}");
     }
 }
 
-// Whether a server granted nothing, and its client got all of a large package but its last block.
-fn is_cut(lines: Option<String>) -> Option<bool> {
-    let lines = lines?;
-    let reply = lines.as_str().strip_prefix("0 ready\nm0 0\n")?;
-    let (head, body) = reply.split_once("~~")?;
-    Some(head.ends_with("~Content-Length: 65537") && body.len() == 65537 && body.ends_with("\n"))
+// Whether a server grants nothing, and its client gets all of a large package but its last block.
+fn cuts_a_block<R: Running>(rt: &R, files: &HostRuntime) -> Option<bool> {
+    let lines = serve(rt, files, SAME, "1", "", "GET /p/large-1.0.bin HTTP/1.1~~")?;
+    let (head, body) = two_parts(lines.as_str(), "~~");
+    let is_head = head.starts_with(GRANTS_NOTHING) && head.ends_with("~Content-Length: 65537");
+    Some(is_head && body.len() == 65537 && body.ends_with("\n"))
 }
 
 #[test]
 fn cuts_a_large_package_before_its_last_block(rt: HostRuntime) {
-    let lines = rt.serve("omaha_rows.large", SAME, "1", "", "GET /p/large-1.0.bin HTTP/1.1~~");
-    assert!(rt; is_cut(lines) == Some(true));
+    assert!(rt; cuts_a_block(&rt, &rt) == Some(true));
 }

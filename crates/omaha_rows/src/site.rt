@@ -79,8 +79,8 @@ fn fill(rt: &HostRuntime, site: &Site, file: &str, content: &str) -> io::Result<
 }
 
 /// Makes the site of a test, one of whose files is written anew.
-pub(crate) fn make_site(rt: &HostRuntime, name: &str, file: &str, content: &str) -> Option<Site> {
-    let folder = make_folder(rt, name)?;
+pub(crate) fn make_site(rt: &HostRuntime, file: &str, content: &str) -> Option<Site> {
+    let folder = make_folder(rt, "omaha_rows")?;
     let host = free_host(rt).ok()?;
     let site = Site { folder, host };
     fill(rt, &site, file, content).ok()?;

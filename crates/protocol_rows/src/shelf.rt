@@ -13,6 +13,7 @@ pub(crate) struct Shelf {
     pub(crate) staged: Vec<u8>,
     countdown: Countdown,
     commits: Trace<(Step, Trace<u8>)>,
+    rejected: Trace<Step>,
     failures: Trace<()>,
     /// The commits, each with its first bytes.
     pub(crate) log: String,
@@ -28,6 +29,7 @@ impl Shelf {
             staged: Vec::new(alloc),
             countdown: Countdown::new(calls),
             commits: Trace::new(),
+            rejected: Trace::new(),
             failures: Trace::new(),
             log: String::new(alloc),
         }
@@ -53,6 +55,8 @@ impl Installer for Shelf {
 
     ghost commits = { λ shelf. shelf.commits };
 
+    ghost rejected = { λ shelf. shelf.rejected };
+
     ghost failures = { λ shelf. length shelf.failures };
 
     fn put(&mut self, bytes: &[u8]) -> Result<(), Failed> {
@@ -74,6 +78,7 @@ impl Installer for Shelf {
                 }
             }
         }
+        self.rejected.push(step);
         self.failures.push(&());
         Err(Failed)
     }

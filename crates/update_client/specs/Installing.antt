@@ -10,6 +10,11 @@ abbrev pub committed : {E : Type 0} → Result (Unit {0}) E → Step → List �
 committed (Ok done) step bytes = (step, bytes) ∷ []
 committed (Err failed) step bytes = []
 
+-- the step, if its commit failed
+abbrev pub uncommitted : {E : Type 0} → Result (Unit {0}) E → Step → List Step
+uncommitted (Ok done) step = []
+uncommitted (Err failed) step = step ∷ []
+
 -- a request and its reply, if there was one
 abbrev pub posted : {E : Type 0} → Result (List ℕ) E → List ℕ → List (List ℕ × List ℕ)
 posted (Ok reply) body = (body, reply) ∷ []
@@ -79,3 +84,8 @@ link_failures (Err failed) = link_count failed
 abbrev pub installer_failures : Result (Unit {0}) Fault → ℕ
 installer_failures (Ok done) = 0
 installer_failures (Err failed) = installer_count failed
+
+-- no commit failed; or, of so many calls of an installer that did, one was the commit of such a step
+abbrev pub Rejects : (Step → Type 0) → List Step → List Step → ℕ → Type 0
+Rejects IsTried old new count =
+    (new ≡ old) ⊎ ((step : Step) × (0 < count) × IsTried step × (new ≡ old ++ step ∷ []))

@@ -84,6 +84,12 @@ Opens client old new asked opened accepted = (reply : List ℕ)
     × IsOffered client reply accepted
     × (opened ≡ asked ++ address_of accepted.offer ∷ [])
 
+-- the step of what a client was offered last
+abbrev pub IsLastOffer : Installed → List Post → Step → Type 0
+IsLastOffer client posts step = (earlier : List Post) × (reply : List ℕ) × (accepted : Accepted)
+    × (posts ≡ earlier ++ post_of client reply ∷ [])
+    × IsOffered client reply accepted × (step ≡ step_of accepted.offer)
+
 -- what is posted, heard and opened before a fault
 abbrev pub StopsBy : Installed → ℕ → List Post → List Post → List (List ℕ) → List (List ℕ)
     → List ℕ → Type 0 → Fault → Type 0

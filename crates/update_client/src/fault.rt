@@ -1,5 +1,6 @@
 use std::error::Error;
 use std::fmt;
+use values::ReadError;
 
 /// Why a client did not install what it was offered.
 #[derive(Clone, Copy, Debug, Drop, PartialEq, Eq)]
@@ -45,3 +46,14 @@ impl fmt::Display for Fault {
 }
 
 impl Error for Fault {}
+
+impl From<Fault> for ReadError<Fault> {
+    ghost use Rattle.std.specs.Prelude.{◌≡◌};
+    ghost use Rattle.values.specs.declared.read_error.ReadError.TheVariants as errors;
+
+    ghost from_gives = { λ fault error. error ≡ errors.Fault fault };
+
+    fn from(fault: Fault) -> ReadError<Fault> {
+        ReadError::Fault(fault)
+    }
+}

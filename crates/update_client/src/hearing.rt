@@ -71,10 +71,7 @@ pub(crate) fn hear(
         Err(ReadError::Memory) => return Err(ReadError::Memory),
         Err(ReadError::Fault(_)) => return Err(ReadError::Fault(Fault::Reply)),
     };
-    match take_news(take_known(reply, app)) {
-        Ok(news) => Ok(news),
-        Err(fault) => Err(ReadError::Fault(fault)),
-    }
+    Ok(take_news(take_known(reply, app))?)
 }
 
 pub(crate) fn offered_part(offer: &Offer) -> &Part

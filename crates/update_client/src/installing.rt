@@ -3,7 +3,7 @@
 ghost use Rattle.std.specs.Prelude.{◌≡◌, ◌+◌, ◌<◌, ◌≤◌, ◌++◌, ◌^◌, ◌==◌, [], List, ℕ, take, length, bytes_eq, IfOk, is_ok, if◌then◌else◌};
 ghost use Rattle.sha2.specs.Hashers.{Holds256};
 ghost use Rattle.sha2.specs.Sha256.{sha256};
-ghost use Rattle.update_client.specs.Installing.{IsStaged, Installs, link_failures, installer_failures};
+ghost use Rattle.update_client.specs.Installing.{IsStaged, Installs, Rejects, link_failures, installer_failures};
 
 use crate::fault::Fault;
 use crate::installer::{Installer, Step};
@@ -56,14 +56,15 @@ fn stage<L: Link, I: Installer>(
     ensures link_failed { L.failures link.new ≡ L.failures link.old + link_failures result }
     ensures installer_failed { I.failures installer.new
         ≡ I.failures installer.old + installer_failures result }
+    ensures rejected { I.rejected installer.new ≡ I.rejected installer.old }
+    ensures kept { (first : _) → I.holds_since first installer.old → I.holds_since first installer.new }
 {
     let mut hasher = Sha256::new();
     let mut done: u64 = 0;
     'reads: loop {
         let left = size - done;
-        let count = match read_some(link, block, left) {
-            Ok(count) => count,
-            Err(_) => return Err(Fault::Link),
+        let Ok(count) = read_some(link, block, left) else {
+            return Err(Fault::Link);
         };
         if count == 0 {
             break;
@@ -72,10 +73,9 @@ fn stage<L: Link, I: Installer>(
             return Err(Fault::BadLength);
         }
         let bytes = &block[..count];
-        match installer.put(bytes) {
-            Ok(()) => {}
-            Err(_) => return Err(Fault::Install),
-        }
+        let Ok(()) = installer.put(bytes) else {
+            return Err(Fault::Install);
+        };
         hasher.update(bytes);
         done += count as u64;
     }
@@ -93,7 +93,9 @@ fn give_up<I: Installer>(installer: &mut I, fault: Fault) -> Fault
     ensures same { result ≡ fault }
     ensures staged { I.staged installer.new ≡ [] }
     ensures commits { I.commits installer.new ≡ I.commits installer.old }
+    ensures rejected { I.rejected installer.new ≡ I.rejected installer.old }
     ensures failed { I.failures installer.new ≡ I.failures installer.old }
+    ensures kept { (first : _) → I.holds_since first installer.old → I.holds_since first installer.new }
 {
     installer.discard();
     fault
@@ -120,18 +122,19 @@ pub fn install<L: Link, I: Installer>(
     ensures installs { Installs step.now hash.now (L.received link.new) (L.ended link.new)
         (I.commits installer.old) (I.commits installer.new) result }
     ensures staged { I.staged installer.new ≡ [] }
-    ensures posts { L.posts link.new ≡ L.posts link.old }
-    ensures opened { L.opened link.new ≡ L.opened link.old }
-    ensures link_failed { L.failures link.new ≡ L.failures link.old + link_failures result }
+    ensures link { (L.posts link.new ≡ L.posts link.old) × (L.opened link.new ≡ L.opened link.old)
+        × (L.failures link.new ≡ L.failures link.old + link_failures result) }
     ensures installer_failed { I.failures installer.new
         ≡ I.failures installer.old + installer_failures result }
+    ensures rejected { Rejects (λ tried. tried ≡ step.now) (I.rejected installer.old)
+        (I.rejected installer.new) (installer_failures result) }
+    ensures kept { (first : _) → I.holds_since first installer.old → I.holds_since first installer.new }
 {
-    match stage(link, installer, block, step.bytes, hash) {
-        Ok(()) => {}
-        Err(fault) => return Err(give_up(installer, fault)),
+    if let Err(fault) = stage(link, installer, block, step.bytes, hash) {
+        return Err(give_up(installer, fault));
     }
-    match installer.commit(step) {
-        Ok(()) => Ok(()),
-        Err(_) => Err(give_up(installer, Fault::Install)),
-    }
+    let Ok(()) = installer.commit(step) else {
+        return Err(give_up(installer, Fault::Install));
+    };
+    Ok(())
 }

@@ -4,7 +4,8 @@ ghost use Rattle.std.specs.Prelude.{◌≡◌, ◌+◌, ◌<◌, ◌++◌, [], l
 ghost use Rattle.std.specs.Result.{result_map_both};
 ghost use Rattle.update_client.specs.Clients.{address_of, step_of};
 ghost use Rattle.update_client.specs.Installed.{Installed};
-ghost use Rattle.update_client.specs.Walks.{Moves, OpensFile, Posts, Takes, Turned, Walks, failed_links, failed_installers};
+ghost use Rattle.update_client.specs.Installing.{Rejects};
+ghost use Rattle.update_client.specs.Walks.{IsLastOffer, Moves, OpensFile, Posts, Takes, Turned, Walks, failed_links, failed_installers};
 
 use crate::client::{Client, make_request};
 use crate::fault::Fault;
@@ -42,10 +43,10 @@ fn post_request<L: Link>(
 {
     let request = make_request(alloc, client)?;
     let body = write_request(alloc, &request)?;
-    match link.post(alloc, &body) {
-        Ok(reply) => Ok(reply),
-        Err(_) => Err(ReadError::Fault(Fault::Link)),
-    }
+    let Ok(reply) = link.post(alloc, &body) else {
+        return Err(ReadError::Fault(Fault::Link));
+    };
+    Ok(reply)
 }
 
 // rule: Address of a download
@@ -88,23 +89,23 @@ fn download<L: Link, I: Installer>(
     ensures link_failed { L.failures link.new ≡ L.failures link.old + failed_links result }
     ensures installer_failed { I.failures installer.new
         ≡ I.failures installer.old + failed_installers result }
+    ensures rejected { Rejects (λ tried. tried ≡ step_of accepted.now.offer) (I.rejected installer.old)
+        (I.rejected installer.new) (failed_installers result) }
+    ensures kept { (first : _) → I.holds_since first installer.old → I.holds_since first installer.new }
 {
     let step = make_step(alloc, &accepted.offer)?;
     let address = join_address(alloc, &accepted.offer)?;
-    match link.open(address.as_str()) {
-        Ok(()) => {}
-        Err(_) => return Err(ReadError::Fault(Fault::Link)),
-    }
-    match install(
+    let Ok(()) = link.open(address.as_str()) else {
+        return Err(ReadError::Fault(Fault::Link));
+    };
+    install(
         link,
         installer,
         block,
         &step,
         &offered_part(&accepted.offer).hash,
-    ) {
-        Ok(()) => Ok(step),
-        Err(fault) => Err(ReadError::Fault(fault)),
-    }
+    )?;
+    Ok(step)
 }
 
 // Installs what was accepted, and moves the client on.
@@ -126,6 +127,9 @@ fn take<L: Link, I: Installer>(
     ensures link_failed { L.failures link.new ≡ L.failures link.old + failed_links result }
     ensures installer_failed { I.failures installer.new
         ≡ I.failures installer.old + failed_installers result }
+    ensures rejected { Rejects (λ tried. tried ≡ step_of accepted.offer) (I.rejected installer.old)
+        (I.rejected installer.new) (failed_installers result) }
+    ensures kept { (first : _) → I.holds_since first installer.old → I.holds_since first installer.new }
 {
     let step = download(alloc, link, installer, block, &accepted)?;
     client.take_over(accepted);
@@ -158,6 +162,9 @@ impl Client {
         ensures link_failed { L.failures link.new ≡ L.failures link.old + failed_links result }
         ensures installer_failed { I.failures installer.new
             ≡ I.failures installer.old + failed_installers result }
+        ensures rejected { Rejects (IsLastOffer self.new (L.posts link.new)) (I.rejected installer.old)
+            (I.rejected installer.new) (failed_installers result) }
+        ensures kept { (first : _) → I.holds_since first installer.old → I.holds_since first installer.new }
     {
         let reply = post_request(alloc, link, self)?;
         let news = hear(alloc, self.app(), &reply)?;
@@ -195,18 +202,16 @@ impl Client {
         ensures link_failed { L.failures link.new ≡ L.failures link.old + failed_links result }
         ensures installer_failed { I.failures installer.new
             ≡ I.failures installer.old + failed_installers result }
+        ensures rejected { Rejects (IsLastOffer self.new (L.posts link.new)) (I.rejected installer.old)
+            (I.rejected installer.new) (failed_installers result) }
+        ensures kept { (first : _) → I.holds_since first installer.old → I.holds_since first installer.new }
     {
         let mut steps: u64 = 0;
         let mut bytes: u128 = 0;
-        'steps: loop {
-            match self.step(alloc, link, installer, block, steps) {
-                Ok(Some(step)) => {
-                    steps += 1;
-                    bytes += u128::from(step.bytes);
-                }
-                Ok(None) => return Ok(Walk { steps, bytes }),
-                Err(error) => return Err(error),
-            }
+        'steps: while let Some(step) = self.step(alloc, link, installer, block, steps)? {
+            steps += 1;
+            bytes += u128::from(step.bytes);
         }
+        Ok(Walk { steps, bytes })
     }
 }

@@ -5,4 +5,4 @@ abbrev pub ghosts-read_thrice : goal.ghosts-read_thrice
 ghosts-read_thrice a = record { name = a.blank.name; parts = a.blank.parts }
 
 abbrev pub ghosts-write_thrice : goal.ghosts-write_thrice
-ghosts-write_thrice a = record { name = a.other.name; parts = a.other.parts }
+ghosts-write_thrice a = record { name = a.blank.name; parts = a.blank.parts }

@@ -12,6 +12,9 @@ invariant-reads g l =
     × (g.L.Link.opened l.link ≡ g.L.Link.opened l.fn.link)
     × (g.L.Link.failures l.link ≡ g.L.Link.failures l.fn.link)
     × (g.I.Installer.failures l.installer ≡ g.I.Installer.failures l.fn.installer)
+    × (g.I.Installer.rejected l.installer ≡ g.I.Installer.rejected l.fn.installer)
+    × ((first : _) → g.I.Installer.holds_since first l.fn.installer
+    → g.I.Installer.holds_since first l.installer)
 
 abbrev pub decreases-reads : goal.decreases-reads
 decreases-reads g l = l.size - l.done

@@ -7,7 +7,7 @@ use Rattle.update_client.proofs.client.Client.walk.Goals as goal
 
 pub steps-preserved : goal.steps-preserved
 steps-preserved g c =
-    let (so_far, few, bound, empty, link_same, installer_same) = c.steps.invariant in
+    let (so_far, few, bound, empty, link_same, installer_same, none_rejected, kept) = c.steps.invariant in
     let received = g.L.Link.received c.step.new.link in
     let ended = g.L.Link.ended c.step.new.link in
     let R : Option Step → Type 0 = λ news. Turned c.steps.self c.step.new.self c.steps.steps
@@ -15,8 +15,8 @@ steps-preserved g c =
     (g.L.Link.opened c.steps.link) (g.L.Link.opened c.step.new.link)
     (g.I.Installer.commits c.steps.installer) (g.I.Installer.commits c.step.new.installer)
     received ended (Ok news) in
-    let turned = subst R c.in-Ok-Some.field-0-is c.in-Ok-Some.ensures.turned in
-    let same : c.in-Ok-Some.step.bytes ≡ c.from-bytes.result = sym c.from-bytes.ensures in
+    let turned = subst R c.in-Some.is c.in_ok-step.ensures.turned in
+    let same : c.in-Some.step.bytes ≡ c.from-bytes.result = sym c.from-bytes.ensures in
     let more = so_far-more _ _ _ _ _ _ _ _ _ _ _ _ _ _ _ received ended so_far turned in
     let P : ℕ → Type 0 = λ n. SoFar c.args.self.now c.step.new.self (g.L.Link.posts c.args.link.now)
     (g.L.Link.posts c.step.new.link) (g.L.Link.opened c.args.link.now)
@@ -28,7 +28,9 @@ steps-preserved g c =
       subst P same more,
       counted,
       summed,
-      c.in-Ok-Some.ensures.staged,
+      c.in_ok-step.ensures.staged,
       grind (arith, common_steps),
       grind (arith, common_steps),
+      grind (arith, common_steps),
+      λ first since. c.in_ok-step.ensures.kept first (kept first since),
     )

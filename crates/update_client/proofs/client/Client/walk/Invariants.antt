@@ -11,6 +11,9 @@ invariant-steps g l =
     × (g.I.Installer.staged l.installer ≡ [])
     × (g.L.Link.failures l.link ≡ g.L.Link.failures l.fn.link)
     × (g.I.Installer.failures l.installer ≡ g.I.Installer.failures l.fn.installer)
+    × (g.I.Installer.rejected l.installer ≡ g.I.Installer.rejected l.fn.installer)
+    × ((first : _) → g.I.Installer.holds_since first l.fn.installer
+    → g.I.Installer.holds_since first l.installer)
 
 abbrev pub decreases-steps : goal.decreases-steps
 decreases-steps g l = 1024 - l.steps
