@@ -3,10 +3,13 @@
 use std::alloc::Global;
 use std::io;
 use std::io::{Read, Write};
-use std::net::{Shutdown, TcpStream};
+use std::net::{Net, Shutdown, TcpListener, TcpStream};
 
 /// Connects to a server as soon as it listens.
-pub(crate) fn connect(rt: &HostRuntime, host: &str) -> Option<TcpStream> {
+pub(crate) fn connect<R: Net<Listener = TcpListener, Stream = TcpStream>>(
+    rt: &R,
+    host: &str,
+) -> Option<TcpStream> {
     for _ in 0..1_000_000 {
         if let Ok(stream) = TcpStream::connect(rt, host) {
             return Some(stream);
@@ -34,16 +37,27 @@ fn receive(alloc: Global, stream: &mut TcpStream) -> Option<String> {
     reply.as_str().replace(alloc, "\r\n", "~").ok()
 }
 
-fn exchange(rt: &HostRuntime, host: &str, message: &str) -> Option<String> {
+fn exchange<R: Net<Listener = TcpListener, Stream = TcpStream>>(
+    rt: &R,
+    alloc: Global,
+    host: &str,
+    message: &str,
+) -> Option<String> {
     let mut stream = connect(rt, host)?;
     send(&mut stream, message).ok()?;
-    receive(rt.alloc(), &mut stream)
+    receive(alloc, &mut stream)
 }
 
 // Puts what comes back for a row's message at the end of lines, unless it is what the row wants.
-fn push_reply(rt: &HostRuntime, host: &str, lines: &mut String, row: &str) -> Option<()> {
+fn push_reply<R: Net<Listener = TcpListener, Stream = TcpStream>>(
+    rt: &R,
+    alloc: Global,
+    host: &str,
+    lines: &mut String,
+    row: &str,
+) -> Option<()> {
     let (message, wanted) = row.split_once(" = ").unwrap_or((row, ""));
-    let reply = exchange(rt, host, message)?;
+    let reply = exchange(rt, alloc, host, message)?;
     if reply.as_str() == wanted {
         return Some(());
     }
@@ -52,10 +66,15 @@ fn push_reply(rt: &HostRuntime, host: &str, lines: &mut String, row: &str) -> Op
 
 /// Sends the messages of rows, each on a connection of its own, and returns the replies that are not what their row
 /// wants, a line each. A row is a message, byte by byte, and what comes back for it; lines of both end at `~`.
-pub(crate) fn exchange_all(rt: &HostRuntime, host: &str, rows: &str) -> Option<String> {
-    let mut lines = String::new(rt.alloc());
+pub(crate) fn exchange_all<R: Net<Listener = TcpListener, Stream = TcpStream>>(
+    rt: &R,
+    alloc: Global,
+    host: &str,
+    rows: &str,
+) -> Option<String> {
+    let mut lines = String::new(alloc);
     for row in rows.lines() {
-        push_reply(rt, host, &mut lines, row)?;
+        push_reply(rt, alloc, host, &mut lines, row)?;
     }
     Some(lines)
 }

@@ -1,4 +1,4 @@
-use crate::runs::{SAME, Serving, are_printed};
+use crate::runs::{SAME, are_printed, serve};
 
 // Two messages on a connection, and one on the next.
 const MESSAGES: &str = "\
@@ -42,13 +42,29 @@ fn is_logged(lines: Option<String>) -> Option<bool> {
 #[test]
 fn each_reply_is_logged(rt: HostRuntime) {
     let log = ("access.log", "kept\n");
-    let lines = rt.serve("omaha_rows.log", log, "2", "/access.log", MESSAGES);
+    let lines = serve(
+        &rt,
+        &rt,
+        "omaha_rows.log",
+        log,
+        "2",
+        "/access.log",
+        MESSAGES,
+    );
     assert!(rt; is_logged(lines) == Some(true));
 }
 
 // rule: Run of a server
 #[test]
 fn without_its_log_no_server_listens(rt: HostRuntime) {
-    let lines = rt.serve("omaha_rows.unlogged", SAME, "1", "/none/access.log", "");
+    let lines = serve(
+        &rt,
+        &rt,
+        "omaha_rows.unlogged",
+        SAME,
+        "1",
+        "/none/access.log",
+        "",
+    );
     assert!(rt; are_printed(lines, "1 omaha: file FOLDER/none/access.log\n"));
 }

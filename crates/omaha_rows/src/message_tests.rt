@@ -1,19 +1,15 @@
-use crate::runs::{SAME, Serving, are_printed};
+use crate::runs::{SAME, are_printed, serve};
 
-// The update check of a client at the first release, but for its last byte.
-macro_rules! ask {
-    () => {
-        concat!(
-            "POST /service/update2/json HTTP/1.1~Content-Length: 227~~",
-            r#"{"request":{"app":[{"appid":"mini","cohort":"stable:0","packages":{"package":[{"fp":"1."#,
-            r#"ba7816bf8f01cfea414140de5dae2223b00361a396177a9cb410ff61f20015ad"}]},"updatecheck":{},"#,
-            r#""version":"1.0"}],"protocol":"3.1","sessionid":"abc"}"#,
-        )
+macro_rules! asks {
+    ($ask:literal) => {
+        concat!($ask, "}\n", $ask)
     };
 }
 
-// A whole update check, and one without its last byte.
-const ASKS: &str = concat!(ask!(), "}\n", ask!());
+// The update check of a client at the first release, whole and without its last byte.
+const ASKS: &str = asks!(
+    r#"POST /service/update2/json HTTP/1.1~Content-Length: 227~~{"request":{"app":[{"appid":"mini","cohort":"stable:0","packages":{"package":[{"fp":"1.ba7816bf8f01cfea414140de5dae2223b00361a396177a9cb410ff61f20015ad"}]},"updatecheck":{},"version":"1.0"}],"protocol":"3.1","sessionid":"abc"}"#
+);
 
 // What the reply begins with, but for its length: the differential to the second release.
 const OFFER: &str = concat!(
@@ -38,7 +34,7 @@ fn is_offered(lines: Option<String>) -> Option<bool> {
 
 #[test]
 fn replies_to_a_whole_update_check_alone(rt: HostRuntime) {
-    let lines = rt.serve("omaha_rows.asks", SAME, "2", "", ASKS);
+    let lines = serve(&rt, &rt, "omaha_rows.asks", SAME, "2", "", ASKS);
     assert!(rt; is_offered(lines) == Some(true));
 }
 
@@ -51,7 +47,7 @@ GET /p/mini.toml HTTP/1.1~~ = HTTP/1.1 404 Not Found~Content-Length: 0~~";
 
 #[test]
 fn sends_packages(rt: HostRuntime) {
-    let lines = rt.serve("omaha_rows.packages", SAME, "4", "", ROWS);
+    let lines = serve(&rt, &rt, "omaha_rows.packages", SAME, "4", "", ROWS);
     assert!(rt; are_printed(lines, "0 ready\nm0 0\n"));
 }
 
@@ -63,7 +59,7 @@ GET /p/mini-1.0.bin HTTP/1.1~~ = HTTP/1.1 200 OK~Content-Type: application/octet
 fn sends_no_package_of_another_size_or_hash(rt: HostRuntime) {
     for bytes in ["abd", "ab", "abcd"] {
         let change = ("mini-1.0.bin", bytes);
-        let lines = rt.serve("omaha_rows.wrong", change, "1", "", CUT);
+        let lines = serve(&rt, &rt, "omaha_rows.wrong", change, "1", "", CUT);
         assert!(rt; are_printed(lines, "0 ready\nm0 0\n"), "{bytes}");
     }
 }
@@ -78,6 +74,14 @@ fn is_cut(lines: Option<String>) -> Option<bool> {
 
 #[test]
 fn cuts_a_large_package_before_its_last_block(rt: HostRuntime) {
-    let lines = rt.serve("omaha_rows.large", SAME, "1", "", "GET /p/large-1.0.bin HTTP/1.1~~");
+    let lines = serve(
+        &rt,
+        &rt,
+        "omaha_rows.large",
+        SAME,
+        "1",
+        "",
+        "GET /p/large-1.0.bin HTTP/1.1~~",
+    );
     assert!(rt; is_cut(lines) == Some(true));
 }

@@ -26,15 +26,48 @@ fn print_end(alloc: Global, status: u8, written: &[u8], reported: &[u8]) -> Opti
     format!(in alloc; "{status} {written}{reported}").ok()
 }
 
-// Runs the program with arguments, a bar between two, and returns its status, its output and what it reports.
-fn run_program<
-    R: Net<Listener = TcpListener, Stream = TcpStream> + Clock + Files + Wait + AllocGlobal,
->(rt: &R, line: &str) -> Option<String> {
-    let words = words_of(rt.alloc(), line).ok()?;
-    let mut written = Vec::new(rt.alloc());
-    let mut reported = Vec::new(rt.alloc());
-    let status = run(rt, &words, &mut b"".as_slice(), &mut written, &mut reported);
-    print_end(rt.alloc(), status, &written, &reported)
+/// What runs the program, and sends messages, at once.
+pub(crate) trait Running: Threads + Wait + Sync {
+    /// Runs the program with arguments, a bar between two, and returns its status, its output and what it reports.
+    fn run_program(&self, alloc: Global, line: &str) -> Option<String>;
+
+    /// Connects to a server as soon as it listens, and closes the connection.
+    fn await_server(&self, host: &str) -> bool;
+
+    /// Sends the messages of rows, as `exchange_all` does.
+    fn send_rows(&self, alloc: Global, host: &str, rows: &str) -> Option<String>;
+}
+
+impl<
+    R: Net<Listener = TcpListener, Stream = TcpStream>
+        + Clock
+        + Files
+        + Threads
+        + Wait
+        + Sync
+        + AllocGlobal,
+> Running for R {
+    fn run_program(&self, alloc: Global, line: &str) -> Option<String> {
+        let words = words_of(alloc, line).ok()?;
+        let mut written = Vec::new(alloc);
+        let mut reported = Vec::new(alloc);
+        let status = run(
+            self,
+            &words,
+            &mut b"".as_slice(),
+            &mut written,
+            &mut reported,
+        );
+        print_end(alloc, status, &written, &reported)
+    }
+
+    fn await_server(&self, host: &str) -> bool {
+        connect(self, host).is_some()
+    }
+
+    fn send_rows(&self, alloc: Global, host: &str, rows: &str) -> Option<String> {
+        exchange_all(self, alloc, host, rows)
+    }
 }
 
 // The arguments of a server of so many sessions, with a log of that name, if it has one.
@@ -78,62 +111,67 @@ fn print_all(
     lines.as_str().replace(alloc, folder, "FOLDER").ok()
 }
 
-/// Runs a server and its client at once.
-pub(crate) trait Serving: Threads + Wait {
-    /// What a client prints: the lines of a walk, as `walk|APP|VERSION|FINGERPRINT`, or the unwanted replies to the
-    /// messages of rows.
-    fn ask(&self, host: &str, client: &str) -> Option<String>;
-
-    /// What a server of a site and its client print.
-    fn serve_site(&self, site: &Site, sessions: &str, log: &str, client: &str) -> Option<String>;
-
-    /// What a server of a new site of so many sessions prints, its client and its log, one after the other. A file
-    /// of the site is written anew.
-    fn serve(
-        &self,
-        name: &str,
-        change: (&str, &str),
-        sessions: &str,
-        log: &str,
-        client: &str,
-    ) -> Option<String>;
+// What a client prints: the lines of a walk, as `walk|APP|VERSION|FINGERPRINT`, or the unwanted replies to the messages
+// of rows.
+fn ask<R: Running>(rt: &R, alloc: Global, host: &str, client: &str) -> Option<String> {
+    let Some(client) = client.strip_prefix("walk|") else {
+        return rt.send_rows(alloc, host, client);
+    };
+    let line = walk_line(alloc, host, client)?;
+    if rt.await_server(host) {
+        rt.run_program(alloc, line.as_str())
+    } else {
+        None
+    }
 }
 
-impl Serving for HostRuntime {
-    fn ask(&self, host: &str, client: &str) -> Option<String> {
-        let Some(client) = client.strip_prefix("walk|") else {
-            return exchange_all(self, host, client);
-        };
-        connect(self, host)?;
-        let line = walk_line(self.alloc(), host, client)?;
-        run_program(self, line.as_str())
-    }
+// What a server and its client print.
+fn serve_client<R: Running>(
+    rt: &R,
+    alloc: Global,
+    line: &str,
+    host: &str,
+    client: &str,
+) -> (Option<String>, Option<String>) {
+    join(
+        rt,
+        || rt.run_program(alloc, line),
+        || ask(rt, alloc, host, client),
+    )
+}
 
-    fn serve_site(&self, site: &Site, sessions: &str, log: &str, client: &str) -> Option<String> {
-        let line = serve_line(self.alloc(), site, sessions, log).ok()?;
-        let (served, asked) = join(
-            self,
-            || run_program(self, line.as_str()),
-            || self.ask(site.host.as_str(), client),
-        );
-        let written = read_log(self, site.folder.as_str(), log);
-        print_all(self.alloc(), site.folder.as_str(), served, asked, written)
-    }
+// What a server of a site of so many sessions, its client and its log print.
+fn serve_site<R: Running>(
+    rt: &R,
+    files: &HostRuntime,
+    site: &Site,
+    sessions: &str,
+    log: &str,
+    client: &str,
+) -> Option<String> {
+    let line = serve_line(files.alloc(), site, sessions, log).ok()?;
+    let host = site.host.as_str();
+    let (served, asked) = serve_client(rt, files.alloc(), line.as_str(), host, client);
+    let written = read_log(files, site.folder.as_str(), log);
+    print_all(files.alloc(), site.folder.as_str(), served, asked, written)
+}
 
-    fn serve(
-        &self,
-        name: &str,
-        change: (&str, &str),
-        sessions: &str,
-        log: &str,
-        client: &str,
-    ) -> Option<String> {
-        let (file, content) = change;
-        let site = make_site(self, name, file, content)?;
-        let lines = self.serve_site(&site, sessions, log, client);
-        fs::remove_dir_all(self, site.folder.as_str()).ok()?;
-        lines
-    }
+/// What a server of a new site of so many sessions prints, its client and its log, one after the other. A file of the
+/// site is written anew. The client is `walk|APP|VERSION|FINGERPRINT`, or rows as for `exchange_all`.
+pub(crate) fn serve<R: Running>(
+    rt: &R,
+    files: &HostRuntime,
+    name: &str,
+    change: (&str, &str),
+    sessions: &str,
+    log: &str,
+    client: &str,
+) -> Option<String> {
+    let (file, content) = change;
+    let site = make_site(files, name, file, content)?;
+    let lines = serve_site(rt, files, &site, sessions, log, client);
+    fs::remove_dir_all(files, site.folder.as_str()).ok()?;
+    lines
 }
 
 /// A change of a site that changes nothing.

@@ -1,3 +1,5 @@
+use crate::batches::small;
+use crate::rows::{Kind, wrong_row};
 use cohorts::CohortText;
 use std::alloc::Global;
 
@@ -29,22 +31,11 @@ stable_:5 = none
 stable:5:5 = none
 1:2hf: = none";
 
-// Whether a string is read as its row says: as a name and a bucket, or not.
-fn is_read(row: &str) -> Option<bool> {
-    let (string, wanted) = row.split_once(" = ")?;
-    let Some((name, bucket)) = CohortText::parse(string) else {
-        return Some(wanted == "none");
-    };
-    let (first, second) = wanted.split_once(' ')?;
-    Some(name == first && second.parse() == Ok(bucket))
-}
-
 // rule: Cohort text
 #[test]
 fn reads_well_formed_cohort_texts(rt: HostRuntime) {
-    for row in READ.lines() {
-        assert!(rt; is_read(row) == Some(true), "{row}");
-    }
+    let wrong = wrong_row(rt.alloc(), Kind::Cohort, small(rt.alloc()), READ);
+    assert!(rt; wrong.is_empty(), "{wrong}");
 }
 
 // Whether a name and a bucket are printed so.
