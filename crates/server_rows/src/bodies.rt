@@ -1,6 +1,6 @@
 use crate::asking::reply_to;
 use crate::batches::{MINI, small};
-use crate::rows::{Kind, wrong_row};
+use crate::rows::{Kind, check_rows};
 use fixtures::edition_of;
 use std::alloc::Global;
 
@@ -13,8 +13,7 @@ const DATES: &str = r#""elapsed_days":0,"elapsed_seconds":0 | 0
 // rule: Elapsed days and seconds
 #[test]
 fn reports_days_and_seconds(rt: HostRuntime) {
-    let wrong = wrong_row(rt.alloc(), Kind::Day, edition_of(rt.alloc(), MINI), DATES);
-    assert!(rt; wrong.is_empty(), "{wrong}");
+    check_rows(&rt, Kind::Day, edition_of(rt.alloc(), MINI), DATES);
 }
 
 const STORED: &str =
@@ -50,8 +49,7 @@ const NO_UPDATE: &str =
 // rule: Status of an update check
 #[test]
 fn offers_nothing_without_a_chain(rt: HostRuntime) {
-    let wrong = wrong_row(rt.alloc(), Kind::Reply, small(rt.alloc()), NO_UPDATE);
-    assert!(rt; wrong.is_empty(), "{wrong}");
+    check_rows(&rt, Kind::Reply, small(rt.alloc()), NO_UPDATE);
 }
 
 const IN_ORDER: &str =
@@ -60,8 +58,7 @@ const IN_ORDER: &str =
 // rule: Reply
 #[test]
 fn replies_to_apps_in_order_as_they_are_spelled(rt: HostRuntime) {
-    let wrong = wrong_row(rt.alloc(), Kind::Reply, small(rt.alloc()), IN_ORDER);
-    assert!(rt; wrong.is_empty(), "{wrong}");
+    check_rows(&rt, Kind::Reply, small(rt.alloc()), IN_ORDER);
 }
 
 const NOT_GRANTED: &str =
@@ -71,8 +68,7 @@ const NOT_GRANTED: &str =
 // rule: Status of an update check
 #[test]
 fn reports_an_update_without_a_mirror_as_internal(rt: HostRuntime) {
-    let wrong = wrong_row(rt.alloc(), Kind::Busy, small(rt.alloc()), NOT_GRANTED);
-    assert!(rt; wrong.is_empty(), "{wrong}");
+    check_rows(&rt, Kind::Busy, small(rt.alloc()), NOT_GRANTED);
 }
 
 const PLANS: &str =
@@ -82,6 +78,5 @@ const PLANS: &str =
 // rule: Requested bytes
 #[test]
 fn plans_a_payload_for_each_app_that_wants_one(rt: HostRuntime) {
-    let wrong = wrong_row(rt.alloc(), Kind::Plan, small(rt.alloc()), PLANS);
-    assert!(rt; wrong.is_empty(), "{wrong}");
+    check_rows(&rt, Kind::Plan, small(rt.alloc()), PLANS);
 }

@@ -1,6 +1,7 @@
 use crate::connection::Received;
 use crate::messages::message_of;
 use crate::opened::serve_sent;
+use crate::rows::is_line;
 use fixtures::{counts_in, three_parts};
 use std::alloc::Global;
 use std::str;
@@ -38,10 +39,7 @@ fn print_offers<R: Wait + AllocGlobal>(rt: &R, budgets: &str, clients: &str) -> 
 // Whether the clients of a row get what it says.
 fn is_offered<R: Wait + AllocGlobal>(rt: &R, row: &str) -> bool {
     let (budgets, clients, wanted) = three_parts(row, "|");
-    match print_offers(rt, budgets, clients) {
-        Some(line) => line.as_str() == wanted,
-        None => false,
-    }
+    is_line(print_offers(rt, budgets, clients), wanted)
 }
 
 // rule: Asks of a plan

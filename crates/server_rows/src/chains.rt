@@ -1,6 +1,6 @@
 // Plans by least chains, of full packages and differentials.
 
-use crate::rows::{Kind, wrong_row};
+use crate::rows::{Kind, check_rows};
 use fixtures::{CHAINED, edition_after, edition_of};
 
 // A row is the choice, a bar, then the release's digit, the cohort and whether the client may be downgraded.
@@ -28,8 +28,7 @@ differential 0 for 300 | 1,beta:0,true";
 #[test]
 fn chooses_the_first_payload_of_a_least_chain(rt: HostRuntime) {
     let edition = edition_of(rt.alloc(), CHAINED);
-    let wrong = wrong_row(rt.alloc(), Kind::Choice, edition, CHOICES);
-    assert!(rt; wrong.is_empty(), "{wrong}");
+    check_rows(&rt, Kind::Choice, edition, CHOICES);
 }
 
 const WITHDRAWN: &str = "differential 3 for 500 | 2,stable:0,false
@@ -41,8 +40,7 @@ differential 4 for 250 | 3,stable:0,false";
 #[test]
 fn goes_round_a_withdrawn_release(rt: HostRuntime) {
     let edition = edition_after(rt.alloc(), CHAINED, "set_withdrawn demo 3.0 on");
-    let wrong = wrong_row(rt.alloc(), Kind::Choice, edition, WITHDRAWN);
-    assert!(rt; wrong.is_empty(), "{wrong}");
+    check_rows(&rt, Kind::Choice, edition, WITHDRAWN);
 }
 
 const CLOSED: &str = "none | 1,stable:0,false
@@ -54,8 +52,7 @@ differential 0 for 300 | 1,beta:0,false";
 #[test]
 fn jumps_no_stone_that_is_closed(rt: HostRuntime) {
     let edition = edition_after(rt.alloc(), CHAINED, "set_audience demo 2.0 beta");
-    let wrong = wrong_row(rt.alloc(), Kind::Choice, edition, CLOSED);
-    assert!(rt; wrong.is_empty(), "{wrong}");
+    check_rows(&rt, Kind::Choice, edition, CLOSED);
 }
 
 const DIFFERENTIAL: &str =
@@ -66,6 +63,5 @@ const DIFFERENTIAL: &str =
 #[test]
 fn offers_a_differential_with_its_full_package(rt: HostRuntime) {
     let edition = edition_of(rt.alloc(), CHAINED);
-    let wrong = wrong_row(rt.alloc(), Kind::Reply, edition, DIFFERENTIAL);
-    assert!(rt; wrong.is_empty(), "{wrong}");
+    check_rows(&rt, Kind::Reply, edition, DIFFERENTIAL);
 }

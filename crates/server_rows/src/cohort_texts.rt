@@ -1,5 +1,5 @@
 use crate::batches::small;
-use crate::rows::{Kind, wrong_row};
+use crate::rows::{Kind, check_rows};
 use cohorts::CohortText;
 use std::alloc::Global;
 
@@ -34,8 +34,7 @@ stable:5:5 = none
 // rule: Cohort text
 #[test]
 fn reads_well_formed_cohort_texts(rt: HostRuntime) {
-    let wrong = wrong_row(rt.alloc(), Kind::Cohort, small(rt.alloc()), READ);
-    assert!(rt; wrong.is_empty(), "{wrong}");
+    check_rows(&rt, Kind::Cohort, small(rt.alloc()), READ);
 }
 
 // Whether a name and a bucket are printed so.
@@ -46,10 +45,15 @@ fn is_printed(alloc: Global, name: &str, bucket: u16, wanted: &str) -> bool {
     }
 }
 
+// Whether names and buckets are printed as they are given.
+fn are_printed(alloc: Global) -> bool {
+    is_printed(alloc, "stable", 319, "stable:319")
+        && is_printed(alloc, "beta", 0, "beta:0")
+        && is_printed(alloc, "Not a name", 65535, "Not a name:65535")
+        && is_printed(alloc, "", 1000, ":1000")
+}
+
 #[test]
 fn prints_what_it_is_given(rt: HostRuntime) {
-    assert!(rt; is_printed(rt.alloc(), "stable", 319, "stable:319"));
-    assert!(rt; is_printed(rt.alloc(), "beta", 0, "beta:0"));
-    assert!(rt; is_printed(rt.alloc(), "Not a name", 65535, "Not a name:65535"));
-    assert!(rt; is_printed(rt.alloc(), "", 1000, ":1000"));
+    assert!(rt; are_printed(rt.alloc()));
 }

@@ -1,5 +1,6 @@
 use crate::catalogue_of_rows::print_findings;
 use crate::descriptions::print_described;
+use crate::rows::is_line;
 use fixtures::{make_folder, write_file};
 use http_devices::Folder;
 use std::{fs, io};
@@ -26,20 +27,18 @@ const DESCRIBED: &str =
     "name = \"a-3.bin\"~size = 65537~sha256 = \"008ffc88d3c96a9f307524eb361e47c5222a887fc45fa0c1fb8d429c5c23b430\"~";
 
 // Whether the files of a folder are found and described as they should be.
-fn is_found(rt: &HostRuntime, path: &str) -> Option<bool> {
+fn is_found(rt: &HostRuntime, path: &str) -> bool {
     let folder = Folder::new(rt.alloc(), rt, path);
-    let findings = print_findings(rt.alloc(), &folder)?;
-    let description = print_described(rt.alloc(), &folder, "a-3.bin")?;
-    Some(findings.as_str() == FOUND && description.as_str() == DESCRIBED)
+    is_line(print_findings(rt.alloc(), &folder), FOUND)
+        && is_line(print_described(rt.alloc(), &folder, "a-3.bin"), DESCRIBED)
 }
 
 // Whether it is so with a new folder.
 fn is_compared(rt: &HostRuntime) -> Option<bool> {
     let path = make_folder(rt, "server_rows")?;
-    let is_full = fill(rt, path.as_str()).is_ok();
-    let is_found = is_found(rt, path.as_str());
+    let is_right = fill(rt, path.as_str()).is_ok() && is_found(rt, path.as_str());
     fs::remove_dir_all(rt, path.as_str()).ok()?;
-    Some(is_full && is_found == Some(true))
+    Some(is_right)
 }
 
 #[test]

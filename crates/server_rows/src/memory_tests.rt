@@ -1,5 +1,5 @@
 use crate::batches::small;
-use crate::rows::{Kind, wrong_row};
+use crate::rows::{Kind, check_rows, is_line};
 use package_files::{Finding, Mismatch};
 use std::alloc::Global;
 use values::Text;
@@ -19,8 +19,7 @@ a-1.bin=b11!0 a-2.bin=b65536 a-3.bin=b65537!0 b-1.bin=a1 = a-1.bin: size 11, dec
 // rule: Findings of a catalogue
 #[test]
 fn finds_the_files_that_differ(rt: HostRuntime) {
-    let wrong = wrong_row(rt.alloc(), Kind::Findings, small(rt.alloc()), ROWS);
-    assert!(rt; wrong.is_empty(), "{wrong}");
+    check_rows(&rt, Kind::Findings, small(rt.alloc()), ROWS);
 }
 
 // A row is a name, and what is described of its file, `~` being the end of a line.
@@ -33,13 +32,7 @@ empty = name = \"empty\"~size = 0~sha256 = \"e3b0c44298fc1c149afbf4c8996fb92427a
 // rule: Hash of a file
 #[test]
 fn describes_a_file_as_a_profile_does(rt: HostRuntime) {
-    let wrong = wrong_row(
-        rt.alloc(),
-        Kind::Description,
-        small(rt.alloc()),
-        DESCRIPTIONS,
-    );
-    assert!(rt; wrong.is_empty(), "{wrong}");
+    check_rows(&rt, Kind::Description, small(rt.alloc()), DESCRIPTIONS);
 }
 
 // A row is a name, and why its file isn't described.
@@ -54,22 +47,20 @@ inner/a-1.bin = no package name
 
 #[test]
 fn describes_no_other_file(rt: HostRuntime) {
-    let wrong = wrong_row(rt.alloc(), Kind::Description, small(rt.alloc()), FAILURES);
-    assert!(rt; wrong.is_empty(), "{wrong}");
+    check_rows(&rt, Kind::Description, small(rt.alloc()), FAILURES);
 }
 
-// Whether the finding of a file that is missing is printed so.
-fn prints_missing(alloc: Global, name: &str, wanted: &str) -> Option<bool> {
+// The finding of a file that is missing.
+fn print_missing(alloc: Global, name: &str) -> Option<String> {
     let name = Text::copy_of(alloc, name).ok()?;
     let mismatch = Mismatch::Missing;
     let finding = Finding { name, mismatch };
-    let line = format!(in alloc; "{finding}").ok()?;
-    Some(line.as_str() == wanted)
+    format!(in alloc; "{finding}").ok()
 }
 
 // rule: Printed finding
 #[test]
 fn escapes_the_control_characters_of_a_name(rt: HostRuntime) {
-    let wanted = "a%0A%7F%C2%9Bb: missing";
-    assert!(rt; prints_missing(rt.alloc(), "a\n\u{7f}\u{9b}b", wanted) == Some(true));
+    let line = print_missing(rt.alloc(), "a\n\u{7f}\u{9b}b");
+    assert!(rt; is_line(line, "a%0A%7F%C2%9Bb: missing"));
 }

@@ -1,6 +1,7 @@
 use crate::connection::Received;
 use crate::messages::message_of;
 use crate::opened::serve_sent;
+use crate::rows::is_line;
 use fixtures::{three_parts, two_parts};
 use std::alloc::{AllocError, Global};
 use std::str;
@@ -73,10 +74,7 @@ fn print_sent<R: Wait + AllocGlobal>(rt: &R, message: &str, piece: &str) -> Opti
 // Whether the peer of a row gets what it says.
 fn is_served<R: Wait + AllocGlobal>(rt: &R, row: &str) -> bool {
     let (message, piece, wanted) = three_parts(row, " | ");
-    match print_sent(rt, message, piece) {
-        Some(line) => line.as_str() == wanted,
-        None => false,
-    }
+    is_line(print_sent(rt, message, piece), wanted)
 }
 
 // rule: Desk of update checks

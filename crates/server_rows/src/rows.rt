@@ -8,6 +8,7 @@ use crate::shelf::Shelf;
 use editions::Edition;
 use fixtures::two_parts;
 use std::alloc::Global;
+use std::process::Abort;
 
 /// What is found.
 #[derive(Clone, Copy)]
@@ -54,29 +55,29 @@ fn sides_of(row: &'static str) -> (&'static str, &'static str) {
     }
 }
 
-/// Whether what an edition is asked comes to what a row wants.
-pub(crate) fn is_found(alloc: Global, kind: Kind, edition: &Edition, row: &'static str) -> bool {
-    let (asked, wanted) = sides_of(row);
-    match find(alloc, kind, edition, asked) {
+/// Whether a line was found, and is the wanted one.
+pub(crate) fn is_line(found: Option<String>, wanted: &str) -> bool {
+    match found {
         Some(line) => line.as_str() == wanted,
         None => false,
     }
 }
 
-/// The first row for which an edition has something else; `""` if there is none.
-pub(crate) fn wrong_row(
-    alloc: Global,
+/// Whether what an edition is asked comes to what a row wants.
+pub(crate) fn is_found(alloc: Global, kind: Kind, edition: &Edition, row: &'static str) -> bool {
+    let (asked, wanted) = sides_of(row);
+    is_line(find(alloc, kind, edition, asked), wanted)
+}
+
+/// Asserts that what an edition is asked comes to what its rows want.
+pub(crate) fn check_rows<R: Abort + AllocGlobal>(
+    rt: &R,
     kind: Kind,
     edition: Option<&Edition>,
     rows: &'static str,
-) -> &'static str {
-    let Some(edition) = edition else {
-        return "no edition";
-    };
+) {
+    let edition = edition.expect(rt, "an edition");
     for row in rows.lines() {
-        if !is_found(alloc, kind, edition, row) {
-            return row;
-        }
+        assert!(rt; is_found(rt.alloc(), kind, edition, row), "{row}");
     }
-    ""
 }

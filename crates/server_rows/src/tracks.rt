@@ -1,7 +1,7 @@
 // Tracks of clients by their cohort, hint and session: a lane with its target.
 
 use crate::batches::{IDLE, demo};
-use crate::rows::{Kind, wrong_row};
+use crate::rows::{Kind, check_rows};
 
 // rule: Bucket of a client
 // rule: Cohort of a client
@@ -30,21 +30,14 @@ stable:319 target 4.0 | :5,,abc
 stable:319 target 4.0 | :,,abc
 stable:319 target 4.0 | abcdefghijklmnopqrstuvwxyzabcdefg:5,,abc
 stable:319 target 4.0 | BETA:7,,abc";
-    let wrong = wrong_row(rt.alloc(), Kind::Track, demo(rt.alloc(), IDLE), rows);
-    assert!(rt; wrong.is_empty(), "{wrong}");
+    check_rows(&rt, Kind::Track, demo(rt.alloc(), IDLE), rows);
 }
 
 #[test]
 fn serves_no_bucket_at_share_0(rt: HostRuntime) {
     let rows = "stable:0 held 3.0 | stable:0,,abc
 stable:999 held 3.0 | stable:999,,abc";
-    let wrong = wrong_row(
-        rt.alloc(),
-        Kind::Track,
-        demo(rt.alloc(), "set_share demo stable 0"),
-        rows,
-    );
-    assert!(rt; wrong.is_empty(), "{wrong}");
+    check_rows(&rt, Kind::Track, demo(rt.alloc(), "set_share demo stable 0"), rows);
 }
 
 // rule: Lane
@@ -52,26 +45,14 @@ stable:999 held 3.0 | stable:999,,abc";
 fn serves_bucket_0_at_share_1(rt: HostRuntime) {
     let rows = "stable:0 target 4.0 | stable:0,,abc
 stable:1 held 3.0 | stable:1,,abc";
-    let wrong = wrong_row(
-        rt.alloc(),
-        Kind::Track,
-        demo(rt.alloc(), "set_share demo stable 1"),
-        rows,
-    );
-    assert!(rt; wrong.is_empty(), "{wrong}");
+    check_rows(&rt, Kind::Track, demo(rt.alloc(), "set_share demo stable 1"), rows);
 }
 
 #[test]
 fn serves_every_bucket_at_share_1000(rt: HostRuntime) {
     let rows = "stable:0 target 4.0 | stable:0,,abc
 stable:999 target 4.0 | stable:999,,abc";
-    let wrong = wrong_row(
-        rt.alloc(),
-        Kind::Track,
-        demo(rt.alloc(), "set_share demo stable 1000"),
-        rows,
-    );
-    assert!(rt; wrong.is_empty(), "{wrong}");
+    check_rows(&rt, Kind::Track, demo(rt.alloc(), "set_share demo stable 1000"), rows);
 }
 
 // rule: Target of a lane
@@ -79,24 +60,12 @@ stable:999 target 4.0 | stable:999,,abc";
 fn holds_without_a_held_target(rt: HostRuntime) {
     let rows = "beta:6 target 3.0 | beta:6,,abc
 beta:7 held | beta:7,,abc";
-    let wrong = wrong_row(
-        rt.alloc(),
-        Kind::Track,
-        demo(rt.alloc(), "set_share demo beta 7"),
-        rows,
-    );
-    assert!(rt; wrong.is_empty(), "{wrong}");
+    check_rows(&rt, Kind::Track, demo(rt.alloc(), "set_share demo beta 7"), rows);
 }
 
 #[test]
 fn takes_a_closed_cohort_from_the_cohort_text_alone(rt: HostRuntime) {
     let rows = "beta:7 target 3.0 | beta:7,,abc
 stable:7 target 4.0 | stable:7,beta,abc";
-    let wrong = wrong_row(
-        rt.alloc(),
-        Kind::Track,
-        demo(rt.alloc(), "set_open demo beta off"),
-        rows,
-    );
-    assert!(rt; wrong.is_empty(), "{wrong}");
+    check_rows(&rt, Kind::Track, demo(rt.alloc(), "set_open demo beta off"), rows);
 }
