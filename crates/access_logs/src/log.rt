@@ -6,7 +6,7 @@ use http_wire::Watch;
 use std::alloc::{AllocError, Global};
 use std::cell::RefCell;
 use std::io::Write;
-use std::net::{IpAddr, TcpStream};
+use std::net::IpAddr;
 
 // The most bytes of a message that are kept: those of the longest head.
 const MAX_MESSAGE: usize = 16384;
@@ -94,12 +94,9 @@ impl<W: Write + Drop> State<W> {
 }
 
 impl<'a, C: Clock, W: Write + Drop> Watch for AccessLog<'a, C, W> {
-    fn opens(&self, stream: &TcpStream) {
+    fn opens(&self, peer: Option<IpAddr>) {
         if let Ok(mut state) = self.state.try_borrow_mut() {
-            state.address = match stream.peer_addr() {
-                Ok(peer) => Some(peer.ip()),
-                Err(_) => None,
-            };
+            state.address = peer;
         }
     }
 

@@ -45,8 +45,7 @@ fn type_for<'a>(kind: &'a str, body: &[u8]) -> &'a str
 
 // rule: Calls of a desk
 // Asks the desk, and writes its reply.
-fn ask<R, W: Sink, D: Desk<R>, C: Clock>(
-    rt: &R,
+fn ask<W: Sink, D: Desk, C: Clock>(
     sink: &mut W,
     block: &mut [u8],
     desk: &mut D,
@@ -61,7 +60,7 @@ fn ask<R, W: Sink, D: Desk<R>, C: Clock>(
     ensures failed { W.failures sink.new ≡ W.failures sink.old + (if is_ok result then 0 else 1) }
 {
     let moment = clock.now();
-    match desk.answer(rt, body, moment) {
+    match desk.answer(body, moment) {
         Ok(answer) => {
             let head = ReplyHead {
                 status: answer.status.status(),
@@ -83,7 +82,7 @@ fn ask<R, W: Sink, D: Desk<R>, C: Clock>(
 }
 
 // Sends the package of this name, if the desk knows it and the method is GET.
-fn take<R, W: Sink, D: Desk<R>, P: Packages>(
+fn take<W: Sink, D: Desk, P: Packages>(
     sink: &mut W,
     block: &mut [u8],
     desk: &mut D,
@@ -137,18 +136,17 @@ fn deny<W: Sink>(
 ///
 /// 404 if the target names neither the desk nor a package that the desk knows; 405 if the method is
 /// another; the desk's reply, or 500 if the desk is off; or the package. `block` has 65536 bytes.
-/// A failure finds a first part of the reply written, and not all.
-pub fn answer<R, W: Sink, D: Desk<R>, P: Packages, C: Clock>(
-    rt: &R,
+/// The packages and the time are those of the site. A failure finds a first part of the reply
+/// written, and not all.
+pub fn answer<W: Sink, D: Desk, Z: Packages + Clock>(
     sink: &mut W,
     block: &mut [u8],
     desk: &mut D,
-    packages: &P,
-    clock: &C,
+    site: &Z,
     request: &Request<'_>,
 ) -> Result<Handled, Failed>
     requires { length block.old ≡ 65536 }
-    ensures answers { Answers (IsUse (D.path desk.old) (C.tells clock.now) (P.sizes packages.now) (P.reads packages.now)
+    ensures answers { Answers (IsUse (D.path desk.old) (Z.tells site.now) (Z.sizes site.now) (Z.reads site.now)
         request.now.method request.now.target.now)
         D.steps (D.content_type desk.old) request.now.body.now request.now.closes
         desk.old desk.new (W.contents sink.old) (W.contents sink.new) result }
@@ -159,7 +157,7 @@ pub fn answer<R, W: Sink, D: Desk<R>, P: Packages, C: Clock>(
     let path = path_of(request.target);
     if path == desk.path().as_bytes() {
         return match request.method {
-            Method::Post => ask(rt, sink, block, desk, clock, request.body, request.closes),
+            Method::Post => ask(sink, block, desk, site, request.body, request.closes),
             _ => deny(
                 sink,
                 block,
@@ -170,7 +168,7 @@ pub fn answer<R, W: Sink, D: Desk<R>, P: Packages, C: Clock>(
         };
     }
     match package_name(path) {
-        Some(name) => take(sink, block, desk, packages, name, request),
+        Some(name) => take(sink, block, desk, site, name, request),
         None => deny(sink, block, Status::NotFound, None, request.closes),
     }
 }

@@ -59,7 +59,7 @@ pub struct Declared {
 }
 
 /// Replies to the messages to one path, and knows the packages.
-pub trait Desk<R> {
+pub trait Desk {
     ghost path: { Self → List ℕ };
 
     ghost content_type: { Self → List ℕ };
@@ -76,7 +76,7 @@ pub trait Desk<R> {
         ensures { result.now ≡ content_type self.now };
 
     /// Returns the reply to a message with this body, at this timestamp.
-    fn answer(&mut self, rt: &R, body: &[u8], moment: u64) -> Result<Answer, Off>
+    fn answer(&mut self, body: &[u8], moment: u64) -> Result<Answer, Off>
         ensures steps { steps self.old (Asks body.now moment (answer_in result)) self.new }
         ensures path { path self.new ≡ path self.old }
         ensures content_type { content_type self.new ≡ content_type self.old };

@@ -1,7 +1,7 @@
 //! The reply to one whole message of a connection.
 //!
-//! A `Desk` replies to the messages to its path and knows the packages; a `Clock` gives the time. The
-//! function `answer` finds what a message's target names, asks the desk or sends the package, and
+//! A `Desk` replies to the messages to its path and knows the packages; a `Clock` gives the time. A `Site`
+//! is the packages, the clock and the watch that connections are served with. The function `answer` finds what a message's target names, asks the desk or sends the package, and
 //! writes the reply. Read `specs/Calls.antt`, `specs/Uses.antt` and `specs/Replies.antt`.
 //!
 //! `Packages` reads the files that clients download. `send_package` writes one, 65536 bytes at a
@@ -21,6 +21,7 @@ mod empty;
 mod fetching;
 mod method;
 mod package;
+mod site;
 
 pub use crate::answering::{Handled, Request, answer};
 pub use crate::clock::Clock;
@@ -29,3 +30,4 @@ pub use crate::download::{BLOCK, send_package};
 pub use crate::empty::send_empty;
 pub use crate::method::Method;
 pub use crate::package::Packages;
+pub use crate::site::Site;

@@ -3,14 +3,12 @@ ghost use Rattle.http_devices.specs.Files.{ReadsAt};
 ghost use Rattle.http_devices.specs.Names.{is_file_name};
 
 use crate::name::file_name;
+use crate::regular::RegularFiles;
 use http_desks::Packages;
 use http_wire::Failed;
 use std::alloc::{AllocError, Global};
 use std::cell::RefCell;
-use std::fs;
-use std::fs::OpenFile;
 use std::io::{Read, Seek, SeekFrom};
-use std::rt::Files;
 
 // The file that was opened last, the name that it was opened by, and room for its path.
 #[derive(Drop)]
@@ -26,15 +24,15 @@ struct Opened<F: Drop> {
 /// is not mixed with it. A symbolic link, a folder and what is no regular file are no package, and a name
 /// that could leave the folder opens nothing.
 #[derive(Drop)]
-pub struct Folder<'a, R: Files> {
-    files: &'a R,
+pub struct Folder<'a, S: RegularFiles<F>, F: Drop> {
+    files: &'a S,
     path: &'a str,
-    opened: RefCell<Opened<R::File>>,
+    opened: RefCell<Opened<F>>,
 }
 
-impl<'a, R: Files> Folder<'a, R> {
+impl<'a, S: RegularFiles<F>, F: Drop> Folder<'a, S, F> {
     /// Makes the packages of the folder at a path, which isn't looked at.
-    pub fn new(alloc: Global, files: &'a R, path: &'a str) -> Folder<'a, R> {
+    pub fn new(alloc: Global, files: &'a S, path: &'a str) -> Folder<'a, S, F> {
         Folder {
             files,
             path,
@@ -57,26 +55,19 @@ fn set_path(path: &mut String, folder: &str, name: &str) -> Result<(), AllocErro
     path.push_str(name)
 }
 
-impl<F: OpenFile + Drop> Opened<F> {
+impl<F: Drop> Opened<F> {
     // Opens the file of a name, and returns its size, if it is a regular file.
-    fn open<R: Files<File = F>>(&mut self, files: &R, folder: &str, name: &str) -> Option<u64>
+    fn open<S: RegularFiles<F>>(&mut self, files: &S, folder: &str, name: &str) -> Option<u64>
         ensures name { OnSome result (string_bytes self.new.name ≡ name.now) }
         ensures path { OnSome result (string_bytes self.new.path ≡ folder.now ++ 47 ∷ name.now) }
     {
         self.file = None;
         self.name.clear();
         set_path(&mut self.path, folder, name).ok()?;
-        if !files.symlink_metadata(self.path.as_str()).ok()?.is_file() {
-            return None;
-        }
-        let file = fs::open(files, self.path.as_str()).ok()?;
-        let found = file.metadata().ok()?;
-        if !found.is_file() {
-            return None;
-        }
+        let (file, size) = files.open_regular(self.path.as_str())?;
         self.name.push_str(name).ok()?;
         self.file = Some(file);
-        Some(found.len())
+        Some(size)
     }
 }
 
@@ -95,7 +86,7 @@ fn read_from<F: Read + Seek>(file: &mut F, at: u64, into: &mut [u8]) -> Result<(
     }
 }
 
-impl<'a, R: Files> Packages for Folder<'a, R> {
+impl<'a, S: RegularFiles<F>, F: Read + Seek + Drop> Packages for Folder<'a, S, F> {
     // a size is that of a file of the folder
     ghost sizes = { λ _ name size. IfSome size (λ _. is_file_name name ≡ true) };
 

@@ -1,8 +1,8 @@
 //! The devices of a server over the standard library: connections, a folder of packages, and the clock.
 //!
 //! `Reading` and `Writing` are the `Source` and the `Sink` over any reader and writer, such as a socket;
-//! each counts its failures. A `Folder` has the packages of a server, a file each. `SystemClock` gives the
-//! time. Read `specs/Names.antt` for the names that a folder opens.
+//! each counts its failures. A `Folder` has the packages of a server, a file each, over whatever opens
+//! `RegularFiles`. `SystemClock` gives the time. Read `specs/Names.antt` for the names that a folder opens.
 //!
 //! It opens no connection, and doesn't know which packages a catalogue has.
 
@@ -13,10 +13,12 @@ mod failures;
 mod folder;
 mod name;
 mod reading;
+mod regular;
 mod writing;
 
 pub use crate::clock::SystemClock;
 pub use crate::failures::Failures;
 pub use crate::folder::Folder;
 pub use crate::reading::Reading;
+pub use crate::regular::RegularFiles;
 pub use crate::writing::Writing;

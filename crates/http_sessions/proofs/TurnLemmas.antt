@@ -1,5 +1,6 @@
 -- One message of a session, by what was read and what came of the reply.
 use Rattle.std.proofs.Common.{◌≡◌, ℕ, ◌+◌, ◌<◌, ◌≤◌, Bool, true, false, ◌||◌, ◌==◌, List, ◌++◌, take, length, Option, None, Some, Result, Ok, Err, inl, inr, refl, sym, subst, ap, ◌∙◌, arith}
+use Rattle.std.proofs.Math.Seq.{take-append_seam}
 use Rattle.std.proofs.lemmas.List.{length-take-le}
 use Rattle.std.specs.Io.KnownBytes.{Appends, Consumes, IsAtEnd}
 use Rattle.http_heads.specs.declared.status.Status.{Status}
@@ -179,3 +180,7 @@ module _ {D : Type 0} (IsFit : Method → List ℕ → Use → Type 0) (steps : 
       } in
       replied_so session first given e closes left after old new before behind outcome result
       consumed message.whole exchange (closed ∙ ap (λ (b : Bool). b || (replies session == 999)) asked) answers.calls answers.writes comes
+
+-- all of the elements before others
+pub take-all-before : (xs ys : List ℕ) (n : ℕ) → length xs ≡ n → take n (xs ++ ys) ≡ xs
+take-all-before xs ys n long = subst (λ (k : ℕ). take k (xs ++ ys) ≡ xs) long (take-append_seam xs ys)

@@ -9,7 +9,6 @@ use crate::session::{MAX_MESSAGES, Session, Turn};
 use http_desks::{Clock, Desk, Handled, Packages, Request, answer, send_empty};
 use http_heads::Status;
 use http_wire::{Sink, Source, Window};
-use httparse::spans::HeaderSpan;
 use std::alloc::{AllocError, Global};
 
 impl Session {
@@ -61,19 +60,17 @@ impl Session {
     }
 
     // Writes the reply to a whole message.
-    fn reply<R, W: Sink, D: Desk<R>, P: Packages, C: Clock>(
+    fn reply<W: Sink, D: Desk, Z: Packages + Clock>(
         self,
-        rt: &R,
         request: &Request<'_>,
         sink: &mut W,
         block: &mut [u8],
         desk: &mut D,
-        packages: &P,
-        clock: &C,
+        site: &Z,
     ) -> Result<Turn, Fault>
         requires blocks { length block.old ≡ 65536 }
         requires last { request.now.closes ≡ false → replies self < 999 }
-        ensures replies { RepliesTo (IsUse (D.path desk.old) (C.tells clock.now) (P.sizes packages.now) (P.reads packages.now)
+        ensures replies { RepliesTo (IsUse (D.path desk.old) (Z.tells site.now) (Z.sizes site.now) (Z.reads site.now)
             request.now.method request.now.target.now)
             D.steps (D.content_type desk.old) request.now.body.now request.now.closes self
             desk.old desk.new (W.contents sink.old) (W.contents sink.new) result }
@@ -81,7 +78,7 @@ impl Session {
         ensures content_type { D.content_type desk.new ≡ D.content_type desk.old }
         ensures writes { W.failures sink.new ≡ W.failures sink.old + failed_writes result }
     {
-        match answer(rt, sink, block, desk, packages, clock, request) {
+        match answer(sink, block, desk, site, request) {
             Ok(handled) => Ok(self.go_on(handled, request.closes)),
             Err(_) => Err(Fault::Write),
         }
@@ -95,25 +92,21 @@ impl Session {
         plan.closes || self.begun == MAX_MESSAGES - 1
     }
 
-    // Reads one message and replies to it, with room for its parts.
-    fn advance<R, S: Source, W: Sink, D: Desk<R>, P: Packages, C: Clock>(
+    // rule: Session
+    /// Reads one message and replies to it, with the packages and the clock of the site.
+    ///
+    /// Returns the session if the connection stays open, else how it ended. After `Read` the input
+    /// was less than a message, and nothing was written; after `Write` a first part of the reply was
+    /// written, and not all. It never returns `Memory`.
+    pub fn turn<S: Source, W: Sink, D: Desk, Z: Packages + Clock>(
         mut self,
-        rt: &R,
-        fields: &mut [HeaderSpan],
-        target: &mut [u8],
-        body: &mut [u8],
-        block: &mut [u8],
+        buffers: &mut Buffers,
         source: &mut S,
         sink: &mut W,
         desk: &mut D,
-        packages: &P,
-        clock: &C,
+        site: &Z,
     ) -> Result<Turn, Fault>
-        requires fields { length fields.old ≡ 5461 }
-        requires targets { length target.old ≡ 16384 }
-        requires bodies { length body.old ≡ 262144 }
-        requires blocks { length block.old ≡ 65536 }
-        ensures serves { Serves (IsUse (D.path desk.old) (C.tells clock.now) (P.sizes packages.now) (P.reads packages.now))
+        ensures serves { Serves (IsUse (D.path desk.old) (Z.tells site.now) (Z.sizes site.now) (Z.reads site.now))
             D.steps (D.content_type desk.old) (replies self)
             (TurnEnds (S.remaining source.new) (replies self) result) (wrote result) (waiting self)
             (S.remaining source.old) (S.remaining source.new) (W.contents sink.old) (W.contents sink.new) desk.old desk.new }
@@ -122,6 +115,12 @@ impl Session {
         ensures reads { S.failures source.new ≡ S.failures source.old + failed_reads result }
         ensures writes { W.failures sink.new ≡ W.failures sink.old + failed_writes result }
     {
+        let Buffers {
+            fields,
+            target,
+            body,
+            block,
+        } = buffers;
         match read_message(source, &mut self.window, fields, target, body) {
             Ok(Message::Whole(plan)) => {
                 let request = Request {
@@ -130,7 +129,7 @@ impl Session {
                     body: &body[..plan.size],
                     closes: self.closes_after(&plan),
                 };
-                self.reply(rt, &request, sink, block, desk, packages, clock)
+                self.reply(&request, sink, block, desk, site)
             }
             Ok(Message::Rejected(status)) => self.reject(status, sink, block),
             Ok(Message::Ended(how)) => Ok(Turn::Ended(Served {
@@ -139,44 +138,5 @@ impl Session {
             })),
             Err(_) => Err(Fault::Read),
         }
-    }
-
-    // rule: Session
-    /// Reads one message and replies to it.
-    ///
-    /// Returns the session if the connection stays open, else how it ended. After `Read` the input
-    /// was less than a message, and nothing was written; after `Write` a first part of the reply was
-    /// written, and not all. It never returns `Memory`.
-    pub fn turn<R, S: Source, W: Sink, D: Desk<R>, P: Packages, C: Clock>(
-        self,
-        rt: &R,
-        buffers: &mut Buffers,
-        source: &mut S,
-        sink: &mut W,
-        desk: &mut D,
-        packages: &P,
-        clock: &C,
-    ) -> Result<Turn, Fault>
-        ensures serves { Serves (IsUse (D.path desk.old) (C.tells clock.now) (P.sizes packages.now) (P.reads packages.now))
-            D.steps (D.content_type desk.old) (replies self)
-            (TurnEnds (S.remaining source.new) (replies self) result) (wrote result) (waiting self)
-            (S.remaining source.old) (S.remaining source.new) (W.contents sink.old) (W.contents sink.new) desk.old desk.new }
-        ensures path { D.path desk.new ≡ D.path desk.old }
-        ensures content_type { D.content_type desk.new ≡ D.content_type desk.old }
-        ensures reads { S.failures source.new ≡ S.failures source.old + failed_reads result }
-        ensures writes { W.failures sink.new ≡ W.failures sink.old + failed_writes result }
-    {
-        self.advance(
-            rt,
-            &mut buffers.fields,
-            &mut buffers.target,
-            &mut buffers.body,
-            &mut buffers.block,
-            source,
-            sink,
-            desk,
-            packages,
-            clock,
-        )
     }
 }

@@ -18,30 +18,50 @@ fn send_joined<W: Sink>(sink: &mut W, block: &mut [u8], texts: &[&[u8]]) -> Resu
     }
 }
 
+// The parts of a head that differ from reply to reply.
+#[derive(Clone, Copy)]
+struct Parts<'a> {
+    // the status line
+    line: &'a [u8],
+    // the field that names the type of the body, in three parts
+    kind: (&'a [u8], &'a [u8], &'a [u8]),
+    // the field that names the allowed method
+    allow: &'a [u8],
+    // the length of the body
+    size: &'a [u8],
+    // the field that announces the end of the connection, and the empty line
+    last: &'a [u8],
+}
+
 // Writes a head of these parts, and a body.
 fn send_parts<'a, W: Sink>(
     sink: &mut W,
     block: &mut [u8],
-    line: &'a [u8],
-    kind: (&'a [u8], &'a [u8], &'a [u8]),
-    allow: &'a [u8],
-    size: &'a [u8],
-    last: &'a [u8],
+    parts: Parts<'a>,
     body: &'a [u8],
 ) -> Result<(), Failed>
     ensures sends { Sends (W.contents sink.old) (W.contents sink.new)
-        (line.now ++ (kind.entry.0.now ++ (kind.entry.1.now ++ (kind.entry.2.now ++ (allow.now
-        ++ (codes "Content-Length: " ++ (size.now ++ (codes "\r\n" ++ (last.now ++ (body.now ++ [])))))))))) result }
+        (parts.entry.line.now ++ (parts.entry.kind.0.now ++ (parts.entry.kind.1.now ++ (parts.entry.kind.2.now ++ (parts.entry.allow.now
+        ++ (codes "Content-Length: " ++ (parts.entry.size.now ++ (codes "\r\n" ++ (parts.entry.last.now ++ (body.now ++ [])))))))))) result }
     ensures failed { W.failures sink.new ≡ W.failures sink.old + (if is_ok result then 0 else 1) }
 {
     let name: &'a [u8] = b"Content-Length: ";
     let end: &'a [u8] = b"\r\n";
-    let (before, text, after) = kind;
+    let (before, text, after) = parts.kind;
     send_joined(
         sink,
         block,
         &[
-            line, before, text, after, allow, name, size, end, last, body,
+            parts.line,
+            before,
+            text,
+            after,
+            parts.allow,
+            name,
+            parts.size,
+            end,
+            parts.last,
+            body,
         ],
     )
 }
@@ -74,14 +94,12 @@ pub fn send_reply<W: Sink>(
     let mut digits = Buffer::new();
     let size = digits.format(head.size).as_bytes();
     let kind = type_fields(head.kind);
-    send_parts(
-        sink,
-        block,
-        head.status.line().as_bytes(),
-        (kind.0.as_bytes(), kind.1.as_bytes(), kind.2.as_bytes()),
-        allow_field(head.allow).as_bytes(),
+    let parts = Parts {
+        line: head.status.line().as_bytes(),
+        kind: (kind.0.as_bytes(), kind.1.as_bytes(), kind.2.as_bytes()),
+        allow: allow_field(head.allow).as_bytes(),
         size,
-        last_field(head.closes).as_bytes(),
-        body,
-    )
+        last: last_field(head.closes).as_bytes(),
+    };
+    send_parts(sink, block, parts, body)
 }

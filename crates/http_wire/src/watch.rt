@@ -1,11 +1,11 @@
-use std::net::TcpStream;
+use std::net::IpAddr;
 
 /// Is shown the connections of a server, one after the other.
 ///
 /// It gets shared references alone, so what it does changes no byte of a connection.
 pub trait Watch {
-    /// A connection was accepted.
-    fn opens(&self, stream: &TcpStream);
+    /// A connection was accepted, from this address if the system gives it.
+    fn opens(&self, peer: Option<IpAddr>);
 
     /// A message may begin: whatever came before it on the connection has had its reply. The bytes that wait are
     /// the message's first.
@@ -26,7 +26,7 @@ pub trait Watch {
 pub struct Unwatched;
 
 impl Watch for Unwatched {
-    fn opens(&self, _stream: &TcpStream) {}
+    fn opens(&self, _peer: Option<IpAddr>) {}
 
     fn begins(&self, _waiting: &[u8]) {}
 

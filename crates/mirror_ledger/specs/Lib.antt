@@ -2,3 +2,4 @@ pub mod Asks
 pub mod Budgets
 pub mod Named
 pub mod Order
+pub mod Tills

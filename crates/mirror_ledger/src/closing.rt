@@ -1,16 +1,18 @@
 //! How books are closed.
 
-ghost use Rattle.std.specs.Prelude.{◌≡◌, ℕ, ◌+◌, ◌<◌, ◌≤◌, IfOk, length, slice_index, sum_by, vec_len};
+ghost use Rattle.std.specs.Prelude.{◌≡◌, ℕ, ◌+◌, ◌<◌, ◌≤◌, IfOk, length, map, slice_index, sum_by, vec_len};
 ghost use Rattle.mirror_ledger.specs.Named.{budget_at, totals_of};
+ghost use Rattle.mirror_ledger.specs.Tills.{granted_by};
 
 use crate::book::{BudgetName, Share};
 use crate::books::{Books, Shares};
+use crate::till::Hand;
 use std::alloc::{AllocError, Global};
 use std::sync::{Wait, ledger};
 
 // The parts of the four ledgers that came back.
 #[derive(Drop)]
-struct Parts<A: BudgetName, B: BudgetName, C: BudgetName, D: BudgetName> {
+pub(crate) struct Parts<A: BudgetName, B: BudgetName, C: BudgetName, D: BudgetName> {
     first: ledger::Share<A>,
     second: ledger::Share<B>,
     third: ledger::Share<C>,
@@ -65,6 +67,55 @@ fn gathered<A: BudgetName, B: BudgetName, C: BudgetName, D: BudgetName>(
     parts
 }
 
+/// Takes the parts of the ledgers back from tills, whose shares are what their asks came to.
+pub(crate) fn gather_tills<A: BudgetName, B: BudgetName, C: BudgetName, D: BudgetName>(
+    tills: Vec<Hand<'_, A, B, C, D>>,
+) -> Parts<A, B, C, D>
+    requires { 0 < vec_len tills }
+    ensures first { (result.first.parts ≡ vec_len tills.entry) × (result.first.amount ≡ granted_by (map (λ t. t.shares.asks) tills.entry.items) 0) }
+    ensures second { (result.second.parts ≡ vec_len tills.entry) × (result.second.amount ≡ granted_by (map (λ t. t.shares.asks) tills.entry.items) 1) }
+    ensures third { (result.third.parts ≡ vec_len tills.entry) × (result.third.amount ≡ granted_by (map (λ t. t.shares.asks) tills.entry.items) 2) }
+    ensures fourth { (result.fourth.parts ≡ vec_len tills.entry) × (result.fourth.amount ≡ granted_by (map (λ t. t.shares.asks) tills.entry.items) 3) }
+{
+    let mut tills = tills;
+    let Some(last) = tills.pop() else {
+        unreachable!()
+    };
+    let mut parts = Parts::of(last.end());
+    while let Some(next) = tills.pop() {
+        parts.merge(Parts::of(next.end()));
+    }
+    parts
+}
+
+/// Closes the books by all parts of their ledgers, and returns each mirror's total in bytes.
+pub(crate) fn close_parts<A: BudgetName, B: BudgetName, C: BudgetName, D: BudgetName, R: Wait>(
+    rt: &R,
+    alloc: Global,
+    books: Books<A, B, C, D>,
+    parts: Parts<A, B, C, D>,
+) -> Result<Vec<u64>, AllocError>
+    requires first { parts.first.parts ≡ A.parts }
+    requires second { parts.second.parts ≡ B.parts }
+    requires third { parts.third.parts ≡ C.parts }
+    requires fourth { parts.fourth.parts ≡ D.parts }
+    ensures totals { IfOk result (λ totals. totals.items ≡ totals_of books
+        parts.first.amount parts.second.amount parts.third.amount parts.fourth.amount) }
+    ensures within { IfOk result (λ totals.
+        (index : ℕ) → index < length books → slice_index totals.items index ≤ budget_at books index) }
+{
+    let count = books.given.len();
+    let mut parts = parts;
+    let totals = [
+        books.first.lock(rt).gather(&mut parts.first),
+        books.second.lock(rt).gather(&mut parts.second),
+        books.third.lock(rt).gather(&mut parts.third),
+        books.fourth.lock(rt).gather(&mut parts.fourth),
+    ];
+    let granted = Vec::from_slice(alloc, &totals[..count])?;
+    Ok(granted)
+}
+
 // rule: Total of a mirror
 /// Closes the books, and returns each mirror's total in bytes.
 ///
@@ -89,14 +140,5 @@ pub fn close<A: BudgetName, B: BudgetName, C: BudgetName, D: BudgetName, R: Wait
     ensures within { IfOk result (λ totals.
         (index : ℕ) → index < length books → slice_index totals.items index ≤ budget_at books index) }
 {
-    let count = books.given.len();
-    let mut parts = gathered(shares);
-    let totals = [
-        books.first.lock(rt).gather(&mut parts.first),
-        books.second.lock(rt).gather(&mut parts.second),
-        books.third.lock(rt).gather(&mut parts.third),
-        books.fourth.lock(rt).gather(&mut parts.fourth),
-    ];
-    let granted = Vec::from_slice(alloc, &totals[..count])?;
-    Ok(granted)
+    close_parts(rt, alloc, books, gathered(shares))
 }

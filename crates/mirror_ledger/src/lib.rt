@@ -3,8 +3,10 @@
 //! `open_books` makes a `Book` for each mirror, under a `Mutex` of its own, and `Shares` for each worker.
 //! `Shares::grant_first` grants bytes on the first mirror that has room for them; `close` gathers all
 //! shares and returns each mirror's total, which is the sum of its shares and within its budget. A `Hand`
-//! is a `Till` over the books: what serves update checks knows its till alone. Read `specs/Budgets.antt`
-//! for what a grant does and `specs/Asks.antt` for how shares follow from the asks of a worker.
+//! is a `Till` over the books: what serves update checks knows its till alone. `work_with_tills` does all
+//! this for a `Work`, and hides the names of the ledgers. Read `specs/Budgets.antt` for what a grant does,
+//! `specs/Asks.antt` for how shares follow from the asks of a worker, and `specs/Tills.antt` for what work
+//! comes to.
 //!
 //! It does not measure downloads: a mirror's total counts what clients were offered.
 
@@ -16,6 +18,7 @@ mod books;
 mod closing;
 mod opening;
 mod till;
+mod working;
 
 pub use crate::asks::AskList;
 pub use crate::book::{Book, BudgetName, NoRoom, Share};
@@ -23,3 +26,4 @@ pub use crate::books::{Books, Shares};
 pub use crate::closing::close;
 pub use crate::opening::{Blanks, open_books};
 pub use crate::till::{Hand, Till};
+pub use crate::working::{Work, work_with_tills};

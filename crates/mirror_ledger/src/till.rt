@@ -37,18 +37,20 @@ pub trait Till {
         ensures alone { alone self.old → alone self.new };
 }
 
-/// A till over borrowed books, with a worker's shares of them.
+/// A till over borrowed books, with a worker's shares of them, which are the sums of its asks.
 #[derive(Drop)]
 pub struct Hand<'a, A: BudgetName, B: BudgetName, C: BudgetName, D: BudgetName> {
     /// The books of all mirrors.
     pub books: &'a Books<A, B, C, D>,
     /// The worker's shares.
     pub shares: Shares<A, B, C, D>,
+    ghost tallied: { AreTallied shares.first shares.second shares.third shares.fourth shares.asks },
 }
 
 impl<'a, A: BudgetName, B: BudgetName, C: BudgetName, D: BudgetName> Hand<'a, A, B, C, D> {
     /// Makes a till of books and of shares that were opened with them.
     pub fn new(books: &'a Books<A, B, C, D>, shares: Shares<A, B, C, D>) -> Hand<'a, A, B, C, D>
+        requires { AreTallied shares.first shares.second shares.third shares.fourth shares.asks }
         ensures books { result.books.now ≡ books.now }
         ensures shares { result.shares ≡ shares }
     {
@@ -57,7 +59,8 @@ impl<'a, A: BudgetName, B: BudgetName, C: BudgetName, D: BudgetName> Hand<'a, A,
 
     /// Gives the shares back.
     pub fn end(self) -> Shares<A, B, C, D>
-        ensures { result ≡ self.entry.shares }
+        ensures shares { result ≡ self.entry.shares }
+        ensures tallied { AreTallied result.first result.second result.third result.fourth result.asks }
     {
         let Hand { shares, .. } = self;
         shares
@@ -69,9 +72,7 @@ impl<'a, A: BudgetName, B: BudgetName, C: BudgetName, D: BudgetName> Till for Ha
 
     ghost asks = { λ hand. hand.shares.asks };
 
-    ghost alone = { λ hand.
-        HaveOnePart A.parts B.parts C.parts D.parts
-        × AreTallied hand.shares.first hand.shares.second hand.shares.third hand.shares.fourth hand.shares.asks };
+    ghost alone = { λ _. HaveOnePart A.parts B.parts C.parts D.parts };
 
     fn given(&self) -> &[Mirror] {
         self.books.given()
@@ -86,12 +87,8 @@ impl<'a, A: BudgetName, B: BudgetName, C: BudgetName, D: BudgetName> Till for Ha
         ensures third { self.new.shares.third ≡ self.old.shares.third + booked 2 bytes result }
         ensures fourth { self.new.shares.fourth ≡ self.old.shares.fourth + booked 3 bytes result }
         ensures first_with_room { HaveOnePart A.parts B.parts C.parts D.parts
-            × AreTallied self.old.shares.first self.old.shares.second self.old.shares.third self.old.shares.fourth self.old.shares.asks
             → IsFirstWithRoom self.old.books.now self.old.shares.asks bytes result }
-        ensures alone { HaveOnePart A.parts B.parts C.parts D.parts
-            × AreTallied self.old.shares.first self.old.shares.second self.old.shares.third self.old.shares.fourth self.old.shares.asks
-            → HaveOnePart A.parts B.parts C.parts D.parts
-            × AreTallied self.new.shares.first self.new.shares.second self.new.shares.third self.new.shares.fourth self.new.shares.asks }
+        ensures alone { HaveOnePart A.parts B.parts C.parts D.parts → HaveOnePart A.parts B.parts C.parts D.parts }
     {
         self.shares.grant_first(rt, self.books, bytes)
     }

@@ -1,6 +1,5 @@
 -- Sessions seen by a part of the desk's state.
-use Rattle.std.proofs.Common.{◌≡◌, ◌∙◌, ℕ, List, [], ◌∷◌, Option, Result, Ok, Err, ap, codes, length, refl, subst, sym}
-use Rattle.std.specs.Result.{OnOk}
+use Rattle.std.proofs.Common.{◌≡◌, ◌∙◌, ℕ, List, [], ◌∷◌, Option, Result, ap, codes, length, refl, subst, sym}
 use Rattle.http_connections.specs.Connections.{IsSession, Unaccepted, Visit, Visited, Visits, limit_of}
 use Rattle.http_desks.specs.Calls.{Call, Leads}
 use Rattle.http_desks.specs.Uses.{IsUse}
@@ -114,8 +113,3 @@ AreServed-along {D} content mirrors asks Alone steps limit visits before behind 
       },
       along.0.2,
     )
-
--- what follows of a call that succeeded
-pub OnOk-then : {T E : Type 0} {A B : Type 0} (result : Result T E) → (A → B) → OnOk result A → OnOk result B
-OnOk-then (Ok value) then holds = then holds
-OnOk-then (Err error) then holds = tt

@@ -1,13 +1,14 @@
 -- The lines of totals, one after the other.
-use Rattle.std.proofs.Common.{◌≡◌, ◌<◌, ◌≤◌, ◌+◌, ◌++◌, ◌∙◌, ℕ, List, [], ◌∷◌, drop, flat_map, get_or, length, min, refl, subst, suc, sym, zero, arith, ap, Option}
+use Rattle.std.proofs.Common.{◌≡◌, ◌<◌, ◌≤◌, ◌+◌, ◌++◌, ◌∙◌, ℕ, List, [], ◌∷◌, drop, flat_map, get_or, length, min, refl, subst, suc, sym, zero, zero-add, arith, ap, Option}
 use Rattle.std.proofs.lemmas.List.{append-nil, append_assoc, drop_all, map-append}
 use Rattle.std.proofs.lemmas.Slice.Zip.{length-zip}
 use Rattle.std.specs.List.{zip}
-use Rattle.mirror_ledger.specs.Asks.{AreTallied, Ask, granted_at}
+use Rattle.mirror_ledger.specs.Asks.{Ask}
 use Rattle.mirror_ledger.specs.Named.{totals_of}
 use Rattle.records.specs.declared.content.App.{App}
 use Rattle.records.specs.declared.mirror.Mirror.{Mirror}
-use Rattle.omaha_server.specs.Serving.{AreServed, AreTotals, AreWithin}
+use Rattle.mirror_ledger.specs.Tills.{AreTotalsOf, granted_by}
+use Rattle.omaha_server.specs.Serving.{AreServed, AreTotals}
 use Rattle.omaha_server.specs.Totals.{names_of, total_line, totals_string}
 
 pub names_of-last : (mirrors : List Mirror) (mirror : Mirror) → names_of (mirrors ++ mirror ∷ []) ≡ names_of mirrors ++ mirror.name ∷ []
@@ -40,19 +41,20 @@ pub totals-end :
 totals-end text names totals index past =
     rw (drop_all index (zip names totals) (omega (arith, past, length-zip names totals))) (append-nil text)
 
--- the totals of books that are those of a service's mirrors
+-- the asks of the only worker
+pub only_worker : (workers : List (List Ask)) → length workers ≡ 1 → (asks : List Ask) × (workers ≡ asks ∷ [])
+only_worker [] one = absurd (omega (arith, one))
+only_worker (asks ∷ []) one = (asks, refl)
+only_worker (asks ∷ more ∷ workers) one = absurd (omega (arith, one))
+
+-- the totals of one worker, whose sessions were served
 pub AreTotals-of :
-    (content : List App) (mirrors books : List Mirror) (limit : Option ℕ) (asks : List Ask) (totals : List ℕ) (first second third fourth : ℕ) →
-    books ≡ mirrors →
-    AreServed (record { content = content; mirrors = books }) limit asks →
-    AreTallied first second third fourth asks →
-    totals ≡ totals_of books first second third fourth →
-    AreWithin books totals →
+    (content : List App) (mirrors : List Mirror) (limit : Option ℕ) (workers : List (List Ask)) (totals : List ℕ) →
+    length workers ≡ 1 →
+    ((asks : List Ask) → workers ≡ asks ∷ [] → AreServed (record { content = content; mirrors = mirrors }) limit asks) →
+    AreTotalsOf mirrors workers totals →
     AreTotals (record { content = content; mirrors = mirrors }) limit totals
-AreTotals-of content mirrors books limit asks totals first second third fourth same served tallied summed within =
-    let one = subst (λ (k : ℕ). totals ≡ totals_of books k second third fourth) tallied.at_first summed in
-    let two = subst (λ (k : ℕ). totals ≡ totals_of books (granted_at 0 asks) k third fourth) tallied.at_second one in
-    let three = subst (λ (k : ℕ). totals ≡ totals_of books (granted_at 0 asks) (granted_at 1 asks) k fourth) tallied.at_third two in
-    let four = subst (λ (k : ℕ). totals ≡ totals_of books (granted_at 0 asks) (granted_at 1 asks) (granted_at 2 asks) k) tallied.at_fourth three in
-    subst (λ (m : List Mirror). AreTotals (record { content = content; mirrors = m }) limit totals) same
-    (record { asks = asks; served = served; granted = four; within = within })
+AreTotals-of content mirrors limit workers totals one served summed =
+    let (asks, same) = only_worker workers one in
+    let sums = subst (λ (w : List (List Ask)). totals ≡ totals_of mirrors (granted_by w 0) (granted_by w 1) (granted_by w 2) (granted_by w 3)) same summed.sums in
+    record { asks = asks; served = served asks same; granted = simp zero-add at sums; within = summed.within }

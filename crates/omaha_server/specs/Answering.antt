@@ -15,10 +15,14 @@ use Rattle.omaha_server.specs.declared.service.Service.{Service}
 abbrev pub stock_of : Service → Stock
 stock_of service = record { content = content_of service.edition; mirrors = service.mirrors }
 
+-- the reply to the request that the input is, by what the mirrors grant to a worker that is alone: the first
+-- with room each time, beginning with nothing; or the input's first fault, or out of memory
+abbrev pub AnswersAlone : Stock → ℕ → List ℕ → List Ask → Result (List ℕ) (ReadError RequestFault) → Type 0
+AnswersAlone stock moment input asks (Ok reply) =
+    IsAnswered stock input moment [] asks (Ok reply) × AreGranted stock.mirrors [] asks
+AnswersAlone stock moment input asks (Err error) = Explains error (request_of_bytes input)
+
 -- rule: Reply of the program
--- the reply to the request that the input is, by what the mirrors grant: the first with room each time,
--- beginning with nothing; or the input's first fault, or out of memory
+-- the same of a service, by some asks
 abbrev pub Answers : Service → ℕ → List ℕ → Result (List ℕ) (ReadError RequestFault) → Type 0
-Answers service moment input (Ok reply) =
-    (asks : List Ask) × IsAnswered (stock_of service) input moment [] asks (Ok reply) × AreGranted service.mirrors [] asks
-Answers service moment input (Err error) = Explains error (request_of_bytes input)
+Answers service moment input result = (asks : List Ask) × AnswersAlone (stock_of service) moment input asks result

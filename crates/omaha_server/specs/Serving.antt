@@ -3,8 +3,6 @@ use Rattle.std.specs.Prelude.{◌≡◌, ◌⊎◌, ◌≤◌, ◌<◌, ◌^◌,
 use Rattle.std.specs.Io.KnownBytes.{Appends}
 use Rattle.http_connections.specs.Connections.{IsSession, Visit, Visits, limit_of}
 use Rattle.http_connections.specs.Opening.{ready_line}
-use Rattle.http_connections.specs.declared.opening.ServeError.{ServeError}
-use Rattle.http_connections.specs.declared.opening.ServeError.TheVariants as serving
 use Rattle.http_desks.specs.Calls.{Call}
 use Rattle.http_devices.specs.Names.{is_file_name}
 use Rattle.http_desks.specs.Downloads.{Reads}
@@ -105,8 +103,3 @@ Serves stock limit old new result =
     ((totals : List ℕ) × (between : Known)
     × AreTotals stock limit totals × IsReady old between × PrintsTotals stock totals between new result)
     ⊎ ((error : ServerError) × (result ≡ Err error) × Stops old new error)
-
--- the error of a server whose connections could not be served
-abbrev pub error_of : ServeError → ServerError
-error_of serving.Net = server.Net
-error_of serving.Write = server.Write

@@ -1,44 +1,57 @@
 // The reply to one input, over books that are opened for it.
 
-ghost use Rattle.std.specs.Prelude.{IfOk, IfErr, Ok, Err};
-ghost use Rattle.mirror_ledger.specs.Named.{IsNamed};
-ghost use Rattle.omaha_server.specs.Answering.{Answers};
+ghost use Rattle.std.specs.Prelude.{◌≡◌, ◌∷◌, [], List, IfOk, IfErr, Ok, Err};
+ghost use Rattle.editions.specs.Editions.{content_of};
+ghost use Rattle.mirror_ledger.specs.Asks.{Ask};
+ghost use Rattle.omaha_server.specs.Answering.{Answers, AnswersAlone};
 
 use crate::service::Service;
-use mirror_ledger::{Blanks, BudgetName, Hand, open_books};
+use editions::Edition;
+use mirror_ledger::{Till, Work, work_with_tills};
 use omaha_json::RequestFault;
 use std::alloc::Global;
-use std::marker::Brand;
 use std::sync::Wait;
 use values::ReadError;
 
-// Replies over books whose ledgers have these names, for one worker.
-fn reply_over<A: BudgetName, B: BudgetName, C: BudgetName, D: BudgetName, R: Wait>(
-    rt: &R,
+// The reply to one input by the till of one worker.
+#[derive(Drop)]
+struct OneReply<'a> {
     alloc: Global,
-    blanks: Blanks,
-    service: Service,
+    edition: &'a Edition,
     moment: u64,
-    input: &[u8],
-) -> Result<Vec<u8>, ReadError<RequestFault>>
-    requires first { IsNamed blanks.first A.name A.parts A.budget 1 service.mirrors 0 }
-    requires second { IsNamed blanks.second B.name B.parts B.budget 1 service.mirrors 1 }
-    requires third { IsNamed blanks.third C.name C.parts C.budget 1 service.mirrors 2 }
-    requires fourth { IsNamed blanks.fourth D.name D.parts D.budget 1 service.mirrors 3 }
-    ensures ok { IfOk result (λ reply. Answers service moment input.now (Ok reply.items)) }
-    ensures refused { IfErr result (λ error. Answers service moment input.now (Err error)) }
-{
-    let Service { edition, mirrors } = service;
-    let mirrors = mirrors.into_vec();
-    let Ok((books, shares)) = open_books::<A, B, C, D, R>(rt, alloc, blanks, mirrors, 1) else {
-        return Err(ReadError::Memory);
-    };
-    let mut shares = shares;
-    let Some(share) = shares.pop() else {
-        unreachable!()
-    };
-    let mut till = Hand::new(&books, share);
-    update_desk::answer(rt, alloc, &edition, &mut till, moment, input)
+    input: &'a [u8],
+}
+
+impl<R: Wait> Work<R> for OneReply<'_> {
+    type End = Result<Vec<u8>, ReadError<RequestFault>>;
+
+    ghost comes_to = { λ old _ mirrors workers end. (asks : List Ask) → workers ≡ asks ∷ []
+        → IfOk end (λ reply. AnswersAlone (record { content = content_of old.edition.now; mirrors = mirrors })
+        old.moment old.input.now asks (Ok reply.items))
+        × IfErr end (λ error. AnswersAlone (record { content = content_of old.edition.now; mirrors = mirrors })
+        old.moment old.input.now asks (Err error)) };
+
+    fn work<T: Till + Send + Drop>(
+        &mut self,
+        rt: &R,
+        tills: &mut Vec<T>,
+    ) -> Result<Vec<u8>, ReadError<RequestFault>> {
+        let Some(mut till) = tills.pop() else {
+            return Err(ReadError::Memory);
+        };
+        let reply = update_desk::answer(
+            rt,
+            self.alloc,
+            self.edition,
+            &mut till,
+            self.moment,
+            self.input,
+        );
+        if tills.push(till).is_err() {
+            unreachable!()
+        }
+        reply
+    }
 }
 
 // rule: Reply of the program
@@ -59,6 +72,15 @@ pub fn answer<R: Wait>(
     ensures ok { IfOk result (λ reply. Answers service moment input.now (Ok reply.items)) }
     ensures refused { IfErr result (λ error. Answers service moment input.now (Err error)) }
 {
-    let blanks = Blanks::new(1);
-    reply_over::<Brand, Brand, Brand, Brand, R>(rt, alloc, blanks, service, moment, input)
+    let Service { edition, mirrors } = service;
+    let mut job = OneReply {
+        alloc,
+        edition: &edition,
+        moment,
+        input,
+    };
+    match work_with_tills(rt, alloc, mirrors.into_vec(), 1, &mut job) {
+        Ok((reply, _)) => reply,
+        Err(_) => Err(ReadError::Memory),
+    }
 }

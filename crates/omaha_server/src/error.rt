@@ -1,9 +1,6 @@
 // Why a server ends early.
 
-ghost use Rattle.std.specs.Prelude.{◌≡◌};
-ghost use Rattle.omaha_server.specs.Serving.{IsUnlogged, error_of};
-
-use http_connections::ServeError;
+use std::alloc::AllocError;
 
 /// Why a server ends before its last session, or without its totals.
 #[derive(Clone, Copy, Debug, Drop, PartialEq, Eq)]
@@ -18,13 +15,13 @@ pub enum ServerError {
     Memory,
 }
 
-// The error of a server whose connections could not be served.
-pub(crate) fn error_of(error: ServeError) -> ServerError
-    ensures error { result ≡ error_of error }
-    ensures unlogged { IsUnlogged result }
-{
-    match error {
-        ServeError::Net => ServerError::Net,
-        ServeError::Write => ServerError::Write,
+impl From<AllocError> for ServerError {
+    ghost use Rattle.std.specs.Prelude.{◌≡◌};
+    ghost use Rattle.omaha_server.specs.declared.error.ServerError.TheVariants.{Memory};
+
+    ghost from_gives = { λ _ error. error ≡ Memory };
+
+    fn from(_refused: AllocError) -> ServerError {
+        ServerError::Memory
     }
 }

@@ -1,25 +1,23 @@
 // A service over HTTP, one connection after the other.
 
-ghost use Rattle.std.specs.Prelude.{◌≡◌, ◌<◌, [], IfOk, IfErr, OnOk};
+ghost use Rattle.std.specs.Prelude.{◌≡◌, ◌<◌, ◌∷◌, [], List, IfOk, IfErr, OnOk};
 ghost use Rattle.editions.specs.Editions.{content_of};
-ghost use Rattle.mirror_ledger.specs.Asks.{AreTallied};
-ghost use Rattle.mirror_ledger.specs.Named.{IsNamed, totals_of};
-ghost use Rattle.mirror_ledger.specs.Order.{HaveOnePart};
-ghost use Rattle.omaha_server.specs.Serving.{AreServed, AreTotals, AreWithin, IsLogged, IsReady, IsUnlogged, Serves, Stops, error_of};
+ghost use Rattle.mirror_ledger.specs.Asks.{Ask};
+ghost use Rattle.omaha_server.specs.Serving.{AreServed, AreTotals, IsLogged, IsReady, IsUnlogged, Serves, Stops};
 ghost use Rattle.omaha_server.specs.Answering.{stock_of};
 
-use crate::error::{ServerError, error_of};
+use crate::error::ServerError;
 use crate::logging::open_log;
 use crate::service::Service;
 use crate::totals::{names_of, totals_string};
 use access_logs::AccessLog;
 use editions::Edition;
-use http_connections::{ServeError, serve_clients};
+use http_connections::{listen, print_ready, serve_listener};
+use http_desks::Site;
 use http_devices::{Folder, SystemClock};
 use http_wire::{Unwatched, Watch};
-use mirror_ledger::{Blanks, Books, BudgetName, Hand, Shares, close, open_books};
+use mirror_ledger::{Till, Work, work_with_tills};
 use std::alloc::AllocError;
-use std::marker::Brand;
 use std::net::{Net, TcpListener, TcpStream};
 use std::rt::Files;
 use std::sync::Wait;
@@ -44,145 +42,88 @@ pub struct Place {
     ghost limited: { 0 < seconds },
 }
 
+// The sessions of a listener, by the till of one worker.
+#[derive(Drop)]
+struct Sessions<'a, V> {
+    edition: &'a Edition,
+    place: &'a Place,
+    listener: &'a TcpListener,
+    watch: &'a V,
+}
+
 // rule: Sessions of a server
-// Serves by a till over books, which is alone.
-fn serve_till<
-    A: BudgetName,
-    B: BudgetName,
-    C: BudgetName,
-    D: BudgetName,
-    R: Net<Listener = TcpListener, Stream = TcpStream> + Clock + Files + Wait + AllocGlobal,
-    W: WriteWhole,
-    V: Watch,
->(
-    rt: &R,
-    desk: &mut Single<Hand<'_, A, B, C, D>>,
-    place: &Place,
-    out: &mut W,
-    watch: &V,
-) -> Result<(), ServeError>
-    requires alone { HaveOnePart A.parts B.parts C.parts D.parts }
-    requires tallied { AreTallied desk.old.till.shares.first desk.old.till.shares.second desk.old.till.shares.third desk.old.till.shares.fourth desk.old.till.shares.asks }
-    requires unused { desk.old.till.shares.asks ≡ [] }
-    ensures served { OnOk result
-        (AreServed (record { content = content_of desk.old.edition; mirrors = desk.old.till.books.now }) place.now.sessions desk.new.till.shares.asks) }
-    ensures tallied { OnOk result
-        (AreTallied desk.new.till.shares.first desk.new.till.shares.second desk.new.till.shares.third desk.new.till.shares.fourth desk.new.till.shares.asks) }
-    ensures ready { OnOk result (IsReady (W.output out.old) (W.output out.new)) }
-    ensures err { IfErr result (λ error. Stops (W.output out.old) (W.output out.new) (error_of error)) }
-{
-    let packages = Folder::new(rt.alloc(), rt, place.packages.as_str());
-    let clock = SystemClock::new(rt);
-    serve_clients(
-        rt,
-        place.address.as_str(),
-        out,
-        desk,
-        &packages,
-        &clock,
-        place.sessions,
-        place.seconds,
-        watch,
-    )
-}
+impl<R: Clock + Files + Wait + AllocGlobal, V: Watch> Work<R> for Sessions<'_, V> {
+    type End = ();
 
-// Serves by a share of books.
-fn serve_by<
-    A: BudgetName,
-    B: BudgetName,
-    C: BudgetName,
-    D: BudgetName,
-    R: Net<Listener = TcpListener, Stream = TcpStream> + Clock + Files + Wait + AllocGlobal,
-    W: WriteWhole,
-    V: Watch,
->(
-    rt: &R,
-    books: &Books<A, B, C, D>,
-    share: Shares<A, B, C, D>,
-    edition: Edition,
-    place: &Place,
-    out: &mut W,
-    watch: &V,
-) -> Result<Shares<A, B, C, D>, ServeError>
-    requires alone { HaveOnePart A.parts B.parts C.parts D.parts }
-    requires tallied { AreTallied share.first share.second share.third share.fourth share.asks }
-    requires unused { share.asks ≡ [] }
-    ensures served { IfOk result (λ share.
-        AreServed (record { content = content_of edition; mirrors = books.now }) place.now.sessions share.asks) }
-    ensures tallied { IfOk result (λ share. AreTallied share.first share.second share.third share.fourth share.asks) }
-    ensures ready { OnOk result (IsReady (W.output out.old) (W.output out.new)) }
-    ensures err { IfErr result (λ error. Stops (W.output out.old) (W.output out.new) (error_of error)) }
-{
-    let mut desk = Single {
-        edition,
-        till: Hand::new(books, share),
-    };
-    serve_till(rt, &mut desk, place, out, watch)?;
-    let Single { till, .. } = desk;
-    Ok(till.end())
-}
+    ghost comes_to = { λ old _ mirrors workers _. (asks : List Ask) → workers ≡ asks ∷ []
+        → AreServed (record { content = content_of old.edition.now; mirrors = mirrors }) old.place.now.sessions asks };
 
-// Closes books whose one share this is.
-fn close_alone<A: BudgetName, B: BudgetName, C: BudgetName, D: BudgetName, R: Wait + AllocGlobal>(
-    rt: &R,
-    books: Books<A, B, C, D>,
-    share: Shares<A, B, C, D>,
-) -> Result<Vec<u64>, AllocError>
-    requires alone { HaveOnePart A.parts B.parts C.parts D.parts }
-    ensures totals { IfOk result (λ totals.
-        totals.items ≡ totals_of books share.first share.second share.third share.fourth) }
-    ensures within { IfOk result (λ totals. AreWithin books totals.items) }
-{
-    let mut shares = Vec::new(rt.alloc());
-    if shares.push(share).is_err() {
-        return Err(AllocError);
+    fn work<T: Till + Send + Drop>(&mut self, rt: &R, tills: &mut Vec<T>) {
+        let Some(till) = tills.pop() else {
+            return;
+        };
+        let packages = Folder::new(rt.alloc(), rt, self.place.packages.as_str());
+        let site = Site {
+            packages: &packages,
+            clock: &SystemClock::new(rt),
+            watch: self.watch,
+        };
+        let mut desk = Single {
+            rt,
+            edition: self.edition,
+            till,
+        };
+        serve_listener(
+            rt,
+            self.listener,
+            self.place.seconds,
+            &mut desk,
+            &site,
+            self.place.sessions,
+        );
+        let Single { till, .. } = desk;
+        if tills.push(till).is_err() {
+            unreachable!()
+        }
     }
-    close(rt, rt.alloc(), books, shares)
 }
 
-// Serves a service over books whose ledgers have these names, and returns the totals.
-fn serve_over<
-    A: BudgetName,
-    B: BudgetName,
-    C: BudgetName,
-    D: BudgetName,
-    R: Net<Listener = TcpListener, Stream = TcpStream> + Clock + Files + Wait + AllocGlobal,
-    W: WriteWhole,
-    V: Watch,
->(
+// Serves a service at a listener, over books of its mirrors' budgets, and returns the totals.
+fn serve_sessions<R: Clock + Files + Wait + AllocGlobal, V: Watch>(
     rt: &R,
-    blanks: Blanks,
     service: Service,
     place: &Place,
-    out: &mut W,
+    listener: &TcpListener,
     watch: &V,
-) -> Result<Vec<u64>, ServerError>
-    requires first { IsNamed blanks.first A.name A.parts A.budget 1 service.mirrors 0 }
-    requires second { IsNamed blanks.second B.name B.parts B.budget 1 service.mirrors 1 }
-    requires third { IsNamed blanks.third C.name C.parts C.budget 1 service.mirrors 2 }
-    requires fourth { IsNamed blanks.fourth D.name D.parts D.budget 1 service.mirrors 3 }
-    ensures ok { IfOk result (λ totals.
-        AreTotals (stock_of service) place.now.sessions totals.items × IsReady (W.output out.old) (W.output out.new)) }
-    ensures err { IfErr result (λ error. Stops (W.output out.old) (W.output out.new) error) }
-    ensures unlogged { IfErr result IsUnlogged }
+) -> Result<Vec<u64>, AllocError>
+    ensures { IfOk result (λ totals. AreTotals (stock_of service) place.now.sessions totals.items) }
 {
     let Service { edition, mirrors } = service;
-    let alloc = rt.alloc();
-    let Ok((books, shares)) = open_books::<A, B, C, D, R>(rt, alloc, blanks, mirrors.into_vec(), 1)
-    else {
-        return Err(ServerError::Memory);
+    let mut job = Sessions {
+        edition: &edition,
+        place,
+        listener,
+        watch,
     };
-    let mut shares = shares;
-    let Some(share) = shares.pop() else {
-        unreachable!()
+    let ((), totals) = work_with_tills(rt, rt.alloc(), mirrors.into_vec(), 1, &mut job)?;
+    Ok(totals)
+}
+
+// Binds the address of a place, and prints `ready`.
+fn open_place<R: Net<Listener = TcpListener, Stream = TcpStream>, W: WriteWhole>(
+    rt: &R,
+    place: &Place,
+    out: &mut W,
+) -> Result<TcpListener, ServerError>
+    ensures ready { OnOk result (IsReady (W.output out.old) (W.output out.new)) }
+    ensures err { IfErr result (λ error. IsUnlogged error × Stops (W.output out.old) (W.output out.new) error) }
+{
+    let Ok(listener) = listen(rt, place.address.as_str()) else {
+        return Err(ServerError::Net);
     };
-    let share = match serve_by(rt, &books, share, edition, place, out, watch) {
-        Ok(share) => share,
-        Err(error) => return Err(error_of(error)),
-    };
-    match close_alone(rt, books, share) {
-        Ok(totals) => Ok(totals),
-        Err(_) => Err(ServerError::Memory),
+    match print_ready(out) {
+        Ok(()) => Ok(listener),
+        Err(_) => Err(ServerError::Write),
     }
 }
 
@@ -196,16 +137,10 @@ fn serve_watched<
     ensures serves { Serves (stock_of service) place.now.sessions (W.output out.old) (W.output out.new) result }
     ensures unlogged { IfErr result IsUnlogged }
 {
-    let Ok(names) = names_of(rt.alloc(), service.mirrors.as_slice()) else {
-        return Err(ServerError::Memory);
-    };
-    let blanks = Blanks::new(1);
-    let totals = serve_over::<Brand, Brand, Brand, Brand, R, W, V>(
-        rt, blanks, service, place, out, watch,
-    )?;
-    let Ok(text) = totals_string(rt.alloc(), names.as_slice(), &totals) else {
-        return Err(ServerError::Memory);
-    };
+    let names = names_of(rt.alloc(), service.mirrors.as_slice())?;
+    let listener = open_place(rt, place, out)?;
+    let totals = serve_sessions(rt, service, place, &listener, watch)?;
+    let text = totals_string(rt.alloc(), names.as_slice(), &totals)?;
     match out.write_whole(text.as_str().as_bytes()) {
         Ok(()) => Ok(()),
         Err(_) => Err(ServerError::Write),
@@ -230,10 +165,10 @@ fn serve_logged<
 // rule: Run of a server
 /// Serves a service's update checks and its packages, and prints the mirrors' totals at the end.
 ///
-/// Opens the log, if there is to be one, and books of the mirrors' budgets, binds the address, prints `ready`,
+/// Opens the log, if there is to be one, binds the address, prints `ready`, opens books of the mirrors' budgets,
 /// serves connections one after the other until there were so many, and then prints a line for each mirror: its
 /// name and how many bytes it was granted. Fails, in this order, with the log, memory, the address, the output.
-/// If memory runs out after the last session, no total is printed.
+/// Memory may also run out after `ready`; then no total is printed.
 ///
 /// The log gets a line for each reply, as `access_logs` has it. A line that can't be written is lost, and holds
 /// up no reply.

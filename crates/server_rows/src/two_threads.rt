@@ -1,124 +1,59 @@
 // Two threads that ask at once, each by a till of its own.
 
-ghost use Rattle.std.specs.Prelude.{◌≡◌, ◌≤◌, ◌<◌, true, vec_len, IfOk};
-ghost use Rattle.mirror_ledger.specs.Named.{are_bounded, IsNamed};
-
 use crate::lines::are_bounded;
 use fixtures::mirrors_of;
-use mirror_ledger::{Blanks, Books, BudgetName, Hand, Shares, Till, close, open_books};
-use records::Mirror;
-use std::alloc::{AllocError, Global};
-use std::marker::Brand;
+use mirror_ledger::{Till, Work, work_with_tills};
+use std::alloc::Global;
 use std::sync::Wait;
 use std::test::Fail;
-use std::thread;
-use std::thread::Threads;
+use std::thread::{Threads, join};
 
-// How many of a worker's calls were granted, and its shares.
+// Two workers that ask so many times for a byte.
 #[derive(Drop)]
-struct Asked<A: BudgetName, B: BudgetName, C: BudgetName, D: BudgetName> {
-    granted: u64,
-    shares: Shares<A, B, C, D>,
+struct Asking {
+    times: u32,
 }
 
-// How many of these asks for a byte a till grants.
-fn ask_bytes<T: Till, R: Wait>(rt: &R, till: &mut T, times: u32) -> u64 {
-    let mut granted: u64 = 0;
+// A till, and how many of its asks were granted.
+#[derive(Drop)]
+struct Asked<T> {
+    till: T,
+    granted: u64,
+}
+
+fn ask_in_turn<T: Till, R: Wait>(rt: &R, till: T, times: u32) -> Asked<T> {
+    let mut asked = Asked { till, granted: 0 };
     for _ask in 0..times {
-        if till.grant_first(rt, 1).is_some() {
-            granted = granted.saturating_add(1);
+        if asked.till.grant_first(rt, 1).is_some() {
+            asked.granted = asked.granted.saturating_add(1);
         }
     }
-    granted
+    asked
 }
 
-fn ask_in_turn<A: BudgetName, B: BudgetName, C: BudgetName, D: BudgetName, R: Wait>(
-    rt: &R,
-    books: &Books<A, B, C, D>,
-    shares: Shares<A, B, C, D>,
-    times: u32,
-) -> Asked<A, B, C, D> {
-    let mut till = Hand::new(books, shares);
-    let granted = ask_bytes(rt, &mut till, times);
-    Asked {
-        granted,
-        shares: till.end(),
+impl<R: Threads + Wait + Sync> Work<R> for Asking {
+    type End = u64;
+
+    ghost comes_to = { λ _ _ _ _ _. Unit {0} };
+
+    fn work<T: Till + Send + Drop>(&mut self, rt: &R, tills: &mut Vec<T>) -> u64 {
+        if tills.len() != 2 {
+            return 0;
+        }
+        let (Some(two), Some(one)) = (tills.pop(), tills.pop()) else {
+            unreachable!()
+        };
+        let times = self.times;
+        let (one, two) = join(
+            rt,
+            move || ask_in_turn(rt, one, times),
+            move || ask_in_turn(rt, two, times),
+        );
+        if tills.push(one.till).is_err() || tills.push(two.till).is_err() {
+            unreachable!()
+        }
+        one.granted.saturating_add(two.granted)
     }
-}
-
-fn ask_at_once<
-    A: BudgetName + Send + Sync,
-    B: BudgetName + Send + Sync,
-    C: BudgetName + Send + Sync,
-    D: BudgetName + Send + Sync,
-    R: Threads + Wait + Sync,
->(
-    rt: &R,
-    books: &Books<A, B, C, D>,
-    one: Shares<A, B, C, D>,
-    two: Shares<A, B, C, D>,
-    times: u32,
-) -> Result<(Asked<A, B, C, D>, Asked<A, B, C, D>), AllocError> {
-    thread::scope(thread::scope_env(), rt, |scope| -> Result<_, AllocError> {
-        let one = scope.spawn(move || ask_in_turn(rt, books, one, times))?;
-        let two = scope.spawn(move || ask_in_turn(rt, books, two, times))?;
-        Ok((one.join(rt), two.join(rt)))
-    })
-}
-
-// How many calls of two workers were granted, and their shares.
-fn ask_both<
-    A: BudgetName + Send + Sync,
-    B: BudgetName + Send + Sync,
-    C: BudgetName + Send + Sync,
-    D: BudgetName + Send + Sync,
-    R: Threads + Wait + Sync,
->(
-    rt: &R,
-    books: &Books<A, B, C, D>,
-    shares: &mut Vec<Shares<A, B, C, D>>,
-    times: u32,
-) -> Result<u64, AllocError>
-    requires { vec_len shares.old ≡ 2 }
-    ensures { IfOk result (λ _. vec_len shares.new ≡ 2) }
-{
-    let (Some(two), Some(one)) = (shares.pop(), shares.pop()) else {
-        unreachable!()
-    };
-    let (one, two) = ask_at_once(rt, books, one, two, times)?;
-    let granted = one.granted.saturating_add(two.granted);
-    shares.push(one.shares)?;
-    shares.push(two.shares)?;
-    Ok(granted)
-}
-
-// How many calls were granted, and the totals.
-fn run_twice<
-    A: BudgetName + Send + Sync,
-    B: BudgetName + Send + Sync,
-    C: BudgetName + Send + Sync,
-    D: BudgetName + Send + Sync,
-    R: Threads + Wait + Sync,
->(
-    rt: &R,
-    alloc: Global,
-    blanks: Blanks,
-    mirrors: Vec<Mirror>,
-    times: u32,
-) -> Result<(u64, Vec<u64>), AllocError>
-    requires some { 0 < vec_len mirrors }
-    requires few { vec_len mirrors ≤ 4 }
-    requires bounded { are_bounded mirrors.items ≡ true }
-    requires first { IsNamed blanks.first A.name A.parts A.budget 2 mirrors.items 0 }
-    requires second { IsNamed blanks.second B.name B.parts B.budget 2 mirrors.items 1 }
-    requires third { IsNamed blanks.third C.name C.parts C.budget 2 mirrors.items 2 }
-    requires fourth { IsNamed blanks.fourth D.name D.parts D.budget 2 mirrors.items 3 }
-{
-    let (books, shares) = open_books::<A, B, C, D, R>(rt, alloc, blanks, mirrors, 2)?;
-    let mut shares = shares;
-    let granted = ask_both(rt, &books, &mut shares, times)?;
-    let totals = close(rt, alloc, books, shares)?;
-    Ok((granted, totals))
 }
 
 // How many calls of two threads were granted, and the totals.
@@ -132,8 +67,7 @@ fn asked_twice<R: Threads + Wait + Sync>(
     if mirrors.is_empty() || mirrors.len() > 4 || !are_bounded(&mirrors) {
         return None;
     }
-    let blanks = Blanks::new(2);
-    run_twice::<Brand, Brand, Brand, Brand, R>(rt, alloc, blanks, mirrors, times).ok()
+    work_with_tills(rt, alloc, mirrors, 2, &mut Asking { times }).ok()
 }
 
 // rule: Budget of a mirror

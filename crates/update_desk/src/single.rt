@@ -14,14 +14,16 @@ use values::ReadError;
 /// It replies to the messages to `/service/update2/json`: 200 and the reply to a request, 400 and no
 /// body if the body is none. It is off only if memory runs out; what was granted before stays so.
 #[derive(Drop)]
-pub struct Single<T: Till> {
+pub struct Single<'a, R: Wait + AllocGlobal, T: Till> {
+    /// What waits for locks and has the memory of replies.
+    pub rt: &'a R,
     /// The edition.
-    pub edition: Edition,
+    pub edition: &'a Edition,
     /// What grants the bytes of update checks.
     pub till: T,
 }
 
-impl<T: Till, R: Wait + AllocGlobal> Desk<R> for Single<T> {
+impl<R: Wait + AllocGlobal, T: Till> Desk for Single<'_, R, T> {
     ghost use Rattle.std.specs.Prelude.{◌≡◌};
     ghost use Rattle.editions.specs.Editions.{content_of};
     ghost use Rattle.update_desk.specs.Asking.{GrantsFirst};
@@ -32,9 +34,9 @@ impl<T: Till, R: Wait + AllocGlobal> Desk<R> for Single<T> {
     ghost content_type = { λ _. codes "application/json" };
 
     ghost steps = { λ old call new.
-        (new.edition ≡ old.edition)
+        (new.edition.now ≡ old.edition.now)
         × (T.mirrors new.till ≡ T.mirrors old.till)
-        × IsCall (record { content = content_of old.edition; mirrors = T.mirrors old.till })
+        × IsCall (record { content = content_of old.edition.now; mirrors = T.mirrors old.till })
         (T.asks old.till) call (T.asks new.till)
         × (T.alone old.till
         → T.alone new.till × GrantsFirst (T.mirrors old.till) (T.asks old.till) (T.asks new.till)) };
@@ -47,15 +49,15 @@ impl<T: Till, R: Wait + AllocGlobal> Desk<R> for Single<T> {
         "application/json"
     }
 
-    fn answer(&mut self, rt: &R, body: &[u8], moment: u64) -> Result<Answer, Off> {
-        match answer(rt, rt.alloc(), &self.edition, &mut self.till, moment, body) {
+    fn answer(&mut self, body: &[u8], moment: u64) -> Result<Answer, Off> {
+        match answer(self.rt, self.rt.alloc(), self.edition, &mut self.till, moment, body) {
             Ok(reply) => Ok(Answer {
                 status: DeskStatus::Success,
                 body: reply,
             }),
             Err(ReadError::Fault(_)) => Ok(Answer {
                 status: DeskStatus::BadRequest,
-                body: Vec::new(rt.alloc()),
+                body: Vec::new(self.rt.alloc()),
             }),
             Err(ReadError::Memory) => Err(Off::Memory),
         }

@@ -5,5 +5,5 @@ use Rattle.http_connections.proofs.serving.serve_connections.Goals as goal
 pub loop-preserved : goal.loop-preserved
 loop-preserved g c =
     let (visits, count, so_far, failed) = c.loop.invariant in
-    one_more (IsSession g.D.Desk.path g.D.Desk.content_type g.D.Desk.steps (g.C.Clock.tells c.args.clock.now) (g.P.Packages.sizes c.args.packages.now) (g.P.Packages.reads c.args.packages.now))
+    one_more (IsSession g.D.Desk.path g.D.Desk.content_type g.D.Desk.steps (g.Z.Clock.tells c.args.site.now) (g.Z.Packages.sizes c.args.site.now) (g.Z.Packages.reads c.args.site.now))
     _ _ _ visits _ _ _ _ count so_far failed c.serve_next.ensures

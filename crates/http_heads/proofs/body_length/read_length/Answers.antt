@@ -1,4 +1,5 @@
 use Rattle.std.proofs.Common.{◌≡◌, get_or, ◌&&◌, arith, sym, ◌∙◌}
+use Rattle.std.proofs.lemmas.Grind.{common_steps}
 use Rattle.std.specs.Char.{is_ascii_digit, digit_value}
 use Rattle.std.proofs.lemmas.Bool.Decides.{nat_tests}
 use Rattle.std.proofs.lemmas.List.Folds.{list_all_more}
@@ -15,3 +16,6 @@ loop-byte-preserved c =
       c.min-number.ensures
           ∙ min-digits value at c.loop-byte.number c.from.result c.loop-byte-test.true digit c.loop-byte.invariant.1,
     )
+
+pub returns : goal.returns
+returns c = grind (arith, common_steps)

@@ -4,5 +4,5 @@ use Rattle.http_sessions.proofs.laws.alike.Goals as goal
 
 pub returns : goal.returns
 returns g c =
-    alike (IsUse (g.D.Desk.path c.args.desk.now) (g.C.Clock.tells c.args.clock.now) (g.P.Packages.sizes c.args.packages.now) (g.P.Packages.reads c.args.packages.now))
+    alike (IsUse (g.D.Desk.path c.args.desk.now) (g.Z.Clock.tells c.args.site.now) (g.Z.Packages.sizes c.args.site.now) (g.Z.Packages.reads c.args.site.now))
     g.D.Desk.steps (g.D.Desk.content_type c.args.desk.now)

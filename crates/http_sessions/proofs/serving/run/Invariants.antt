@@ -6,7 +6,7 @@ use Rattle.http_sessions.proofs.serving.run.Given as goal
 
 abbrev pub invariant-turns : goal.invariant-turns
 invariant-turns g l =
-    Serves (IsUse (g.D.Desk.path l.fn.desk) (g.C.Clock.tells l.clock) (g.P.Packages.sizes l.packages) (g.P.Packages.reads l.packages))
+    Serves (IsUse (g.D.Desk.path l.fn.desk) (g.Z.Clock.tells l.site) (g.Z.Packages.sizes l.site) (g.Z.Packages.reads l.site))
     g.D.Desk.steps (g.D.Desk.content_type l.fn.desk) (replies l.initial.session)
     (GoesOnWith (replies l.initial.session) (waiting l.session) (replies l.session)) true (waiting l.initial.session)
     (g.S.Source.remaining l.fn.source) (g.S.Source.remaining l.source) (g.W.Sink.contents l.fn.sink) (g.W.Sink.contents l.sink) l.fn.desk l.desk

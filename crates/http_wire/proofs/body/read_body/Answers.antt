@@ -1,4 +1,4 @@
-use Rattle.std.proofs.Common.{◌≡◌, ◌-◌, ◌++◌, ℕ, List, length, take, drop, sym, ap, ◌∙◌, arith}
+use Rattle.std.proofs.Common.{◌≡◌, ◌-◌, ◌++◌, ℕ, List, length, take, drop, sym, ap, ◌∙◌, arith, rules}
 use Rattle.std.proofs.lemmas.List.{length-drop, take_all}
 use borrow.Rule.Slice.PartMut.{post_of, same_len_mid}
 use Rattle.http_wire.proofs.BytesLemmas.{body-more, take-filled}
@@ -28,3 +28,6 @@ loop-filled-preserved g c =
       λ short. none,
       omega (arith, c.in-Ok.ensures.failed, same),
     )
+
+pub returns-in-Ok-eq0-clause-found : goal.returns-in-Ok-eq0-clause-found
+returns-in-Ok-eq0-clause-found g c = search rules

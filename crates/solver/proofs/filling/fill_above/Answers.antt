@@ -1,4 +1,4 @@
-use Rattle.std.proofs.Common.{length, ap, arith}
+use Rattle.std.proofs.Common.{length, ap, arith, rules}
 use Rattle.price_cert.specs.Laws.{IsGraph}
 use Rattle.solver.proofs.FillLemmas.{AreSettled-above, IsBest-lower}
 use Rattle.solver.proofs.SettledLemmas.{ArePricesSmall-within}
@@ -28,3 +28,6 @@ loop-from-preserved c =
       settled = AreSettled-above c.nearer.ensures.edges c.nearer.ensures.fulls c.sized.ensures net graph c.loop-from.rows c.loop-from.from c.best_row.result (omega arith) (omega arith) c.loop-from.invariant.settled c.best_row.ensures;
       best = c.best_above-best.ensures;
     }
+
+pub returns : goal.returns
+returns c = search rules

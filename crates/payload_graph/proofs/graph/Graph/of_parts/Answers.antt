@@ -1,4 +1,4 @@
-use Rattle.std.proofs.Common.{◌≡◌, true, subst, length, ap, sym, ◌∙◌, arith}
+use Rattle.std.proofs.Common.{◌≡◌, true, subst, length, ap, sym, ◌∙◌, arith, rules}
 use Rattle.std.proofs.lemmas.List.Elements.{All-filter}
 use Rattle.std.proofs.lemmas.List.Kept.{IsNonDecreasingBy-filter}
 use Rattle.records.specs.Forms.{is_size}
@@ -50,3 +50,6 @@ invariant_of-result c =
             (All-filter (is_reached c.args.target c.as_slice-2.result.now) (λ (edge : Edge). is_size edge.bytes ≡ true) c.args.resolved.now c.requires.resolved.sized);
       };
     }
+
+pub returns : goal.returns
+returns c = search rules

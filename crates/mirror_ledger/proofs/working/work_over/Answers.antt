@@ -1,0 +1,28 @@
+use Rattle.std.proofs.Common.{arith, inr, map}
+use Rattle.mirror_ledger.proofs.TillLemmas.{AreTotalsOf-parts, OnErr-any, length-asks}
+use Rattle.mirror_ledger.proofs.working.work_over.Goals as goal
+
+pub returns-in_err-totals-clause-err : goal.returns-in_err-totals-clause-err
+returns-in_err-totals-clause-err g c =
+    let worked = c.work-end.ensures.works c.args.mirrors.items (c.in_ok-tills.ensures.opened c.args.mirrors.items c.in_ok-books.ensures.given) in
+    OnErr-any c.from_residual-in_err-totals.result (inr (map (λ t. t.shares.asks) c.work-end.new.tills.items, c.work-end.result, worked))
+
+pub returns-clause-ok : goal.returns-clause-ok
+returns-clause-ok g c =
+    let worked = c.work-end.ensures.works c.args.mirrors.items (c.in_ok-tills.ensures.opened c.args.mirrors.items c.in_ok-books.ensures.given) in
+    let parts = c.gather_tills-parts.result in
+    let gathered = c.gather_tills-parts.ensures in (
+      map (λ t. t.shares.asks) c.work-end.new.tills.items,
+      omega (
+        arith,
+        length-asks (λ t. t.shares.asks) c.work-end.new.tills.items,
+        c.work-end.new.tills.ok.0,
+        c.work-end.ensures.many,
+        c.in_ok-tills.ensures.many,
+        c.in_ok-books.ensures.workers,
+      ),
+      worked,
+      AreTotalsOf-parts _ c.args.mirrors.items (map (λ t. t.shares.asks) c.work-end.new.tills.items) c.in_ok-totals.totals.items
+          parts.first.amount parts.second.amount parts.third.amount parts.fourth.amount c.in_ok-books.ensures.given
+          c.in_ok-totals.ensures.totals gathered.first.1 gathered.second.1 gathered.third.1 gathered.fourth.1 c.in_ok-totals.ensures.within,
+    )
