@@ -80,42 +80,37 @@ pub(crate) fn request(alloc: Global, apps: &str, session: &str) -> Option<Reques
     read_request(alloc, body.as_str().as_bytes()).ok()
 }
 
-/// Whether a reply says so of its apps, and of its day.
-pub(crate) fn is_reply(reply: &[u8], apps: &str, day: &str) -> Option<bool> {
+// What a reply has between a front and a back.
+fn part_of(alloc: Global, reply: &[u8], front: &str, back: &str) -> Option<String> {
     let body = str::from_utf8(reply).ok()?;
-    let rest = body.strip_prefix(")]}'\n{\"response\":{\"app\":[")?;
-    let rest = rest.strip_prefix(apps)?;
-    let rest = rest.strip_prefix("],\"daystart\":{")?;
-    Some(rest.strip_suffix("},\"protocol\":\"3.1\"}}")? == day)
+    let part = body.strip_prefix(front)?.strip_suffix(back)?;
+    String::from_str(alloc, part).ok()
 }
 
-/// Whether an edition replies as its row says: the apps of the reply, a bar, the apps of the request.
-pub(crate) fn gets_reply(
+const FRONT: &str = ")]}'\n{\"response\":{\"app\":[";
+
+const BACK: &str =
+    "],\"daystart\":{\"elapsed_days\":0,\"elapsed_seconds\":0},\"protocol\":\"3.1\"}}";
+
+/// The apps of the reply to a request for apps at the time 0.
+pub(crate) fn print_reply(
     alloc: Global,
     edition: &Edition,
+    apps: &str,
     is_granted: bool,
-    row: &str,
-) -> Option<bool> {
-    let (wanted, asked) = row.split_once(" | ")?;
-    let body = body_of(alloc, asked, "abc").ok()?;
+) -> Option<String> {
+    let body = body_of(alloc, apps, "abc").ok()?;
     let reply = reply_to(alloc, edition, body.as_str().as_bytes(), is_granted, 0)?;
-    is_reply(&reply, wanted, "\"elapsed_days\":0,\"elapsed_seconds\":0")
+    part_of(alloc, &reply, FRONT, BACK)
 }
 
-/// The first row that an edition doesn't reply to as the row says; `""` if there is none.
-pub(crate) fn wrong_reply(
-    alloc: Global,
-    edition: Option<&Edition>,
-    is_granted: bool,
-    rows: &'static str,
-) -> &'static str {
-    let Some(edition) = edition else {
-        return "no edition";
-    };
-    for row in rows.lines() {
-        if gets_reply(alloc, edition, is_granted, row) != Some(true) {
-            return row;
-        }
-    }
-    ""
+const NO_APPS: &str = r#"{"request":{"app":[],"protocol":"3.1","sessionid":"abc"}}"#;
+
+const DATED: &str = ")]}'\n{\"response\":{\"app\":[],\"daystart\":{";
+
+/// The day of the reply to a request without apps at a time.
+pub(crate) fn print_day(alloc: Global, edition: &Edition, time: &str) -> Option<String> {
+    let time = time.parse().ok()?;
+    let reply = reply_to(alloc, edition, NO_APPS.as_bytes(), true, time)?;
+    part_of(alloc, &reply, DATED, "},\"protocol\":\"3.1\"}}")
 }

@@ -1,32 +1,19 @@
-use crate::asking::{is_reply, reply_to, request, wrong_reply};
+use crate::asking::reply_to;
 use crate::batches::{MINI, small};
-use editions::Edition;
+use crate::rows::{Kind, check_rows};
 use fixtures::edition_of;
-use payload_graph::Payload;
-use replies::{Choice, plan};
 use std::alloc::Global;
 
-// A row is a time, and what the reply says of its day.
-const DATES: &str = r#"0 "elapsed_days":0,"elapsed_seconds":0
-1167609599 "elapsed_days":0,"elapsed_seconds":86399
-1167609600 "elapsed_days":0,"elapsed_seconds":0
-1767229261 "elapsed_days":6940,"elapsed_seconds":3661"#;
-
-// Whether the reply to a request without apps is dated as its row says.
-fn is_dated(alloc: Global, row: &str) -> Option<bool> {
-    let (moment, day) = row.split_once(' ')?;
-    let moment = moment.parse().ok()?;
-    let asked = br#"{"request":{"app":[],"protocol":"3.1","sessionid":"abc"}}"#;
-    let reply = reply_to(alloc, edition_of(alloc, MINI)?, asked, true, moment)?;
-    is_reply(&reply, "", day)
-}
+// A row is what a reply says of its day, and the time.
+const DATES: &str = r#""elapsed_days":0,"elapsed_seconds":0 | 0
+"elapsed_days":0,"elapsed_seconds":86399 | 1167609599
+"elapsed_days":0,"elapsed_seconds":0 | 1167609600
+"elapsed_days":6940,"elapsed_seconds":3661 | 1767229261"#;
 
 // rule: Elapsed days and seconds
 #[test]
 fn reports_days_and_seconds(rt: HostRuntime) {
-    for row in DATES.lines() {
-        assert!(rt; is_dated(rt.alloc(), row) == Some(true), "{row}");
-    }
+    check_rows(&rt, Kind::Day, edition_of(rt.alloc(), MINI), DATES);
 }
 
 const STORED: &str =
@@ -62,8 +49,7 @@ const NO_UPDATE: &str =
 // rule: Status of an update check
 #[test]
 fn offers_nothing_without_a_chain(rt: HostRuntime) {
-    let wrong = wrong_reply(rt.alloc(), small(rt.alloc()), true, NO_UPDATE);
-    assert!(rt; wrong.is_empty(), "{wrong}");
+    check_rows(&rt, Kind::Reply, small(rt.alloc()), NO_UPDATE);
 }
 
 const IN_ORDER: &str =
@@ -72,8 +58,7 @@ const IN_ORDER: &str =
 // rule: Reply
 #[test]
 fn replies_to_apps_in_order_as_they_are_spelled(rt: HostRuntime) {
-    let wrong = wrong_reply(rt.alloc(), small(rt.alloc()), true, IN_ORDER);
-    assert!(rt; wrong.is_empty(), "{wrong}");
+    check_rows(&rt, Kind::Reply, small(rt.alloc()), IN_ORDER);
 }
 
 const NOT_GRANTED: &str =
@@ -83,55 +68,15 @@ const NOT_GRANTED: &str =
 // rule: Status of an update check
 #[test]
 fn reports_an_update_without_a_mirror_as_internal(rt: HostRuntime) {
-    let wrong = wrong_reply(rt.alloc(), small(rt.alloc()), false, NOT_GRANTED);
-    assert!(rt; wrong.is_empty(), "{wrong}");
+    check_rows(&rt, Kind::Busy, small(rt.alloc()), NOT_GRANTED);
 }
 
-// Whether a choice is as `full 1 for 56` or `differential 0 for 300`, or `none`.
-fn is_choice(choice: Option<Choice>, wanted: &str) -> Option<bool> {
-    let Some(choice) = choice else {
-        return Some(wanted == "none");
-    };
-    let (kind, index) = match choice.payload {
-        Payload::Full(release) => ("full ", release),
-        Payload::Differ(index) => ("differential ", index),
-    };
-    let (number, bytes) = wanted.strip_prefix(kind)?.split_once(" for ")?;
-    Some(number.parse() == Ok(index) && bytes.parse() == Ok(choice.bytes))
-}
-
-// Whether these are the choices, with a comma and a space after each.
-fn are_choices(choices: &[Option<Choice>], wanted: &str) -> bool {
-    for (choice, word) in choices.iter().zip(wanted.split(", ")) {
-        if is_choice(*choice, word) != Some(true) {
-            return false;
-        }
-    }
-    wanted.split(", ").count() == choices.len().saturating_add(1)
-}
-
-/// Whether an edition chooses so for the apps of a request of session `abc`.
-pub(crate) fn is_planned(
-    alloc: Global,
-    edition: &Edition,
-    apps: &str,
-    wanted: &str,
-) -> Option<bool> {
-    let request = request(alloc, apps, "abc")?;
-    let plan = plan(alloc, edition, &request).ok()?;
-    Some(are_choices(plan.choices.as_slice(), wanted))
-}
-
-fn plans(alloc: Global, apps: &str, wanted: &str) -> Option<bool> {
-    is_planned(alloc, small(alloc)?, apps, wanted)
-}
+const PLANS: &str =
+    r#"full 1 for 56, none, full 1 for 56 | {"appid":"mini","updatecheck":{}},{"appid":"nope","updatecheck":{}},{"appid":"MINI","updatecheck":{},"version":"x"}"#;
 
 // rule: Client of an app
 // rule: Requested bytes
 #[test]
 fn plans_a_payload_for_each_app_that_wants_one(rt: HostRuntime) {
-    let apps =
-        r#"{"appid":"mini","updatecheck":{}},{"appid":"nope","updatecheck":{}},{"appid":"MINI","updatecheck":{},"version":"x"}"#;
-    let wanted = "full 1 for 56, none, full 1 for 56, ";
-    assert!(rt; plans(rt.alloc(), apps, wanted) == Some(true));
+    check_rows(&rt, Kind::Plan, small(rt.alloc()), PLANS);
 }

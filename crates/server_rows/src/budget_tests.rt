@@ -1,7 +1,8 @@
 use crate::connection::Received;
 use crate::messages::message_of;
 use crate::opened::serve_sent;
-use fixtures::counts_in;
+use crate::rows::is_line;
+use fixtures::{counts_in, three_parts};
 use std::alloc::Global;
 use std::str;
 use std::sync::Wait;
@@ -19,42 +20,32 @@ const ROWS: &str = "1000000|1| 1, 0, 300
 300 600 0 900|7| 1 2 0 3, 1, 300 600 0 900
 30000 299 15000 31500|256| 100 0 50 105, 1, 30000 0 15000 31500";
 
-// Whether a reply has so many offers of each mirror and so many clients with `error-internal`.
-fn has_counts(alloc: Global, reply: &[u8], mirrors: usize, wanted: &str) -> Option<bool> {
-    let line = counts_in(alloc, str::from_utf8(reply).ok()?, mirrors).ok()?;
-    Some(line.as_str() == wanted)
+// How many offers a reply has of each mirror, how many clients get `error-internal`, and the totals.
+fn print_reply(alloc: Global, reply: &[u8], mirrors: usize, ended: &str) -> Option<String> {
+    let counts = counts_in(alloc, str::from_utf8(reply).ok()?, mirrors).ok()?;
+    let totals = ended.strip_prefix("finished")?;
+    format!(in alloc; "{counts},{totals}").ok()
 }
 
-// Whether so many clients get such offers over these budgets, and the mirrors have these totals.
-fn is_granted<R: Wait + AllocGlobal>(
-    rt: &R,
-    budgets: &str,
-    clients: &str,
-    offers: &str,
-    totals: &str,
-) -> Option<bool> {
-    let message = message_of(rt.alloc(), clients.parse().ok()?).ok()?;
+// What so many clients get over these budgets.
+fn print_offers<R: Wait + AllocGlobal>(rt: &R, budgets: &str, clients: &str) -> Option<String> {
+    let message = message_of(rt.alloc(), clients.parse().unwrap_or(0)).ok()?;
     let mut sink = Received::new(rt.alloc(), usize::MAX);
     let ended = serve_sent(rt, budgets, message.as_str().as_bytes(), &mut sink)?;
-    let mirrors = totals.split(' ').count().saturating_sub(1);
-    Some(
-        ended.as_str().strip_prefix("finished") == Some(totals)
-            && has_counts(rt.alloc(), &sink.bytes, mirrors, offers) == Some(true),
-    )
+    let mirrors = budgets.split(' ').count();
+    print_reply(rt.alloc(), &sink.bytes, mirrors, ended.as_str())
 }
 
 // Whether the clients of a row get what it says.
-fn is_offered<R: Wait + AllocGlobal>(rt: &R, row: &str) -> Option<bool> {
-    let (budgets, others) = row.split_once('|')?;
-    let (clients, wanted) = others.split_once('|')?;
-    let (offers, totals) = wanted.rsplit_once(',')?;
-    is_granted(rt, budgets, clients, offers, totals)
+fn is_offered<R: Wait + AllocGlobal>(rt: &R, row: &str) -> bool {
+    let (budgets, clients, wanted) = three_parts(row, "|");
+    is_line(print_offers(rt, budgets, clients), wanted)
 }
 
 // rule: Asks of a plan
 #[test]
 fn offers_what_the_mirrors_grant(rt: HostRuntime) {
     for row in ROWS.lines() {
-        assert!(rt; is_offered(&rt, row) == Some(true), "{row}");
+        assert!(rt; is_offered(&rt, row), "{row}");
     }
 }

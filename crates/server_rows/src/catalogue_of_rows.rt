@@ -37,7 +37,7 @@ fn push_findings(line: &mut String, findings: &[Finding]) -> Result<(), AllocErr
     Ok(())
 }
 
-fn print_findings<P: Packages>(
+fn print_found<P: Packages>(
     alloc: Global,
     catalogue: &Catalogue,
     packages: &P,
@@ -48,9 +48,8 @@ fn print_findings<P: Packages>(
     Ok(line)
 }
 
-/// Whether these are the findings of the catalogue's packages, a `;` after each.
-pub(crate) fn are_found<P: Packages>(alloc: Global, packages: &P, wanted: &str) -> Option<bool> {
+/// The findings of the catalogue's packages, a `;` after each.
+pub(crate) fn print_findings<P: Packages>(alloc: Global, packages: &P) -> Option<String> {
     let catalogue = catalogue_of_profile(alloc, PROFILE)?;
-    let line = print_findings(alloc, catalogue, packages).ok()?;
-    Some(line.as_str() == wanted)
+    print_found(alloc, catalogue, packages).ok()
 }

@@ -1,3 +1,5 @@
+use crate::batches::small;
+use crate::rows::{Kind, check_rows};
 use cohorts::CohortText;
 use std::alloc::Global;
 
@@ -29,22 +31,10 @@ stable_:5 = none
 stable:5:5 = none
 1:2hf: = none";
 
-// Whether a string is read as its row says: as a name and a bucket, or not.
-fn is_read(row: &str) -> Option<bool> {
-    let (string, wanted) = row.split_once(" = ")?;
-    let Some((name, bucket)) = CohortText::parse(string) else {
-        return Some(wanted == "none");
-    };
-    let (first, second) = wanted.split_once(' ')?;
-    Some(name == first && second.parse() == Ok(bucket))
-}
-
 // rule: Cohort text
 #[test]
 fn reads_well_formed_cohort_texts(rt: HostRuntime) {
-    for row in READ.lines() {
-        assert!(rt; is_read(row) == Some(true), "{row}");
-    }
+    check_rows(&rt, Kind::Cohort, small(rt.alloc()), READ);
 }
 
 // Whether a name and a bucket are printed so.
@@ -55,10 +45,15 @@ fn is_printed(alloc: Global, name: &str, bucket: u16, wanted: &str) -> bool {
     }
 }
 
+// Whether names and buckets are printed as they are given.
+fn are_printed(alloc: Global) -> bool {
+    is_printed(alloc, "stable", 319, "stable:319")
+        && is_printed(alloc, "beta", 0, "beta:0")
+        && is_printed(alloc, "Not a name", 65535, "Not a name:65535")
+        && is_printed(alloc, "", 1000, ":1000")
+}
+
 #[test]
 fn prints_what_it_is_given(rt: HostRuntime) {
-    assert!(rt; is_printed(rt.alloc(), "stable", 319, "stable:319"));
-    assert!(rt; is_printed(rt.alloc(), "beta", 0, "beta:0"));
-    assert!(rt; is_printed(rt.alloc(), "Not a name", 65535, "Not a name:65535"));
-    assert!(rt; is_printed(rt.alloc(), "", 1000, ":1000"));
+    assert!(rt; are_printed(rt.alloc()));
 }

@@ -1,7 +1,8 @@
-use crate::catalogue_of_rows::are_found;
+use crate::catalogue_of_rows::print_findings;
+use crate::descriptions::print_described;
+use crate::rows::is_line;
 use fixtures::{make_folder, write_file};
 use http_devices::Folder;
-use package_files::describe;
 use std::{fs, io};
 
 // A row is a file's name, its letter and how many of it there are.
@@ -23,31 +24,21 @@ fn fill(rt: &HostRuntime, path: &str) -> io::Result<()> {
 const FOUND: &str = "a-2.bin: sha256 differs;a-1-2.bin: size 4, declared 3;b-1.bin: missing;";
 
 const DESCRIBED: &str =
-    "name = \"a-3.bin\"\nsize = 65537\nsha256 = \"008ffc88d3c96a9f307524eb361e47c5222a887fc45fa0c1fb8d429c5c23b430\"\n";
+    "name = \"a-3.bin\"~size = 65537~sha256 = \"008ffc88d3c96a9f307524eb361e47c5222a887fc45fa0c1fb8d429c5c23b430\"~";
 
-// Whether a file of a folder is described so.
-fn is_described(rt: &HostRuntime, path: &str, name: &str, wanted: &str) -> bool {
+// Whether the files of a folder are found and described as they should be.
+fn is_found(rt: &HostRuntime, path: &str) -> bool {
     let folder = Folder::new(rt.alloc(), rt, path);
-    match describe(rt.alloc(), &folder, name) {
-        Ok(lines) => lines.as_str() == wanted,
-        Err(_) => false,
-    }
+    is_line(print_findings(rt.alloc(), &folder), FOUND)
+        && is_line(print_described(rt.alloc(), &folder, "a-3.bin"), DESCRIBED)
 }
 
-// Whether these are the findings of a folder.
-fn is_found(rt: &HostRuntime, path: &str, wanted: &str) -> bool {
-    let folder = Folder::new(rt.alloc(), rt, path);
-    are_found(rt.alloc(), &folder, wanted) == Some(true)
-}
-
-// Whether the files of a new folder are found and described as they should be.
+// Whether it is so with a new folder.
 fn is_compared(rt: &HostRuntime) -> Option<bool> {
     let path = make_folder(rt, "server_rows")?;
-    let is_full = fill(rt, path.as_str()).is_ok();
-    let found = is_found(rt, path.as_str(), FOUND);
-    let described = is_described(rt, path.as_str(), "a-3.bin", DESCRIBED);
+    let is_right = fill(rt, path.as_str()).is_ok() && is_found(rt, path.as_str());
     fs::remove_dir_all(rt, path.as_str()).ok()?;
-    Some(is_full && found && described)
+    Some(is_right)
 }
 
 #[test]

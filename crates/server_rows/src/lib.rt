@@ -23,6 +23,8 @@ mod cohort_texts;
 #[cfg(test)]
 mod connection;
 #[cfg(test)]
+mod descriptions;
+#[cfg(test)]
 mod folder_tests;
 #[cfg(test)]
 mod lines;
@@ -39,7 +41,11 @@ mod one_worker;
 #[cfg(test)]
 mod opened;
 #[cfg(test)]
+mod plans;
+#[cfg(test)]
 mod publishing;
+#[cfg(test)]
+mod rows;
 #[cfg(test)]
 mod shelf;
 #[cfg(test)]

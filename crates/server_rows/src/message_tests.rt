@@ -1,7 +1,9 @@
 use crate::connection::Received;
 use crate::messages::message_of;
 use crate::opened::serve_sent;
-use std::alloc::Global;
+use crate::rows::is_line;
+use fixtures::{three_parts, two_parts};
+use std::alloc::{AllocError, Global};
 use std::str;
 use std::sync::Wait;
 
@@ -11,13 +13,11 @@ const REPLY: &str = r#")]}'
 const BUSY: &str = r#")]}'
 {"response":{"app":[{"appid":"demo","cohort":"stable:0","cohortname":"stable","status":"ok","updatecheck":{"status":"error-internal"}}],"daystart":{"elapsed_days":6940,"elapsed_seconds":3661},"protocol":"3.1"}}"#;
 
-const HEAD: &str = "HTTP/1.1 200 OK\r\nContent-Type: application/json\r\nContent-Length: ";
-
-// Whether what was written is a reply with this body.
-fn is_whole(written: &[u8], wanted: &str) -> Option<bool> {
-    let (head, body) = str::from_utf8(written).ok()?.split_once("\r\n\r\n")?;
-    let length = head.strip_prefix(HEAD)?.parse().ok()?;
-    Some(body == wanted && body.len() == length)
+fn whole(alloc: Global, body: &str) -> Result<String, AllocError> {
+    let length = body.len();
+    format!(in alloc;
+        "HTTP/1.1 200 OK\r\nContent-Type: application/json\r\nContent-Length: {length}\r\n\r\n{body}"
+    )
 }
 
 // Whether a peer gets this body for the message of one client over mirrors of these budgets.
@@ -25,7 +25,8 @@ fn is_replied<R: Wait + AllocGlobal>(rt: &R, budgets: &str, wanted: &str) -> Opt
     let message = message_of(rt.alloc(), 1).ok()?;
     let mut sink = Received::new(rt.alloc(), usize::MAX);
     let _ended = serve_sent(rt, budgets, message.as_str().as_bytes(), &mut sink)?;
-    is_whole(&sink.bytes, wanted)
+    let reply = whole(rt.alloc(), wanted).ok()?;
+    Some(sink.bytes.as_slice() == reply.as_str().as_bytes())
 }
 
 // rule: Reply to an input
@@ -38,48 +39,48 @@ fn replies_with_the_offer_that_a_mirror_granted(rt: HostRuntime) {
 // A row is a message, `~` being the end of a line, how many bytes a call the peer takes, and what it gets: the
 // head, how many bytes follow, how the session ended, and the mirror's total.
 const MESSAGES: &str = "\
-GET /p/mebibyte.bin HTTP/1.1~~ | 65536 = HTTP/1.1 200 OK~Content-Type: application/octet-stream~Content-Length: 1048576~~ 983040 cut 0
-GET /p/block.bin HTTP/1.1~~ | 65536 = HTTP/1.1 200 OK~Content-Type: application/octet-stream~Content-Length: 65536~~ 0 cut 0
-GET /p/letters.bin HTTP/1.1~~ | 1 = HTTP/1.1 200 OK~Content-Type: application/octet-stream~Content-Length: 131072~~ 131072 finished 0
-GET /p/demo-2.0.bin HTTP/1.1~~ | 65536 = HTTP/1.1 200 OK~Content-Type: application/octet-stream~Content-Length: 1200~~ 0 cut 0
-GET /p/demo-3.0-4.0.bin HTTP/1.1~~ | 65536 = HTTP/1.1 200 OK~Content-Type: application/octet-stream~Content-Length: 250~~ 0 cut 0
-HEAD /p/demo-1.0-2.0.bin HTTP/1.1~~ | 65536 = HTTP/1.1 405 Method Not Allowed~Allow: GET~Content-Length: 0~~ 0 finished 0
-HEAD /p/demo-2.0-1.0.bin HTTP/1.1~~ | 65536 = HTTP/1.1 404 Not Found~Content-Length: 0~~ 0 finished 0
-GET /p/Demo-2.0.bin HTTP/1.1~~ | 65536 = HTTP/1.1 404 Not Found~Content-Length: 0~~ 0 finished 0
-GET /service/update2/json HTTP/1.1~~ | 65536 = HTTP/1.1 405 Method Not Allowed~Allow: POST~Content-Length: 0~~ 0 finished 0
-POST /service/update2/json HTTP/1.1~Content-Length: 1~~{ | 65536 = HTTP/1.1 400 Bad Request~Content-Length: 0~~ 0 finished 0
-POST /service/update2/json HTTP/1.1~Content-Length: 30~~{\"request\":{\"protocol\":\"3.0\"}} | 65536 = HTTP/1.1 400 Bad Request~Content-Length: 0~~ 0 finished 0
+GET /p/mebibyte.bin HTTP/1.1~~ | 65536 | HTTP/1.1 200 OK~Content-Type: application/octet-stream~Content-Length: 1048576~~ 983040 cut 0
+GET /p/block.bin HTTP/1.1~~ | 65536 | HTTP/1.1 200 OK~Content-Type: application/octet-stream~Content-Length: 65536~~ 0 cut 0
+GET /p/letters.bin HTTP/1.1~~ | 1 | HTTP/1.1 200 OK~Content-Type: application/octet-stream~Content-Length: 131072~~ 131072 finished 0
+GET /p/demo-2.0.bin HTTP/1.1~~ | 65536 | HTTP/1.1 200 OK~Content-Type: application/octet-stream~Content-Length: 1200~~ 0 cut 0
+GET /p/demo-3.0-4.0.bin HTTP/1.1~~ | 65536 | HTTP/1.1 200 OK~Content-Type: application/octet-stream~Content-Length: 250~~ 0 cut 0
+HEAD /p/demo-1.0-2.0.bin HTTP/1.1~~ | 65536 | HTTP/1.1 405 Method Not Allowed~Allow: GET~Content-Length: 0~~ 0 finished 0
+HEAD /p/demo-2.0-1.0.bin HTTP/1.1~~ | 65536 | HTTP/1.1 404 Not Found~Content-Length: 0~~ 0 finished 0
+GET /p/Demo-2.0.bin HTTP/1.1~~ | 65536 | HTTP/1.1 404 Not Found~Content-Length: 0~~ 0 finished 0
+GET /service/update2/json HTTP/1.1~~ | 65536 | HTTP/1.1 405 Method Not Allowed~Allow: POST~Content-Length: 0~~ 0 finished 0
+POST /service/update2/json HTTP/1.1~Content-Length: 1~~{ | 65536 | HTTP/1.1 400 Bad Request~Content-Length: 0~~ 0 finished 0
+POST /service/update2/json HTTP/1.1~Content-Length: 30~~{\"request\":{\"protocol\":\"3.0\"}} | 65536 | HTTP/1.1 400 Bad Request~Content-Length: 0~~ 0 finished 0
 ";
 
-// Whether what was written has this head, with `~` for the ends of its lines, and so many bytes after it.
-fn is_written(alloc: Global, written: &[u8], head: &str, length: &str) -> Option<bool> {
-    let (found, body) = str::from_utf8(written).ok()?.split_once("\r\n\r\n")?;
-    let found = found.replace(alloc, "\r\n", "~").ok()?;
-    Some(found.as_str() == head && length.parse() == Ok(body.len()))
+// The head of what was written, with `~` for the ends of its lines, how many bytes follow, and how the session ended.
+fn print_session(alloc: Global, written: &[u8], ended: &str) -> Option<String> {
+    let lines = str::from_utf8(written)
+        .ok()?
+        .replace(alloc, "\r\n", "~")
+        .ok()?;
+    let (head, body) = two_parts(lines.as_str(), "~~");
+    let length = body.len();
+    format!(in alloc; "{head}~~ {length} {ended}").ok()
 }
 
-// Whether a peer that takes so many bytes a call gets what a row wants for a message.
-fn is_sent<R: Wait + AllocGlobal>(rt: &R, sent: &[u8], piece: &str, wanted: &str) -> Option<bool> {
-    let (head, others) = wanted.split_once("~~ ")?;
-    let (length, end) = others.split_once(' ')?;
-    let mut sink = Received::new(rt.alloc(), piece.parse().ok()?);
-    let ended = serve_sent(rt, "1000", sent, &mut sink)?;
-    let is_right = is_written(rt.alloc(), &sink.bytes, head, length);
-    Some(ended.as_str() == end && is_right == Some(true))
+// What a peer that takes so many bytes a call gets for a message.
+fn print_sent<R: Wait + AllocGlobal>(rt: &R, message: &str, piece: &str) -> Option<String> {
+    let sent = message.replace(rt.alloc(), "~", "\r\n").ok()?;
+    let mut sink = Received::new(rt.alloc(), piece.parse().unwrap_or(1));
+    let ended = serve_sent(rt, "1000", sent.as_str().as_bytes(), &mut sink)?;
+    print_session(rt.alloc(), &sink.bytes, ended.as_str())
 }
 
 // Whether the peer of a row gets what it says.
-fn is_served<R: Wait + AllocGlobal>(rt: &R, row: &str) -> Option<bool> {
-    let (message, others) = row.split_once(" | ")?;
-    let (piece, wanted) = others.split_once(" = ")?;
-    let sent = message.replace(rt.alloc(), "~", "\r\n").ok()?;
-    is_sent(rt, sent.as_str().as_bytes(), piece, wanted)
+fn is_served<R: Wait + AllocGlobal>(rt: &R, row: &str) -> bool {
+    let (message, piece, wanted) = three_parts(row, " | ");
+    is_line(print_sent(rt, message, piece), wanted)
 }
 
 // rule: Desk of update checks
 #[test]
 fn serves_packages_and_rejects_messages(rt: HostRuntime) {
     for row in MESSAGES.lines() {
-        assert!(rt; is_served(&rt, row) == Some(true), "{row}");
+        assert!(rt; is_served(&rt, row), "{row}");
     }
 }

@@ -1,5 +1,5 @@
-use crate::asking::wrong_reply;
 use crate::batches::{IDLE, demo};
+use crate::rows::{Kind, check_rows};
 
 // Clients at 1.0, by cohort and hint.
 const OFFERS: &str =
@@ -13,8 +13,7 @@ const OFFERS: &str =
 // rule: Cohort that a reply names
 #[test]
 fn offers_the_target_of_the_track(rt: HostRuntime) {
-    let wrong = wrong_reply(rt.alloc(), demo(rt.alloc(), IDLE), true, OFFERS);
-    assert!(rt; wrong.is_empty(), "{wrong}");
+    check_rows(&rt, Kind::Reply, demo(rt.alloc(), IDLE), OFFERS);
 }
 
 const NO_TARGET: &str =
@@ -22,8 +21,7 @@ const NO_TARGET: &str =
 
 #[test]
 fn offers_nothing_without_a_target(rt: HostRuntime) {
-    let wrong = wrong_reply(rt.alloc(), demo(rt.alloc(), IDLE), true, NO_TARGET);
-    assert!(rt; wrong.is_empty(), "{wrong}");
+    check_rows(&rt, Kind::Reply, demo(rt.alloc(), IDLE), NO_TARGET);
 }
 
 const ACKNOWLEDGED: &str =
@@ -32,6 +30,5 @@ const ACKNOWLEDGED: &str =
 // rule: Bucket of a session
 #[test]
 fn names_the_bucket_of_the_session(rt: HostRuntime) {
-    let wrong = wrong_reply(rt.alloc(), demo(rt.alloc(), IDLE), true, ACKNOWLEDGED);
-    assert!(rt; wrong.is_empty(), "{wrong}");
+    check_rows(&rt, Kind::Reply, demo(rt.alloc(), IDLE), ACKNOWLEDGED);
 }

@@ -3,13 +3,14 @@
 ghost use Rattle.std.specs.Prelude.{◌≡◌, ◌≤◌, ◌<◌, true, vec_len};
 ghost use Rattle.mirror_ledger.specs.Named.{are_bounded, IsNamed};
 
-use crate::lines::{are_bounded, number_of, push_numbers};
-use fixtures::mirrors_of;
-use mirror_ledger::{Blanks, Books, BudgetName, Shares, close, open_books};
+use crate::lines::{few_mirrors, number_of, push_numbers};
+use crate::rows::is_line;
+use fixtures::three_parts;
+use mirror_ledger::{Blanks, Book, Books, BudgetName, Share, Shares, close, open_books};
 use records::Mirror;
 use std::alloc::{AllocError, Global};
 use std::marker::Brand;
-use std::sync::Wait;
+use std::sync::{Mutex, Wait};
 use values::Text;
 
 // The index of the mirror that grants each number of bytes, `-` for none.
@@ -22,23 +23,24 @@ fn push_grants<A: BudgetName, B: BudgetName, C: BudgetName, D: BudgetName, R: Wa
 ) -> Result<(), AllocError> {
     for ask in asks.split(' ') {
         match shares.grant_first(rt, books, number_of(ask)) {
-            Some(index) => push_numbers(line, &[index as u64])?,
+            Some(index) => write!(line, " {index}")?,
             None => line.push_str(" -")?,
         }
     }
     Ok(())
 }
 
-// What the first mirror says of 50 bytes more.
-fn push_fifty<A: BudgetName, B: BudgetName, C: BudgetName, D: BudgetName, R: Wait>(
+// What a mirror says of 50 bytes more.
+fn push_fifty<A: BudgetName, R: Wait>(
     rt: &R,
     line: &mut String,
-    books: &Books<A, B, C, D>,
-    shares: &mut Shares<A, B, C, D>,
+    book: &Mutex<Book<A>>,
+    share: &mut Share<A>,
 ) -> Result<(), AllocError> {
-    match books.first.lock(rt).grant(&mut shares.first, 50) {
-        Ok(()) => line.push_str(" granted"),
-        Err(refusal) => push_numbers(line, &[refusal.left]),
+    let granted = book.lock(rt).grant(share, 50);
+    match granted {
+        Ok(()) => line.push_str(", granted,"),
+        Err(refusal) => write!(line, ", {},", refusal.left),
     }
 }
 
@@ -51,9 +53,7 @@ fn push_asks<A: BudgetName, B: BudgetName, C: BudgetName, D: BudgetName, R: Wait
     asks: &str,
 ) -> Result<(), AllocError> {
     push_grants(rt, line, books, shares, asks)?;
-    line.push_str(",")?;
-    push_fifty(rt, line, books, shares)?;
-    line.push_str(",")
+    push_fifty(rt, line, &books.first, &mut shares.first)
 }
 
 // The indexes for one worker's asks, what the first mirror says of 50 bytes more, and the totals.
@@ -83,13 +83,11 @@ fn opened<A: BudgetName, B: BudgetName, C: BudgetName, D: BudgetName, R: Wait>(
 }
 
 // What the asks of a worker come to.
-fn asked<R: Wait>(rt: &R, alloc: Global, budgets: &str, asks: &Text) -> Option<String> {
-    let mirrors = mirrors_of(alloc, budgets).ok()?;
-    if mirrors.is_empty() || mirrors.len() > 4 || !are_bounded(&mirrors) {
-        return None;
-    }
+fn asked<R: Wait>(rt: &R, alloc: Global, budgets: &str, asks: &str) -> Option<String> {
+    let asks = Text::copy_of(alloc, asks).ok()?;
+    let mirrors = few_mirrors(alloc, budgets)?;
     let blanks = Blanks::new(1);
-    opened::<Brand, Brand, Brand, Brand, R>(rt, alloc, blanks, mirrors, asks).ok()
+    opened::<Brand, Brand, Brand, Brand, R>(rt, alloc, blanks, mirrors, &asks).ok()
 }
 
 // Each row: budgets, asks, and then the indexes of the granting mirrors, what the first mirror says of 50 bytes
@@ -107,12 +105,9 @@ const ROWS: &str = "500 1000|450 300 700 1 50| 0 1 1 0 -, 49, 451 1000
 10 20 30|30 20 10 1| 2 1 0 -, 0, 10 20 30";
 
 // Whether the asks of a row come to what it says.
-fn comes_to<R: Wait>(rt: &R, alloc: Global, row: &str) -> Option<bool> {
-    let (budgets, others) = row.split_once('|')?;
-    let (asks, wanted) = others.split_once('|')?;
-    let asks = Text::copy_of(alloc, asks).ok()?;
-    let line = asked(rt, alloc, budgets, &asks)?;
-    Some(line.as_str() == wanted)
+fn comes_to<R: Wait>(rt: &R, alloc: Global, row: &str) -> bool {
+    let (budgets, asks, wanted) = three_parts(row, "|");
+    is_line(asked(rt, alloc, budgets, asks), wanted)
 }
 
 // rule: Ask of a worker
@@ -122,6 +117,6 @@ fn comes_to<R: Wait>(rt: &R, alloc: Global, row: &str) -> Option<bool> {
 #[test]
 fn asks_mirrors_in_their_order(rt: HostRuntime) {
     for row in ROWS.lines() {
-        assert!(rt; comes_to(&rt, rt.alloc(), row) == Some(true), "{row}");
+        assert!(rt; comes_to(&rt, rt.alloc(), row), "{row}");
     }
 }

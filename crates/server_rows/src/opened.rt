@@ -2,9 +2,9 @@
 
 use crate::batches::LARGE;
 use crate::connection::{Received, Sent, Stopped};
-use crate::lines::{are_bounded, push_numbers};
+use crate::lines::{few_mirrors, push_numbers};
 use crate::shelf::Shelf;
-use fixtures::{CHAINED, edition_after, mirrors_of};
+use fixtures::{CHAINED, edition_after};
 use http_sessions::{End, Fault, Served, serve};
 use mirror_ledger::{Till, Work, work_with_tills};
 use std::alloc::{AllocError, Global};
@@ -76,10 +76,7 @@ pub(crate) fn serve_sent<R: Wait + AllocGlobal>(
     sent: &[u8],
     sink: &mut Received,
 ) -> Option<String> {
-    let mirrors = mirrors_of(rt.alloc(), budgets).ok()?;
-    if mirrors.is_empty() || mirrors.len() > 4 || !are_bounded(&mirrors) {
-        return None;
-    }
+    let mirrors = few_mirrors(rt.alloc(), budgets)?;
     let mut session = OneSession { sent, sink };
     let (how, totals) = work_with_tills(rt, rt.alloc(), mirrors, 1, &mut session).ok()?;
     print_end(rt.alloc(), how, &totals).ok()

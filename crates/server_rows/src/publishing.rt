@@ -1,5 +1,5 @@
-use crate::asking::gets_reply;
 use crate::batches::{MINI, TARGET, small};
+use crate::rows::{Kind, is_found};
 use editions::{Edition, NextError};
 use fixtures::{edition_of, edition_of_batches, next_of};
 use std::alloc::Global;
@@ -46,9 +46,8 @@ fn is_kept(alloc: Global) -> Option<bool> {
     let first = edition_of(alloc, MINI)?;
     let second = next_of(alloc, first, "set_target mini stable 3.0 -").ok()?;
     let are_numbered = first.number() == 1 && second.number() == 2;
-    let is_first = gets_reply(alloc, first, true, NOTHING)?;
-    let is_second = gets_reply(alloc, second, true, THIRD)?;
-    Some(are_numbered && is_first && is_second)
+    let is_first = is_found(alloc, Kind::Reply, first, NOTHING);
+    Some(are_numbered && is_first && is_found(alloc, Kind::Reply, second, THIRD))
 }
 
 // rule: The next edition

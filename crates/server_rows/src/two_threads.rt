@@ -1,11 +1,8 @@
 // Two threads that ask at once, each by a till of its own.
 
-use crate::lines::are_bounded;
-use fixtures::mirrors_of;
+use crate::lines::few_mirrors;
 use mirror_ledger::{Till, Work, work_with_tills};
-use std::alloc::Global;
 use std::sync::Wait;
-use std::test::Fail;
 use std::thread::{Threads, join};
 
 // Two workers that ask so many times for a byte.
@@ -31,6 +28,19 @@ fn ask_in_turn<T: Till, R: Wait>(rt: &R, till: T, times: u32) -> Asked<T> {
     asked
 }
 
+fn ask_at_once<T: Till + Send + Drop, R: Threads + Wait + Sync>(
+    rt: &R,
+    one: T,
+    two: T,
+    times: u32,
+) -> (Asked<T>, Asked<T>) {
+    join(
+        rt,
+        move || ask_in_turn(rt, one, times),
+        move || ask_in_turn(rt, two, times),
+    )
+}
+
 impl<R: Threads + Wait + Sync> Work<R> for Asking {
     type End = u64;
 
@@ -43,12 +53,7 @@ impl<R: Threads + Wait + Sync> Work<R> for Asking {
         let (Some(two), Some(one)) = (tills.pop(), tills.pop()) else {
             unreachable!()
         };
-        let times = self.times;
-        let (one, two) = join(
-            rt,
-            move || ask_in_turn(rt, one, times),
-            move || ask_in_turn(rt, two, times),
-        );
+        let (one, two) = ask_at_once(rt, one, two, self.times);
         if tills.push(one.till).is_err() || tills.push(two.till).is_err() {
             unreachable!()
         }
@@ -56,36 +61,31 @@ impl<R: Threads + Wait + Sync> Work<R> for Asking {
     }
 }
 
-// How many calls of two threads were granted, and the totals.
-fn asked_twice<R: Threads + Wait + Sync>(
+// Whether two threads are granted so many of their calls over these budgets, and the mirrors have these totals.
+fn are_granted<R: Threads + Wait + Sync + AllocGlobal>(
     rt: &R,
-    alloc: Global,
     budgets: &str,
     times: u32,
-) -> Option<(u64, Vec<u64>)> {
-    let mirrors = mirrors_of(alloc, budgets).ok()?;
-    if mirrors.is_empty() || mirrors.len() > 4 || !are_bounded(&mirrors) {
-        return None;
-    }
-    work_with_tills(rt, alloc, mirrors, 2, &mut Asking { times }).ok()
+    wanted: u64,
+    totals: &[u64],
+) -> Option<bool> {
+    let mirrors = few_mirrors(rt.alloc(), budgets)?;
+    let mut asking = Asking { times };
+    let (granted, found) = work_with_tills(rt, rt.alloc(), mirrors, 2, &mut asking).ok()?;
+    Some(granted == wanted && found.as_slice() == totals)
 }
 
 // rule: Budget of a mirror
 #[test]
-fn grants_no_more_than_the_budget(rt: HostRuntime) -> Result<(), Fail> {
-    let (granted, totals) = asked_twice(&rt, rt.alloc(), "1000", 600).ok_or("no totals")?;
-    assert!(rt; granted == 1000);
-    assert!(rt; totals.as_slice() == [1000].as_slice());
-    Ok(())
+fn grants_no_more_than_the_budget(rt: HostRuntime) {
+    assert!(rt; are_granted(&rt, "1000", 600, 1000, &[1000]) == Some(true));
 }
 
 // rule: Shares and asks
 // rule: Total of a mirror
 #[test]
-fn totals_agree_with_a_hundred_thousand_grants(rt: HostRuntime) -> Result<(), Fail> {
-    let budgets = "30000 0 60000 10000";
-    let (granted, totals) = asked_twice(&rt, rt.alloc(), budgets, 55000).ok_or("no totals")?;
-    assert!(rt; granted == 100000);
-    assert!(rt; totals.as_slice() == [30000, 0, 60000, 10000].as_slice());
-    Ok(())
+fn totals_agree_with_a_hundred_thousand_grants(rt: HostRuntime) {
+    let totals = [30000, 0, 60000, 10000];
+    let is_right = are_granted(&rt, "30000 0 60000 10000", 55000, 100000, &totals);
+    assert!(rt; is_right == Some(true));
 }
