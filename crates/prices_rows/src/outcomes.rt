@@ -1,76 +1,116 @@
-// What bytes are to a graph.
+// What certificates are to the graphs of tracks.
 
 ghost use Rattle.std.specs.Prelude.{◌≡◌, length, Some};
 ghost use Rattle.payload_graph.specs.Net.{net_among};
 
-use crate::demo::{catalogue_of_demo, catalogue_with_a_tie, key_of};
+use crate::certificates::certificate_of;
+use crate::edits::keep;
 use catalogue::Catalogue;
-use payload_graph::Graph;
-use price_cert::{Prices, Rule, check};
-use price_certificates::{Fault, read_prices};
+use cohorts::Lane;
+use payload_graph::{Graph, TrackKey};
+use price_cert::{Prices, Rule, Wrong, check};
+use price_certificates::{Fault, read_key, read_prices, write_prices};
 use std::alloc::{AllocError, Global};
-use std::test::Fail;
+use std::mem::forget;
 use values::ReadError;
 
-fn name_of(rule: Rule) -> &'static str {
-    match rule {
-        Rule::C1 => "C1",
-        Rule::C2 => "C2",
-        Rule::C3 => "C3",
-        Rule::C4 => "C4",
-    }
-}
-
-fn checked(alloc: Global, graph: &Graph, prices: Prices) -> Result<String, AllocError>
+// The first wrong row of a table, and the rule that it breaks.
+fn find_wrong(graph: &Graph, prices: Prices) -> Option<Wrong>
     requires key { prices.key ≡ graph.now.key }
     requires sized { length prices.rows ≡ length graph.now.doors }
 {
     match check(graph, prices) {
-        Ok(_certified) => format!(in alloc; "certified"),
-        Err((wrong, _prices)) => {
-            let rule = name_of(wrong.rule);
-            format!(in alloc; "wrong {} {rule}", wrong.row)
+        Ok(certified) => {
+            forget(certified);
+            None
+        }
+        Err((wrong, prices)) => {
+            forget(prices);
+            Some(wrong)
         }
     }
 }
 
-fn read(
-    alloc: Global,
-    catalogue: &Catalogue,
-    graph: &Graph,
-    bytes: &[u8],
-) -> Result<String, AllocError>
-    requires { net_among catalogue.now graph.now.key ≡ Some graph.now }
-{
-    match read_prices(alloc, catalogue, graph, bytes) {
-        Ok(prices) => checked(alloc, graph, prices),
-        Err(ReadError::Fault(Fault::BadLine { n })) => format!(in alloc; "P1 {n}"),
-        Err(ReadError::Fault(Fault::NotOfThisGraph { n })) => format!(in alloc; "P2 {n}"),
-        Err(ReadError::Memory) => format!(in alloc; "memory"),
+fn push_wrong(words: &mut String, wrong: Wrong) -> Result<(), AllocError> {
+    let rule = match wrong.rule {
+        Rule::C1 => "C1",
+        Rule::C2 => "C2",
+        Rule::C3 => "C3",
+        Rule::C4 => "C4",
+    };
+    write!(words, "wrong {} {rule}", wrong.row)
+}
+
+fn push_fault(words: &mut String, fault: Fault) -> Result<(), AllocError> {
+    match fault {
+        Fault::BadLine { n } => write!(words, "P1 {n}"),
+        Fault::NotOfThisGraph { n } => write!(words, "P2 {n}"),
     }
 }
 
-/// What bytes are to a track's graph: `certified`, `wrong` with a row and a rule, `P1` or `P2`.
-pub(crate) fn outcome_in(
+/// Puts what a certificate is to a track's graph at the end: `certified`, `wrong` with a row and a rule, or `P1` or `P2` with
+/// the number of a line.
+pub(crate) fn push_outcome(
     alloc: Global,
+    words: &mut String,
     catalogue: &Catalogue,
-    track: &str,
-    bytes: &[u8],
-) -> Result<String, Fail> {
-    let Some(graph) = Graph::of_track(alloc, catalogue, &key_of(track))? else {
-        return Err("no target".into());
+    graph: &Graph,
+    certificate: &str,
+) -> Option<()>
+    requires { net_among catalogue.now graph.now.key ≡ Some graph.now }
+{
+    let bytes = certificate_of(alloc, certificate)?;
+    match read_prices(alloc, catalogue, graph, bytes) {
+        Ok(prices) => match find_wrong(graph, prices) {
+            Some(wrong) => push_wrong(words, wrong).ok(),
+            None => words.push_str("certified").ok(),
+        },
+        Err(ReadError::Fault(fault)) => push_fault(words, fault).ok(),
+        Err(ReadError::Memory) => None,
+    }
+}
+
+/// Puts at the end whether the certificate of a track is written as it was read.
+pub(crate) fn push_written(
+    alloc: Global,
+    words: &mut String,
+    catalogue: &Catalogue,
+    graph: &Graph,
+    certificate: &str,
+) -> Option<()>
+    requires { net_among catalogue.now graph.now.key ≡ Some graph.now }
+{
+    let bytes = certificate_of(alloc, certificate)?;
+    let prices = match read_prices(alloc, catalogue, graph, bytes) {
+        Ok(prices) => keep(alloc, prices)?,
+        Err(_) => return None,
     };
-    Ok(read(alloc, catalogue, &graph, bytes)?)
+    let written = write_prices(alloc, catalogue, prices).ok()?;
+    let is_same = written.as_slice() == bytes;
+    words
+        .push_str(if is_same { "the same" } else { "another" })
+        .ok()
 }
 
-/// What bytes are to the graph of a track of the demo catalogue.
-pub(crate) fn outcome_of(alloc: Global, track: &str, bytes: &[u8]) -> Result<String, Fail> {
-    let catalogue = catalogue_of_demo(alloc)?;
-    outcome_in(alloc, &catalogue, track, bytes)
+fn push_read_key(words: &mut String, key: &TrackKey) -> Result<(), AllocError> {
+    let lane = match key.lane {
+        Lane::Target => "target",
+        Lane::Held => "held",
+    };
+    let rollback = if key.rollback { "yes" } else { "no" };
+    write!(words, "{} {} {lane} {rollback}", key.app, key.cohort)
 }
 
-/// What bytes are to the graph of `stable` if 2.0 to 4.0 has a differential of 450 bytes.
-pub(crate) fn outcome_with_a_tie(alloc: Global, bytes: &[u8]) -> Result<String, Fail> {
-    let catalogue = catalogue_with_a_tie(alloc)?;
-    outcome_in(alloc, &catalogue, "stable", bytes)
+/// Puts the key that a certificate names at the end: the indices of its app and its cohort, its lane, and whether clients
+/// allow a downgrade.
+pub(crate) fn push_key(
+    alloc: Global,
+    words: &mut String,
+    catalogue: &Catalogue,
+    certificate: &str,
+) -> Option<()> {
+    match read_key(catalogue, certificate_of(alloc, certificate)?) {
+        Ok(key) => push_read_key(words, &key).ok(),
+        Err(fault) => push_fault(words, fault).ok(),
+    }
 }

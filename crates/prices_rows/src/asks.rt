@@ -1,0 +1,186 @@
+// What is asked of a track, in rows: its key, a bar, edits after those of a script, a bar, what is asked, a bar, more of
+// what is asked, a bar, and the reply.
+
+ghost use Rattle.std.specs.Prelude.{◌≡◌, ◌<◌, IfSome, Some, length};
+ghost use Rattle.payload_graph.specs.Net.{net_among};
+ghost use Rattle.payload_graph.specs.Places.{IsWithin};
+ghost use Rattle.records.specs.Lookups.{releases_at};
+
+use crate::edits::{catalogue_of, graph_of, keep, key_of};
+use crate::outcomes::{push_key, push_outcome, push_written};
+use crate::rule::push_ruled;
+use crate::words::{are, fields, push_from, push_into, push_quote, push_table};
+use catalogue::Catalogue;
+use par_tables::{TrackTables, tables};
+use payload_graph::{Differentials, Graph, Place, TrackKey};
+use quotes::quote_from;
+use solver::solve;
+use std::alloc::{AllocError, Global};
+use version::Version;
+
+// The place that a word names: a release by its index, or a version outside of all.
+fn place_of_word(catalogue: &Catalogue, app: usize, word: &str) -> Option<Place>
+    requires { app < length catalogue.now }
+    ensures { IfSome result (λ place. IsWithin (releases_at catalogue.now app) place) }
+{
+    if let Some(version) = word.strip_prefix("outside ") {
+        return Some(Place::Outside(Version::lenient(version)));
+    }
+    let release = word.parse().unwrap_or(9);
+    if release < catalogue.releases(app).len() {
+        Some(Place::At(release))
+    } else {
+        None
+    }
+}
+
+// Puts what the clients at a place are offered at the end, or the table that says so if no place is named.
+fn push_solved(
+    alloc: Global,
+    words: &mut String,
+    catalogue: &Catalogue,
+    key: &TrackKey,
+    graph: &Graph,
+    place: &str,
+) -> Option<()>
+    requires { net_among catalogue.now key.now ≡ Some graph.now }
+{
+    let table = keep(alloc, solve(alloc, graph).ok()?)?;
+    if place.is_empty() || key.app >= catalogue.apps().len() {
+        return push_table(words, table).ok();
+    }
+    match place_of_word(catalogue, key.app, place) {
+        Some(place) => push_quote(words, quote_from(catalogue, key, &place, table)).ok(),
+        None => words.push_str("no release").ok(),
+    }
+}
+
+// Puts what is asked of a track that may have a graph at the end.
+fn push_of_graph(
+    alloc: Global,
+    words: &mut String,
+    catalogue: &Catalogue,
+    key: &TrackKey,
+    asked: &str,
+    more: &str,
+) -> Option<()> {
+    let Some(graph) = graph_of(alloc, catalogue, key) else {
+        return words.push_str(" no track").ok();
+    };
+    match asked {
+        "from" => push_from(words, graph).ok(),
+        "into" => push_into(words, graph).ok(),
+        "reads" => push_outcome(alloc, words, catalogue, graph, more),
+        "rewrites" => push_written(alloc, words, catalogue, graph, more),
+        _ => push_solved(alloc, words, catalogue, key, graph, more),
+    }
+}
+
+// Puts the payloads of a track at the end, from each release and into each; its differentials are resolved before.
+fn push_resolved(
+    alloc: Global,
+    words: &mut String,
+    catalogue: &Catalogue,
+    key: &TrackKey,
+) -> Option<()>
+    requires { key.now.app < length catalogue.now }
+{
+    let differentials = keep(
+        alloc,
+        Differentials::of_app(alloc, catalogue, key.app).ok()?,
+    )?;
+    match Graph::with_differentials(alloc, catalogue, key, differentials) {
+        Ok(Some(graph)) => {
+            let graph = keep(alloc, graph)?;
+            push_from(words, graph).ok()?;
+            push_into(words, graph).ok()
+        }
+        _ => words.push_str(" no track").ok(),
+    }
+}
+
+// Puts the table of a key at the end, or all tables.
+fn push_tables(
+    words: &mut String,
+    tables: &TrackTables,
+    key: &TrackKey,
+    asked: &str,
+) -> Result<(), AllocError> {
+    if asked == "its table" {
+        return match tables.find(key) {
+            Some(table) => push_table(words, table),
+            None => words.push_str(" no table"),
+        };
+    }
+    for table in tables.as_slice() {
+        words.push_str(";")?;
+        push_table(words, table)?;
+    }
+    Ok(())
+}
+
+// Puts what is asked of a track at the end.
+fn push_asked(
+    alloc: Global,
+    words: &mut String,
+    catalogue: &Catalogue,
+    key: &TrackKey,
+    asked: &str,
+    more: &str,
+) -> Option<()> {
+    match asked {
+        "its table" | "tables" => {
+            let tables = keep(alloc, tables(alloc, catalogue).ok()?)?;
+            push_tables(words, tables, key, asked).ok()
+        }
+        "by the rule" | "slowly" => push_ruled(alloc, words, catalogue, key, asked),
+        "both" if key.app < catalogue.apps().len() => push_resolved(alloc, words, catalogue, key),
+        "names" => push_key(alloc, words, catalogue, more),
+        _ => push_of_graph(alloc, words, catalogue, key, asked, more),
+    }
+}
+
+// The reply to what is asked of a track.
+fn words_of(
+    alloc: Global,
+    catalogue: &Catalogue,
+    key: &str,
+    asked: &str,
+    more: &str,
+) -> Option<&'static String> {
+    let mut words = String::new(alloc);
+    push_asked(alloc, &mut words, catalogue, &key_of(key), asked, more)?;
+    keep(alloc, words)
+}
+
+/// Whether the reply to a row is the wanted one.
+pub(crate) fn replies(alloc: Global, script: &str, row: &str) -> Option<bool> {
+    let [key, edits, asked, more, wanted] = fields(row);
+    let catalogue = catalogue_of(alloc, script, edits)?;
+    let words = words_of(alloc, catalogue, key, asked, more)?;
+    Some(are(words.as_str(), wanted))
+}
+
+/// The first of rows whose reply is not the wanted one; empty if there is none.
+pub(crate) fn wrong_row<'a>(alloc: Global, script: &str, rows: &'a str) -> &'a str {
+    for row in rows.lines() {
+        if replies(alloc, script, row) != Some(true) {
+            return row;
+        }
+    }
+    ""
+}
+
+/// Whether two things that are asked of a track, after more edits, have the same words.
+pub(crate) fn agree(
+    alloc: Global,
+    script: &str,
+    edits: &str,
+    key: &str,
+    asked: [&str; 2],
+) -> Option<bool> {
+    let catalogue = catalogue_of(alloc, script, edits)?;
+    let first = words_of(alloc, catalogue, key, asked[0], "")?;
+    let second = words_of(alloc, catalogue, key, asked[1], "")?;
+    Some(first.as_str() == second.as_str())
+}
