@@ -91,16 +91,16 @@ fn is_read(
     source: &mut Pieces<'_>,
     window: &mut Window,
     fields: &mut [HeaderSpan],
-    length: &str,
+    size: &str,
     end: &str,
 ) -> bool
     requires { length fields.old ≡ 5461 }
 {
     match read_head(source, window, fields) {
-        Ok(Head::Whole(spans)) => has_fields(window.bytes(), spans, fields, length, end),
-        Ok(Head::Ended) => length == "ended",
-        Ok(Head::Bad) => length == "bad",
-        Ok(Head::Long) => length == "long",
+        Ok(Head::Whole(spans)) => has_fields(window.bytes(), spans, fields, size, end),
+        Ok(Head::Ended) => size == "ended",
+        Ok(Head::Bad) => size == "bad",
+        Ok(Head::Long) => size == "long",
         Err(_) => false,
     }
 }
