@@ -1,15 +1,16 @@
 // Two threads that ask at once, each by a till of its own.
 
+ghost use Rattle.std.specs.Prelude.{◌≡◌, ◌≤◌, ◌<◌, All, true, vec_len};
+ghost use Rattle.mirror_ledger.specs.Asks.{AreUnused};
+ghost use Rattle.mirror_ledger.specs.Named.{are_bounded, IsNamed};
+
 use crate::lines::few_mirrors;
-use mirror_ledger::{Till, Work, work_with_tills};
+use mirror_ledger::{Blanks, Books, BudgetName, Hand, Shares, Till, close, open_books};
+use records::Mirror;
+use std::alloc::{AllocError, Global};
+use std::marker::Brand;
 use std::sync::Wait;
 use std::thread::{Threads, join};
-
-// Two workers that ask so many times for a byte.
-#[derive(Drop)]
-struct Asking {
-    times: u32,
-}
 
 // A till, and how many of its asks were granted.
 #[derive(Drop)]
@@ -41,24 +42,60 @@ fn ask_at_once<T: Till + Send + Drop, R: Threads + Wait + Sync>(
     )
 }
 
-impl<R: Threads + Wait + Sync> Work<R> for Asking {
-    type End = u64;
-
-    ghost comes_to = { λ _ _ _ _ _. Unit {0} };
-
-    fn work<T: Till + Send + Drop>(&mut self, rt: &R, tills: &mut Vec<T>) -> u64 {
-        if tills.len() != 2 {
-            return 0;
-        }
-        let (Some(two), Some(one)) = (tills.pop(), tills.pop()) else {
-            unreachable!()
-        };
-        let (one, two) = ask_at_once(rt, one, two, self.times);
-        if tills.push(one.till).is_err() || tills.push(two.till).is_err() {
-            unreachable!()
-        }
-        one.granted.saturating_add(two.granted)
+// How many asks of two workers are granted, and their shares.
+fn ask_both<
+    A: BudgetName + Send + Sync,
+    B: BudgetName + Send + Sync,
+    C: BudgetName + Send + Sync,
+    D: BudgetName + Send + Sync,
+    R: Threads + Wait + Sync,
+>(
+    rt: &R,
+    books: &Books<A, B, C, D>,
+    shares: Vec<Shares<A, B, C, D>>,
+    times: u32,
+) -> (Vec<Shares<A, B, C, D>>, u64)
+    requires two { vec_len shares ≡ 2 }
+    requires unused { All (λ s. AreUnused s.first s.second s.third s.fourth s.asks) shares.items }
+    ensures { vec_len result.0 ≡ 2 }
+{
+    let mut shares = shares;
+    let (Some(two), Some(one)) = (shares.pop(), shares.pop()) else {
+        unreachable!()
+    };
+    let (one, two) = ask_at_once(rt, Hand::new(books, one), Hand::new(books, two), times);
+    if shares.push(one.till.end()).is_err() || shares.push(two.till.end()).is_err() {
+        unreachable!()
     }
+    (shares, one.granted.saturating_add(two.granted))
+}
+
+// How many asks of two threads are granted, and the totals.
+fn run_twice<
+    A: BudgetName + Send + Sync,
+    B: BudgetName + Send + Sync,
+    C: BudgetName + Send + Sync,
+    D: BudgetName + Send + Sync,
+    R: Threads + Wait + Sync,
+>(
+    rt: &R,
+    alloc: Global,
+    blanks: Blanks,
+    mirrors: Vec<Mirror>,
+    times: u32,
+) -> Result<(u64, Vec<u64>), AllocError>
+    requires some { 0 < vec_len mirrors }
+    requires few { vec_len mirrors ≤ 4 }
+    requires bounded { are_bounded mirrors.items ≡ true }
+    requires first { IsNamed blanks.first A.name A.parts A.budget 2 mirrors.items 0 }
+    requires second { IsNamed blanks.second B.name B.parts B.budget 2 mirrors.items 1 }
+    requires third { IsNamed blanks.third C.name C.parts C.budget 2 mirrors.items 2 }
+    requires fourth { IsNamed blanks.fourth D.name D.parts D.budget 2 mirrors.items 3 }
+{
+    let (books, shares) = open_books::<A, B, C, D, R>(rt, alloc, blanks, mirrors, 2)?;
+    let (shares, granted) = ask_both(rt, &books, shares, times);
+    let totals = close(rt, alloc, books, shares)?;
+    Ok((granted, totals))
 }
 
 // Whether two threads are granted so many of their calls over these budgets, and the mirrors have these totals.
@@ -70,8 +107,14 @@ fn are_granted<R: Threads + Wait + Sync + AllocGlobal>(
     totals: &[u64],
 ) -> Option<bool> {
     let mirrors = few_mirrors(rt.alloc(), budgets)?;
-    let mut asking = Asking { times };
-    let (granted, found) = work_with_tills(rt, rt.alloc(), mirrors, 2, &mut asking).ok()?;
+    let blanks = Blanks::new(2);
+    let (granted, found) = run_twice::<Brand, Brand, Brand, Brand, R>(
+        rt,
+        rt.alloc(),
+        blanks,
+        mirrors,
+        times,
+    ).ok()?;
     Some(granted == wanted && found.as_slice() == totals)
 }
 
