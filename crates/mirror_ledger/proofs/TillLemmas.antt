@@ -19,7 +19,7 @@ granted_by-last {T} asks tills rest last index same =
     ∙ ap (λ (lists : List (List Ask)). granted_by lists index) (map-append asks rest (last ∷ []))
     ∙ sum_by_push (λ (list : List Ask). granted_at index list) (map asks rest) (asks last)
 
--- the last till's share joins what was taken back before
+-- the last till's share is added to those of the tills after it
 pub taken_back :
     {T : Type 0} (asks : T → List Ask) (tills rest : List T) (last : T) (index total before amount share : ℕ) →
     tills ≡ rest ++ last ∷ [] → amount ≡ before + share → share ≡ granted_at index (asks last) →

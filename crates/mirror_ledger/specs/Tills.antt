@@ -16,7 +16,6 @@ pub record AreOpened {T : Type 0} (mirrors_of : T → List Mirror) (asks_of : T 
 abbrev pub granted_by : List (List Ask) → ℕ → ℕ
 granted_by workers index = sum_by (λ (asks : List Ask). granted_at index asks) workers
 
--- rule: Total of a mirror
 -- each mirror's total: what it granted to all workers, and no more than its budget
 pub record AreTotalsOf (mirrors : List Mirror) (workers : List (List Ask)) (totals : List ℕ) : Type 0 where
   pub sums : totals ≡ totals_of mirrors (granted_by workers 0) (granted_by workers 1) (granted_by workers 2) (granted_by workers 3)

@@ -43,6 +43,7 @@ fn is_offered<R: Wait + AllocGlobal>(rt: &R, row: &str) -> bool {
 }
 
 // rule: Asks of a plan
+// rule: Tills of workers
 #[test]
 fn offers_what_the_mirrors_grant(rt: HostRuntime) {
     for row in ROWS.lines() {

@@ -71,7 +71,7 @@ fn print_lane(alloc: Global, track: &Track) -> Result<String, AllocError> {
     }
 }
 
-// The track of a request's only client in the only app, after the text of its cohort.
+// The track of a request's only client in the only app, after its cohort as it is printed.
 fn print_assigned(alloc: Global, catalogue: &Catalogue, request: &Request) -> Option<String> {
     let app = catalogue.app("demo")?;
     let ask = request.apps.as_slice().first()?;
