@@ -40,13 +40,12 @@ fn serve_next<L: Ledger, R: time::Clock + AllocGlobal, D: Desk, Z: Packages + Cl
 /// A connection that can't be accepted counts, and is followed by a short pause. A session that ends because its
 /// connection fails or memory runs out counts as well, and is not reported. The site's watch is shown each
 /// connection that was accepted.
-pub fn serve_connections<L: Ledger, R: time::Clock + AllocGlobal, D: Desk, Z: Packages + Clock + Watch>(
-    rt: &R,
-    door: &mut Door<'_, L>,
-    desk: &mut D,
-    site: &Z,
-    limit: Option<u64>,
-)
+pub fn serve_connections<
+    L: Ledger,
+    R: time::Clock + AllocGlobal,
+    D: Desk,
+    Z: Packages + Clock + Watch,
+>(rt: &R, door: &mut Door<'_, L>, desk: &mut D, site: &Z, limit: Option<u64>)
     ensures { (visits : List Visit) × (length visits ≡ limit_of limit)
         × Visits (IsSession D.path D.content_type D.steps (Z.tells site.now) (Z.sizes site.now) (Z.reads site.now))
         desk.old visits desk.new

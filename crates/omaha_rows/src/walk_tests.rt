@@ -45,10 +45,26 @@ fn keeps_its_place_at_a_package_that_is_cut(rt: HostRuntime) {
 const NARROW: [(&str, &str, &str); 6] = [
     ("|0|", "3", "0 ready\nm0 10\n1 omaha: U5 Install\n"),
     ("|6|", "3", "0 ready\nm0 10\n1 step 1omaha: U5 Install\n"),
-    ("|19|", "5", "0 ready\nm0 11\n1 step 1 diff 2.0 10\nomaha: U5 Install\n"),
-    ("|36|", "5", "0 ready\nm0 11\n1 step 1 diff 2.0 10\nstep 2 diff 3.0 1omaha: U5 Install\n"),
-    ("|37|", "6", "0 ready\nm0 11\n1 step 1 diff 2.0 10\nstep 2 diff 3.0 1\nomaha: write\n"),
-    ("|41|", "6", "0 ready\nm0 11\n1 step 1 diff 2.0 10\nstep 2 diff 3.0 1\ndoneomaha: write\n"),
+    (
+        "|19|",
+        "5",
+        "0 ready\nm0 11\n1 step 1 diff 2.0 10\nomaha: U5 Install\n",
+    ),
+    (
+        "|36|",
+        "5",
+        "0 ready\nm0 11\n1 step 1 diff 2.0 10\nstep 2 diff 3.0 1omaha: U5 Install\n",
+    ),
+    (
+        "|37|",
+        "6",
+        "0 ready\nm0 11\n1 step 1 diff 2.0 10\nstep 2 diff 3.0 1\nomaha: write\n",
+    ),
+    (
+        "|41|",
+        "6",
+        "0 ready\nm0 11\n1 step 1 diff 2.0 10\nstep 2 diff 3.0 1\ndoneomaha: write\n",
+    ),
 ];
 
 // Whether a walk whose output takes so many bytes prints that.

@@ -50,7 +50,14 @@ impl<R: Wait + AllocGlobal, T: Till> Desk for Single<'_, R, T> {
     }
 
     fn answer(&mut self, body: &[u8], moment: u64) -> Result<Answer, Off> {
-        match answer(self.rt, self.rt.alloc(), self.edition, &mut self.till, moment, body) {
+        match answer(
+            self.rt,
+            self.rt.alloc(),
+            self.edition,
+            &mut self.till,
+            moment,
+            body,
+        ) {
             Ok(reply) => Ok(Answer {
                 status: DeskStatus::Success,
                 body: reply,
