@@ -14,8 +14,6 @@ mod message_tests;
 #[cfg(test)]
 mod narrow;
 #[cfg(test)]
-mod runs;
-#[cfg(test)]
 mod site;
 #[cfg(test)]
 mod walk_tests;

@@ -1,15 +1,15 @@
-use crate::runs::{Running, SAME, prints, serve};
-use fixtures::two_parts;
+use crate::client::exchange;
+use crate::site::{Site, make_site, serve, write_file};
+use std::fs;
+use std::net::{Net, TcpListener, TcpStream};
+use std::test::Fail;
+use std::thread::join;
 
-macro_rules! asks {
-    ($ask:literal) => {
-        concat!($ask, "}\n", $ask)
-    };
-}
-
-// The update check of a client at the first release, whole and without its last byte.
-const ASKS: &str = asks!(
-    r#"POST /service/update2/json HTTP/1.1~Content-Length: 227~~{"request":{"app":[{"appid":"mini","cohort":"stable:0","packages":{"package":[{"fp":"1.ba7816bf8f01cfea414140de5dae2223b00361a396177a9cb410ff61f20015ad"}]},"updatecheck":{},"version":"1.0"}],"protocol":"3.1","sessionid":"abc"}"#
+// A client at the first release.
+const BODY: &str = concat!(
+    r#"{"request":{"app":[{"appid":"mini","cohort":"stable:0","packages":{"package":[{"fp":"1."#,
+    r#"ba7816bf8f01cfea414140de5dae2223b00361a396177a9cb410ff61f20015ad"}]},"updatecheck":{},"#,
+    r#""version":"1.0"}],"protocol":"3.1","sessionid":"abc"}}"#,
 );
 
 // What the reply begins with, but for its length: the differential to the second release.
@@ -24,18 +24,42 @@ const OFFER: &str = concat!(
     r#""status":"ok","urls":{"url":[{"codebase":"http://"#,
 );
 
-// Whether a server grants ten bytes, and its client gets the offer for the whole update check and nothing for the other.
-fn offers<R: Running>(rt: &R, files: &HostRuntime) -> Option<bool> {
-    let lines = serve(rt, files, SAME, "2", "", ASKS)?;
-    let head = "HTTP/1.1 200 OK~Content-Type: application/json";
-    let (printed, reply) = two_parts(lines.as_str(), head);
-    let (offer, others) = two_parts(reply, "\"protocol\":\"3.1\"}}\n");
-    Some(printed == "0 ready\nm0 10\n" && offer.contains(OFFER) && others.is_empty())
+// The message of an update check.
+fn ask<R: AllocGlobal>(rt: &R) -> Option<String> {
+    let length = BODY.len();
+    format!(in rt.alloc();
+        "POST /service/update2/json HTTP/1.1~Content-Length: {length}~~{BODY}"
+    ).ok()
+}
+
+// The replies to a whole update check, and to one without its last byte.
+fn ask_twice<R: Net<Listener = TcpListener, Stream = TcpStream> + AllocGlobal>(
+    rt: &R,
+    site: &Site,
+) -> Option<(String, String)> {
+    let message = ask(rt)?;
+    let message = message.as_str();
+    let whole = exchange(rt, site.host.as_str(), message)?;
+    let cut = exchange(rt, site.host.as_str(), message.strip_suffix("}")?)?;
+    Some((whole, cut))
 }
 
 #[test]
-fn replies_to_a_whole_update_check_alone(rt: HostRuntime) {
-    assert!(rt; offers(&rt, &rt) == Some(true));
+fn replies_to_a_whole_update_check_alone(rt: HostRuntime) -> Result<(), Fail> {
+    let site = make_site(&rt, "asks")?;
+    let (served, replies) = join(&rt, || serve(&rt, &site, "2"), || ask_twice(&rt, &site));
+    fs::remove_dir_all(&rt, site.folder.as_str())?;
+    let (whole, cut) = replies.ok_or("no exchange")?;
+    assert!(rt;
+        whole
+            .as_str()
+            .starts_with("HTTP/1.1 200 OK~Content-Type: application/json")
+    );
+    assert!(rt; whole.as_str().contains(OFFER), "{whole}");
+    assert!(rt; cut.is_empty());
+    let served = served.ok_or("no server")?;
+    assert_eq!(rt; served.as_str(), "0 ready\nm0 10\n");
+    Ok(())
 }
 
 // A row is what a client sends, and what it gets.
@@ -45,39 +69,73 @@ GET /p/mini-1.0.bin?x=1 HTTP/1.0~~ = HTTP/1.1 200 OK~Content-Type: application/o
 GET /p/mini-1.0.bin HTTP/1.1~~GET /p/mini-2-3.bin HTTP/1.1~~ = HTTP/1.1 200 OK~Content-Type: application/octet-stream~Content-Length: 3~~abcHTTP/1.1 200 OK~Content-Type: application/octet-stream~Content-Length: 1~~a
 GET /p/mini.toml HTTP/1.1~~ = HTTP/1.1 404 Not Found~Content-Length: 0~~";
 
-// What a server prints that grants nothing.
-const GRANTS_NOTHING: &str = "0 ready\nm0 0\n";
+// The first row that gets something else.
+fn first_wrong<R: Net<Listener = TcpListener, Stream = TcpStream> + AllocGlobal>(
+    rt: &R,
+    host: &str,
+    rows: &str,
+) -> Option<String> {
+    for row in rows.lines() {
+        let (message, wanted) = row.split_once(" = ")?;
+        let got = exchange(rt, host, message)?;
+        if got.as_str() != wanted {
+            return format!(in rt.alloc(); "{got} in place of {row}").ok();
+        }
+    }
+    Some(String::new(rt.alloc()))
+}
 
 #[test]
-fn sends_packages(rt: HostRuntime) {
-    assert!(rt; prints(&rt, &rt, SAME, "4", ROWS, GRANTS_NOTHING));
+fn sends_packages(rt: HostRuntime) -> Result<(), Fail> {
+    let site = make_site(&rt, "packages")?;
+    let (served, wrong) = join(
+        &rt,
+        || serve(&rt, &site, "4"),
+        || first_wrong(&rt, site.host.as_str(), ROWS),
+    );
+    fs::remove_dir_all(&rt, site.folder.as_str())?;
+    let wrong = wrong.ok_or("no exchange")?;
+    assert!(rt; wrong.is_empty(), "{wrong}");
+    let served = served.ok_or("no server")?;
+    assert_eq!(rt; served.as_str(), "0 ready\nm0 0\n");
+    Ok(())
 }
 
 // The same for a package that isn't what the profile says.
 const CUT: &str = "\
 GET /p/mini-1.0.bin HTTP/1.1~~ = HTTP/1.1 200 OK~Content-Type: application/octet-stream~Content-Length: 3~~";
 
-// Whether it is so with these bytes.
-fn cuts<R: Running>(rt: &R, files: &HostRuntime, bytes: &str) -> bool {
-    prints(rt, files, ("mini-1.0.bin", bytes), "1", CUT, GRANTS_NOTHING)
-}
-
 #[test]
-fn sends_no_package_of_another_size_or_hash(rt: HostRuntime) {
+fn sends_no_package_of_another_size_or_hash(rt: HostRuntime) -> Result<(), Fail> {
+    let site = make_site(&rt, "wrong")?;
     for bytes in ["abd", "ab", "abcd"] {
-        assert!(rt; cuts(&rt, &rt, bytes), "{bytes}");
+        write_file(&rt, site.folder.as_str(), "mini-1.0.bin", bytes.as_bytes())?;
+        let (served, wrong) = join(
+            &rt,
+            || serve(&rt, &site, "1"),
+            || first_wrong(&rt, site.host.as_str(), CUT),
+        );
+        let wrong = wrong.ok_or("no exchange")?;
+        assert!(rt; wrong.is_empty(), "{wrong}");
+        assert!(rt; served.is_some());
     }
-}
-
-// Whether a server grants nothing, and its client gets all of a large package but its last block.
-fn cuts_a_block<R: Running>(rt: &R, files: &HostRuntime) -> Option<bool> {
-    let lines = serve(rt, files, SAME, "1", "", "GET /p/large-1.0.bin HTTP/1.1~~")?;
-    let (head, body) = two_parts(lines.as_str(), "~~");
-    let is_head = head.starts_with(GRANTS_NOTHING) && head.ends_with("~Content-Length: 65537");
-    Some(is_head && body.len() == 65537 && body.ends_with("\n"))
+    fs::remove_dir_all(&rt, site.folder.as_str())?;
+    Ok(())
 }
 
 #[test]
-fn cuts_a_large_package_before_its_last_block(rt: HostRuntime) {
-    assert!(rt; cuts_a_block(&rt, &rt) == Some(true));
+fn cuts_a_large_package_before_its_last_block(rt: HostRuntime) -> Result<(), Fail> {
+    let site = make_site(&rt, "large")?;
+    let (served, got) = join(
+        &rt,
+        || serve(&rt, &site, "1"),
+        || exchange(&rt, site.host.as_str(), "GET /p/large-1.0.bin HTTP/1.1~~"),
+    );
+    fs::remove_dir_all(&rt, site.folder.as_str())?;
+    let got = got.ok_or("no exchange")?;
+    let (head, body) = got.as_str().split_once("~~").ok_or("no head")?;
+    assert!(rt; head.ends_with("~Content-Length: 65537"), "{head}");
+    assert_eq!(rt; body.len(), 65536);
+    assert!(rt; served.is_some());
+    Ok(())
 }

@@ -1,6 +1,5 @@
 // An output that fails once it is full.
 
-use std::alloc::Global;
 use std::io;
 use std::io::{ErrorKind, Write};
 
@@ -9,15 +8,6 @@ use std::io::{ErrorKind, Write};
 pub(crate) struct Narrow {
     pub(crate) bytes: Vec<u8>,
     pub(crate) left: usize,
-}
-
-impl Narrow {
-    pub(crate) fn new(alloc: Global, left: usize) -> Self {
-        Narrow {
-            bytes: Vec::new(alloc),
-            left,
-        }
-    }
 }
 
 impl Write for Narrow {

@@ -1,8 +1,14 @@
-// A folder with a profile and its packages, and an address of the loopback.
+// A folder with a profile and its packages, an address of the loopback, and runs of the program over them.
 
-use fixtures::{make_folder, write_file};
-use std::io;
-use std::net::TcpListener;
+use crate::narrow::Narrow;
+use omaha_cli::run;
+use std::alloc::{AllocError, Global};
+use std::net::{Net, TcpListener, TcpStream};
+use std::rt::Files;
+use std::sync::Wait;
+use std::test::Fail;
+use std::time::Clock;
+use std::{env, fs, io, process};
 
 // The profile, with HOST for the address.
 const PROFILE: &str = r#"schema = 1
@@ -45,22 +51,33 @@ const LETTERS: [(&str, u8, usize); 4] = [
 #[derive(Drop)]
 pub(crate) struct Site {
     pub(crate) folder: String,
+    pub(crate) profile: String,
     pub(crate) host: String,
 }
 
 // An address of the loopback that nobody listens on.
-fn free_host(rt: &HostRuntime) -> io::Result<String> {
+fn free_host(rt: &HostRuntime) -> Result<String, Fail> {
     let listener = TcpListener::bind(rt, "127.0.0.1:0")?;
-    let address = listener.local_addr()?;
-    Ok(format!(in rt.alloc(); "{address}")?)
+    Ok(format!(in rt.alloc(); "{}", listener.local_addr()?)?)
 }
 
-fn write_profile(rt: &HostRuntime, folder: &str, host: &str) -> io::Result<()> {
-    let profile = PROFILE.replace(rt.alloc(), "HOST", host)?;
-    write_file(rt, folder, "mini.toml", profile.as_str().as_bytes())
+/// Writes a file of a folder.
+pub(crate) fn write_file(
+    rt: &HostRuntime,
+    folder: &str,
+    name: &str,
+    bytes: &[u8],
+) -> io::Result<()> {
+    let file = format!(in rt.alloc(); "{folder}/{name}")?;
+    fs::write(rt, file.as_str(), bytes)
 }
 
-fn write_letters(rt: &HostRuntime, folder: &str) -> io::Result<()> {
+// Makes a folder with the profile and the packages.
+fn fill(rt: &HostRuntime, folder: &str, profile: &str) -> io::Result<()> {
+    fs::create_dir(rt, folder)?;
+    write_file(rt, folder, "mini.toml", profile.as_bytes())?;
+    write_file(rt, folder, "mini-1.0.bin", b"abc")?;
+    write_file(rt, folder, "mini-2.0.bin", SECOND.as_bytes())?;
     for (name, letter, size) in LETTERS {
         let bytes = vec![in rt.alloc(); letter; size]?;
         write_file(rt, folder, name, bytes.as_slice())?;
@@ -68,21 +85,88 @@ fn write_letters(rt: &HostRuntime, folder: &str) -> io::Result<()> {
     Ok(())
 }
 
-// Writes the profile and the packages, and then a file anew.
-fn fill(rt: &HostRuntime, site: &Site, file: &str, content: &str) -> io::Result<()> {
-    let folder = site.folder.as_str();
-    write_profile(rt, folder, site.host.as_str())?;
-    write_file(rt, folder, "mini-1.0.bin", b"abc")?;
-    write_file(rt, folder, "mini-2.0.bin", SECOND.as_bytes())?;
-    write_letters(rt, folder)?;
-    write_file(rt, folder, file, content.as_bytes())
+/// Makes the site of a test, whose folder's path ends so.
+pub(crate) fn make_site(rt: &HostRuntime, end: &str) -> Result<Site, Fail> {
+    let number = process::id(rt.process());
+    let temporary = env::temp_dir(rt)?;
+    let above = temporary.as_path().to_str().ok_or("no text")?;
+    let folder = format!(in rt.alloc(); "{above}/omaha_rows.{end}.{number}")?;
+    let host = free_host(rt)?;
+    let text = PROFILE.replace(rt.alloc(), "HOST", host.as_str())?;
+    fill(rt, folder.as_str(), text.as_str())?;
+    let profile = format!(in rt.alloc(); "{}/mini.toml", folder.as_str())?;
+    Ok(Site {
+        folder,
+        profile,
+        host,
+    })
 }
 
-/// Makes the site of a test, one of whose files is written anew.
-pub(crate) fn make_site(rt: &HostRuntime, file: &str, content: &str) -> Option<Site> {
-    let folder = make_folder(rt, "omaha_rows")?;
-    let host = free_host(rt).ok()?;
-    let site = Site { folder, host };
-    fill(rt, &site, file, content).ok()?;
-    Some(site)
+fn strings(alloc: Global, words: &[&str]) -> Result<Vec<String>, AllocError> {
+    let mut strings = Vec::new(alloc);
+    for word in words {
+        strings.push(String::from_str(alloc, word)?)?;
+    }
+    Ok(strings)
+}
+
+/// Runs the program with an output that takes so many bytes, and returns its status, its output and what it reports.
+pub(crate) fn run_within<
+    R: Net<Listener = TcpListener, Stream = TcpStream> + Clock + Files + Wait + AllocGlobal,
+>(rt: &R, words: &[&str], left: usize) -> Option<String> {
+    let alloc = rt.alloc();
+    let words = strings(alloc, words).ok()?;
+    let mut written = Narrow {
+        bytes: Vec::new(alloc),
+        left,
+    };
+    let mut told = Vec::new(alloc);
+    let status = run(rt, &words, &mut b"".as_slice(), &mut written, &mut told);
+    let written = String::from_utf8(written.bytes).ok()?;
+    let told = String::from_utf8(told).ok()?;
+    format!(in alloc; "{status} {written}{told}").ok()
+}
+
+/// Runs the program with an output that takes all bytes.
+pub(crate) fn run_program<
+    R: Net<Listener = TcpListener, Stream = TcpStream> + Clock + Files + Wait + AllocGlobal,
+>(rt: &R, words: &[&str]) -> Option<String> {
+    run_within(rt, words, usize::MAX)
+}
+
+// Serves so many sessions of a site, with more arguments.
+fn serve_with<
+    R: Net<Listener = TcpListener, Stream = TcpStream> + Clock + Files + Wait + AllocGlobal,
+>(rt: &R, site: &Site, sessions: &str, more: &[&str]) -> Option<String> {
+    let mut words = Vec::new(rt.alloc());
+    let first = [
+        "serve",
+        "--profile",
+        site.profile.as_str(),
+        "--packages",
+        site.folder.as_str(),
+        "--listen",
+        site.host.as_str(),
+        "--sessions",
+        sessions,
+        "--timeout",
+        "20",
+    ];
+    words.extend_from_slice(&first).ok()?;
+    words.extend_from_slice(more).ok()?;
+    run_program(rt, words.as_slice())
+}
+
+/// Serves so many sessions of a site.
+pub(crate) fn serve<
+    R: Net<Listener = TcpListener, Stream = TcpStream> + Clock + Files + Wait + AllocGlobal,
+>(rt: &R, site: &Site, sessions: &str) -> Option<String> {
+    serve_with(rt, site, sessions, &[])
+}
+
+/// The same with a log.
+pub(crate) fn serve_logged<
+    R: Net<Listener = TcpListener, Stream = TcpStream> + Clock + Files + Wait + AllocGlobal,
+>(rt: &R, site: &Site, sessions: &str, log: &str) -> Option<String> {
+    serve_with(rt, site, sessions, &["--log", log])
 }

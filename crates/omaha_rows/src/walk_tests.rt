@@ -1,4 +1,47 @@
-use crate::runs::{Running, SAME, prints};
+use crate::client::connect;
+use crate::site::{Site, make_site, run_within, serve, write_file};
+use std::fs;
+use std::net::{Net, TcpListener, TcpStream};
+use std::rt::Files;
+use std::sync::Wait;
+use std::test::Fail;
+use std::thread::join;
+use std::time::Clock;
+
+// The fingerprint of the first release.
+const FIRST: &str = "1.ba7816bf8f01cfea414140de5dae2223b00361a396177a9cb410ff61f20015ad";
+
+// Walks as a client at a version, once the server listens, which takes a connection. The output takes so many bytes.
+fn walk_within<
+    R: Net<Listener = TcpListener, Stream = TcpStream> + Clock + Files + Wait + AllocGlobal,
+>(rt: &R, site: &Site, app: &str, version: &str, fp: &str, left: usize) -> Option<String> {
+    connect(rt, site.host.as_str())?;
+    let words = [
+        "walk",
+        "--to",
+        site.host.as_str(),
+        "--app",
+        app,
+        "--version",
+        version,
+        "--fp",
+        fp,
+        "--cohort",
+        "stable:0",
+    ];
+    run_within(rt, &words, left)
+}
+
+// Walks as such a client, with an output that takes all bytes.
+fn walk<R: Net<Listener = TcpListener, Stream = TcpStream> + Clock + Files + Wait + AllocGlobal>(
+    rt: &R,
+    site: &Site,
+    app: &str,
+    version: &str,
+    fp: &str,
+) -> Option<String> {
+    walk_within(rt, site, app, version, fp, usize::MAX)
+}
 
 // rule: Lines of a walk
 // rule: Lines of the totals
@@ -6,80 +49,119 @@ use crate::runs::{Running, SAME, prints};
 // rule: Walk
 // rule: Walk over one catalogue
 #[test]
-fn walks_from_nothing_by_the_fewest_bytes(rt: HostRuntime) {
-    let wanted =
-        "0 ready\nm0 14\n0 step 1 full 1.0 3\nstep 2 diff 2.0 10\nstep 3 diff 3.0 1\ndone 3 steps 14 bytes\n";
-    assert!(rt; prints(&rt, &rt, SAME, "8", "walk||mini||", wanted));
+fn walks_from_nothing_by_the_fewest_bytes(rt: HostRuntime) -> Result<(), Fail> {
+    let site = make_site(&rt, "nothing")?;
+    let (served, walked) = join(
+        &rt,
+        || serve(&rt, &site, "8"),
+        || walk(&rt, &site, "mini", "", ""),
+    );
+    fs::remove_dir_all(&rt, site.folder.as_str())?;
+    let walked = walked.ok_or("no walk")?;
+    assert_eq!(rt;
+        walked.as_str(),
+        "0 step 1 full 1.0 3\nstep 2 diff 2.0 10\nstep 3 diff 3.0 1\ndone 3 steps 14 bytes\n"
+    );
+    let served = served.ok_or("no server")?;
+    assert_eq!(rt; served.as_str(), "0 ready\nm0 14\n");
+    Ok(())
 }
-
-// A client at the first release of an app.
-const FIRST: &str =
-    "walk||MINI|1.0|1.ba7816bf8f01cfea414140de5dae2223b00361a396177a9cb410ff61f20015ad";
 
 // rule: Next ask
 // rule: Options of a walk
 // rule: Request of a client
 // rule: Walk over connections
 #[test]
-fn walks_by_differentials_from_a_fingerprint(rt: HostRuntime) {
-    let wanted = "0 ready\nm0 11\n0 step 1 diff 2.0 10\nstep 2 diff 3.0 1\ndone 2 steps 11 bytes\n";
-    assert!(rt; prints(&rt, &rt, SAME, "6", FIRST, wanted));
+fn walks_by_differentials_from_a_fingerprint(rt: HostRuntime) -> Result<(), Fail> {
+    let site = make_site(&rt, "fingerprint")?;
+    let (served, walked) = join(
+        &rt,
+        || serve(&rt, &site, "6"),
+        || walk(&rt, &site, "MINI", "1.0", FIRST),
+    );
+    fs::remove_dir_all(&rt, site.folder.as_str())?;
+    let walked = walked.ok_or("no walk")?;
+    assert_eq!(rt;
+        walked.as_str(),
+        "0 step 1 diff 2.0 10\nstep 2 diff 3.0 1\ndone 2 steps 11 bytes\n"
+    );
+    let served = served.ok_or("no server")?;
+    assert_eq!(rt; served.as_str(), "0 ready\nm0 11\n");
+    Ok(())
 }
 
 // rule: Walk of the program
 #[test]
-fn hears_no_reply_for_an_unknown_app(rt: HostRuntime) {
-    let wanted = "0 ready\nm0 0\n1 omaha: U2 Reply\n";
-    assert!(rt; prints(&rt, &rt, SAME, "2", "walk||nope|1.0|", wanted));
+fn hears_no_reply_for_an_unknown_app(rt: HostRuntime) -> Result<(), Fail> {
+    let site = make_site(&rt, "unknown")?;
+    let (served, walked) = join(
+        &rt,
+        || serve(&rt, &site, "2"),
+        || walk(&rt, &site, "nope", "1.0", ""),
+    );
+    fs::remove_dir_all(&rt, site.folder.as_str())?;
+    let walked = walked.ok_or("no walk")?;
+    assert_eq!(rt; walked.as_str(), "1 omaha: U2 Reply\n");
+    assert!(rt; served.is_some());
+    Ok(())
 }
 
 // rule: Printed walk
 #[test]
-fn keeps_its_place_at_a_package_that_is_cut(rt: HostRuntime) {
-    let wanted = "0 ready\nm0 11\n1 step 1 diff 2.0 10\nomaha: U3 BadLength\n";
-    assert!(rt; prints(&rt, &rt, ("mini-2-3.bin", "b"), "5", FIRST, wanted));
+fn keeps_its_place_at_a_package_that_is_cut(rt: HostRuntime) -> Result<(), Fail> {
+    let site = make_site(&rt, "cut")?;
+    write_file(&rt, site.folder.as_str(), "mini-2-3.bin", b"b")?;
+    let (served, walked) = join(
+        &rt,
+        || serve(&rt, &site, "5"),
+        || walk(&rt, &site, "mini", "1.0", FIRST),
+    );
+    fs::remove_dir_all(&rt, site.folder.as_str())?;
+    let walked = walked.ok_or("no walk")?;
+    assert_eq!(rt;
+        walked.as_str(),
+        "1 step 1 diff 2.0 10\nomaha: U3 BadLength\n"
+    );
+    assert!(rt; served.is_some());
+    Ok(())
 }
 
-// A row is how many bytes an output takes, between bars, how many sessions that needs, and what a walk of two steps prints: its line
-// breaks at its beginning or within it, of the first step and of the second one, and within the last line.
-const NARROW: [(&str, &str, &str); 6] = [
-    ("|0|", "3", "0 ready\nm0 10\n1 omaha: U5 Install\n"),
-    ("|6|", "3", "0 ready\nm0 10\n1 step 1omaha: U5 Install\n"),
+// A row is how many bytes an output takes, how many sessions that needs, and what a walk of two steps comes to: a line
+// breaks at its beginning or within it, of the first step, of the second one, and the last line.
+const NARROW: [(usize, &str, &str); 6] = [
+    (0, "3", "1 omaha: U5 Install\n"),
+    (6, "3", "1 step 1omaha: U5 Install\n"),
+    (19, "5", "1 step 1 diff 2.0 10\nomaha: U5 Install\n"),
     (
-        "|19|",
+        36,
         "5",
-        "0 ready\nm0 11\n1 step 1 diff 2.0 10\nomaha: U5 Install\n",
+        "1 step 1 diff 2.0 10\nstep 2 diff 3.0 1omaha: U5 Install\n",
     ),
     (
-        "|36|",
-        "5",
-        "0 ready\nm0 11\n1 step 1 diff 2.0 10\nstep 2 diff 3.0 1omaha: U5 Install\n",
-    ),
-    (
-        "|37|",
+        37,
         "6",
-        "0 ready\nm0 11\n1 step 1 diff 2.0 10\nstep 2 diff 3.0 1\nomaha: write\n",
+        "1 step 1 diff 2.0 10\nstep 2 diff 3.0 1\nomaha: write\n",
     ),
     (
-        "|41|",
+        41,
         "6",
-        "0 ready\nm0 11\n1 step 1 diff 2.0 10\nstep 2 diff 3.0 1\ndoneomaha: write\n",
+        "1 step 1 diff 2.0 10\nstep 2 diff 3.0 1\ndoneomaha: write\n",
     ),
 ];
 
-// Whether a walk whose output takes so many bytes prints that.
-fn breaks<R: Running>(rt: &R, files: &HostRuntime, row: (&str, &str, &str)) -> bool {
-    let (left, sessions, wanted) = row;
-    match FIRST.replace(files.alloc(), "||", left) {
-        Ok(client) => prints(rt, files, SAME, sessions, client.as_str(), wanted),
-        Err(_) => false,
-    }
-}
-
 // rule: Printed walk
 #[test]
-fn commits_no_step_whose_line_breaks(rt: HostRuntime) {
-    for row in NARROW {
-        assert!(rt; breaks(&rt, &rt, row), "{}", row.2);
+fn commits_no_step_whose_line_breaks(rt: HostRuntime) -> Result<(), Fail> {
+    let site = make_site(&rt, "narrow")?;
+    for (left, sessions, wanted) in NARROW {
+        let (served, walked) = join(
+            &rt,
+            || serve(&rt, &site, sessions),
+            || walk_within(&rt, &site, "mini", "1.0", FIRST, left),
+        );
+        assert!(rt; served.is_some());
+        assert_eq!(rt; walked.as_deref(), Some(wanted), "{left} bytes");
     }
+    fs::remove_dir_all(&rt, site.folder.as_str())?;
+    Ok(())
 }
