@@ -7,5 +7,6 @@ pub mod ValidDiffLemmas
 pub mod ValidReleaseLemmas
 pub mod IndexLemmas
 pub mod PackageLemmas
+pub mod ShardLemmas
 pub mod ValidAppLemmas
 pub mod ValidityLemmas

@@ -4,8 +4,6 @@ use Rattle.std.specs.Prelude.{ℕ, ◌+◌, ◌≡◌, List, [], ◌∷◌, Opti
 use Rattle.catalogue.specs.Edits.{after, fault_of}
 use Rattle.records.specs.declared.content.App.{App}
 use Rattle.catalogue.specs.declared.edit.Edit.{Edit}
-use Rattle.catalogue.specs.declared.fault.ApplyError.{ApplyError}
-use Rattle.catalogue.specs.declared.fault.ApplyError.TheVariants as error
 use Rattle.catalogue.specs.declared.fault.Fault.{Fault}
 use Rattle.catalogue.specs.declared.fault.Refused.{Refused}
 
@@ -34,8 +32,3 @@ then_run run_on (Err refused) = Err refused
 abbrev pub run : List (List Edit) → List App → Result (List App) Refused
 run [] apps = Ok apps
 run (batch ∷ batches) apps = then_run (run batches) (outcome batch apps)
-
--- an error is the outcome's, or memory ran out
-abbrev pub Explains : ApplyError → Result (List App) Refused → Type 0
-Explains (error.Refused refused) result = result ≡ Err refused
-Explains error.Memory result = Unit {0}

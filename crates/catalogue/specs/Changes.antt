@@ -1,6 +1,6 @@
 -- The kinds of change that an edit may make of a content, an equation each; this project's profile.
 use Rattle.std.specs.Prelude.{ℕ, Bool, false, List, [], ◌∷◌, ◌++◌, if◌then◌else◌, None}
-use Rattle.version.specs.Versions.{is_below, lenient_version_of}
+use Rattle.version.specs.Versions.{is_below, lenient_version_of, zero_version}
 use Rattle.records.specs.Forms.{hash_named}
 use Rattle.records.specs.Lookups.{is_app, is_cohort, is_pair_below, is_release, pair_of}
 use Rattle.values.specs.Lists.{change}
@@ -28,7 +28,7 @@ abbrev pub new_app : AddApp → App
 new_app e =
     record { id = e.app; cohorts = new_cohort e.default ∷ []; releases = []; diffs = [] }
 
--- a release at its first values: no flags, open to all cohorts
+-- a release at its first values: no flags, open to all cohorts, no floor
 abbrev pub new_release : AddRelease → Release
 new_release e =
     record {
@@ -40,6 +40,7 @@ new_release e =
       stone = false;
       withdrawn = false;
       audience = None;
+      floor = zero_version;
     }
 
 -- a differential

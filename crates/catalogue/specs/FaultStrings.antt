@@ -4,8 +4,6 @@ use Rattle.std.specs.Prelude.{ℕ, List, ◌++◌, codes, decimal}
 use Rattle.catalogue.specs.declared.fault.Fault.{Fault}
 use Rattle.catalogue.specs.declared.fault.Fault.TheVariants as fault
 use Rattle.catalogue.specs.declared.fault.Refused.{Refused}
-use Rattle.catalogue.specs.declared.fault.ApplyError.{ApplyError}
-use Rattle.catalogue.specs.declared.fault.ApplyError.TheVariants as error
 
 -- rule: Printed fault of an edit
 -- a fault's code and name
@@ -31,8 +29,3 @@ fault_string fault.Limit = codes "C17 Limit"
 -- a rejected edit's index and fault, as `edit 12: C11 UnknownRelease`
 abbrev pub refused_string : Refused → List ℕ
 refused_string refused = codes "edit " ++ decimal refused.index ++ codes ": " ++ fault_string refused.fault
-
--- the rejected edit, or `memory`
-abbrev pub error_string : ApplyError → List ℕ
-error_string (error.Refused refused) = refused_string refused
-error_string error.Memory = codes "memory"

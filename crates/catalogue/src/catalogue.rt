@@ -1,16 +1,17 @@
 ghost use Rattle.std.specs.Prelude.{◌≡◌, ◌<◌, [], length, slice_get, IfOk, IfErr, OnOk, OnErr, Some, Ok, position};
-ghost use Rattle.catalogue.specs.Batches.{Explains, outcome};
+ghost use Rattle.catalogue.specs.Batches.{outcome};
 ghost use Rattle.records.specs.Validity.{IsValid};
 ghost use Rattle.records.specs.Lookups.{cohorts_at, declared_of, diffs_at, has_hash, is_app, is_cohort, is_diff, is_release, releases_at};
+ghost use Rattle.values.specs.Reading.{Explains};
 
 use crate::draft::Draft;
 use crate::edit::Batch;
-use crate::fault::ApplyError;
+use crate::fault::Refused;
 use crate::package_index::PackageIndex;
 use records::{App, Cohort, Declared, Diff, Release, lookup};
 use std::alloc::{AllocError, Global};
 use std::marker::Model;
-use values::Items;
+use values::{Items, ReadError};
 use version::Version;
 
 /// The apps of a vendor, which contracts see as their list.
@@ -51,7 +52,7 @@ impl Catalogue {
     ///
     /// Each edit is tested against the content that those before it leave. The error names the first
     /// rejected edit and its first fault. After any error the catalogue is unchanged.
-    pub fn apply(&mut self, batch: &Batch) -> Result<(), ApplyError>
+    pub fn apply(&mut self, batch: &Batch) -> Result<(), ReadError<Refused>>
         ensures ok { OnOk result (outcome batch.now self.old ≡ Ok self.new) }
 
         ensures refused { IfErr result (λ e. Explains e (outcome batch.now self.old)) }
@@ -65,7 +66,7 @@ impl Catalogue {
     /// Makes the catalogue that a batch leads to, and leaves this one as it is.
     ///
     /// Its errors are those of `apply`.
-    pub fn applied(&self, batch: &Batch) -> Result<Catalogue, ApplyError>
+    pub fn applied(&self, batch: &Batch) -> Result<Catalogue, ReadError<Refused>>
         ensures ok { IfOk result (λ next. outcome batch.now self.now ≡ Ok next) }
         ensures refused { IfErr result (λ e. Explains e (outcome batch.now self.now)) }
     {

@@ -16,7 +16,7 @@ use crate::edits::releases::AddRelease;
 use records::form::hash_named;
 use records::{App, Cohort, Diff, Release, lookup};
 use std::alloc::{AllocError, Global};
-use values::{Items, Text};
+use values::{Items, SharedItems, Text};
 use version::Version;
 
 fn new_cohort(name: Text) -> Cohort
@@ -38,11 +38,13 @@ pub(crate) fn new_app(alloc: Global, edit: &AddApp) -> Result<App, AllocError>
     let mut cohorts = Items::empty(alloc);
     cohorts.push(new_cohort(edit.default.clone()?))?;
     let id = edit.app.clone()?;
+    let releases = SharedItems::empty(alloc)?;
+    let diffs = SharedItems::empty(alloc)?;
     Ok(App {
         id,
         cohorts,
-        releases: Items::empty(alloc),
-        diffs: Items::empty(alloc),
+        releases,
+        diffs,
     })
 }
 
@@ -61,6 +63,7 @@ pub(crate) fn new_release(edit: &AddRelease) -> Result<Release, AllocError>
         stone: false,
         withdrawn: false,
         audience: None,
+        floor: Version::zero(),
     })
 }
 
@@ -84,7 +87,7 @@ pub(crate) fn added_cohort(edit: &AddCohort) -> Result<Cohort, AllocError>
     Ok(new_cohort(edit.cohort.clone()?))
 }
 
-fn place(releases: &mut Items<Release>, release: Release) -> Result<(), AllocError>
+fn place(releases: &mut SharedItems<Release>, release: Release) -> Result<(), AllocError>
     requires { ascend is_release_below releases.old ≡ true }
     ensures { OnOk result (releases.new ≡ placed release releases.old) }
 {
@@ -92,7 +95,7 @@ fn place(releases: &mut Items<Release>, release: Release) -> Result<(), AllocErr
     releases.insert(index, release)
 }
 
-fn place_diff(diffs: &mut Items<Diff>, diff: Diff) -> Result<(), AllocError>
+fn place_diff(diffs: &mut SharedItems<Diff>, diff: Diff) -> Result<(), AllocError>
     requires { ascend is_diff_before diffs.old ≡ true }
     ensures { OnOk result (diffs.new ≡ placed_diff diff diffs.old) }
 {
@@ -156,22 +159,34 @@ pub(crate) fn add_cohort_to(
     Ok(())
 }
 
-fn index_of_release(releases: &Items<Release>, version: &Version) -> Option<usize>
+fn index_of_release(releases: &SharedItems<Release>, version: &Version) -> Option<usize>
     requires { ascend is_release_below releases.now ≡ true }
     ensures { result ≡ position (is_release version.now) releases.now }
 {
     lookup::index_of_release(releases.as_slice(), version)
 }
 
-fn set_in_releases(releases: &mut Items<Release>, version: &Version, setting: ReleaseSetting)
+fn clone_release(release: &Release) -> Result<Release, AllocError>
+    ensures { IfOk result (λ copy. copy ≡ release.now) }
+{
+    release.clone()
+}
+
+fn set_in_releases(
+    releases: &mut SharedItems<Release>,
+    version: &Version,
+    setting: ReleaseSetting,
+) -> Result<(), AllocError>
     requires { ascend is_release_below releases.old ≡ true }
-    ensures { releases.new
-        ≡ change (is_release version.now) (with_release_setting setting) releases.old }
+    ensures { OnOk result (releases.new
+        ≡ change (is_release version.now) (with_release_setting setting) releases.old) }
 {
     if let Some(index) = index_of_release(releases, version) {
-        let release = releases.item_mut(index);
-        setting.set(release);
+        let mut release = clone_release(&releases.as_slice()[index])?;
+        setting.set(&mut release);
+        releases.replace(index, release)?;
     }
+    Ok(())
 }
 
 pub(crate) fn set_release_in_apps(
@@ -179,15 +194,16 @@ pub(crate) fn set_release_in_apps(
     id: &Text,
     version: &Version,
     setting: ReleaseSetting,
-)
+) -> Result<(), AllocError>
     requires { IsValid apps.old }
-    ensures { apps.new
-        ≡ change (is_app id.now) (in_release version.now (with_release_setting setting)) apps.old }
+    ensures { OnOk result (apps.new
+        ≡ change (is_app id.now) (in_release version.now (with_release_setting setting)) apps.old) }
 {
     if let Some(index) = index_of_app(apps, id) {
         let app = apps.item_mut(index);
-        set_in_releases(&mut app.releases, version, setting);
+        set_in_releases(&mut app.releases, version, setting)?;
     }
+    Ok(())
 }
 
 fn set_in_cohorts(cohorts: &mut Items<Cohort>, name: &Text, setting: CohortSetting)

@@ -3,7 +3,7 @@
 ghost use Rattle.std.specs.Prelude.{◌≡◌, None, Ok, Some, true, false, OnOk, OnErr, IfOk, IfErr};
 ghost use Rattle.std.specs.Option.{is_none};
 ghost use Rattle.version.specs.Versions.{lenient_version_of, version_of};
-ghost use Rattle.catalogue.specs.Batches.{Explains, outcome};
+ghost use Rattle.catalogue.specs.Batches.{outcome};
 ghost use Rattle.catalogue.specs.Changes.{NewApp, NewCohort, NewDiff, NewRelease, SetsCohort, SetsRelease, changed};
 ghost use Rattle.catalogue.specs.Draft.{Becomes, Indexes, IsIndexed};
 ghost use Rattle.catalogue.specs.Edits.{after, fault_of};
@@ -12,6 +12,7 @@ ghost use Rattle.catalogue.specs.Edits.Releases.{tests_of_add_release};
 ghost use Rattle.catalogue.specs.Faults.{first_fault};
 ghost use Rattle.records.specs.Lookups.{app_of, has_cohort, has_release};
 ghost use Rattle.values.specs.Ordered.{ascend};
+ghost use Rattle.values.specs.Reading.{Explains};
 ghost use Rattle.records.specs.Validity.{IsValid, is_diff_before, is_release_below};
 ghost use Rattle.catalogue.specs.declared.fault.Fault.TheVariants.{BadVersion, UnknownApp, UnknownCohort, UnknownRelease};
 
@@ -26,11 +27,11 @@ use crate::edits::cohorts::AddCohort;
 use crate::edits::diffs::AddDiff;
 use crate::edits::release_settings::ReleaseSetting;
 use crate::edits::releases::AddRelease;
-use crate::fault::{ApplyError, Fault, Refused};
+use crate::fault::{Fault, Refused};
 use crate::package_index::PackageIndex;
 use records::{App, Declared, lookup};
 use std::alloc::{AllocError, Global};
-use values::{Items, Text};
+use values::{Items, ReadError, Text};
 use version::Version;
 
 /// Tests that an app has a cohort of the name, else returns `UnknownCohort`.
@@ -175,15 +176,21 @@ impl Draft {
         Ok(())
     }
 
-    fn set_release(&mut self, id: &Text, version: &Text, setting: ReleaseSetting)
+    fn set_release(
+        &mut self,
+        id: &Text,
+        version: &Text,
+        setting: ReleaseSetting,
+    ) -> Result<(), AllocError>
         requires indexed { IsIndexed self.old }
         requires valid { IsValid self.old.apps }
-        ensures { Becomes
+        ensures { OnOk result (Becomes
             self.new
-            (changed (SetsRelease id.now (lenient_version_of version.now) setting) self.old.apps) }
+            (changed (SetsRelease id.now (lenient_version_of version.now) setting) self.old.apps)) }
     {
         let version = Version::lenient(version.as_str());
-        set_release_in_apps(&mut self.apps, id, &version, setting);
+        set_release_in_apps(&mut self.apps, id, &version, setting)?;
+        Ok(())
     }
 
     fn set_cohort(&mut self, id: &Text, cohort: &Text, setting: CohortSetting)
@@ -208,13 +215,13 @@ impl Draft {
             Edit::AddRelease(edit) => self.add_release(edit)?,
             Edit::AddDiff(edit) => self.add_diff(edit)?,
             Edit::SetStone(edit) => {
-                self.set_release(&edit.app, &edit.version, ReleaseSetting::Stone(edit.on))
+                self.set_release(&edit.app, &edit.version, ReleaseSetting::Stone(edit.on))?
             }
             Edit::SetWithdrawn(edit) => {
-                self.set_release(&edit.app, &edit.version, ReleaseSetting::Withdrawn(edit.on))
+                self.set_release(&edit.app, &edit.version, ReleaseSetting::Withdrawn(edit.on))?
             }
             Edit::SetAudience(edit) => {
-                self.set_release(&edit.app, &edit.version, edit.setting()?)
+                self.set_release(&edit.app, &edit.version, edit.setting()?)?
             }
             Edit::AddCohort(edit) => self.add_cohort(edit)?,
             Edit::SetTarget(edit) => self.set_cohort(&edit.app, &edit.cohort, edit.setting()),
@@ -234,7 +241,7 @@ impl Draft {
     /// Performs edits in order, up to the first that is rejected.
     ///
     /// After an error the draft is of no use.
-    pub(crate) fn run(&mut self, edits: &[Edit]) -> Result<(), ApplyError>
+    pub(crate) fn run(&mut self, edits: &[Edit]) -> Result<(), ReadError<Refused>>
         requires indexed { IsIndexed self.old }
         requires valid { IsValid self.old.apps }
         ensures ok { OnOk result (outcome edits.now self.old.apps ≡ Ok self.new.apps) }
@@ -246,7 +253,7 @@ impl Draft {
         version::laws::spellings();
         for (index, edit) in edits.iter().enumerate() {
             if let Err(fault) = edit.check(self) {
-                return Err(ApplyError::Refused(Refused { index, fault }));
+                return Err(ReadError::Fault(Refused { index, fault }));
             }
             self.perform(edit)?;
         }

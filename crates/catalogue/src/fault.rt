@@ -1,7 +1,6 @@
 ghost use Rattle.std.specs.Prelude.{Some};
-ghost use Rattle.catalogue.specs.FaultStrings.{fault_string, refused_string, error_string};
+ghost use Rattle.catalogue.specs.FaultStrings.{fault_string, refused_string};
 
-use std::alloc::AllocError;
 use std::error::Error;
 use std::fmt;
 
@@ -53,15 +52,6 @@ pub struct Refused {
     pub fault: Fault,
 }
 
-/// Why a batch was not applied.
-#[derive(Clone, Copy, Debug, PartialEq, Eq)]
-pub enum ApplyError {
-    /// An edit was rejected.
-    Refused(Refused),
-    /// Out of memory.
-    Memory,
-}
-
 // rule: Printed fault of an edit
 impl fmt::Display for Fault {
     ghost output = { λ f. Some (fault_string f) };
@@ -99,30 +89,6 @@ impl fmt::Display for Refused {
     }
 }
 
-impl fmt::Display for ApplyError {
-    ghost output = { λ e. Some (error_string e) };
-
-    fn fmt<W: fmt::Write>(&self, f: &mut fmt::Formatter<W>) -> fmt::Result {
-        match self {
-            ApplyError::Refused(refused) => write!(f, "{refused}"),
-            ApplyError::Memory => write!(f, "memory"),
-        }
-    }
-}
-
 impl Error for Fault {}
 
 impl Error for Refused {}
-
-impl Error for ApplyError {}
-
-impl From<AllocError> for ApplyError {
-    ghost use Rattle.std.specs.Prelude.{◌≡◌};
-    ghost use Rattle.catalogue.specs.declared.fault.ApplyError.TheVariants.{Memory};
-
-    ghost from_gives = { λ _ e. e ≡ Memory };
-
-    fn from(_refused: AllocError) -> ApplyError {
-        ApplyError::Memory
-    }
-}

@@ -27,7 +27,7 @@ pub use crate::edits::cohorts::AddCohort;
 pub use crate::edits::diffs::AddDiff;
 pub use crate::edits::release_settings::{ReleaseSetting, SetAudience, SetStone, SetWithdrawn};
 pub use crate::edits::releases::AddRelease;
-pub use crate::fault::{ApplyError, Fault, Refused};
+pub use crate::fault::{Fault, Refused};
 pub use records::form::is_cohort_name;
 pub use records::{App, Cohort, Declared, Diff, Mirror, Release};
 pub use version::Version;

@@ -3,13 +3,14 @@
 use crate::lines::{apply_lines, batch_of, catalogue_of};
 use crate::rows::check;
 use crate::shown::shown;
-use catalogue::{ApplyError, Batch, Catalogue};
+use catalogue::{Batch, Catalogue, Refused};
 use std::alloc::{AllocError, Global};
 use std::process::Abort;
 use std::test::Fail;
+use values::ReadError;
 
 // Applies the edits that semicolons separate, each in a batch of its own.
-fn apply_each(alloc: Global, catalogue: &mut Catalogue, edits: &str) -> Result<(), ApplyError> {
+fn apply_each(alloc: Global, catalogue: &mut Catalogue, edits: &str) -> Result<(), ReadError<Refused>> {
     for edit in edits.split(';') {
         apply_lines(alloc, catalogue, edit)?;
     }
@@ -17,7 +18,7 @@ fn apply_each(alloc: Global, catalogue: &mut Catalogue, edits: &str) -> Result<(
 }
 
 // The content that one batch of lines makes, and then the edits.
-fn content_after(alloc: Global, lines: &str, edits: &str) -> Result<String, ApplyError> {
+fn content_after(alloc: Global, lines: &str, edits: &str) -> Result<String, ReadError<Refused>> {
     let mut catalogue = catalogue_of(alloc, lines)?;
     apply_each(alloc, &mut catalogue, edits)?;
     Ok(shown(alloc, &catalogue)?)
@@ -54,7 +55,7 @@ diff 2.0 3.0 demo-2.0-3.0.bin 200 35
 diff 2.0 10.0 demo-2.0-10.0.bin 500 36
 ";
 
-fn staged(alloc: Global) -> Result<String, ApplyError> {
+fn staged(alloc: Global) -> Result<String, ReadError<Refused>> {
     let catalogue = catalogue_of(alloc, STAGED)?;
     Ok(shown(alloc, &catalogue)?)
 }
@@ -133,17 +134,17 @@ fn copied_batch(alloc: Global) -> Result<Batch, AllocError> {
     batch.copy()
 }
 
-fn catalogue_of_copy(alloc: Global) -> Result<Catalogue, ApplyError> {
+fn catalogue_of_copy(alloc: Global) -> Result<Catalogue, ReadError<Refused>> {
     let batch = copied_batch(alloc)?;
     Catalogue::empty(alloc).applied(&batch)
 }
 
-fn copied_catalogue(alloc: Global) -> Result<Catalogue, ApplyError> {
+fn copied_catalogue(alloc: Global) -> Result<Catalogue, ReadError<Refused>> {
     let catalogue = catalogue_of_copy(alloc)?;
     Ok(catalogue.copy()?)
 }
 
-fn copied_content(alloc: Global) -> Result<String, ApplyError> {
+fn copied_content(alloc: Global) -> Result<String, ReadError<Refused>> {
     let catalogue = copied_catalogue(alloc)?;
     Ok(shown(alloc, &catalogue)?)
 }

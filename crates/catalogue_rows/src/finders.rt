@@ -2,10 +2,11 @@
 
 use crate::lines::catalogue_of;
 use crate::rows::{three_parts, two_parts};
-use catalogue::{ApplyError, Catalogue};
+use catalogue::{Catalogue, Refused};
 use std::alloc::Global;
 use std::process::Abort;
 use std::test::Fail;
+use values::ReadError;
 use version::Version;
 
 // A second app, whose higher release is added first.
@@ -19,7 +20,7 @@ add_diff other 1.9 2.0 other-1.9-2.0.bin 2 5555555555555555555555555555555555555
 add_diff other 1.8 2.0 other-1.8-2.0.bin 4 5555555555555555555555555555555555555555555555555555555555555555
 add_cohort other beta";
 
-fn two_apps(alloc: Global) -> Result<Catalogue, ApplyError> {
+fn two_apps(alloc: Global) -> Result<Catalogue, ReadError<Refused>> {
     catalogue_of(alloc, TWO_APPS)
 }
 

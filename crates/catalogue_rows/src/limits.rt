@@ -2,10 +2,11 @@
 
 use crate::lines::{apply_lines, catalogue_of, outcome_of};
 use crate::rows::{check, three_parts};
-use catalogue::{ApplyError, Catalogue};
+use catalogue::{Catalogue, Refused};
 use std::alloc::{AllocError, Global};
 use std::process::Abort;
 use std::test::Fail;
+use values::ReadError;
 
 // What a catalogue of no apps returns for a batch.
 fn outcome(alloc: Global, lines: &str) -> Result<String, AllocError> {
@@ -127,7 +128,7 @@ fn push_diffs(lines: &mut String, count: u32) -> Result<(), AllocError> {
 }
 
 // An app with as many differentials as there may be.
-fn full(alloc: Global) -> Result<Catalogue, ApplyError> {
+fn full(alloc: Global) -> Result<Catalogue, ReadError<Refused>> {
     let mut lines = String::new(alloc);
     push_diffs(&mut lines, 16384)?;
     catalogue_of(alloc, lines.as_str())

@@ -3,11 +3,11 @@
 // another name adds an app without an identifier, which every catalogue rejects.
 
 use catalogue::{
-    AddApp, AddCohort, AddDiff, AddRelease, ApplyError, Batch, Catalogue, Edit, SetAudience,
+    AddApp, AddCohort, AddDiff, AddRelease, Batch, Catalogue, Edit, Refused, SetAudience,
     SetOpen, SetRollback, SetShare, SetStone, SetTarget, SetWithdrawn,
 };
 use std::alloc::{AllocError, Global};
-use values::{Items, Text};
+use values::{Items, ReadError, Text};
 
 fn push_copy(alloc: Global, words: &mut Items<Text>, word: &str) -> Result<(), AllocError> {
     let word = if word == "_" { "" } else { word };
@@ -216,13 +216,13 @@ pub(crate) fn apply_lines(
     alloc: Global,
     catalogue: &mut Catalogue,
     lines: &str,
-) -> Result<(), ApplyError> {
+) -> Result<(), ReadError<Refused>> {
     let batch = batch_of(alloc, lines)?;
     catalogue.apply(&batch)
 }
 
 /// The catalogue that one batch of such edits makes.
-pub(crate) fn catalogue_of(alloc: Global, lines: &str) -> Result<Catalogue, ApplyError> {
+pub(crate) fn catalogue_of(alloc: Global, lines: &str) -> Result<Catalogue, ReadError<Refused>> {
     let mut catalogue = Catalogue::empty(alloc);
     apply_lines(alloc, &mut catalogue, lines)?;
     Ok(catalogue)
@@ -231,10 +231,11 @@ pub(crate) fn catalogue_of(alloc: Global, lines: &str) -> Result<Catalogue, Appl
 /// How applying ends, as a line.
 pub(crate) fn outcome_of(
     alloc: Global,
-    applied: Result<(), ApplyError>,
+    applied: Result<(), ReadError<Refused>>,
 ) -> Result<String, AllocError> {
     match applied {
         Ok(()) => String::from_str(alloc, "accepted"),
-        Err(error) => format!(in alloc; "{error}"),
+        Err(ReadError::Fault(refused)) => format!(in alloc; "{refused}"),
+        Err(ReadError::Memory) => String::from_str(alloc, "memory"),
     }
 }

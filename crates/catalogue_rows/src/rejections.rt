@@ -2,10 +2,11 @@
 
 use crate::lines::{apply_lines, catalogue_of, outcome_of};
 use crate::rows::check;
-use catalogue::{ApplyError, Catalogue, Fault, Refused};
+use catalogue::{Catalogue, Fault, Refused};
 use std::alloc::{AllocError, Global};
 use std::process::Abort;
 use std::test::Fail;
+use values::ReadError;
 
 // Two releases, a differential between them, and two cohorts, one of them at 2.0.
 const SMALL: &str = "add_app mini stable
@@ -34,7 +35,7 @@ fn rejects_row(
     Ok(())
 }
 
-fn rejects(rt: &impl Abort, alloc: Global, rows: &str) -> Result<(), ApplyError> {
+fn rejects(rt: &impl Abort, alloc: Global, rows: &str) -> Result<(), ReadError<Refused>> {
     let mut catalogue = catalogue_of(alloc, SMALL)?;
     for row in rows.lines() {
         rejects_row(rt, alloc, &mut catalogue, row)?;
@@ -137,21 +138,15 @@ C14 UnknownCohort | set_open mini gamma on";
     Ok(())
 }
 
-fn prints(rt: &impl Abort, alloc: Global, error: ApplyError, text: &str) -> Result<(), AllocError> {
-    let printed = format!(in alloc; "{error}")?;
-    check(rt, printed.as_str(), text, text);
-    Ok(())
-}
-
 // rule: Printed fault of an edit
 #[test]
-fn prints_errors_with_their_codes(rt: HostRuntime) -> Result<(), Fail> {
+fn prints_a_rejected_edit(rt: HostRuntime) -> Result<(), Fail> {
     let refused = Refused {
         index: 12,
         fault: Fault::UnknownRelease,
     };
-    let error = ApplyError::Refused(refused);
-    prints(&rt, rt.alloc(), error, "edit 12: C11 UnknownRelease")?;
-    prints(&rt, rt.alloc(), ApplyError::Memory, "memory")?;
+    let text = format!(in rt.alloc(); "{refused}")?;
+    let wanted = "edit 12: C11 UnknownRelease";
+    check(&rt, text.as_str(), wanted, wanted);
     Ok(())
 }

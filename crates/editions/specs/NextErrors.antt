@@ -1,10 +1,11 @@
 -- The error of an edition that a catalogue's error is.
-use Rattle.catalogue.specs.declared.fault.ApplyError.{ApplyError}
-use Rattle.catalogue.specs.declared.fault.ApplyError.TheVariants as apply
+use Rattle.catalogue.specs.declared.fault.Refused.{Refused}
 use Rattle.editions.specs.declared.fault.NextError.{NextError}
 use Rattle.editions.specs.declared.fault.NextError.TheVariants as error
+use Rattle.values.specs.declared.read_error.ReadError.{ReadError}
+use Rattle.values.specs.declared.read_error.ReadError.TheVariants as errors
 
 -- the same rejected edit, or out of memory
-abbrev pub next_error_of : ApplyError → NextError
-next_error_of (apply.Refused refused) = error.Refused refused
-next_error_of apply.Memory = error.Memory
+abbrev pub next_error_of : ReadError Refused → NextError
+next_error_of (errors.Fault refused) = error.Refused refused
+next_error_of errors.Memory = error.Memory

@@ -1,10 +1,11 @@
 ghost use Rattle.std.specs.Prelude.{Some};
 ghost use Rattle.editions.specs.FaultStrings.{error_string};
 
-use catalogue::{ApplyError, Refused};
+use catalogue::Refused;
 use std::alloc::{AllocError, AllocFailed};
 use std::error::Error;
 use std::fmt;
+use values::ReadError;
 
 /// Why an edition has no next one with a batch.
 ///
@@ -34,16 +35,16 @@ impl fmt::Display for NextError {
 
 impl Error for NextError {}
 
-impl From<ApplyError> for NextError {
+impl From<ReadError<Refused>> for NextError {
     ghost use Rattle.std.specs.Prelude.{◌≡◌};
     ghost use Rattle.editions.specs.NextErrors.{next_error_of};
 
     ghost from_gives = { λ refused e. e ≡ next_error_of refused };
 
-    fn from(refused: ApplyError) -> NextError {
+    fn from(refused: ReadError<Refused>) -> NextError {
         match refused {
-            ApplyError::Refused(refused) => NextError::Refused(refused),
-            ApplyError::Memory => NextError::Memory,
+            ReadError::Fault(refused) => NextError::Refused(refused),
+            ReadError::Memory => NextError::Memory,
         }
     }
 }

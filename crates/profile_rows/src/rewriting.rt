@@ -2,19 +2,20 @@
 
 ghost use Rattle.profile_toml.specs.Laws.{AreMirrors};
 
-use catalogue::{ApplyError, Batch, Catalogue, Mirror};
+use catalogue::{Batch, Catalogue, Mirror, Refused};
 use profile_toml::read_profile;
 use profile_writer::write_profile;
 use std::alloc::Global;
 use std::process::Abort;
 use std::test::Fail;
+use values::ReadError;
 
-fn catalogue_of(alloc: Global, batch: &Batch) -> Result<Catalogue, ApplyError> {
+fn catalogue_of(alloc: Global, batch: &Batch) -> Result<Catalogue, ReadError<Refused>> {
     Catalogue::empty(alloc).applied(batch)
 }
 
 // Writes the catalogue of a batch.
-fn written(alloc: Global, batch: &Batch, mirrors: &[Mirror]) -> Result<Vec<u8>, ApplyError>
+fn written(alloc: Global, batch: &Batch, mirrors: &[Mirror]) -> Result<Vec<u8>, ReadError<Refused>>
     requires { AreMirrors mirrors.now }
 {
     let catalogue = catalogue_of(alloc, batch)?;

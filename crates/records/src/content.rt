@@ -2,7 +2,7 @@ ghost use Rattle.std.specs.Prelude.{◌≡◌, IfOk, position};
 ghost use Rattle.records.specs.Lookups.{is_release};
 
 use std::alloc::AllocError;
-use values::{Items, Text};
+use values::{Items, SharedItems, Text};
 use version::Version;
 
 /// An app with all that the catalogue holds of it.
@@ -13,29 +13,16 @@ pub struct App {
     /// Its cohorts in the order of their addition, the default cohort first; 1 to 32.
     pub cohorts: Items<Cohort>,
     /// Its releases by ascending version; at most 512.
-    pub releases: Items<Release>,
+    pub releases: SharedItems<Release>,
     /// Its differentials by ascending `from`, then by ascending `to`; at most 16384.
-    pub diffs: Items<Diff>,
+    pub diffs: SharedItems<Diff>,
 }
 
-// The derived clones of the fields, each with its equation, which the clone of an app rests on.
-
+// The derived clone of the cohorts, with its equation, which the clone of an app rests on.
 fn clone_cohorts(cohorts: &Items<Cohort>) -> Result<Items<Cohort>, AllocError>
     ensures { IfOk result (λ copy. copy ≡ cohorts.now) }
 {
     cohorts.clone()
-}
-
-fn clone_releases(releases: &Items<Release>) -> Result<Items<Release>, AllocError>
-    ensures { IfOk result (λ copy. copy ≡ releases.now) }
-{
-    releases.clone()
-}
-
-fn clone_diffs(diffs: &Items<Diff>) -> Result<Items<Diff>, AllocError>
-    ensures { IfOk result (λ copy. copy ≡ diffs.now) }
-{
-    diffs.clone()
 }
 
 impl Clone for App {
@@ -46,8 +33,8 @@ impl Clone for App {
     fn clone(&self) -> Result<App, AllocError> {
         let id = self.id.clone()?;
         let cohorts = clone_cohorts(&self.cohorts)?;
-        let releases = clone_releases(&self.releases)?;
-        let diffs = clone_diffs(&self.diffs)?;
+        let releases = self.releases.clone()?;
+        let diffs = self.diffs.clone()?;
         Ok(App {
             id,
             cohorts,
@@ -88,6 +75,8 @@ pub struct Release {
     pub withdrawn: bool,
     /// The names of the cohorts that it is open to; all cohorts if there is none.
     pub audience: Option<Items<Text>>,
+    /// Its floor: the lowest version that it may be taken from; 0 if any version may take it.
+    pub floor: Version,
 }
 
 /// A differential package, which leads from one release of an app to a higher one.

@@ -1,7 +1,8 @@
 //! Strings, lists and errors of readers, as every other crate's contracts see them.
 //!
 //! A `Text` holds a `String` and is seen as its bytes; `Items` hold a `Vec` and are seen as its
-//! list. So plain structs of them are compared by content, and never by capacity or address. A
+//! list; so are `SharedItems`, which their clones share. So plain structs of them are compared by
+//! content, and never by capacity or address. A
 //! `ReadError` is a reader's fault, or out of memory; `Reads` of `specs/Reading.antt` says that a
 //! reader gives what a definition gives. `specs/Lists.antt` and `specs/Ordered.antt` define what the
 //! standard library lacks of lists, and `proofs/` has their lemmas.
@@ -12,8 +13,10 @@
 
 mod items;
 mod read_error;
+mod shared_items;
 mod text;
 
 pub use crate::items::Items;
 pub use crate::read_error::ReadError;
+pub use crate::shared_items::SharedItems;
 pub use crate::text::Text;

@@ -65,11 +65,15 @@ components_of form text =
 unfoldable pub version_of : List ℕ → Option (List ℕ × ℕ)
 version_of text = components_of Plain text
 
+-- the lowest version
+abbrev pub zero_version : List ℕ
+zero_version = replicate 16 0
+
 -- rule: Version of a client's string
 -- the version that a client's string counts as: `0` where it spells none
 unfoldable pub lenient_version_of : List ℕ → List ℕ
 lenient_version_of text =
-    unwrap_or (option_map (λ read. read.0) (components_of Lenient text)) (replicate 16 0)
+    unwrap_or (option_map (λ read. read.0) (components_of Lenient text)) zero_version
 
 -- rule: Order of versions
 -- whether a version is below another: the first numbers that differ decide

@@ -1,5 +1,5 @@
 ghost use Rattle.std.specs.Prelude.{◌≡◌, ◌↔◌, ◌≤◌, IsTrue, Some, bytes_eq, length};
-ghost use Rattle.version.specs.Versions.{is_below, lenient_version_of, printed, version_of, zeros_at_end};
+ghost use Rattle.version.specs.Versions.{is_below, lenient_version_of, printed, version_of, zero_version, zeros_at_end};
 
 use crate::parse::{COMPONENTS, Form, read};
 use std::fmt;
@@ -26,6 +26,15 @@ impl Model for Version {
 }
 
 impl Version {
+    /// The lowest version: each of its components is 0.
+    pub fn zero() -> Version
+        ensures { result ≡ zero_version }
+    {
+        Version {
+            components: [0; COMPONENTS],
+        }
+    }
+
     // rule: Version of a publisher's string
     /// Reads a version as a publisher writes it, and counts its components.
     ///

@@ -7,11 +7,11 @@ use Rattle.records.specs.Lookups.{is_app}
 use Rattle.records.specs.declared.content.Release.{Release}
 use Rattle.catalogue.proofs.change.set_release_in_apps.Goals as goal
 
-pub returns-in-Some : goal.returns-in-Some
-returns-in-Some c =
+pub returns-in_ok-set_in_releases : goal.returns-in_ok-set_in_releases
+returns-in_ok-set_in_releases c =
     let app = c.item_mut-app.result.now in
     change-Some (is_app c.args.id.now) (in_release c.args.version.now (with_release_setting c.args.setting)) c.args.apps.now c.in-Some.index app _ (sym c.in-Some.ensures) c.item_mut-app.ensures.value
-    (ap (λ (releases : List Release). record app { releases = releases }) c.set_in_releases.ensures)
+    (ap (λ (releases : List Release). record app { releases = releases }) c.in_ok-set_in_releases.ensures)
 
 pub returns-in_default : goal.returns-in_default
 returns-in_default c =

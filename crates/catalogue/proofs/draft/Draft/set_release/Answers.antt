@@ -14,7 +14,7 @@ returns c =
     let version = lenient_version_of c.args.version.now in
     let new = c.args.setting in
     let content : c.set_release_in_apps.new.apps ≡ change (is_app id) (in_release version (with_release_setting new)) apps =
-    c.set_release_in_apps.ensures
+    c.in_ok-set_release_in_apps.ensures
     ∙ ap (λ (v : List ℕ). change (is_app id) (in_release v (with_release_setting new)) apps) (c.lenient-version.ensures ∙ ap lenient_version_of c.as_str.ensures) in
     record {
       content = content;

@@ -1,6 +1,0 @@
-use Rattle.catalogue.proofs.IndexLemmas.{get_by_text-clone}
-use Rattle.catalogue.proofs.package_index.PackageIndex.copy.Goals as goal
-
-pub returns : goal.returns
-returns c = λ name.
-    get_by_text-clone _ (λ v w same. same) c.args.self.now.declared c.in_ok-declared.declared c.in_ok-declared.ensures.cases name
