@@ -1,7 +1,7 @@
 ghost use Rattle.std.specs.Prelude.{◌≡◌, ◌+◌, ◌++◌, [], OnOk, is_ok, if◌then◌else◌};
 ghost use Rattle.update_client.specs.Installing.{committed, uncommitted};
 
-use crate::link::Failed;
+use values::Failed;
 use values::Text;
 
 /// One accepted offer.
