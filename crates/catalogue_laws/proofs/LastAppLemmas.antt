@@ -22,7 +22,7 @@ use Rattle.records.specs.Limits.{max_apps, max_cohorts, max_diffs, max_releases,
 use Rattle.records.specs.Lookups.{app_of, declared_of, has_cohort, has_diff, has_hash, has_release, is_app}
 use Rattle.records.specs.Validity.{is_valid_audience}
 use Rattle.records.specs.declared.content.App.{App}
-use Rattle.records.specs.declared.content.Declared.{Declared}
+use Rattle.values.specs.declared.declared.Declared.{Declared}
 use Rattle.catalogue.specs.declared.edit.Edit.TheVariants as edit
 use Rattle.catalogue.specs.declared.edits.apps.AddApp.{AddApp}
 use Rattle.catalogue.specs.declared.edits.cohort_settings.SetOpen.{SetOpen}

@@ -18,7 +18,7 @@ use Rattle.records.specs.Validity.{is_package, spells}
 use Rattle.values.specs.Lists.{IsOnce}
 use Rattle.records.specs.declared.content.App.{App}
 use Rattle.records.specs.declared.content.Cohort.{Cohort}
-use Rattle.records.specs.declared.content.Declared.{Declared}
+use Rattle.values.specs.declared.declared.Declared.{Declared}
 use Rattle.records.specs.declared.content.Diff.{Diff}
 use Rattle.records.specs.declared.content.Release.{Release}
 use Rattle.catalogue.specs.declared.edits.diffs.AddDiff.{AddDiff}

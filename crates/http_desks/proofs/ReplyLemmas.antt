@@ -14,7 +14,7 @@ use Rattle.values.specs.declared.failed.Failed.{Failed}
 use Rattle.http_wire.proofs.KnownLemmas.{Appends-then, AppendsPart-then}
 use Rattle.http_desks.specs.declared.answering.Handled.{Handled}
 use Rattle.http_desks.specs.declared.answering.Handled.TheVariants.{Answered, Cut}
-use Rattle.http_desks.specs.declared.desk.Declared.{Declared}
+use Rattle.values.specs.declared.declared.Declared.{Declared}
 use Rattle.http_desks.specs.Calls.{Call}
 use Rattle.http_desks.specs.Uses.{Mismatched, Read, Broken, Use}
 use Rattle.http_desks.specs.Replies.{Answers, Fetches, head_lines}

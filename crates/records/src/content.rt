@@ -110,12 +110,3 @@ pub struct Cohort {
     /// Whether a client's hint may name it.
     pub hintable: bool,
 }
-
-/// What the catalogue declares of a package: its bytes and its SHA-256.
-#[derive(Clone, Copy, Debug, PartialEq, Eq)]
-pub struct Declared {
-    /// How many bytes the package has, 1 to 2^40.
-    pub size: u64,
-    /// The SHA-256 of the package.
-    pub hash: [u8; 32],
-}
