@@ -37,7 +37,7 @@ PROGRAM = r"""//! Makes the graph or the table of a track again and again.
 ghost use Rattle.std.specs.Prelude.{◌<◌, length};
 
 use catalogue::{
-    AddApp, AddCohort, AddDiff, AddRelease, ApplyError, Batch, Catalogue, Edit, SetTarget,
+    AddApp, AddCohort, AddDiff, AddRelease, Batch, Catalogue, Edit, Refused, SetTarget,
 };
 use cohorts::Lane;
 use par_tables::{TrackTables, tables};
@@ -46,7 +46,7 @@ use payload_graph::TrackKey;
 use solver::solve;
 use std::alloc::{AllocError, Global};
 use std::io;
-use values::Text;
+use values::{ReadError, Text};
 
 fn id_of(alloc: Global, app: u64) -> Result<Text, AllocError> {
     Ok(Text::new(format!(in alloc; "demo{app}")?))
@@ -256,17 +256,17 @@ fn listed(alloc: Global, catalogue: &Catalogue, turns: u64) -> Result<u64, Alloc
     Ok(count_in(lists.as_slice()))
 }
 
-fn catalogue_of(alloc: Global, apps: u64, cohorts: u64, releases: u64) -> Result<Catalogue, ApplyError> {
+fn catalogue_of(alloc: Global, apps: u64, cohorts: u64, releases: u64) -> Result<Catalogue, ReadError<Refused>> {
     let batch = batch_of(alloc, apps, cohorts, releases)?;
     Catalogue::empty(alloc).applied(&batch)
 }
 
-fn run_all(alloc: Global, releases: u64, turns: u64) -> Result<u64, ApplyError> {
+fn run_all(alloc: Global, releases: u64, turns: u64) -> Result<u64, ReadError<Refused>> {
     let catalogue = catalogue_of(alloc, 64, 32, releases)?;
     Ok(listed(alloc, &catalogue, turns)?)
 }
 
-fn run_one(alloc: Global, mode: &str, releases: u64, turns: u64) -> Result<u64, ApplyError> {
+fn run_one(alloc: Global, mode: &str, releases: u64, turns: u64) -> Result<u64, ReadError<Refused>> {
     let catalogue = catalogue_of(alloc, 1, 1, releases)?;
     let count = match mode {
         "whole" => whole(alloc, &catalogue, turns)?,
@@ -277,7 +277,7 @@ fn run_one(alloc: Global, mode: &str, releases: u64, turns: u64) -> Result<u64, 
     Ok(count)
 }
 
-fn run(alloc: Global, mode: &str, releases: u64, turns: u64) -> Result<u64, ApplyError> {
+fn run(alloc: Global, mode: &str, releases: u64, turns: u64) -> Result<u64, ReadError<Refused>> {
     match mode {
         "listed" => run_all(alloc, releases, turns),
         _ => run_one(alloc, mode, releases, turns),

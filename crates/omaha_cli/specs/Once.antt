@@ -42,6 +42,7 @@ abbrev pub service_by : Result Profile ProfileFault → Result Service Failure
 service_by (Ok profile) = or_edit (service_of profile)
 service_by (Err fault) = Err (failure.Profile fault)
 
+-- rule: Service of a profile
 -- the service of a profile's bytes; its first fault, or the first of its edits that is rejected
 abbrev pub service_of_bytes : List ℕ → Result Service Failure
 service_of_bytes text = service_by (profile_of_bytes text)

@@ -16,7 +16,6 @@ abbrev pub service_if : Profile → Result (List App) Refused → Result Service
 service_if profile (Ok apps) = Ok (record { edition = profile.0 ∷ []; mirrors = profile.1 })
 service_if profile (Err refused) = Err refused
 
--- rule: Service of a profile
 -- the service of a profile's edits and mirrors, or its first edit that is rejected
 abbrev pub service_of : Profile → Result Service Refused
 service_of profile = service_if profile (outcome profile.0 [])

@@ -38,7 +38,6 @@ pub fn builtin_service(alloc: Global) -> Result<Service, AllocError>
     })
 }
 
-// rule: Service of a profile
 /// Makes the service of a profile's edits and mirrors.
 ///
 /// Fails with the first of the edits that the empty catalogue rejects.
