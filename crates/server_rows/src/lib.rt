@@ -41,6 +41,7 @@ mod one_worker;
 #[cfg(test)]
 mod opened;
 #[cfg(test)]
+mod pins;
 mod plans;
 #[cfg(test)]
 mod publishing;
