@@ -22,6 +22,7 @@ mod chains;
 mod cohort_texts;
 #[cfg(test)]
 mod connection;
+mod crossing;
 #[cfg(test)]
 mod descriptions;
 #[cfg(test)]
