@@ -5,9 +5,10 @@ use Rattle.std.specs.Str.{bytes_eq}
 use Rattle.std.proofs.lemmas.Grind.{flat_map-append}
 use Rattle.std.proofs.lemmas.List.{append-nil}
 use Rattle.std.proofs.lemmas.Slice.Eq.{bytes_eq-Decides}
-use Rattle.version.specs.Laws.{LenientAgrees}
+use Rattle.version.specs.Laws.{LenientAgrees, PrintIsPlain}
 use Rattle.catalogue.proofs.Accepted.Apps.{TakesApp}
 use Rattle.catalogue.proofs.Accepted.Diffs.{TakesDiff}
+use Rattle.catalogue.proofs.Accepted.ReleaseSettings.{IsSpelledFloor}
 use Rattle.catalogue.proofs.Accepted.Releases.{TakesRelease}
 use Rattle.values.proofs.ChangedLemmas.{AllByRecursion-change, AllByRecursion-push, count_by-change, length-change}
 use Rattle.catalogue.proofs.FitLemmas.{Fits, Fits-accepted}
@@ -17,17 +18,20 @@ use Rattle.values.proofs.InsertedLemmas.{IsOnce-Inserts, count_by-none, length-I
 use Rattle.values.proofs.InsertionLemmas.{Inserts-push, flat_map-change}
 use Rattle.records.proofs.KeyLemmas.{VersionLaws}
 use Rattle.catalogue.proofs.PackageLemmas.{Inserts-packages_of, Inserts-packages_of-diff, packages_in-in_release}
-use Rattle.catalogue.proofs.ValidAppLemmas.{IsValidApp-in_cohort, IsValidApp-in_release, IsValidApp-new_app, IsValidApp-with_cohort, IsValidApp-with_diff, IsValidApp-with_release}
+use Rattle.catalogue.proofs.ValidAppLemmas.{IsValidApp-in_cohort, IsValidApp-in_release, IsValidApp-new_app, IsValidApp-with_cohort, IsValidApp-with_diff, IsValidApp-with_release, spells-printed}
 use Rattle.catalogue.specs.Changes.{Change, NewApp, NewCohort, NewDiff, NewRelease, SetsCohort, SetsRelease, changed, in_cohort, in_release, new_app, new_cohort, new_diff, new_release, with_cohort, with_diff, with_release, with_release_setting, with_setting}
 use Rattle.values.specs.Lists.{change}
 use Rattle.catalogue.specs.Edits.{after, change_of, fault_of}
 use Rattle.records.specs.Forms.{same_id}
 use Rattle.records.specs.Lookups.{app_of, diff_package, full_package, is_app, packages_in, packages_of}
-use Rattle.records.specs.Validity.{IsValid, IsValidApp, is_package}
+use Rattle.records.specs.Validity.{IsValid, IsValidApp, has_valid_floor, is_package}
 use Rattle.records.specs.declared.content.App.{App}
+use Rattle.records.specs.declared.content.Release.{Release}
 use Rattle.catalogue.specs.declared.edit.Edit.{Edit}
 use Rattle.catalogue.specs.declared.edits.apps.AddApp.{AddApp}
 use Rattle.catalogue.specs.declared.edits.diffs.AddDiff.{AddDiff}
+use Rattle.catalogue.specs.declared.edits.release_settings.ReleaseSetting.{ReleaseSetting}
+use Rattle.catalogue.specs.declared.edits.release_settings.ReleaseSetting.TheVariants as setting
 use Rattle.catalogue.specs.declared.edits.releases.AddRelease.{AddRelease}
 
 -- identifiers that name one app count the same apps
@@ -109,7 +113,16 @@ IsValid-empty = record {
   apps_valid = tt;
 }
 
-module _ (laws : VersionLaws) (agrees : LenientAgrees) where
+-- a setting leaves a release a valid floor
+has_valid_floor-with_release_setting :
+    LenientAgrees → PrintIsPlain → (new : ReleaseSetting) → IsSpelledFloor new →
+    (release : Release) → has_valid_floor release ≡ true →
+    has_valid_floor (with_release_setting new release) ≡ true
+has_valid_floor-with_release_setting agrees plain (setting.Floor floor) spelled release good =
+    rw spelled.2 (spells-printed agrees plain spelled.0 spelled.1)
+has_valid_floor-with_release_setting agrees plain new spelled release good = good
+
+module _ (laws : VersionLaws) (agrees : LenientAgrees) (plain : PrintIsPlain) where
   IsValid-changed :
       (apps : List App) (c : Change) → Fits apps c → IsValid apps → IsValid (changed c apps)
   IsValid-changed apps (NewApp e) takes valid = IsValid-add_app apps e takes valid
@@ -124,7 +137,8 @@ module _ (laws : VersionLaws) (agrees : LenientAgrees) where
       let names = takes.names in
       IsValid-change id (in_release version f) apps names.app names.found (λ app. refl)
       (packages_in-in_release version new)
-      (IsValidApp-in_release version f names.app (version-with_release_setting new) (hash-with_release_setting new) takes.keeps) valid
+      (IsValidApp-in_release version f names.app (version-with_release_setting new) (hash-with_release_setting new) takes.keeps
+      (has_valid_floor-with_release_setting agrees plain new takes.spelled)) valid
   IsValid-changed apps (SetsCohort id name new) takes valid =
       let names = takes.names in
       IsValid-change id (in_cohort name (with_setting new)) apps names.app names.found (λ app. refl) (λ app. refl)
