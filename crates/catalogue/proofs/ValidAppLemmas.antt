@@ -98,12 +98,17 @@ spells-printed agrees plain text spelled =
     ap (λ o. option_map_or (λ (r : List ℕ × ℕ). bytes_eq r.0 version) o false) (plain text version some.0.1 some.1)
     ∙ (bytes_eq-Decides version version).1 refl)
 
--- the floor of a new release
-spells-zero_version : spells (printed zero_version) zero_version ≡ true
-unfolding printed version_of components_of
-spells-zero_version = refl
+-- `0` spells the floor of a new release
+version_of-zero : version_of (48 ∷ []) ≡ Some (zero_version, 1)
+unfolding version_of components_of
+version_of-zero = refl
 
-module _ (laws : VersionLaws) (agrees : LenientAgrees) where
+spells-zero_version : PrintIsPlain → spells (printed zero_version) zero_version ≡ true
+spells-zero_version plain =
+    ap (λ o. option_map_or (λ (r : List ℕ × ℕ). bytes_eq r.0 zero_version) o false) (plain (48 ∷ []) zero_version 1 version_of-zero)
+    ∙ (bytes_eq-Decides zero_version zero_version).1 refl
+
+module _ (laws : VersionLaws) (agrees : LenientAgrees) (plain : PrintIsPlain) where
   pub IsValidApp-with_release :
       (apps : List App) (e : AddRelease) (takes : TakesRelease apps e) →
       IsValidApp takes.app →
@@ -125,7 +130,7 @@ module _ (laws : VersionLaws) (agrees : LenientAgrees) where
             (λ hash same. ap (λ h. count_by (has_hash h) app.releases) ((bytes_eq-Decides hash release.hash).0 same) ∙ count_by-none (has_hash release.hash) app.releases takes.new_hash);
         releases_valid = list_all-Inserts (is_valid_release app.cohorts) release app.releases (placed release app.releases) among valid.releases_valid
             (and_from _ _ (and_from _ _ (and_from _ _ (and_from _ _ (spells-lenient agrees e.version takes.spelled) takes.named) takes.sized) (is_hash-hash_named e.sha256 takes.hashed)) refl);
-        floors_valid = list_all-Inserts has_valid_floor release app.releases (placed release app.releases) among valid.floors_valid spells-zero_version;
+        floors_valid = list_all-Inserts has_valid_floor release app.releases (placed release app.releases) among valid.floors_valid (spells-zero_version plain);
         few_diffs = valid.few_diffs;
         diffs_ascend = valid.diffs_ascend;
         diffs_valid = list_all-weaker (is_valid_diff app.releases) (is_valid_diff (placed release app.releases))

@@ -57,9 +57,9 @@ IsValid-add_app apps e takes valid =
     }
 
 IsValid-add_release :
-    VersionLaws → LenientAgrees → (apps : List App) (e : AddRelease) → TakesRelease apps e → IsValid apps →
+    VersionLaws → LenientAgrees → PrintIsPlain → (apps : List App) (e : AddRelease) → TakesRelease apps e → IsValid apps →
     IsValid (change (is_app e.app) (with_release (new_release e)) apps)
-IsValid-add_release laws agrees apps e takes valid =
+IsValid-add_release laws agrees plain apps e takes valid =
     let release = new_release e in
     let changed = with_release release in
     record {
@@ -69,13 +69,13 @@ IsValid-add_release laws agrees apps e takes valid =
           (λ name same.
           ap (λ (n : List ℕ). count_by (is_package n) (packages_of apps)) ((bytes_eq-Decides name release.name).0 same)
           ∙ count_by-none (is_package release.name) (packages_of apps) (list_any-lookup (bytes_eq release.name) (packages_of apps) takes.new_name));
-      apps_valid = AllByRecursion-change (is_app e.app) changed IsValidApp apps takes.app takes.found valid.apps_valid (IsValidApp-with_release laws agrees apps e takes);
+      apps_valid = AllByRecursion-change (is_app e.app) changed IsValidApp apps takes.app takes.found valid.apps_valid (IsValidApp-with_release laws agrees plain apps e takes);
     }
 
 IsValid-add_diff :
-    VersionLaws → LenientAgrees → (apps : List App) (e : AddDiff) → TakesDiff apps e → IsValid apps →
+    VersionLaws → LenientAgrees → PrintIsPlain → (apps : List App) (e : AddDiff) → TakesDiff apps e → IsValid apps →
     IsValid (change (is_app e.app) (with_diff (new_diff e)) apps)
-IsValid-add_diff laws agrees apps e takes valid =
+IsValid-add_diff laws agrees plain apps e takes valid =
     let diff = new_diff e in
     let changed = with_diff diff in
     record {
@@ -85,7 +85,7 @@ IsValid-add_diff laws agrees apps e takes valid =
           (λ name same.
           ap (λ (n : List ℕ). count_by (is_package n) (packages_of apps)) ((bytes_eq-Decides name diff.name).0 same)
           ∙ count_by-none (is_package diff.name) (packages_of apps) (list_any-lookup (bytes_eq diff.name) (packages_of apps) takes.new_name));
-      apps_valid = AllByRecursion-change (is_app e.app) changed IsValidApp apps takes.app takes.found valid.apps_valid (IsValidApp-with_diff laws agrees apps e takes);
+      apps_valid = AllByRecursion-change (is_app e.app) changed IsValidApp apps takes.app takes.found valid.apps_valid (IsValidApp-with_diff laws agrees plain apps e takes);
     }
 
 -- a change of an app that keeps its identifier and its packages and keeps it valid
@@ -127,11 +127,11 @@ module _ (laws : VersionLaws) (agrees : LenientAgrees) (plain : PrintIsPlain) wh
       (apps : List App) (c : Change) → Fits apps c → IsValid apps → IsValid (changed c apps)
   IsValid-changed apps (NewApp e) takes valid = IsValid-add_app apps e takes valid
   IsValid-changed apps (NewRelease e) takes valid =
-      IsValid-add_release laws agrees apps e takes valid
+      IsValid-add_release laws agrees plain apps e takes valid
   IsValid-changed apps (NewCohort e) takes valid =
       IsValid-change e.app (with_cohort (new_cohort e.cohort)) apps takes.app takes.found (λ app. refl) (λ app. refl)
       (IsValidApp-with_cohort apps e takes) valid
-  IsValid-changed apps (NewDiff e) takes valid = IsValid-add_diff laws agrees apps e takes valid
+  IsValid-changed apps (NewDiff e) takes valid = IsValid-add_diff laws agrees plain apps e takes valid
   IsValid-changed apps (SetsRelease id version new) takes valid =
       let f = with_release_setting new in
       let names = takes.names in

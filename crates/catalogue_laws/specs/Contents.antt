@@ -67,7 +67,6 @@ abbrev pub edit_of_floor : App → Release → Edit
 edit_of_floor app release =
     edit.SetFloor (record { app = app.id; version = release.spelled; floor = printed release.floor })
 
--- rule: Floor of a release
 -- and only if it is not 0, which a new release has
 abbrev pub edits_of_floor : App → Release → List Edit
 edits_of_floor app release =

@@ -28,7 +28,6 @@ pub(crate) fn spelling<'r>(releases: &'r [Release], version: &Version) -> &'r st
     }
 }
 
-// rule: Floor of a release
 fn write_floor(
     alloc: Global,
     table: &mut TableWriter,

@@ -58,7 +58,6 @@ is_valid_release cohorts release =
     && is_hash release.hash
     && is_valid_audience cohorts release.audience
 
--- rule: Floor of a release
 -- a release's floor is one that an edit can set again: printed, it is a string that spells it
 abbrev pub has_valid_floor : Release → Bool
 has_valid_floor release = spells (printed release.floor) release.floor

@@ -75,7 +75,7 @@ pub struct Release {
     pub withdrawn: bool,
     /// The names of the cohorts that it is open to; all cohorts if there is none.
     pub audience: Option<Items<Text>>,
-    /// Its floor: the lowest version that it may be taken from; 0 if any version may take it.
+    /// Its floor: the lowest version that may take it; 0 if any may.
     pub floor: Version,
 }
 

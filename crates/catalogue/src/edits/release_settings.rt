@@ -54,15 +54,15 @@ pub struct SetAudience {
     pub cohorts: Option<Items<Text>>,
 }
 
-/// Sets the floor of a release: the lowest version that it may be taken from.
+/// Sets the floor of a release: the lowest version that may take it.
 #[derive(Clone, Drop)]
 pub struct SetFloor {
     /// The app's identifier, in any case.
     pub app: Text,
     /// The release's version.
     pub version: Text,
-    /// The lowest version that it may be taken from, from then on; `0` for any version. No release
-    /// needs to have this version, and it may be above the release's own.
+    /// The lowest version that may take it from then on; `0` if any may. No release needs to have this
+    /// version, and it may be above the release's own.
     pub floor: Text,
 }
 
