@@ -5,6 +5,7 @@ use Rattle.std.specs.Str.{bytes_eq}
 use Rattle.std.proofs.lemmas.Grind.{flat_map-append}
 use Rattle.std.proofs.lemmas.List.{append-nil, map-append}
 use Rattle.version.specs.Laws.{LenientAgrees}
+use Rattle.version.specs.Versions.{zero_version}
 use Rattle.hex.specs.Hex.{encode_lower}
 use Rattle.catalogue.proofs.ValidDiffLemmas.{ValidDiff}
 use Rattle.catalogue.proofs.ValidReleaseLemmas.{ValidRelease}
@@ -26,7 +27,8 @@ use Rattle.catalogue.specs.declared.edits.releases.AddRelease.{AddRelease}
 
 -- a release as it is when it is added
 abbrev pub bare_release : Release → Release
-bare_release release = record release { stone = false; withdrawn = false; audience = None }
+bare_release release =
+    record release { stone = false; withdrawn = false; audience = None; floor = zero_version }
 
 -- the edit that adds a release
 abbrev pub added : List ℕ → Release → AddRelease

@@ -55,7 +55,7 @@ fn is_wrong(alloc: Global, profile: &str, wanted: &str) -> bool {
 #[test]
 fn makes_no_service_of_a_rejected_profile(rt: HostRuntime) {
     assert!(rt; is_wrong(rt.alloc(), UNRELEASED, "edit 6: C11 UnknownRelease"));
-    assert!(rt; is_wrong(rt.alloc(), "schema = 2", "F2 BadSchema"));
+    assert!(rt; is_wrong(rt.alloc(), "schema = 3", "F2 BadSchema"));
 }
 
 #[test]
