@@ -128,7 +128,8 @@ fn permits_differ(releases: &[Release], cohort: &Cohort, target: &Version, diff:
     ensures { result ≡ permits_differ releases.now cohort.now target.now diff.now }
 {
     match find_end(releases, diff) {
-        Some(to) => is_offered_at(cohort, &diff.from, to) && leads_up(releases, target, &diff.from, &to.version),
+        Some(to) => is_offered_at(cohort, &diff.from, to)
+            && leads_up(releases, target, &diff.from, &to.version),
         None => false,
     }
 }

@@ -85,10 +85,10 @@ opens-both :
     opens from door ≡ opens (from + 1) door
 opens-both from door lower none = ap (λ b. b && door.offered) (elim (cases_lt from door.floor) [
   | inl above ↦ elim (cases_lt (from + 1) door.floor) [
-      | inl higher ↦ lt-leb door.floor from above ∙ sym (lt-leb door.floor (from + 1) higher)
-      | inr at ↦ absurd (false≢true (sym none
-      ∙ and_from (ltb door.to (from + 1)) (eqb (from + 1) door.floor) (lt-ltb door.to (from + 1) (omega arith)) (eq-eqb (from + 1) door.floor (omega arith))))
-    ]
+    | inl higher ↦ lt-leb door.floor from above ∙ sym (lt-leb door.floor (from + 1) higher)
+    | inr at ↦ absurd (false≢true (sym none
+        ∙ and_from (ltb door.to (from + 1)) (eqb (from + 1) door.floor) (lt-ltb door.to (from + 1) (omega arith)) (eq-eqb (from + 1) door.floor (omega arith))))
+  ]
   | inr low ↦ le-leb door.floor from low ∙ sym (le-leb door.floor (from + 1) (omega arith))
 ])
 
@@ -110,11 +110,11 @@ IsBest-before net rows from row numbered there none known =
     (All-from_get_or (λ (door : Door). opens from door ≡ opens (from + 1) door) (take from net.doors) no_door (λ k within.
     let size = length-take-le from net.doors (omega arith) in
     let at = get_or-take from net.doors k no_door (omega arith) in
+    let fits : k < length net.doors = omega arith in
+    let own = numbered k fits in
     subst (λ (door : Door). opens from door ≡ opens (from + 1) door) (sym at)
-    let within_all : k < length net.doors = omega arith in
-    let own = numbered k within_all in
     (opens-both from (get_or net.doors k no_door) (omega arith)
-    (each-fails (is_floor_of (from + 1)) net.doors none k no_door within_all)))))
+    (each-fails (is_floor_of (from + 1)) net.doors none k no_door fits)))))
     known
 
 -- on a track that rolls back, the doors below a release are all the lower ones

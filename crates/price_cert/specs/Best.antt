@@ -1,6 +1,6 @@
 -- The best payload of a list, by a table of prices: of the least sum, of those the one that leads highest,
 -- and of two of these the differential.
-use Rattle.std.specs.Prelude.{◌≡◌, ℕ, ◌+◌, ◌<◌, ◌≤◌, ◌==◌, ◌&&◌, ◌||◌, not, Bool, true, false, if◌then◌else◌, IfSome, List, [], length, nat_lt, slice_get, take, Option, None, Some}
+use Rattle.std.specs.Prelude.{◌≡◌, ℕ, ◌+◌, ◌-◌, ◌^◌, ◌<◌, ◌≤◌, ◌==◌, ◌&&◌, ◌||◌, not, Bool, true, false, if◌then◌else◌, IfSome, List, [], length, nat_lt, slice_get, take, Option, None, Some}
 use Rattle.std.specs.List.{list_all, list_any}
 use Rattle.std.specs.Option.{option_map_or}
 use Rattle.payload_graph.specs.Net.{Net, edges_from, full, opens, window}
@@ -75,7 +75,7 @@ pub record IsBest (rows : List Row) (edges : List Edge) (row : Row) : Type 0 whe
 
 -- the row that names the nearest destination; its sum is the largest number of 64 bits if there is none
 abbrev pub nearest_row : Nearest → Row
-nearest_row nearest = if nearest.sum == 18446744073709551615 then Nothing else Price nearest.sum Full nearest.to
+nearest_row nearest = if nearest.sum == (2 ^ 64 - 1) then Nothing else Price nearest.sum Full nearest.to
 
 -- a destination of a sum is nearer than the nearest one so far; of equal sums the higher one is
 abbrev pub is_nearer : Nearest → ℕ → ℕ → Bool

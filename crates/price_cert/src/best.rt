@@ -101,7 +101,7 @@ pub(crate) struct Nearest {
 pub(crate) fn nearest_row(nearest: Nearest) -> Row
     ensures { result ≡ nearest_row nearest }
 {
-    if nearest.sum == 18446744073709551615 {
+    if nearest.sum == u64::MAX {
         Row::Nothing
     } else {
         Row::Price {

@@ -39,7 +39,7 @@ fn best_through(rows: &[Row], from: usize, doors: &[Door]) -> Row
     ensures { IsBest rows.now (fulls from doors.now) result }
 {
     let mut nearest = Nearest {
-        sum: 18446744073709551615,
+        sum: u64::MAX,
         to: 0,
     };
     for door in doors {
