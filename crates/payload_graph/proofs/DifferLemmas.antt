@@ -1,5 +1,5 @@
 -- The reached differentials of an app are the permitted ones.
-use Rattle.std.proofs.Common.{◌≡◌, ℕ, ◌<◌, ◌&&◌, inl, inr, Bool, true, false, cond, List, [], ◌∷◌, length, get_or, ltb, map, refl, sym, ap, ◌∙◌, arith}
+use Rattle.std.proofs.Common.{◌≡◌, ℕ, ◌<◌, ◌&&◌, inl, inr, Bool, true, false, cond, List, [], ◌∷◌, length, get_or, leb, ltb, map, refl, sym, ap, ◌∙◌, arith}
 use Rattle.std.specs.List.{filter, list_all}
 use Rattle.std.specs.Option.{option_map_or}
 use Rattle.std.proofs.lemmas.Bool.{and_left, and_parts, and_right, cases_lt, le-leb, le-ltb, lt-leb, lt-ltb}
@@ -8,19 +8,21 @@ use Rattle.std.proofs.lemmas.Option.{slice_get-get_or}
 use Rattle.version.specs.Laws.{BelowIsIrreflexive, BelowIsTransitive}
 use Rattle.records.specs.Forms.{is_size}
 use Rattle.records.specs.Validity.{is_valid_diff}
+use Rattle.records.specs.Lookups.{place_of}
 use Rattle.records.specs.declared.content.App.{App}
 use Rattle.records.specs.declared.content.Cohort.{Cohort}
 use Rattle.records.specs.declared.content.Diff.{Diff}
 use Rattle.records.specs.declared.content.Release.{Release}
 use Rattle.payload_graph.specs.Chains.{index_of}
-use Rattle.payload_graph.specs.Permitted.{is_offered, leads_up, permits_differ}
+use Rattle.payload_graph.specs.Permitted.{is_offered, is_offered_at, leads_up, permits_differ}
 use Rattle.payload_graph.specs.declared.payload.TrackKey.{TrackKey}
 use Rattle.payload_graph.proofs.DoorLemmas.{get_or-doors_of}
+use Rattle.payload_graph.proofs.FloorLemmas.{and-swap, place_of-le}
 use Rattle.payload_graph.proofs.IndexLemmas.{IsIndex, IsIndex-released, find-index_of, index_of-below, released_one}
 use Rattle.payload_graph.proofs.OrderLemmas.{list_all-get_or}
 use Rattle.payload_graph.proofs.UpwardLemmas.{and-true, leads_up-above, leads_up-inside, leads_up-past}
 use Rattle.payload_graph.proofs.WalkLemmas.{AreValid, LeadsUp-good, ends_above, pairs_rise}
-use Rattle.payload_graph.specs.Net.{differs_of, doors_of, edge_of, net_of, net_with, resolved_of, version_of_index}
+use Rattle.payload_graph.specs.Net.{differs_of, doors_of, edge_of, net_of, opens, net_with, resolved_of, version_of_index}
 use Rattle.payload_graph.specs.Soundness.{AreResolved, is_reached, net_from, no_door, reach_of}
 use Rattle.payload_graph.specs.declared.door.Door.{Door}
 use Rattle.payload_graph.specs.declared.edge.Edge.{Edge}
@@ -106,37 +108,39 @@ module _ (irreflexive : BelowIsIrreflexive) (transitive : BelowIsTransitive) (ap
         by_rule :
             (diff : Diff) (d : Release) → IsIndex app.releases diff.from d → IsIndex app.releases diff.to d →
             permits_differ app.releases cohort (version_of_index app.releases target) diff
-            ≡ (is_offered cohort (get_or app.releases (index_of app.releases diff.to) d)
+            ≡ (is_offered_at cohort (get_or app.releases (index_of app.releases diff.from) d).version (get_or app.releases (index_of app.releases diff.to) d)
             && leads_up app.releases (get_or app.releases target d).version (get_or app.releases (index_of app.releases diff.from) d).version (get_or app.releases (index_of app.releases diff.to) d).version)
         by_rule diff d origin end =
             let there = get_or app.releases (index_of app.releases diff.to) d in
-            ap (λ found. option_map_or (λ (to : Release). is_offered cohort to && leads_up app.releases (version_of_index app.releases target) diff.from to.version) found false) (find-index_of app.releases diff.to d end)
-            ∙ ap (λ found. is_offered cohort there && leads_up app.releases (option_map_or (λ (r : Release). r.version) found []) diff.from there.version) (slice_get-get_or app.releases target d aimed)
-            ∙ ap (λ from. is_offered cohort there && leads_up app.releases (get_or app.releases target d).version from there.version) (sym origin.there)
+            ap (λ found. option_map_or (λ (to : Release). is_offered_at cohort diff.from to && leads_up app.releases (version_of_index app.releases target) diff.from to.version) found false) (find-index_of app.releases diff.to d end)
+            ∙ ap (λ found. is_offered_at cohort diff.from there && leads_up app.releases (option_map_or (λ (r : Release). r.version) found []) diff.from there.version) (slice_get-get_or app.releases target d aimed)
+            ∙ ap (λ from. is_offered_at cohort from there && leads_up app.releases (get_or app.releases target d).version from there.version) (sym origin.there)
 
         -- what its indexes say of it
         by_index :
             (diff : Diff) (d : Release) → IsIndex app.releases diff.from d → IsIndex app.releases diff.to d →
             index_of app.releases diff.from < index_of app.releases diff.to →
             is_reached target doors (edge_of app.releases diff)
-            ≡ (is_offered cohort (get_or app.releases (index_of app.releases diff.to) d)
+            ≡ (is_offered_at cohort (get_or app.releases (index_of app.releases diff.from) d).version (get_or app.releases (index_of app.releases diff.to) d)
             && leads_up app.releases (get_or app.releases target d).version (get_or app.releases (index_of app.releases diff.from) d).version (get_or app.releases (index_of app.releases diff.to) d).version)
         by_index diff d origin end less =
             let low = origin.within in
             let high = end.within in
-            let offered = ap (λ (door : Door). door.offered) (get_or-doors_of cohort app.releases (index_of app.releases diff.to) no_door d high) in
+            let offered = ap (opens (index_of app.releases diff.from)) (get_or-doors_of cohort app.releases (index_of app.releases diff.to) no_door d high)
+            ∙ and-swap (leb (place_of (get_or app.releases (index_of app.releases diff.to) d).floor app.releases) (index_of app.releases diff.from)) (is_offered cohort (get_or app.releases (index_of app.releases diff.to) d))
+            ∙ ap (λ b. is_offered cohort (get_or app.releases (index_of app.releases diff.to) d) && b) (place_of-le transitive app.releases d (get_or app.releases (index_of app.releases diff.to) d).floor (index_of app.releases diff.from) are.rises low) in
             elim (cases_lt target (index_of app.releases diff.from)) [
               | inl past ↦
                   and_left _ _ (lt-leb (index_of app.releases diff.from) target past)
                   ∙ sym (and_right _ _ (leads_up-past irreflexive transitive cohort app.releases d are.rises target (index_of app.releases diff.from) aimed (index_of app.releases diff.to) past low high))
               | inr below ↦
-                  ap (λ b. b && (ltb (index_of app.releases diff.to) (reach_of target doors (index_of app.releases diff.from)) && (get_or doors (index_of app.releases diff.to) no_door).offered)) (le-leb (index_of app.releases diff.from) target below)
+                  ap (λ b. b && (ltb (index_of app.releases diff.to) (reach_of target doors (index_of app.releases diff.from)) && opens (index_of app.releases diff.from) (get_or doors (index_of app.releases diff.to) no_door))) (le-leb (index_of app.releases diff.from) target below)
                   ∙ (elim (cases_lt (index_of app.releases diff.to) (reach_of target doors (index_of app.releases diff.from))) [
                     | inl reached ↦
-                        ap (λ b. b && (get_or doors (index_of app.releases diff.to) no_door).offered) (lt-ltb (index_of app.releases diff.to) (reach_of target doors (index_of app.releases diff.from)) reached)
+                        ap (λ b. b && opens (index_of app.releases diff.from) (get_or doors (index_of app.releases diff.to) no_door)) (lt-ltb (index_of app.releases diff.to) (reach_of target doors (index_of app.releases diff.from)) reached)
                         ∙ offered
-                        ∙ sym (and-true (is_offered cohort (get_or app.releases (index_of app.releases diff.to) d)))
-                        ∙ ap (λ b. is_offered cohort (get_or app.releases (index_of app.releases diff.to) d) && b) (sym (leads_up-inside irreflexive transitive cohort app.releases d are.rises target (index_of app.releases diff.from) aimed (index_of app.releases diff.to) below less reached))
+                        ∙ sym (and-true (is_offered_at cohort (get_or app.releases (index_of app.releases diff.from) d).version (get_or app.releases (index_of app.releases diff.to) d)))
+                        ∙ ap (λ b. is_offered_at cohort (get_or app.releases (index_of app.releases diff.from) d).version (get_or app.releases (index_of app.releases diff.to) d) && b) (sym (leads_up-inside irreflexive transitive cohort app.releases d are.rises target (index_of app.releases diff.from) aimed (index_of app.releases diff.to) below less reached))
                     | inr behind ↦
                         and_left _ _ (le-ltb (index_of app.releases diff.to) (reach_of target doors (index_of app.releases diff.from)) behind)
                         ∙ sym (and_right _ _ (leads_up-above irreflexive transitive cohort app.releases d are.rises target (index_of app.releases diff.from) aimed (index_of app.releases diff.to) below behind high))

@@ -118,3 +118,22 @@ filter-map_same {A} {B} p f true same (x ∷ xs) =
 filter-map_same {A} {B} p f false same (x ∷ xs) =
     ap (λ b. cond b (f x ∷ filter p (map f xs)) (filter p (map f xs))) (same x)
     ∙ filter-map_same p f false same xs
+
+-- two tests one after the other
+pub filter-filter :
+    {A : Type 0} (p q : A → Bool) (xs : List A) →
+    filter p (filter q xs) ≡ filter (λ x. p x && q x) xs
+filter-filter p q [] = refl
+filter-filter {A} p q (x ∷ xs) = cases (p x) (q x) refl (filter-filter p q xs)
+  where
+    cases :
+        (b d : Bool) → p x ≡ b → filter p (filter q xs) ≡ filter (λ y. p y && q y) xs →
+        filter p (cond d (x ∷ filter q xs) (filter q xs))
+        ≡ cond (b && d) (x ∷ filter (λ y. p y && q y) xs) (filter (λ y. p y && q y) xs)
+    cases true true here rest =
+        ap (λ b. cond b (x ∷ filter p (filter q xs)) (filter p (filter q xs))) here
+        ∙ ap (λ (ys : List A). x ∷ ys) rest
+    cases true false here rest = rest
+    cases false true here rest =
+        ap (λ b. cond b (x ∷ filter p (filter q xs)) (filter p (filter q xs))) here ∙ rest
+    cases false false here rest = rest

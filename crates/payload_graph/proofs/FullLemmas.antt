@@ -1,24 +1,26 @@
 -- The full packages of a window are the permitted ones.
-use Rattle.std.proofs.Common.{◌≡◌, ℕ, ◌+◌, ◌<◌, ◌≤◌, ◌&&◌, ◌||◌, inl, inr, Bool, true, false, cond, List, [], length, get_or, map, refl, sym, ap, ◌∙◌, arith}
+use Rattle.std.proofs.Common.{◌≡◌, ℕ, ◌+◌, ◌<◌, ◌≤◌, ◌&&◌, ◌||◌, inl, inr, Bool, true, false, cond, List, [], length, get_or, leb, map, refl, sym, ap, ◌∙◌, arith}
 use Rattle.std.specs.List.{filter}
 use Rattle.std.proofs.lemmas.Bool.{and_from, and_left, and_right, cases_lt, or_from}
 use Rattle.std.proofs.lemmas.Option.{get_or_from_slice_get, slice_get-get_or, slice_get_within}
 use Rattle.version.specs.Laws.{BelowIsIrreflexive, BelowIsTransitive}
 use Rattle.version.specs.Versions.{is_below}
+use Rattle.records.specs.Lookups.{place_of}
 use Rattle.records.specs.declared.content.App.{App}
 use Rattle.records.specs.declared.content.Cohort.{Cohort}
 use Rattle.records.specs.declared.content.Release.{Release}
-use Rattle.payload_graph.specs.Permitted.{is_offered, leads_down, leads_up, permits, permits_full, rolls_back}
+use Rattle.payload_graph.specs.Permitted.{is_offered, is_offered_at, leads_down, leads_up, permits, permits_full, rolls_back}
 use Rattle.payload_graph.specs.declared.payload.Payload.TheVariants.{Full}
 use Rattle.payload_graph.specs.declared.payload.TrackKey.{TrackKey}
 use Rattle.payload_graph.specs.declared.place.Place.TheVariants.{At}
 use Rattle.payload_graph.proofs.DoorLemmas.{get_or-doors_of, length-doors_of}
+use Rattle.payload_graph.proofs.FloorLemmas.{and-swap, place_of-le}
 use Rattle.payload_graph.proofs.NearerLemmas.{window-above, window-below}
 use Rattle.payload_graph.proofs.OrderLemmas.{below_at, not_below_at}
 use Rattle.payload_graph.proofs.RangeLemmas.{filter-between}
 use Rattle.payload_graph.proofs.UpwardLemmas.{and-true, leads_up-above, leads_up-below, leads_up-inside, leads_up-past}
 use Rattle.payload_graph.specs.Laws.{FullsArePermitted, IsTrack}
-use Rattle.payload_graph.specs.Net.{Net, between, doors_of, full, net_with, window}
+use Rattle.payload_graph.specs.Net.{Net, between, doors_of, full, net_with, opens, window}
 use Rattle.payload_graph.specs.Soundness.{no_door, reach_of}
 use Rattle.payload_graph.specs.declared.door.Door.{Door}
 use Rattle.payload_graph.specs.declared.edge.Edge.{Edge}
@@ -49,8 +51,8 @@ module _ (irreflexive : BelowIsIrreflexive) (transitive : BelowIsTransitive) (ap
   abbrev is_permitted : Door → Bool
   is_permitted door = permits app key (At from) (Full door.to)
 
-  abbrev is_door_offered : Door → Bool
-  is_door_offered door = door.offered
+  abbrev is_door_open : Door → Bool
+  is_door_open door = opens from door
 
   aimed : target < length app.releases
   aimed = slice_get_within app.releases target d track.release_there
@@ -68,7 +70,7 @@ module _ (irreflexive : BelowIsIrreflexive) (transitive : BelowIsTransitive) (ap
   permits-at :
       (to : ℕ) → to < length app.releases →
       permits app key (At from) (Full to)
-      ≡ (is_offered cohort (release to) && (up to || (rolls_back cohort key && down to)))
+      ≡ (is_offered_at cohort (release from).version (release to) && (up to || (rolls_back cohort key && down to)))
   permits-at to within =
       rw (track.cohort_there, track.targeted, slice_get-get_or app.releases to d within, slice_get-get_or app.releases from d there)
       (ap (λ (r : Release). permits_full app.releases cohort (rolls_back cohort key) r.version (release from).version (release to)) (sym at_target))
@@ -77,16 +79,18 @@ module _ (irreflexive : BelowIsIrreflexive) (transitive : BelowIsTransitive) (ap
   door-at :
       (k : ℕ) → k < length doors →
       is_permitted (get_or doors k no_door)
-      ≡ (is_offered cohort (release k) && (up k || (rolls_back cohort key && down k)))
+      ≡ (is_offered_at cohort (release from).version (release k) && (up k || (rolls_back cohort key && down k)))
   door-at k within =
       let sized = length-doors_of cohort app.releases in
       let fits : k < length app.releases = omega arith in
       ap is_permitted (get_or-doors_of cohort app.releases k no_door d fits) ∙ permits-at k fits
 
-  offered-at : (k : ℕ) → k < length doors → is_offered cohort (release k) ≡ is_door_offered (get_or doors k no_door)
+  offered-at : (k : ℕ) → k < length doors → is_offered_at cohort (release from).version (release k) ≡ is_door_open (get_or doors k no_door)
   offered-at k within =
       let sized = length-doors_of cohort app.releases in
-      sym (ap is_door_offered (get_or-doors_of cohort app.releases k no_door d (omega arith)))
+      ap (λ b. is_offered cohort (release k) && b) (sym (place_of-le transitive app.releases d (release k).floor from track.ascending there))
+      ∙ and-swap (is_offered cohort (release k)) (leb (place_of (release k).floor app.releases) from)
+      ∙ sym (ap is_door_open (get_or-doors_of cohort app.releases k no_door d (omega arith)))
 
   -- a door below the target isn't led down to
   not_down : (k : ℕ) → from ≤ target → down k ≡ false
@@ -94,20 +98,20 @@ module _ (irreflexive : BelowIsIrreflexive) (transitive : BelowIsTransitive) (ap
 
   filter-up :
       from ≤ target →
-      filter is_permitted doors ≡ filter is_door_offered (between (from + 1) (reach_of target doors from) doors)
+      filter is_permitted doors ≡ filter is_door_open (between (from + 1) (reach_of target doors from) doors)
   filter-up low =
-      filter-between is_permitted is_door_offered no_door doors (from + 1) (reach_of target doors from) (record {
+      filter-between is_permitted is_door_open no_door doors (from + 1) (reach_of target doors from) (record {
         below = λ k within less.
             let sized = length-doors_of cohort app.releases in
             door-at k within
-            ∙ no_line (is_offered cohort (release k)) (up k) (rolls_back cohort key) (down k) (leads_up-below irreflexive transitive cohort app.releases d track.ascending target from aimed k (omega arith) there) (and_right (rolls_back cohort key) (down k) (not_down k low));
+            ∙ no_line (is_offered_at cohort (release from).version (release k)) (up k) (rolls_back cohort key) (down k) (leads_up-below irreflexive transitive cohort app.releases d track.ascending target from aimed k (omega arith) there) (and_right (rolls_back cohort key) (down k) (not_down k low));
         above = λ k within more.
             let sized = length-doors_of cohort app.releases in
             door-at k within
-            ∙ no_line (is_offered cohort (release k)) (up k) (rolls_back cohort key) (down k) (leads_up-above irreflexive transitive cohort app.releases d track.ascending target from aimed k low more (omega arith)) (and_right (rolls_back cohort key) (down k) (not_down k low));
+            ∙ no_line (is_offered_at cohort (release from).version (release k)) (up k) (rolls_back cohort key) (down k) (leads_up-above irreflexive transitive cohort app.releases d track.ascending target from aimed k low more (omega arith)) (and_right (rolls_back cohort key) (down k) (not_down k low));
         inside = λ k within less more.
             door-at k within
-            ∙ up_line (is_offered cohort (release k)) (up k) (rolls_back cohort key && down k) (leads_up-inside irreflexive transitive cohort app.releases d track.ascending target from aimed k low (omega arith) more)
+            ∙ up_line (is_offered_at cohort (release from).version (release k)) (up k) (rolls_back cohort key && down k) (leads_up-inside irreflexive transitive cohort app.releases d track.ascending target from aimed k low (omega arith) more)
             ∙ offered-at k within;
       })
 
@@ -118,49 +122,49 @@ module _ (irreflexive : BelowIsIrreflexive) (transitive : BelowIsTransitive) (ap
 
   filter-down :
       target < from → rolls_back cohort key ≡ true →
-      filter is_permitted doors ≡ filter is_door_offered (between 0 from doors)
+      filter is_permitted doors ≡ filter is_door_open (between 0 from doors)
   filter-down past rolls =
-      filter-between is_permitted is_door_offered no_door doors 0 from (record {
+      filter-between is_permitted is_door_open no_door doors 0 from (record {
         below = λ k within less. absurd (omega arith);
         above = λ k within more.
             let sized = length-doors_of cohort app.releases in
             door-at k within
-            ∙ no_line (is_offered cohort (release k)) (up k) (rolls_back cohort key) (down k) (not_up k past within) (and_right (rolls_back cohort key) (down k) (and_right (is_below (release target).version (release from).version) (is_below (release k).version (release from).version) (not_below_at irreflexive transitive app.releases d k from track.ascending more (omega arith))));
+            ∙ no_line (is_offered_at cohort (release from).version (release k)) (up k) (rolls_back cohort key) (down k) (not_up k past within) (and_right (rolls_back cohort key) (down k) (and_right (is_below (release target).version (release from).version) (is_below (release k).version (release from).version) (not_below_at irreflexive transitive app.releases d k from track.ascending more (omega arith))));
         inside = λ k within less more.
             door-at k within
-            ∙ down_line (is_offered cohort (release k)) (up k) (rolls_back cohort key) (down k) (not_up k past within) rolls (and_from _ _ (below_at app.releases d target from track.ascending past there) (below_at app.releases d k from track.ascending more there))
+            ∙ down_line (is_offered_at cohort (release from).version (release k)) (up k) (rolls_back cohort key) (down k) (not_up k past within) rolls (and_from _ _ (below_at app.releases d target from track.ascending past there) (below_at app.releases d k from track.ascending more there))
             ∙ offered-at k within;
       })
 
   filter-nowhere :
       target < from → rolls_back cohort key ≡ false →
-      filter is_permitted doors ≡ filter is_door_offered (between 0 0 doors)
+      filter is_permitted doors ≡ filter is_door_open (between 0 0 doors)
   filter-nowhere past rolls =
-      filter-between is_permitted is_door_offered no_door doors 0 0 (record {
+      filter-between is_permitted is_door_open no_door doors 0 0 (record {
         below = λ k within less. absurd (omega arith);
         above = λ k within more.
-            door-at k within ∙ no_line (is_offered cohort (release k)) (up k) (rolls_back cohort key) (down k) (not_up k past within) (and_left (rolls_back cohort key) (down k) rolls);
+            door-at k within ∙ no_line (is_offered_at cohort (release from).version (release k)) (up k) (rolls_back cohort key) (down k) (not_up k past within) (and_left (rolls_back cohort key) (down k) rolls);
         inside = λ k within less more. absurd (omega arith);
       })
 
   abbrev net : Net
   net = net_with app key cohort target differs
 
-  filter-window : filter is_door_offered (window net from) ≡ filter is_permitted doors
+  filter-window : filter is_door_open (window net from) ≡ filter is_permitted doors
   filter-window = elim (cases_lt target from) [
     | inl past ↦ above (rolls_back cohort key) refl past
     | inr low ↦
         let sized = length-doors_of cohort app.releases in
         let aim : target < length app.releases = aimed in
-        ap (filter is_door_offered) (window-below net from low (omega arith)) ∙ sym (filter-up low)
+        ap (filter is_door_open) (window-below net from low (omega arith)) ∙ sym (filter-up low)
   ]
     where
-      above : (b : Bool) → rolls_back cohort key ≡ b → target < from → filter is_door_offered (window net from) ≡ filter is_permitted doors
+      above : (b : Bool) → rolls_back cohort key ≡ b → target < from → filter is_door_open (window net from) ≡ filter is_permitted doors
       above true rolls past =
-          ap (filter is_door_offered) (window-above net from past ∙ ap (λ b. cond b (between 0 from doors) []) rolls)
+          ap (filter is_door_open) (window-above net from past ∙ ap (λ b. cond b (between 0 from doors) []) rolls)
           ∙ sym (filter-down past rolls)
       above false rolls past =
-          ap (filter is_door_offered) (window-above net from past ∙ ap (λ b. cond b (between 0 from doors) []) rolls)
+          ap (filter is_door_open) (window-above net from past ∙ ap (λ b. cond b (between 0 from doors) []) rolls)
           ∙ sym (filter-nowhere past rolls)
 
 pub fulls_are_permitted : BelowIsIrreflexive → BelowIsTransitive → FullsArePermitted

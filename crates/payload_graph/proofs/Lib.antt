@@ -3,11 +3,13 @@ mod DoorLemmas
 mod EnterLemmas
 mod FingerprintLemmas
 mod FlatLemmas
+mod FloorLemmas
 mod FullLemmas
 mod IncomingLemmas
 mod IndexLemmas
 mod LeavingLemmas
 mod LoopLemmas
+mod MarkLemmas
 mod NearerLemmas
 mod OrderLemmas
 mod OriginLemmas

@@ -6,7 +6,7 @@ use Rattle.std.proofs.lemmas.List.{get_or-drop, get_or-take}
 use Rattle.std.proofs.lemmas.List.Elements.{All-append, All-filter, All-from_get_or, All-map, All-nil, filter_passes}
 use Rattle.payload_graph.proofs.ReachLemmas.{between-reach, length-between, reach_of-bounds}
 use Rattle.payload_graph.specs.Laws.{EdgesLeadNearer, FullsLeadNearer}
-use Rattle.payload_graph.specs.Net.{Net, between, full, fulls, leaves, to_stone, window}
+use Rattle.payload_graph.specs.Net.{Net, between, full, fulls, leaves, opens, to_stone, window}
 use Rattle.payload_graph.specs.Soundness.{AreNumbered, IsNearing, LeadsNearer, no_door, reach_of}
 use Rattle.payload_graph.specs.declared.door.Door.{Door}
 use Rattle.payload_graph.specs.declared.edge.Edge.{Edge}
@@ -68,8 +68,8 @@ All-window net from numbered within there = elim (cases_lt net.target from) [
 
 pub fulls_lead_nearer : FullsLeadNearer
 fulls_lead_nearer net from numbered within there =
-    All-map (λ (edge : Edge). LeadsNearer net.target from edge.to) (full from) (filter (λ (door : Door). door.offered) (window net from))
-    (All-filter (λ (door : Door). door.offered) (IsDoorNearer net from) (window net from) (All-window net from numbered within there))
+    All-map (λ (edge : Edge). LeadsNearer net.target from edge.to) (full from) (filter (opens from) (window net from))
+    (All-filter (opens from) (IsDoorNearer net from) (window net from) (All-window net from numbered within there))
 
 pub edges_lead_nearer : EdgesLeadNearer
 edges_lead_nearer net from numbered nearing within there =

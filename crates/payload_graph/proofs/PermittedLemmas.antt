@@ -18,6 +18,7 @@ use Rattle.payload_graph.specs.Permitted.{permits, permits_differ, starts_at}
 use Rattle.payload_graph.specs.declared.payload.Payload.TheVariants.{Differ}
 use Rattle.payload_graph.specs.declared.payload.TrackKey.{TrackKey}
 use Rattle.payload_graph.specs.declared.place.Place.TheVariants.{At}
+use Rattle.payload_graph.proofs.FlatLemmas.{filter-filter}
 use Rattle.payload_graph.proofs.DifferLemmas.{filter-map_agree}
 use Rattle.payload_graph.proofs.IndexLemmas.{IsIndex-released}
 use Rattle.payload_graph.proofs.OrderLemmas.{below_at, list_all-get_or}
@@ -28,25 +29,6 @@ use Rattle.payload_graph.specs.Net.{differs_of, edge_of, leaves, version_of_inde
 list_all-always : {A : Type 0} (xs : List A) → list_all (λ (x : A). true) xs ≡ true
 list_all-always [] = refl
 list_all-always (x ∷ xs) = list_all-always xs
-
--- two tests one after the other
-filter-filter :
-    {A : Type 0} (p q : A → Bool) (xs : List A) →
-    filter p (filter q xs) ≡ filter (λ x. p x && q x) xs
-filter-filter p q [] = refl
-filter-filter {A} p q (x ∷ xs) = cases (p x) (q x) refl (filter-filter p q xs)
-  where
-    cases :
-        (b d : Bool) → p x ≡ b → filter p (filter q xs) ≡ filter (λ y. p y && q y) xs →
-        filter p (cond d (x ∷ filter q xs) (filter q xs))
-        ≡ cond (b && d) (x ∷ filter (λ y. p y && q y) xs) (filter (λ y. p y && q y) xs)
-    cases true true here rest =
-        ap (λ b. cond b (x ∷ filter p (filter q xs)) (filter p (filter q xs))) here
-        ∙ ap (λ (ys : List A). x ∷ ys) rest
-    cases true false here rest = rest
-    cases false true here rest =
-        ap (λ b. cond b (x ∷ filter p (filter q xs)) (filter p (filter q xs))) here ∙ rest
-    cases false false here rest = rest
 
 -- a test by index that agrees with a test of the items
 filter-enumerate :

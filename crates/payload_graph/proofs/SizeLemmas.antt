@@ -1,10 +1,11 @@
--- The payloads of a graph have valid sizes.
-use Rattle.std.proofs.Common.{◌≡◌, ℕ, ◌+◌, Bool, true, false, cond, List, [], ◌∷◌, ltb, take, drop}
+-- The payloads of a graph have valid sizes, and its windows its own doors.
+use Rattle.std.proofs.Common.{◌≡◌, ℕ, ◌+◌, ◌<◌, get_or, ap, length, arith, Bool, true, false, cond, List, [], ◌∷◌, ltb, take, drop}
 use Rattle.std.specs.List.{All, filter}
-use Rattle.std.proofs.lemmas.List.Elements.{All-append, All-cons, All-drop, All-filter, All-head, All-map, All-nil, All-tail, All-take}
+use Rattle.std.proofs.lemmas.List.Elements.{All-append, All-cons, All-drop, All-filter, All-from_get_or, All-head, All-map, All-nil, All-tail, All-take}
 use Rattle.records.specs.Forms.{is_size}
-use Rattle.payload_graph.specs.Laws.{EdgesAreSized}
-use Rattle.payload_graph.specs.Net.{Net, full, fulls, leaves, to_stone, window}
+use Rattle.payload_graph.specs.Laws.{EdgesAreSized, IsDoorOf, WindowsHoldDoors}
+use Rattle.payload_graph.specs.Soundness.{door_at, no_door}
+use Rattle.payload_graph.specs.Net.{Net, full, fulls, leaves, opens, to_stone, window}
 use Rattle.payload_graph.specs.declared.door.Door.{Door}
 use Rattle.payload_graph.specs.declared.edge.Edge.{Edge}
 
@@ -37,7 +38,15 @@ All-window-doors P net from all = at (ltb net.target from) net.rollback
 pub edges_are_sized : EdgesAreSized
 edges_are_sized net from bounded =
     All-append (λ (edge : Edge). is_size edge.bytes ≡ true) (fulls from (window net from)) (filter (leaves from) net.differs)
-    (All-map (λ (edge : Edge). is_size edge.bytes ≡ true) (full from) (filter (λ (door : Door). door.offered) (window net from))
-    (All-filter (λ (door : Door). door.offered) (λ (door : Door). is_size door.bytes ≡ true) (window net from)
+    (All-map (λ (edge : Edge). is_size edge.bytes ≡ true) (full from) (filter (opens from) (window net from))
+    (All-filter (opens from) (λ (door : Door). is_size door.bytes ≡ true) (window net from)
     (All-window-doors (λ (door : Door). is_size door.bytes ≡ true) net from bounded.doors_sized)))
     (All-filter (leaves from) (λ (edge : Edge). is_size edge.bytes ≡ true) net.differs bounded.differs_sized)
+
+pub windows_hold_doors : WindowsHoldDoors
+windows_hold_doors net from numbered =
+    All-window-doors (IsDoorOf net) net from
+    (All-from_get_or (IsDoorOf net) net.doors no_door (λ k within. record {
+      there = let own = numbered k within in omega arith;
+      own = ap (λ n. get_or net.doors n no_door) (numbered k within);
+    }))

@@ -31,6 +31,7 @@ release_of number size stone =
       stone = stone;
       withdrawn = false;
       audience = None;
+      floor = major 0;
     }
 
 -- a differential between two of these versions

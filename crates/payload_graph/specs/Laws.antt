@@ -68,6 +68,18 @@ WindowsGrowUp =
     net.target < from →
     window net (from + 1) ≡ window net from ++ (if net.rollback then door_at net from ∷ [] else [])
 
+-- a door is the graph's own, at the index that it leads to
+pub record IsDoorOf (net : Net) (door : Door) : Type 0 where
+  pub there : door.to < length net.doors
+  pub own : door_at net door.to ≡ door
+
+-- a window has no doors but the graph's own
+abbrev pub WindowsHoldDoors : Type 0
+WindowsHoldDoors =
+    (net : Net) (from : ℕ) →
+    AreNumbered net.doors →
+    All (IsDoorOf net) (window net from)
+
 -- a full package leads nearer the target
 abbrev pub FullsLeadNearer : Type 0
 FullsLeadNearer =

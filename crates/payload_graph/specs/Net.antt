@@ -1,9 +1,10 @@
 -- The graph of a track: its target, and the payloads that are permitted between the releases of its
 -- app. Full packages are given by rule, each release having a window of others to which its clients
 -- may be led; this project's profile. Releases are given by index, by ascending version.
-use Rattle.std.specs.Prelude.{ℕ, ◌+◌, ◌==◌, Bool, if◌then◌else◌, List, [], ◌∷◌, ◌++◌, drop, map, nat_lt, slice_get, take, Option, option_and_then, option_map}
+use Rattle.std.specs.Prelude.{ℕ, ◌+◌, ◌==◌, ◌&&◌, Bool, if◌then◌else◌, List, [], ◌∷◌, ◌++◌, drop, map, nat_le, nat_lt, slice_get, take, Option, option_and_then, option_map}
 use Rattle.std.specs.List.{enumerate_from, filter, flat_map}
 use Rattle.std.specs.Option.{option_map_or}
+use Rattle.records.specs.Lookups.{place_of}
 use Rattle.records.specs.declared.content.App.{App}
 use Rattle.records.specs.declared.content.Cohort.{Cohort}
 use Rattle.records.specs.declared.content.Diff.{Diff}
@@ -24,23 +25,34 @@ pub record Net : Type 0 where
   pub doors : List Door
   pub differs : List Edge
 
--- a release as a destination of the cohort's clients
-abbrev pub door_of : Cohort → ℕ → Release → Door
-door_of cohort to release =
-    record { to = to; bytes = release.size; offered = is_offered cohort release; stone = release.stone }
+-- a release as a destination of the cohort's clients; its floor becomes the index of the lowest release
+-- that meets it, or the number of releases if none does
+abbrev pub door_of : Cohort → List Release → ℕ → Release → Door
+door_of cohort releases to release =
+    record {
+      to = to;
+      bytes = release.size;
+      offered = is_offered cohort release;
+      stone = release.stone;
+      floor = place_of release.floor releases;
+    }
 
 -- all releases as destinations, each with its index
 abbrev pub doors_of : Cohort → List Release → List Door
 doors_of cohort releases =
-    map (λ (numbered : ℕ × Release). door_of cohort numbered.0 numbered.1) (enumerate_from 0 releases)
+    map (λ (numbered : ℕ × Release). door_of cohort releases numbered.0 numbered.1) (enumerate_from 0 releases)
 
 -- the full package that leads from a release through a door
 abbrev pub full : ℕ → Door → Edge
 full from door = record { from = from; to = door.to; kind = kind.Full; bytes = door.bytes }
 
--- the full packages through those doors of a list that are offered
+-- a door opens from a release: the destination is offered, and the release isn't below its floor
+abbrev pub opens : ℕ → Door → Bool
+opens from door = nat_le door.floor from && door.offered
+
+-- the full packages from a release through those doors of a list that open from there
 abbrev pub fulls : ℕ → List Door → List Edge
-fulls from doors = map (full from) (filter (λ (door : Door). door.offered) doors)
+fulls from doors = map (full from) (filter (opens from) doors)
 
 -- the doors up to the first stone, that one included
 abbrev pub to_stone : List Door → List Door

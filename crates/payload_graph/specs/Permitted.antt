@@ -29,6 +29,15 @@ is_open_to cohort release =
 abbrev pub is_offered : Cohort → Release → Bool
 is_offered cohort release = not release.withdrawn && is_open_to cohort release
 
+-- rule: Floor
+-- a client's version meets a release's floor: it isn't below it
+abbrev pub meets_floor : List ℕ → Release → Bool
+meets_floor from release = not (is_below from release.floor)
+
+-- the release is offered to those of the cohort's clients that are at a version
+abbrev pub is_offered_at : Cohort → List ℕ → Release → Bool
+is_offered_at cohort from release = is_offered cohort release && meets_floor from release
+
 -- a stone strictly between two versions; being withdrawn or closed makes no difference
 abbrev pub is_stone_between : List ℕ → List ℕ → Release → Bool
 is_stone_between lower upper release =
@@ -58,7 +67,7 @@ rolls_back cohort key = cohort.rollback && key.rollback
 -- a full package of a release is permitted from a version
 abbrev pub permits_full : List Release → Cohort → Bool → List ℕ → List ℕ → Release → Bool
 permits_full releases cohort rollback target from to =
-    is_offered cohort to
+    is_offered_at cohort from to
     && (leads_up releases target from to.version || (rollback && leads_down target from to.version))
 
 -- the differential starts at the place itself
@@ -74,7 +83,7 @@ end_of releases diff = find (is_release diff.to) releases
 -- a differential is permitted from the release that it starts at; it never leads down
 abbrev pub permits_differ : List Release → Cohort → List ℕ → Diff → Bool
 permits_differ releases cohort target diff =
-    option_map_or (λ to. is_offered cohort to && leads_up releases target diff.from to.version)
+    option_map_or (λ to. is_offered_at cohort diff.from to && leads_up releases target diff.from to.version)
     (end_of releases diff) false
 
 -- a payload is permitted from a place: false if there is no such place, release or differential

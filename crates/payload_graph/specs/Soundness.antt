@@ -1,7 +1,8 @@
--- What a graph keeps: beside what contracts see of it, how far each window reaches.
-use Rattle.std.specs.Prelude.{◌≡◌, ℕ, ◌+◌, ◌<◌, ◌≤◌, ◌&&◌, ◌⊎◌, All, Bool, if◌then◌else◌, false, true, List, [], drop, length, nat_le, nat_lt, slice_get, slice_index, slice_index_or, take, Option, option_and_then, option_map}
+-- What a graph keeps beside what contracts see of it: how far each window reaches, and which releases are
+-- floors.
+use Rattle.std.specs.Prelude.{◌≡◌, ℕ, ◌+◌, ◌<◌, ◌≤◌, ◌==◌, ◌&&◌, ◌⊎◌, All, Bool, if◌then◌else◌, false, true, List, [], drop, length, nat_le, nat_lt, slice_get, slice_index, slice_index_or, slice_set, take, Option, option_and_then, option_map}
 use Rattle.std.specs.List.Sorted.{IsNonDecreasingBy}
-use Rattle.std.specs.List.{filter}
+use Rattle.std.specs.List.{filter, list_any}
 use Rattle.records.specs.Forms.{is_size}
 use Rattle.records.specs.Limits.{max_releases}
 use Rattle.records.specs.declared.content.Cohort.{Cohort}
@@ -10,13 +11,13 @@ use Rattle.records.specs.declared.content.App.{App}
 use Rattle.payload_graph.specs.Chains.{lane_target}
 use Rattle.payload_graph.specs.Permitted.{rolls_back}
 use Rattle.payload_graph.specs.declared.payload.TrackKey.{TrackKey}
-use Rattle.payload_graph.specs.Net.{Net, between, doors_of, to_stone}
+use Rattle.payload_graph.specs.Net.{Net, between, doors_of, opens, to_stone}
 use Rattle.payload_graph.specs.declared.door.Door.{Door}
 use Rattle.payload_graph.specs.declared.edge.Edge.{Edge}
 
 -- the default of `door_at`: it leads nowhere
 abbrev pub no_door : Door
-no_door = record { to = 0; bytes = 0; offered = false; stone = false }
+no_door = record { to = 0; bytes = 0; offered = false; stone = false; floor = 0 }
 
 -- the door of a release
 abbrev pub door_at : Net → ℕ → Door
@@ -44,11 +45,28 @@ IsNearing target edge = LeadsNearer target edge.from edge.to
 abbrev pub AreNumbered : List Door → Type 0
 AreNumbered doors = (index : ℕ) → index < length doors → (slice_index_or doors index no_door).to ≡ index
 
--- a differential's destination is offered, and before its origin's reach
+-- a differential's destination is before its origin's reach, and its door opens from there
 abbrev pub is_reached : ℕ → List Door → Edge → Bool
 is_reached target doors edge =
     nat_le edge.from target
-    && (nat_lt edge.to (reach_of target doors edge.from) && (slice_index_or doors edge.to no_door).offered)
+    && (nat_lt edge.to (reach_of target doors edge.from) && opens edge.from (slice_index_or doors edge.to no_door))
+
+-- an index is the floor of a door that is below it
+abbrev pub is_floor_of : ℕ → Door → Bool
+is_floor_of index door = nat_lt door.to index && index == door.floor
+
+-- it is that of some door
+abbrev pub is_floor : List Door → ℕ → Bool
+is_floor doors index = list_any (is_floor_of index) doors
+
+-- a mark for each index up to the number of doors, set if the index is a floor
+pub record AreFloors (doors : List Door) (marks : List Bool) : Type 0 where
+  pub sized : length marks ≡ length doors + 1
+  pub right : (index : ℕ) → index ≤ length doors → slice_index_or marks index false ≡ is_floor doors index
+
+-- the marks after a door: its floor is marked if it is above the door itself
+abbrev pub marked : Door → List Bool → List Bool
+marked door marks = if nat_lt door.to door.floor then slice_set marks door.floor true else marks
 
 -- the releases below another one whose windows reach it, none if it is above the target
 abbrev pub origins_below : ℕ → List Door → ℕ → List Door
@@ -80,11 +98,12 @@ pub record IsBounded (net : Net) : Type 0 where
   pub doors_sized : All (λ (door : Door). is_size door.bytes ≡ true) net.doors
   pub differs_sized : All (λ (edge : Edge). is_size edge.bytes ≡ true) net.differs
 
--- what holds of every graph and its reaches
-pub record IsSound (net : Net) (reaches : List ℕ) : Type 0 where
+-- what holds of every graph, its reaches and its marks
+pub record IsSound (net : Net) (reaches : List ℕ) (floors : List Bool) : Type 0 where
   pub within : net.target < length net.doors
   pub numbered : AreNumbered net.doors
   pub reached : AreReaches net.target net.doors reaches
+  pub floored : AreFloors net.doors floors
   pub sorted : IsNonDecreasingBy (λ (edge : Edge). edge.from) net.differs
   pub nearing : All (IsNearing net.target) net.differs
   pub bounded : IsBounded net

@@ -72,7 +72,7 @@ fn is_reached(edge: &Edge, doors: &[Door], reaches: &[usize], target: usize) -> 
     requires there { edge.now.to < length doors.now }
     ensures { result ≡ is_reached target doors.now edge.now }
 {
-    edge.from <= target && (edge.to < reaches[edge.from] && doors[edge.to].offered)
+    edge.from <= target && (edge.to < reaches[edge.from] && doors[edge.to].opens(edge.from))
 }
 
 /// The permitted ones of resolved differentials, in order.

@@ -1,11 +1,16 @@
 //! Releases as destinations.
 
-ghost use Rattle.std.specs.Prelude.{◌≡◌, IfOk};
-ghost use Rattle.payload_graph.specs.Net.{door_of, doors_of};
+ghost use Rattle.std.specs.Prelude.{◌≡◌, true, IfOk};
+ghost use Rattle.values.specs.Ordered.{ascend};
+ghost use Rattle.records.specs.Lookups.{place_of};
+ghost use Rattle.records.specs.Validity.{is_release_below};
+ghost use Rattle.payload_graph.specs.Net.{door_of, doors_of, opens};
 
 use crate::permitted::is_offered;
 use catalogue::{Cohort, Release};
+use records::lookup;
 use std::alloc::{AllocError, Global};
+use version::Version;
 
 /// A release as a destination of a cohort's clients.
 #[derive(Clone, Copy, Debug, PartialEq, Eq)]
@@ -18,16 +23,42 @@ pub struct Door {
     pub offered: bool,
     /// Whether it is a stone, which no payload jumps.
     pub stone: bool,
+    /// The index of the lowest release from which clients may update to it; 0 if they may from all.
+    pub floor: usize,
 }
 
-fn door_of(cohort: &Cohort, to: usize, release: &Release) -> Door
-    ensures { result ≡ door_of cohort.now to release.now }
+impl Door {
+    // rule: Floor
+    /// Whether clients at a release may update through it: it is offered, and they aren't below its floor.
+    pub fn opens(&self, from: usize) -> bool
+        ensures { result ≡ opens from self.now }
+    {
+        self.floor <= from && self.offered
+    }
+}
+
+// The index of the lowest release that isn't below a version. Few releases have a floor, so the lowest one
+// is tried before the search by halves.
+fn floor_of(releases: &[Release], version: &Version) -> usize
+    requires { ascend is_release_below releases.now ≡ true }
+    ensures { result ≡ place_of version.now releases.now }
+{
+    match releases.first() {
+        Some(lowest) if lowest.version.is_below(version) => lookup::place_of(releases, version),
+        _ => 0,
+    }
+}
+
+fn door_of(cohort: &Cohort, releases: &[Release], to: usize, release: &Release) -> Door
+    requires { ascend is_release_below releases.now ≡ true }
+    ensures { result ≡ door_of cohort.now releases.now to release.now }
 {
     Door {
         to,
         bytes: release.size,
         offered: is_offered(cohort, release),
         stone: release.stone,
+        floor: floor_of(releases, &release.floor),
     }
 }
 
@@ -37,11 +68,12 @@ pub(crate) fn doors_of(
     cohort: &Cohort,
     releases: &[Release],
 ) -> Result<Vec<Door>, AllocError>
+    requires { ascend is_release_below releases.now ≡ true }
     ensures { IfOk result (λ doors. doors.items ≡ doors_of cohort.now releases.now) }
 {
     releases
         .iter()
         .enumerate()
-        .map(|(to, release)| door_of(cohort, to, release))
+        .map(|(to, release)| door_of(cohort, releases, to, release))
         .collect(alloc)
 }

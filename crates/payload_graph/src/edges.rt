@@ -45,7 +45,7 @@ impl<'a> Iterator for Fulls<'a> {
     fn next(&mut self) -> Option<Edge> {
         while let Some((door, others)) = self.doors.split_first() {
             self.doors = others;
-            if door.offered {
+            if door.opens(self.from) {
                 return Some(full(self.from, door));
             }
         }

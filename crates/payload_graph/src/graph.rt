@@ -1,14 +1,17 @@
-ghost use Rattle.std.specs.Prelude.{◌≡◌, ◌<◌, All, IfOk, length};
+ghost use Rattle.std.specs.Prelude.{◌≡◌, ◌<◌, ◌≤◌, All, true, IfOk, length};
 ghost use Rattle.std.specs.List.{filter};
 ghost use Rattle.payload_graph.specs.Edges.{edges_into_left, edges_left};
 ghost use Rattle.payload_graph.specs.Net.{edges_from, edges_into, leaves, window};
-ghost use Rattle.payload_graph.specs.Soundness.{net_from, AreBounded, AreNumbered, AreResolved, IsBounded, IsNearing, LeadsNearer};
+ghost use Rattle.payload_graph.specs.Soundness.{is_floor, net_from, AreBounded, AreNumbered, AreResolved, IsBounded, IsNearing, LeadsNearer};
 ghost use Rattle.payload_graph.specs.declared.edge.Edge.{Edge};
+ghost use Rattle.values.specs.Ordered.{ascend};
+ghost use Rattle.records.specs.Validity.{is_release_below};
 
 use crate::differential::{leaving, reached_in};
 use crate::door::{Door, doors_of};
 use crate::edge::Edge;
 use crate::edges::{Edges, Fulls};
+use crate::floor::floors_of;
 use crate::incoming::EdgesInto;
 use crate::origin::{origins_above, origins_below};
 use crate::payload::TrackKey;
@@ -20,7 +23,7 @@ use std::marker::Model;
 
 /// The permitted payloads of a track, which contracts see as a `Net`.
 ///
-/// It keeps a door and a number for each release, and its differentials.
+/// It keeps a door, a number and a mark for each release, and its differentials.
 #[derive(Drop)]
 pub struct Graph {
     key: TrackKey,
@@ -28,6 +31,7 @@ pub struct Graph {
     rollback: bool,
     doors: Vec<Door>,
     reaches: Vec<usize>,
+    floors: Vec<bool>,
     differs: Vec<Edge>,
 }
 
@@ -52,7 +56,7 @@ impl Model for Graph {
       rollback = g.rollback;
       doors = g.doors.items;
       differs = g.differs.items;
-    }) g.reaches.items };
+    }) g.reaches.items g.floors.items };
 }
 
 impl Graph {
@@ -66,6 +70,7 @@ impl Graph {
         resolved: &[Edge],
     ) -> Result<Graph, AllocError>
         requires within { target < length releases.now }
+        requires rises { ascend is_release_below releases.now ≡ true }
         requires bounded { AreBounded releases.now }
         requires resolved { AreResolved (length releases.now) resolved.now }
         ensures { IfOk result (λ graph. graph ≡ net_from key.now cohort.now releases.now target resolved.now) }
@@ -79,12 +84,14 @@ impl Graph {
             reaches.as_slice(),
             target,
         )?;
+        let floors = floors_of(alloc, doors.as_slice())?;
         Ok(Graph {
             key: *key,
             target,
             rollback: rolls_back(cohort, key),
             doors,
             reaches,
+            floors,
             differs,
         })
     }
@@ -143,17 +150,13 @@ impl Graph {
     {
         let doors = self.doors.as_slice();
         let differs = self.differs.as_slice();
-        let door = doors[to];
-        if !door.offered {
-            return EdgesInto::new(door, &[], &[], to, differs);
-        }
         let below = origins_below(doors, self.reaches.as_slice(), self.target, to);
         let above = if self.rollback {
             origins_above(doors, self.target, to)
         } else {
             &[]
         };
-        EdgesInto::new(door, below, above, to, differs)
+        EdgesInto::new(doors[to], below, above, to, differs)
     }
 
     /// Returns the index of the target.
@@ -180,6 +183,16 @@ impl Graph {
         ensures bounded { IsBounded self.now }
     {
         self.doors.as_slice()
+    }
+
+    /// Whether an index, up to the number of releases, is the floor of a door below it.
+    ///
+    /// If it isn't, the same lower doors open from there as from the release before it.
+    pub fn is_floor(&self, index: usize) -> bool
+        requires { index ≤ length self.now.doors }
+        ensures { result ≡ is_floor self.now.doors index }
+    {
+        self.floors[index]
     }
 
     /// Borrows all differentials, by ascending origin.

@@ -8,12 +8,11 @@ use crate::door::Door;
 use crate::edge::Edge;
 use crate::edges::full;
 
-// The full packages of a release, from origins below it and then from origins above it.
+// The full packages of a release, from those of some origins that its door opens from.
 #[derive(Drop)]
 struct FullsInto<'a> {
     door: Door,
-    below: &'a [Door],
-    above: &'a [Door],
+    origins: &'a [Door],
 }
 
 impl<'a> Iterator for FullsInto<'a> {
@@ -24,13 +23,13 @@ impl<'a> Iterator for FullsInto<'a> {
     ghost remaining = { item_count fulls_into_left };
 
     fn next(&mut self) -> Option<Edge> {
-        if let Some((origin, others)) = self.below.split_first() {
-            self.below = others;
-            return Some(full(origin.to, &self.door));
+        while let Some((origin, others)) = self.origins.split_first() {
+            self.origins = others;
+            if self.door.opens(origin.to) {
+                return Some(full(origin.to, &self.door));
+            }
         }
-        let (origin, others) = self.above.split_first()?;
-        self.above = others;
-        Some(full(origin.to, &self.door))
+        None
     }
 }
 
@@ -63,7 +62,8 @@ impl<'a> Iterator for DiffersInto<'a> {
 /// by ascending origin.
 #[derive(Drop)]
 pub struct EdgesInto<'a> {
-    fulls: FullsInto<'a>,
+    below: FullsInto<'a>,
+    above: FullsInto<'a>,
     differs: DiffersInto<'a>,
 }
 
@@ -76,13 +76,25 @@ impl<'a> EdgesInto<'a> {
         differs: &'a [Edge],
     ) -> EdgesInto<'a>
         ensures { result ≡ record {
-          fulls = record { door = door; below = below.entry; above = above.entry };
+          below = record { door = door; origins = below.entry };
+          above = record { door = door; origins = above.entry };
           differs = record { to = to; differs = differs.entry };
         } }
     {
-        let fulls = FullsInto { door, below, above };
+        let below = FullsInto {
+            door,
+            origins: below,
+        };
+        let above = FullsInto {
+            door,
+            origins: above,
+        };
         let differs = DiffersInto { to, differs };
-        EdgesInto { fulls, differs }
+        EdgesInto {
+            below,
+            above,
+            differs,
+        }
     }
 }
 
@@ -94,7 +106,10 @@ impl<'a> Iterator for EdgesInto<'a> {
     ghost remaining = { item_count edges_into_left };
 
     fn next(&mut self) -> Option<Edge> {
-        if let Some(edge) = self.fulls.next() {
+        if let Some(edge) = self.below.next() {
+            return Some(edge);
+        }
+        if let Some(edge) = self.above.next() {
             return Some(edge);
         }
         self.differs.next()

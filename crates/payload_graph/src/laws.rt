@@ -1,7 +1,7 @@
 //! What holds of the rules and of all graphs, each law as a clause of a function.
 
-ghost use Rattle.payload_graph.specs.Laws.{DiffersArePermitted, EdgesAreSized, EdgesFromAreOfGraph, EdgesIntoAreEdgesFrom, EdgesLeadNearer, FullsArePermitted, FullsLeadNearer, TargetsLeaveNothing, WindowsGrowDown, WindowsGrowUp};
 ghost use Rattle.payload_graph.specs.Examples.{ExampleIsWorked};
+ghost use Rattle.payload_graph.specs.Laws.{DiffersArePermitted, EdgesAreSized, EdgesFromAreOfGraph, EdgesIntoAreEdgesFrom, EdgesLeadNearer, FullsArePermitted, FullsLeadNearer, TargetsLeaveNothing, WindowsGrowDown, WindowsGrowUp, WindowsHoldDoors};
 
 /// States that the full packages of a window are the permitted ones, each once, in order.
 pub fn fulls()
@@ -22,6 +22,7 @@ pub fn windows()
     ensures down { WindowsGrowDown }
     ensures target { TargetsLeaveNothing }
     ensures up { WindowsGrowUp }
+    ensures doors { WindowsHoldDoors }
 {}
 
 /// States that each payload leads nearer the target, so that no chain comes back to a release.

@@ -4,7 +4,7 @@ ghost use Rattle.std.specs.Prelude.{◌≡◌};
 ghost use Rattle.std.specs.List.{list_any};
 ghost use Rattle.std.specs.Option.{option_copied};
 ghost use Rattle.std.specs.Str.{bytes_eq};
-ghost use Rattle.payload_graph.specs.Permitted.{end_of, is_offered, is_open_to, is_stone_between, jumps_stone, leads_down, leads_up, permits, permits_among, permits_differ, permits_from, permits_full, permits_in, rolls_back, starts_at};
+ghost use Rattle.payload_graph.specs.Permitted.{end_of, is_offered, is_offered_at, is_open_to, is_stone_between, jumps_stone, leads_down, leads_up, meets_floor, permits, permits_among, permits_differ, permits_from, permits_full, permits_in, rolls_back, starts_at};
 
 use crate::payload::{Payload, TrackKey};
 use crate::place::{Place, version_at};
@@ -36,6 +36,20 @@ pub fn is_offered(cohort: &Cohort, release: &Release) -> bool
     ensures { result ≡ is_offered cohort.now release.now }
 {
     !release.withdrawn && is_open_to(cohort, release)
+}
+
+// rule: Floor
+fn meets_floor(from: &Version, release: &Release) -> bool
+    ensures { result ≡ meets_floor from.now release.now }
+{
+    !from.is_below(&release.floor)
+}
+
+/// Whether a release is offered to a cohort's clients at a version, which also isn't below its floor.
+pub fn is_offered_at(cohort: &Cohort, from: &Version, release: &Release) -> bool
+    ensures { result ≡ is_offered_at cohort.now from.now release.now }
+{
+    is_offered(cohort, release) && meets_floor(from, release)
 }
 
 fn is_stone_between(lower: &Version, upper: &Version, release: &Release) -> bool
@@ -85,7 +99,7 @@ fn permits_full(
 ) -> bool
     ensures { result ≡ permits_full releases.now cohort.now rollback target.now from.now to.now }
 {
-    is_offered(cohort, to)
+    is_offered_at(cohort, from, to)
         && (leads_up(releases, target, from, &to.version)
             || (rollback && leads_down(target, from, &to.version)))
 }
@@ -114,7 +128,8 @@ fn permits_differ(releases: &[Release], cohort: &Cohort, target: &Version, diff:
     ensures { result ≡ permits_differ releases.now cohort.now target.now diff.now }
 {
     match find_end(releases, diff) {
-        Some(to) => is_offered(cohort, to) && leads_up(releases, target, &diff.from, &to.version),
+        Some(to) => is_offered_at(cohort, &diff.from, to)
+            && leads_up(releases, target, &diff.from, &to.version),
         None => false,
     }
 }

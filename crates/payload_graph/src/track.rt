@@ -1,6 +1,8 @@
 //! The graph of a track of a catalogue.
 
-ghost use Rattle.std.specs.Prelude.{◌≡◌, ◌<◌, IfOk, IfSome, length};
+ghost use Rattle.std.specs.Prelude.{◌≡◌, ◌<◌, true, IfOk, IfSome, length};
+ghost use Rattle.values.specs.Ordered.{ascend};
+ghost use Rattle.records.specs.Validity.{is_release_below};
 ghost use Rattle.payload_graph.specs.Chains.{lane_target};
 ghost use Rattle.payload_graph.specs.Net.{net_among, resolved_at};
 ghost use Rattle.payload_graph.specs.Soundness.{net_in_cohort, net_in_app, AreBounded, AreResolved};
@@ -65,6 +67,7 @@ fn graph_in_cohort(
     cohort: &Cohort,
     resolved: &[Edge],
 ) -> Result<Option<Graph>, AllocError>
+    requires rises { ascend is_release_below app.now.releases ≡ true }
     requires bounded { AreBounded app.now.releases }
     requires resolved { AreResolved (length app.now.releases) resolved.now }
     ensures { IfOk result (λ graph. graph ≡ net_in_cohort app.now key.now cohort.now resolved.now) }
@@ -83,6 +86,7 @@ fn graph_in_app(
     key: &TrackKey,
     resolved: &[Edge],
 ) -> Result<Option<Graph>, AllocError>
+    requires rises { ascend is_release_below app.now.releases ≡ true }
     requires bounded { AreBounded app.now.releases }
     requires resolved { AreResolved (length app.now.releases) resolved.now }
     ensures { IfOk result (λ graph. graph ≡ net_in_app app.now key.now resolved.now) }

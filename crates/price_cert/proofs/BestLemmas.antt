@@ -1,17 +1,17 @@
 -- The best payload of a longer list.
 use Rattle.std.proofs.Common.{◌≡◌, ℕ, ◌+◌, ◌&&◌, ◌||◌, Bool, true, false, cond, List, [], ◌∷◌, ◌++◌, eqb, get_or, map, Option, None, Some, refl, sym, ap, ◌∙◌, subst}
 use Rattle.std.specs.List.{All, filter, list_all, list_any}
-use Rattle.std.proofs.lemmas.Bool.{and_from, and_parts, eq-eqb, or_left, or_right}
+use Rattle.std.proofs.lemmas.Bool.{and_from, and_parts, eq-eqb, false≢true, or_left, or_right}
 use Rattle.std.proofs.lemmas.List.{append-nil, map-append}
 use Rattle.std.proofs.lemmas.List.Elements.{All-head, All-tail, filter-append}
 use Rattle.std.proofs.lemmas.List.Folds.{list_all-append, list_all-map, list_any-append}
-use Rattle.payload_graph.specs.Net.{full, fulls}
+use Rattle.payload_graph.specs.Net.{full, fulls, opens}
 use Rattle.payload_graph.specs.declared.door.Door.{Door}
 use Rattle.payload_graph.specs.declared.edge.Edge.{Edge}
 use Rattle.payload_graph.specs.declared.edge.Kind.{Kind}
 use Rattle.payload_graph.specs.declared.edge.Kind.TheVariants.{Full, Differ}
 use Rattle.price_cert.specs.Rows.{price_at}
-use Rattle.price_cert.specs.Rules.{adds_up, is_named, is_next, is_same_kind}
+use Rattle.price_cert.specs.Rules.{adds_up, costs, is_named, is_next, is_same_kind}
 use Rattle.price_cert.specs.declared.row.Row.{Row}
 use Rattle.price_cert.specs.declared.row.Row.TheVariants.{Nothing, End, Price}
 use Rattle.price_cert.proofs.BetterLemmas.{behind-improved, behind-others}
@@ -124,45 +124,132 @@ pub IsBest-back :
     IsBest rows edges row → IsBest rows (edges ++ edge ∷ []) (improved rows row edge)
 IsBest-back rows edges edge row best = IsBest-more rows edges edge (edges ++ edge ∷ []) (IsWith-back edges edge) row best
 
+-- a test that all of some items pass, all of fewer pass
+list_all-fewer :
+    {A : Type 0} (p q r : A → Bool) → ((x : A) → r x ≡ true → q x ≡ true) →
+    (xs : List A) → list_all p (filter q xs) ≡ true → list_all p (filter r xs) ≡ true
+list_all-fewer p q r fewer [] all = refl
+list_all-fewer {A} p q r fewer (x ∷ xs) all = cases (q x) refl (r x) refl all (list_all-fewer p q r fewer xs)
+  where
+    cases :
+        (b : Bool) → q x ≡ b → (d : Bool) → r x ≡ d →
+        list_all p (cond b (x ∷ filter q xs) (filter q xs)) ≡ true →
+        (list_all p (filter q xs) ≡ true → list_all p (filter r xs) ≡ true) →
+        list_all p (cond d (x ∷ filter r xs) (filter r xs)) ≡ true
+    cases true first true second all rest =
+        let parts = and_parts (p x) (list_all p (filter q xs)) all in
+        and_from (p x) (list_all p (filter r xs)) parts.0 (rest parts.1)
+    cases true first false second all rest = rest (and_parts (p x) (list_all p (filter q xs)) all).1
+    cases false first true second all rest = absurd (false≢true (sym first ∙ fewer x second))
+    cases false first false second all rest = rest all
+
+-- a test that one of some items passes, one of fewer passes if no item that passes it is left out
+list_any-kept :
+    {A : Type 0} (p q r : A → Bool) (xs : List A) →
+    All (λ x. q x ≡ true → p x ≡ true → r x ≡ true) xs →
+    list_any p (filter q xs) ≡ true → list_any p (filter r xs) ≡ true
+list_any-kept p q r [] kept some = some
+list_any-kept {A} p q r (x ∷ xs) kept some =
+    cases (q x) refl (p x) refl (r x) refl some
+    (list_any-kept p q r xs (All-tail (λ (y : A). q y ≡ true → p y ≡ true → r y ≡ true) x xs kept))
+    (All-head (λ (y : A). q y ≡ true → p y ≡ true → r y ≡ true) x xs kept)
+  where
+    cases :
+        (b : Bool) → q x ≡ b → (c : Bool) → p x ≡ c → (d : Bool) → r x ≡ d →
+        list_any p (cond b (x ∷ filter q xs) (filter q xs)) ≡ true →
+        (list_any p (filter q xs) ≡ true → list_any p (filter r xs) ≡ true) →
+        (q x ≡ true → p x ≡ true → r x ≡ true) →
+        list_any p (cond d (x ∷ filter r xs) (filter r xs)) ≡ true
+    cases true first true passes true second some rest own = or_left (p x) (list_any p (filter r xs)) passes
+    cases true first true passes false second some rest own = absurd (false≢true (sym second ∙ own first passes))
+    cases true first false passes true second some rest own =
+        or_right (p x) (list_any p (filter r xs)) (rest (sym (ap (λ b. b || list_any p (filter q xs)) passes) ∙ some))
+    cases true first false passes false second some rest own =
+        rest (sym (ap (λ b. b || list_any p (filter q xs)) passes) ∙ some)
+    cases false first c passes true second some rest own = or_right (p x) (list_any p (filter r xs)) (rest some)
+    cases false first c passes false second some rest own = rest some
+
 -- full packages through the same doors from another release
-pub IsBest-from :
+IsBest-map :
     (rows : List Row) (doors : List Door) (from other : ℕ) (row : Row) →
-    IsBest rows (fulls from doors) row → IsBest rows (fulls other doors) row
-IsBest-from rows doors from other row best = record { behind = behinds row best.behind; names = named row best.names }
+    IsBest rows (map (full from) doors) row → IsBest rows (map (full other) doors) row
+IsBest-map rows doors from other row best = record { behind = behinds row best.behind; names = named row best.names }
   where
     all :
         (row : Row) → ((door : Door) → is_no_better rows row (full other door) ≡ is_no_better rows row (full from door)) →
-        list_all (is_no_better rows row) (fulls from doors) ≡ true → list_all (is_no_better rows row) (fulls other doors) ≡ true
+        list_all (is_no_better rows row) (map (full from) doors) ≡ true → list_all (is_no_better rows row) (map (full other) doors) ≡ true
     all row same behind =
-        list_all-map (is_no_better rows row) (full other) (filter (λ (door : Door). door.offered) doors)
+        list_all-map (is_no_better rows row) (full other) doors
         ∙ list_all-agree (λ (door : Door). is_no_better rows row (full other door)) (λ (door : Door). is_no_better rows row (full from door))
-        (filter (λ (door : Door). door.offered) doors) (λ k d within. same (get_or (filter (λ (door : Door). door.offered) doors) k d))
-        ∙ sym (list_all-map (is_no_better rows row) (full from) (filter (λ (door : Door). door.offered) doors))
+        doors (λ k d within. same (get_or doors k d))
+        ∙ sym (list_all-map (is_no_better rows row) (full from) doors)
         ∙ behind
 
-    behinds : (row : Row) → list_all (is_no_better rows row) (fulls from doors) ≡ true → list_all (is_no_better rows row) (fulls other doors) ≡ true
+    behinds : (row : Row) → list_all (is_no_better rows row) (map (full from) doors) ≡ true → list_all (is_no_better rows row) (map (full other) doors) ≡ true
     behinds Nothing behind = all Nothing (λ door. refl) behind
     behinds End behind = all End (λ door. refl) behind
     behinds (Price price kind to) behind = all (Price price kind to) (λ door. refl) behind
 
-    named : (row : Row) → names_one rows (fulls from doors) row ≡ true → names_one rows (fulls other doors) row ≡ true
+    named : (row : Row) → names_one rows (map (full from) doors) row ≡ true → names_one rows (map (full other) doors) row ≡ true
     named Nothing names = refl
     named End names = names
     named (Price price kind to) names =
-        list_any-map (is_next rows price kind to) (full other) (filter (λ (door : Door). door.offered) doors)
-        ∙ sym (list_any-map (is_next rows price kind to) (full from) (filter (λ (door : Door). door.offered) doors))
+        list_any-map (is_next rows price kind to) (full other) doors
+        ∙ sym (list_any-map (is_next rows price kind to) (full from) doors)
         ∙ names
+
+-- the same, if the same doors open from both
+pub IsBest-from :
+    (rows : List Row) (doors : List Door) (from other : ℕ) (row : Row) →
+    filter (opens from) doors ≡ filter (opens other) doors →
+    IsBest rows (fulls from doors) row → IsBest rows (fulls other doors) row
+IsBest-from rows doors from other row same best =
+    subst (λ (ds : List Door). IsBest rows (map (full other) ds) row) same
+    (IsBest-map rows (filter (opens from) doors) from other row best)
+
+-- the same, if fewer doors open from the other, and that of the row's payload is one of them
+pub IsBest-fewer :
+    (rows : List Row) (doors : List Door) (from other : ℕ) (row : Row) →
+    ((door : Door) → opens other door ≡ true → opens from door ≡ true) →
+    ((price : ℕ) (kind : Kind) (to : ℕ) → row ≡ Price price kind to →
+    All (λ (door : Door). opens from door ≡ true → eqb door.to to ≡ true → opens other door ≡ true) doors) →
+    IsBest rows (fulls from doors) row → IsBest rows (fulls other doors) row
+IsBest-fewer rows doors from other row fewer kept best =
+    IsBest-map rows (filter (opens other) doors) from other row (record {
+      behind =
+          list_all-map (is_no_better rows row) (full from) (filter (opens other) doors)
+          ∙ list_all-fewer (λ (door : Door). is_no_better rows row (full from door)) (opens from) (opens other) fewer doors
+          (sym (list_all-map (is_no_better rows row) (full from) (filter (opens from) doors)) ∙ best.behind);
+      names = named row kept best.names;
+    })
+  where
+    named :
+        (row : Row) →
+        ((price : ℕ) (kind : Kind) (to : ℕ) → row ≡ Price price kind to →
+        All (λ (door : Door). opens from door ≡ true → eqb door.to to ≡ true → opens other door ≡ true) doors) →
+        names_one rows (fulls from doors) row ≡ true → names_one rows (map (full from) (filter (opens other) doors)) row ≡ true
+    named Nothing kept names = refl
+    named End kept names = names
+    named (Price price kind to) kept names =
+        list_any-map (is_next rows price kind to) (full from) (filter (opens other) doors)
+        ∙ list_any-kept (λ (door : Door). is_next rows price kind to (full from door)) (opens from) (opens other) doors
+        (λ k d within before next.
+        let door = get_or doors k d in
+        let named = and_parts (is_named kind to (full from door)) (costs rows price (full from door)) next in
+        let its = and_parts (eqb door.to to) (is_same_kind kind Full) named.0 in
+        kept price kind to refl k d within before its.0)
+        (sym (list_any-map (is_next rows price kind to) (full from) (filter (opens from) doors)) ∙ names)
 
 -- a door before others
 pub IsBest-door_front :
     (rows : List Row) (doors : List Door) (door : Door) (from : ℕ) (row : Row) →
     IsBest rows (fulls from doors) row → IsBest rows (fulls from (door ∷ doors)) (taken rows row from door)
-IsBest-door_front rows doors door from row best = cases door.offered
+IsBest-door_front rows doors door from row best = cases (opens from door)
   where
     cases :
         (b : Bool) →
         IsBest rows
-        (map (full from) (cond b (door ∷ filter (λ (other : Door). other.offered) doors) (filter (λ (other : Door). other.offered) doors)))
+        (map (full from) (cond b (door ∷ filter (opens from) doors) (filter (opens from) doors)))
         (cond b (improved rows row (full from door)) row)
     cases true = IsBest-front rows (fulls from doors) (full from door) row best
     cases false = best
@@ -172,12 +259,12 @@ pub IsBest-door_back :
     (rows : List Row) (doors : List Door) (door : Door) (from : ℕ) (row : Row) →
     IsBest rows (fulls from doors) row → IsBest rows (fulls from (doors ++ door ∷ [])) (taken rows row from door)
 IsBest-door_back rows doors door from row best =
-    subst (λ (edges : List Edge). IsBest rows edges (taken rows row from door)) (sym shown) (cases door.offered)
+    subst (λ (edges : List Edge). IsBest rows edges (taken rows row from door)) (sym shown) (cases (opens from door))
   where
     shown : fulls from (doors ++ door ∷ []) ≡ fulls from doors ++ fulls from (door ∷ [])
     shown =
-        ap (map (full from)) (filter-append (λ (other : Door). other.offered) doors (door ∷ []))
-        ∙ map-append (full from) (filter (λ (other : Door). other.offered) doors) (filter (λ (other : Door). other.offered) (door ∷ []))
+        ap (map (full from)) (filter-append (opens from) doors (door ∷ []))
+        ∙ map-append (full from) (filter (opens from) doors) (filter (opens from) (door ∷ []))
 
     cases : (b : Bool) → IsBest rows (fulls from doors ++ map (full from) (cond b (door ∷ []) [])) (cond b (improved rows row (full from door)) row)
     cases true = IsBest-back rows (fulls from doors) (full from door) row best

@@ -1,57 +1,147 @@
 -- The best full packages of neighbours' windows, and one differential more.
-use Rattle.std.proofs.Common.{◌≡◌, ℕ, ◌+◌, ◌<◌, Bool, true, false, cond, List, [], ◌∷◌, ◌++◌, get_or, length, take, sym, ap, ◌∙◌, subst}
-use Rattle.std.proofs.lemmas.List.{append_assoc, take_more}
-use Rattle.payload_graph.specs.Laws.{WindowsGrowDown}
-use Rattle.payload_graph.specs.Net.{Net, fulls, window}
-use Rattle.payload_graph.specs.Soundness.{no_door}
+use Rattle.std.proofs.Common.{◌≡◌, ℕ, ◌+◌, ◌<◌, ◌≤◌, ◌&&◌, inl, inr, Bool, true, false, cond, eqb, leb, ltb, List, [], ◌∷◌, ◌++◌, get_or, length, take, slice_get, Option, None, Some, refl, sym, ap, ◌∙◌, subst, arith}
+use Rattle.std.specs.List.{All, filter, list_any}
+use Rattle.std.specs.Option.{option_map_or}
+use Rattle.std.proofs.lemmas.Bool.{and_from, and_parts, cases_lt, eq-eqb, eqb-true, false≢true, le-leb, leb-true, lt-leb, lt-ltb, or_parts}
+use Rattle.std.proofs.lemmas.List.Elements.{All-cons, All-from_get_or, All-head, All-nil, All-tail}
+use Rattle.std.proofs.lemmas.Option.{get_or_from_slice_get}
+use Rattle.std.proofs.lemmas.List.{append_assoc, get_or-take, length-take-le, take_more}
+use Rattle.records.specs.Forms.{is_size}
+use Rattle.payload_graph.specs.Laws.{WindowsGrowDown, WindowsHoldDoors}
+use Rattle.payload_graph.specs.Net.{Net, fulls, opens, window}
+use Rattle.payload_graph.specs.Soundness.{AreNumbered, is_floor, is_floor_of, no_door}
 use Rattle.payload_graph.specs.declared.door.Door.{Door}
 use Rattle.payload_graph.specs.declared.edge.Edge.{Edge}
 use Rattle.price_cert.specs.declared.row.Row.{Row}
 use Rattle.price_cert.specs.declared.row.Row.TheVariants.{Nothing}
-use Rattle.price_cert.proofs.BestLemmas.{IsBest-back, IsBest-door_back, IsBest-door_front, IsBest-from, IsBest-nothing}
-use Rattle.price_cert.specs.Best.{IsBest, improved, taken}
-use Rattle.price_cert.specs.Best.{lower}
+use Rattle.price_cert.proofs.BestLemmas.{IsBest-back, IsBest-door_back, IsBest-door_front, IsBest-fewer, IsBest-from, IsBest-nothing}
+use Rattle.price_cert.specs.Best.{IsBest, beyond, improved, is_still_open, lower, taken}
 
--- a window below the target is a door before the next window, which a stone hides
+-- a window below the target is a door before the rest of it
 pub IsBest-below :
-    (net : Net) (rows : List Row) (from : ℕ) (doors : List Door) (best rest result : Row) →
+    (net : Net) (rows : List Row) (from : ℕ) (doors : List Door) (rest result : Row) →
     WindowsGrowDown → net.target < length net.doors → from < net.target → doors ≡ net.doors →
-    rest ≡ cond (get_or doors (from + 1) no_door).stone Nothing best →
     result ≡ taken rows rest from (get_or doors (from + 1) no_door) →
-    IsBest rows (fulls (from + 1) (window net (from + 1))) best →
+    IsBest rows (fulls from (beyond net from)) rest →
     IsBest rows (fulls from (window net from)) result
-IsBest-below net rows from doors best rest result grow within below same rests is known =
+IsBest-below net rows from doors rest result grow within below same is known =
     subst (λ (row : Row). IsBest rows (fulls from (window net from)) row) (sym (is ∙ ap (λ (ds : List Door). taken rows rest from (get_or ds (from + 1) no_door)) same))
-    (subst (λ (ds : List Door). IsBest rows (fulls from ds) (taken rows rest from door)) (sym (grow net from within below))
-    (IsBest-door_front rows (cond door.stone [] (window net (from + 1))) door from rest
-    (subst (λ (row : Row). IsBest rows (fulls from (cond door.stone [] (window net (from + 1)))) row)
-    (sym (rests ∙ ap (λ (ds : List Door). cond (get_or ds (from + 1) no_door).stone Nothing best) same))
-    (hidden door.stone))))
-  where
-    door : Door
-    door = get_or net.doors (from + 1) no_door
+    (subst (λ (ds : List Door). IsBest rows (fulls from ds) (taken rows rest from (get_or net.doors (from + 1) no_door))) (sym (grow net from within below))
+    (IsBest-door_front rows (beyond net from) (get_or net.doors (from + 1) no_door) from rest known))
 
-    hidden : (b : Bool) → IsBest rows (fulls from (cond b [] (window net (from + 1)))) (cond b Nothing best)
-    hidden true = IsBest-nothing rows
-    hidden false = IsBest-from rows (window net (from + 1)) (from + 1) from best known
+-- after a stone nothing is left of the window
+pub IsBest-stone :
+    (net : Net) (rows : List Row) (from : ℕ) → (get_or net.doors (from + 1) no_door).stone ≡ true →
+    IsBest rows (fulls from (beyond net from)) Nothing
+IsBest-stone net rows from stone =
+    subst (λ (ds : List Door). IsBest rows (fulls from ds) Nothing) (sym (ap (λ b. cond b [] (window net (from + 1))) stone)) (IsBest-nothing rows)
+
+-- after another door the next window is
+pub IsBest-beyond :
+    (net : Net) (rows : List Row) (from : ℕ) (row : Row) → (get_or net.doors (from + 1) no_door).stone ≡ false →
+    IsBest rows (fulls from (window net (from + 1))) row → IsBest rows (fulls from (beyond net from)) row
+IsBest-beyond net rows from row plain known =
+    subst (λ (ds : List Door). IsBest rows (fulls from ds) row) (sym (ap (λ b. cond b [] (window net (from + 1))) plain)) known
+
+-- a door that opens from a release opens from the next one
+opens-next : (from : ℕ) (door : Door) → opens from door ≡ true → opens (from + 1) door ≡ true
+opens-next from door opened =
+    let parts = and_parts (leb door.floor from) door.offered opened in
+    let low = leb-true door.floor from parts.0 in
+    and_from (leb door.floor (from + 1)) door.offered (le-leb door.floor (from + 1) (omega arith)) parts.1
+
+-- the best full package of a window is also that of the release below, as long as its door opens
+pub IsBest-still :
+    (net : Net) (rows : List Row) (from : ℕ) (doors : List Door) (row : Row) →
+    WindowsHoldDoors → AreNumbered net.doors → doors ≡ net.doors → is_still_open doors from row ≡ true →
+    IsBest rows (fulls (from + 1) (window net (from + 1))) row →
+    IsBest rows (fulls from (window net (from + 1))) row
+IsBest-still net rows from doors row hold numbered same still known =
+    IsBest-fewer rows (window net (from + 1)) (from + 1) from row (opens-next from)
+    (λ price kind to is k d within before its.
+    let door = get_or (window net (from + 1)) k d in
+    let own = (hold net (from + 1) numbered k d within).own in
+    let at = ap (λ n. get_or net.doors n no_door) (sym (eqb-true door.to to its)) in
+    opened to (slice_get net.doors to) refl (sym (ap (λ (r : Row). is_still_open net.doors from r) is) ∙ sym (ap (λ (ds : List Door). is_still_open ds from row) same) ∙ still) door (at ∙ own))
+    known
+  where
+    opened :
+        (to : ℕ) (found : Option Door) → slice_get net.doors to ≡ found → option_map_or (opens from) found false ≡ true →
+        (door : Door) → get_or net.doors to no_door ≡ door → opens from door ≡ true
+    opened to None is holds door own = absurd (false≢true holds)
+    opened to (Some found) is holds door own =
+        ap (opens from) (sym own ∙ get_or_from_slice_get net.doors to found no_door is) ∙ holds
+
+-- tests that agree keep the same items
+filter-agree : {A : Type 0} (p q : A → Bool) (xs : List A) → All (λ x. p x ≡ q x) xs → filter p xs ≡ filter q xs
+filter-agree p q [] agree = refl
+filter-agree {A} p q (x ∷ xs) agree =
+    ap (λ b. cond b (x ∷ filter p xs) (filter p xs)) (All-head (λ (y : A). p y ≡ q y) x xs agree)
+    ∙ ap (λ (ys : List A). cond (q x) (x ∷ ys) ys) (filter-agree p q xs (All-tail (λ (y : A). p y ≡ q y) x xs agree))
+
+-- a lower door whose floor isn't the next release opens from both or from neither
+opens-both :
+    (from : ℕ) (door : Door) → door.to ≤ from → is_floor_of (from + 1) door ≡ false →
+    opens from door ≡ opens (from + 1) door
+opens-both from door lower none = ap (λ b. b && door.offered) (elim (cases_lt from door.floor) [
+  | inl above ↦ elim (cases_lt (from + 1) door.floor) [
+    | inl higher ↦ lt-leb door.floor from above ∙ sym (lt-leb door.floor (from + 1) higher)
+    | inr at ↦ absurd (false≢true (sym none
+        ∙ and_from (ltb door.to (from + 1)) (eqb (from + 1) door.floor) (lt-ltb door.to (from + 1) (omega arith)) (eq-eqb (from + 1) door.floor (omega arith))))
+  ]
+  | inr low ↦ le-leb door.floor from low ∙ sym (le-leb door.floor (from + 1) (omega arith))
+])
+
+-- no item passes, so each one fails
+each-fails : {A : Type 0} (p : A → Bool) (xs : List A) → list_any p xs ≡ false → All (λ x. p x ≡ false) xs
+each-fails p [] none = All-nil (λ x. p x ≡ false)
+each-fails p (x ∷ xs) none =
+    let parts = or_parts (p x) (list_any p xs) none in
+    All-cons (λ y. p y ≡ false) x xs parts.0 (each-fails p xs parts.1)
+
+-- the best full package to the releases below one is also the next one's, if that is no floor
+pub IsBest-before :
+    (net : Net) (rows : List Row) (from : ℕ) (row : Row) → AreNumbered net.doors →
+    from < length net.doors → is_floor net.doors (from + 1) ≡ false →
+    IsBest rows (fulls from (take from net.doors)) row → IsBest rows (fulls (from + 1) (take from net.doors)) row
+IsBest-before net rows from row numbered there none known =
+    IsBest-from rows (take from net.doors) from (from + 1) row
+    (filter-agree (opens from) (opens (from + 1)) (take from net.doors)
+    (All-from_get_or (λ (door : Door). opens from door ≡ opens (from + 1) door) (take from net.doors) no_door (λ k within.
+    let size = length-take-le from net.doors (omega arith) in
+    let at = get_or-take from net.doors k no_door (omega arith) in
+    let fits : k < length net.doors = omega arith in
+    let own = numbered k fits in
+    subst (λ (door : Door). opens from door ≡ opens (from + 1) door) (sym at)
+    (opens-both from (get_or net.doors k no_door) (omega arith)
+    (each-fails (is_floor_of (from + 1)) net.doors none k no_door fits)))))
+    known
+
+-- on a track that rolls back, the doors below a release are all the lower ones
+pub IsBest-take :
+    (net : Net) (rows : List Row) (from : ℕ) (row : Row) → net.rollback ≡ true →
+    IsBest rows (fulls from (lower net from)) row → IsBest rows (fulls from (take from net.doors)) row
+IsBest-take net rows from row rolls known =
+    subst (λ (ds : List Door). IsBest rows (fulls from ds) row) (ap (λ b. cond b (take from net.doors) []) rolls) known
+
+pub IsBest-lower :
+    (net : Net) (rows : List Row) (from : ℕ) (row : Row) → net.rollback ≡ true →
+    IsBest rows (fulls from (take from net.doors)) row → IsBest rows (fulls from (lower net from)) row
+IsBest-lower net rows from row rolls known =
+    subst (λ (ds : List Door). IsBest rows (fulls from ds) row) (sym (ap (λ b. cond b (take from net.doors) []) rolls)) known
 
 -- the doors below a release, and the door of that release
 pub IsBest-above :
-    (net : Net) (rows : List Row) (from : ℕ) (doors : List Door) (best result : Row) →
+    (net : Net) (rows : List Row) (from : ℕ) (doors : List Door) (rest result : Row) →
     from < length net.doors → doors ≡ net.doors → net.rollback ≡ true →
-    result ≡ taken rows best from (get_or doors from no_door) →
-    IsBest rows (fulls from (lower net from)) best →
+    result ≡ taken rows rest (from + 1) (get_or doors from no_door) →
+    IsBest rows (fulls (from + 1) (take from net.doors)) rest →
     IsBest rows (fulls (from + 1) (lower net (from + 1))) result
-IsBest-above net rows from doors best result there same rolls is known =
-    subst (λ (row : Row). IsBest rows (fulls (from + 1) (lower net (from + 1))) row) (sym (is ∙ ap (λ (ds : List Door). taken rows best from (get_or ds from no_door)) same))
-    (subst (λ (ds : List Door). IsBest rows (fulls (from + 1) ds) (taken rows best from door)) (sym grown)
-    (IsBest-from rows (take from net.doors ++ door ∷ []) from (from + 1) (taken rows best from door)
-    (IsBest-door_back rows (take from net.doors) door from best
-    (subst (λ (ds : List Door). IsBest rows (fulls from ds) best) (ap (λ b. cond b (take from net.doors) []) rolls) known))))
+IsBest-above net rows from doors rest result there same rolls is known =
+    subst (λ (row : Row). IsBest rows (fulls (from + 1) (lower net (from + 1))) row) (sym (is ∙ ap (λ (ds : List Door). taken rows rest (from + 1) (get_or ds from no_door)) same))
+    (subst (λ (ds : List Door). IsBest rows (fulls (from + 1) ds) (taken rows rest (from + 1) (get_or net.doors from no_door))) (sym grown)
+    (IsBest-door_back rows (take from net.doors) (get_or net.doors from no_door) (from + 1) rest known))
   where
-    door : Door
-    door = get_or net.doors from no_door
-
     grown : lower net (from + 1) ≡ take from net.doors ++ get_or net.doors from no_door ∷ []
     grown = ap (λ b. cond b (take (from + 1) net.doors) []) rolls ∙ take_more net.doors from no_door there
 
@@ -63,13 +153,20 @@ IsBest-level net rows from best rolls known =
     subst (λ (ds : List Door). IsBest rows (fulls (from + 1) ds) best) (sym (ap (λ b. cond b (take (from + 1) net.doors) []) rolls))
     (subst (λ (ds : List Door). IsBest rows (fulls from ds) best) (ap (λ b. cond b (take from net.doors) []) rolls) known)
 
--- below the lowest release there is none
-pub IsBest-lowest : (net : Net) (rows : List Row) → IsBest rows (fulls 0 (lower net 0)) Nothing
-IsBest-lowest net rows = at net.rollback
-  where
-    at : (b : Bool) → IsBest rows (fulls 0 (cond b (take 0 net.doors) [])) Nothing
-    at true = IsBest-nothing rows
-    at false = IsBest-nothing rows
+pub IsBest-none :
+    (net : Net) (rows : List Row) (from : ℕ) → net.rollback ≡ false → IsBest rows (fulls from (lower net from)) Nothing
+IsBest-none net rows from rolls =
+    subst (λ (ds : List Door). IsBest rows (fulls from ds) Nothing) (sym (ap (λ b. cond b (take from net.doors) []) rolls)) (IsBest-nothing rows)
+
+-- one door more
+pub IsBest-door :
+    (rows : List Row) (from : ℕ) (doors : List Door) (index : ℕ) (d : Door) (row result : Row) →
+    index < length doors → result ≡ taken rows row from (get_or doors index d) →
+    IsBest rows (fulls from (take index doors)) row → IsBest rows (fulls from (take (index + 1) doors)) result
+IsBest-door rows from doors index d row result within is known =
+    subst (λ (r : Row). IsBest rows (fulls from (take (index + 1) doors)) r) (sym is)
+    (subst (λ (ds : List Door). IsBest rows (fulls from ds) (taken rows row from (get_or doors index d))) (sym (take_more doors index d within))
+    (IsBest-door_back rows (take index doors) (get_or doors index d) from row known))
 
 -- one differential more
 pub IsBest-differ :
@@ -85,3 +182,12 @@ IsBest-differ rows edges differs index d row result within is known =
     grown =
         ap (λ (es : List Edge). edges ++ es) (take_more differs index d within)
         ∙ sym (append_assoc edges (take index differs) (get_or differs index d ∷ []))
+
+-- the doors of a window have valid sizes
+pub All-sized-window :
+    (net : Net) (from : ℕ) → WindowsHoldDoors → AreNumbered net.doors →
+    All (λ (door : Door). is_size door.bytes ≡ true) net.doors →
+    All (λ (door : Door). is_size door.bytes ≡ true) (window net from)
+All-sized-window net from hold numbered sized k d within =
+    let is = hold net from numbered k d within in
+    subst (λ (door : Door). is_size door.bytes ≡ true) is.own (sized (get_or (window net from) k d).to no_door is.there)

@@ -1,12 +1,15 @@
 -- The best payload of a list, by a table of prices: of the least sum, of those the one that leads highest,
 -- and of two of these the differential.
-use Rattle.std.specs.Prelude.{◌≡◌, ℕ, ◌+◌, ◌<◌, ◌≤◌, ◌==◌, ◌&&◌, ◌||◌, not, Bool, true, false, if◌then◌else◌, IfSome, List, [], length, nat_lt, take, Option, None, Some}
+use Rattle.std.specs.Prelude.{◌≡◌, ℕ, ◌+◌, ◌-◌, ◌^◌, ◌<◌, ◌≤◌, ◌==◌, ◌&&◌, ◌||◌, not, Bool, true, false, if◌then◌else◌, IfSome, List, [], length, nat_lt, slice_get, take, Option, None, Some}
 use Rattle.std.specs.List.{list_all, list_any}
-use Rattle.payload_graph.specs.Net.{Net, edges_from, full}
+use Rattle.std.specs.Option.{option_map_or}
+use Rattle.payload_graph.specs.Net.{Net, edges_from, full, opens, window}
+use Rattle.payload_graph.specs.Soundness.{door_at}
 use Rattle.payload_graph.specs.declared.door.Door.{Door}
 use Rattle.payload_graph.specs.declared.edge.Edge.{Edge}
 use Rattle.payload_graph.specs.declared.edge.Kind.{Kind}
 use Rattle.payload_graph.specs.declared.edge.Kind.TheVariants.{Full, Differ}
+use Rattle.price_cert.specs.declared.best.Nearest.{Nearest}
 use Rattle.price_cert.specs.Laws.{IsSmall}
 use Rattle.price_cert.specs.Rows.{price_at, price_of, row_at}
 use Rattle.price_cert.specs.Rules.{AreCertified, adds_up, is_at_most, is_next, yields}
@@ -39,9 +42,9 @@ improved_by (Some rest) row edge =
 abbrev pub improved : List Row → Row → Edge → Row
 improved rows row edge = improved_by (price_at rows edge.to) row edge
 
--- the same of the full package through a door, if that is offered
+-- the same of the full package through a door, if the door opens from the release
 abbrev pub taken : List Row → Row → ℕ → Door → Row
-taken rows row from door = if door.offered then improved rows row (full from door) else row
+taken rows row from door = if opens from door then improved rows row (full from door) else row
 
 -- a payload to a release of that price doesn't give the row's sum, or yields to the one that the row
 -- names
@@ -70,9 +73,27 @@ pub record IsBest (rows : List Row) (edges : List Edge) (row : Row) : Type 0 whe
   pub behind : list_all (is_no_better rows row) edges ≡ true
   pub names : names_one rows edges row ≡ true
 
+-- the row that names the nearest destination; its sum is the largest number of 64 bits if there is none
+abbrev pub nearest_row : Nearest → Row
+nearest_row nearest = if nearest.sum == (2 ^ 64 - 1) then Nothing else Price nearest.sum Full nearest.to
+
+-- a destination of a sum is nearer than the nearest one so far; of equal sums the higher one is
+abbrev pub is_nearer : Nearest → ℕ → ℕ → Bool
+is_nearer nearest sum to = nat_lt sum nearest.sum || (sum == nearest.sum && nat_lt nearest.to to)
+
+-- the door that a row leads through opens from a release; a row without a payload needs none
+abbrev pub is_still_open : List Door → ℕ → Row → Bool
+is_still_open doors from Nothing = true
+is_still_open doors from End = true
+is_still_open doors from (Price price kind to) = option_map_or (opens from) (slice_get doors to) false
+
 -- the doors that a release above the target leads down through
 abbrev pub lower : Net → ℕ → List Door
 lower net from = if net.rollback then take from net.doors else []
+
+-- a window below the target without its first door
+abbrev pub beyond : Net → ℕ → List Door
+beyond net from = if (door_at net (from + 1)).stone then [] else window net (from + 1)
 
 -- a row has no price, or a small one
 abbrev pub IsPriceSmall : Row → Type 0

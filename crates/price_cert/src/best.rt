@@ -2,7 +2,7 @@
 
 ghost use Rattle.std.specs.Prelude.{◌≡◌, true};
 ghost use Rattle.records.specs.Forms.{is_size};
-ghost use Rattle.price_cert.specs.Best.{improved, is_better, is_kind_better, leads_higher, taken, ArePricesSmall};
+ghost use Rattle.price_cert.specs.Best.{improved, is_better, is_kind_better, is_nearer, is_still_open, leads_higher, nearest_row, taken, ArePricesSmall};
 
 use crate::row::{Row, row_at};
 use payload_graph::{Door, Edge, Kind};
@@ -56,20 +56,84 @@ pub(crate) fn improved(rows: &[Row], row: Row, edge: &Edge) -> Row
     }
 }
 
-/// The same of the full package through a door, if that is offered.
+/// The same of the full package through a door, if the door opens from the release.
 pub(crate) fn taken(rows: &[Row], row: Row, from: usize, door: &Door) -> Row
     requires small { ArePricesSmall rows.now }
     requires sized { is_size door.now.bytes ≡ true }
     ensures { result ≡ taken rows.now row from door.now }
 {
-    if !door.offered {
-        return row;
+    if door.opens(from) {
+        let edge = Edge {
+            from,
+            to: door.to,
+            kind: Kind::Full,
+            bytes: door.bytes,
+        };
+        improved(rows, row, &edge)
+    } else {
+        row
     }
-    let edge = Edge {
-        from,
-        to: door.to,
-        kind: Kind::Full,
-        bytes: door.bytes,
+}
+
+/// Whether the door that a row leads through also opens from a release; true of a row without a payload.
+pub(crate) fn is_still_open(doors: &[Door], from: usize, row: Row) -> bool
+    ensures { result ≡ is_still_open doors.now from row }
+{
+    match row {
+        Row::Price { to, .. } => match doors.get(to) {
+            Some(door) => door.opens(from),
+            None => false,
+        },
+        _ => true,
+    }
+}
+
+/// The destination of the best full package so far.
+#[derive(Clone, Copy)]
+pub(crate) struct Nearest {
+    /// The bytes of its full package and its price; `u64::MAX` if there is none, more than any sum.
+    pub(crate) sum: u64,
+    /// Its index.
+    pub(crate) to: usize,
+}
+
+/// The row that names the nearest destination.
+pub(crate) fn nearest_row(nearest: Nearest) -> Row
+    ensures { result ≡ nearest_row nearest }
+{
+    if nearest.sum == u64::MAX {
+        Row::Nothing
+    } else {
+        Row::Price {
+            price: nearest.sum,
+            kind: Kind::Full,
+            to: nearest.to,
+        }
+    }
+}
+
+fn is_nearer(nearest: Nearest, sum: u64, to: usize) -> bool
+    ensures { result ≡ is_nearer nearest sum to }
+{
+    sum < nearest.sum || (sum == nearest.sum && nearest.to < to)
+}
+
+/// The nearer one of a destination and a door, if the door opens from the release.
+pub(crate) fn nearer(rows: &[Row], nearest: Nearest, from: usize, door: &Door) -> Nearest
+    requires small { ArePricesSmall rows.now }
+    requires sized { is_size door.now.bytes ≡ true }
+    ensures { nearest_row result ≡ taken rows.now (nearest_row nearest) from door.now }
+{
+    if !door.opens(from) {
+        return nearest;
+    }
+    let Some(rest) = row_at(rows, door.to).price() else {
+        return nearest;
     };
-    improved(rows, row, &edge)
+    let sum = door.bytes + rest;
+    if is_nearer(nearest, sum, door.to) {
+        Nearest { sum, to: door.to }
+    } else {
+        nearest
+    }
 }

@@ -108,7 +108,9 @@ fn find_wrong(graph: &Graph, rows: &[Row]) -> Option<Wrong>
 ///
 /// The table has the graph's key and a row for each release. If a row breaks a rule, it returns the
 /// first such row from the highest version, with the first rule that it breaks, and gives the table
-/// back. It takes no memory, and for a right table a step for each release and each differential.
+/// back. It takes no memory. A right table takes a step for each release and each differential; each
+/// release that is below the floor of the best full package after it takes a step for each release of
+/// its window.
 pub fn check(graph: &Graph, prices: Prices) -> Result<Certified, (Wrong, Prices)>
     requires key { prices.key ≡ graph.now.key }
     requires sized { length prices.rows ≡ length graph.now.doors }

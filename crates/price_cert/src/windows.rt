@@ -2,15 +2,18 @@
 //!
 //! The full packages that leave a release go through its window, and the windows of neighbours differ by
 //! one door: so whoever goes along the releases, and keeps the best full package of the window, takes a
-//! step for each release and each differential.
+//! step for each release and each differential. Only at a floor the open doors of a window can change:
+//! if one is at stake, the window is gone through.
 
-ghost use Rattle.std.specs.Prelude.{◌≡◌, ◌+◌, ◌<◌, length};
+ghost use Rattle.std.specs.Prelude.{◌≡◌, ◌+◌, ◌<◌, All, true, length, take};
 ghost use Rattle.payload_graph.specs.Net.{edges_from, fulls, window};
-ghost use Rattle.price_cert.specs.Best.{lower, ArePricesSmall, IsBest};
+ghost use Rattle.records.specs.Forms.{is_size};
+ghost use Rattle.payload_graph.specs.declared.door.Door.{Door};
+ghost use Rattle.price_cert.specs.Best.{beyond, lower, ArePricesSmall, IsBest};
 
-use crate::best::{improved, taken};
+use crate::best::{Nearest, improved, is_still_open, nearer, nearest_row, taken};
 use crate::row::Row;
-use payload_graph::Graph;
+use payload_graph::{Door, Graph};
 
 // rule: Best payload
 /// Names the best payload of a release, by the best full package of its window.
@@ -29,6 +32,42 @@ pub fn best_row(graph: &Graph, rows: &[Row], from: usize, best: Row) -> Row
     row
 }
 
+// The best full package of a release through some doors, by a look at each of them.
+fn best_through(rows: &[Row], from: usize, doors: &[Door]) -> Row
+    requires small { ArePricesSmall rows.now }
+    requires sized { All (λ (door : Door). is_size door.bytes ≡ true) doors.now }
+    ensures { IsBest rows.now (fulls from doors.now) result }
+{
+    let mut nearest = Nearest {
+        sum: u64::MAX,
+        to: 0,
+    };
+    for door in doors {
+        nearest = nearer(rows, nearest, from, door);
+    }
+    nearest_row(nearest)
+}
+
+// The best full package of a window without its first door, by that of the next release's window. It stays
+// the best as long as its door opens from the release; after that the window is gone through.
+fn best_beyond(graph: &Graph, rows: &[Row], from: usize, best: Row) -> Row
+    requires below { from < graph.now.target }
+    requires small { ArePricesSmall rows.now }
+    requires best { IsBest rows.now (fulls (from + 1) (window graph.now (from + 1))) best }
+    ensures { IsBest rows.now (fulls from (beyond graph.now from)) result }
+{
+    payload_graph::laws::windows();
+    let _within = graph.target();
+    let doors = graph.doors();
+    if doors[from + 1].stone {
+        return Row::Nothing;
+    }
+    if is_still_open(doors, from, best) {
+        return best;
+    }
+    best_through(rows, from, graph.window(from + 1))
+}
+
 /// Names the best full package of a window below the target, by that of the window of the next release.
 pub fn best_below(graph: &Graph, rows: &[Row], from: usize, best: Row) -> Row
     requires below { from < graph.now.target }
@@ -38,9 +77,24 @@ pub fn best_below(graph: &Graph, rows: &[Row], from: usize, best: Row) -> Row
 {
     payload_graph::laws::windows();
     let _within = graph.target();
-    let door = &graph.doors()[from + 1];
-    let rest = if door.stone { Row::Nothing } else { best };
-    taken(rows, rest, from, door)
+    let rest = best_beyond(graph, rows, from, best);
+    taken(rows, rest, from, &graph.doors()[from + 1])
+}
+
+// The best full package of the next release to the releases below one, by that of this one. Lower doors may
+// open from the next release on; only if it is marked as a floor they are gone through.
+fn best_before(graph: &Graph, rows: &[Row], from: usize, best: Row) -> Row
+    requires there { from < length graph.now.doors }
+    requires small { ArePricesSmall rows.now }
+    requires best { IsBest rows.now (fulls from (take from graph.now.doors)) best }
+    ensures { IsBest rows.now (fulls (from + 1) (take from graph.now.doors)) result }
+{
+    let doors = graph.doors();
+    if graph.is_floor(from + 1) {
+        best_through(rows, from + 1, &doors[..from])
+    } else {
+        best
+    }
 }
 
 /// Names the best full package to the releases up to one, by that to the releases below it.
@@ -52,11 +106,12 @@ pub fn best_above(graph: &Graph, rows: &[Row], from: usize, best: Row) -> Row
     requires best { IsBest rows.now (fulls from (lower graph.now from)) best }
     ensures { IsBest rows.now (fulls (from + 1) (lower graph.now (from + 1))) result }
 {
-    if graph.rolls_back() {
-        taken(rows, best, from, &graph.doors()[from])
-    } else {
-        best
+    if !graph.rolls_back() {
+        return best;
     }
+    let doors = graph.doors();
+    let rest = best_before(graph, rows, from, best);
+    taken(rows, rest, from + 1, &doors[from])
 }
 
 /// Names the best full package to the releases up to the target, for those above it.
@@ -64,10 +119,11 @@ pub fn best_to_target(graph: &Graph, rows: &[Row]) -> Row
     requires { ArePricesSmall rows.now }
     ensures { IsBest rows.now (fulls (graph.now.target + 1) (lower graph.now (graph.now.target + 1))) result }
 {
-    let _bounded = graph.doors();
-    let mut best = Row::Nothing;
-    for from in 0..graph.target() + 1 {
-        best = best_above(graph, rows, from, best);
+    let doors = graph.doors();
+    let above = graph.target() + 1;
+    if graph.rolls_back() {
+        best_through(rows, above, &doors[..above])
+    } else {
+        Row::Nothing
     }
-    best
 }

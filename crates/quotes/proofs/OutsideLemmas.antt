@@ -12,7 +12,7 @@ use Rattle.values.specs.Ordered.{ascend}
 use Rattle.records.specs.Validity.{is_release_below}
 use Rattle.records.specs.declared.content.Cohort.{Cohort}
 use Rattle.records.specs.declared.content.Release.{Release}
-use Rattle.payload_graph.specs.Permitted.{is_offered, is_stone_between, jumps_stone, leads_down, permits_full}
+use Rattle.payload_graph.specs.Permitted.{is_offered_at, is_stone_between, jumps_stone, leads_down, permits_full}
 use Rattle.price_cert.specs.declared.row.Row.{Row}
 use Rattle.quotes.specs.Outside.{IsBest, is_blocked, is_stone_above, leads_to, sum_if, sum_into}
 use Rattle.quotes.specs.declared.outside.Best.{Best}
@@ -133,8 +133,8 @@ module _ (irreflexive : BelowIsIrreflexive) (transitive : BelowIsTransitive) (re
       let low = not (is_below target release.version) in
       let down = rollback && leads_down target version release.version in
       let blocked = is_blocked version (take to releases) in
-      ap (λ b. is_offered cohort release && ((up && (low && not b)) || down)) (jumps_stone-before version to release within item)
-      ∙ ap (λ b. is_offered cohort release && (b || down)) (turn up low (not blocked))
+      ap (λ b. is_offered_at cohort version release && ((up && (low && not b)) || down)) (jumps_stone-before version to release within item)
+      ∙ ap (λ b. is_offered_at cohort version release && (b || down)) (turn up low (not blocked))
 
 any-more :
     {A : Type 0} (p : A → Bool) (xs : List A) (n : ℕ) (d : A) → n < length xs →

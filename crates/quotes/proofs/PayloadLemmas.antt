@@ -13,7 +13,7 @@ use Rattle.records.specs.declared.content.Cohort.{Cohort}
 use Rattle.records.specs.declared.content.Diff.{Diff}
 use Rattle.records.specs.declared.content.Release.{Release}
 use Rattle.payload_graph.specs.Chains.{bytes_of, destination_of, index_of}
-use Rattle.payload_graph.specs.Permitted.{end_of, is_offered, leads_up, permits, permits_differ, permits_from, permits_full, permits_in, rolls_back, starts_at}
+use Rattle.payload_graph.specs.Permitted.{end_of, is_offered_at, leads_up, permits, permits_differ, permits_from, permits_full, permits_in, rolls_back, starts_at}
 use Rattle.payload_graph.specs.Places.{version_at}
 use Rattle.payload_graph.specs.declared.payload.Payload.{Payload}
 use Rattle.payload_graph.specs.declared.payload.Payload.TheVariants.{Full, Differ}
@@ -87,7 +87,7 @@ differ_there app key cohort target release place index track permitted =
     let diff = found.item in
     let passed : test diff ≡ true = sym (ap (λ (o : Option Diff). option_map_or test o false) found.is) ∙ tested in
     let parts = and_parts (starts_at app.releases place diff) (permits_differ app.releases cohort release.version diff) passed in
-    let end = IsThere-test (λ (to : Release). is_offered cohort to && leads_up app.releases release.version diff.from to.version) (end_of app.releases diff) parts.1 in
+    let end = IsThere-test (λ (to : Release). is_offered_at cohort diff.from to && leads_up app.releases release.version diff.from to.version) (end_of app.releases diff) parts.1 in
     record {
       diff = diff;
       there = found.is;
@@ -109,7 +109,7 @@ differ_ends app key cohort target release from index diff track permitted there 
     let start = IsThere-test (is_release diff.from) (slice_get app.releases from) parts.0 in
     let starts : is_release diff.from start.item ≡ true =
     sym (ap (λ (o : Option Release). option_map_or (is_release diff.from) o false) start.is) ∙ parts.0 in
-    let end = IsThere-test (λ (to : Release). is_offered cohort to && leads_up app.releases release.version diff.from to.version) (end_of app.releases diff) parts.1 in
+    let end = IsThere-test (λ (to : Release). is_offered_at cohort diff.from to && leads_up app.releases release.version diff.from to.version) (end_of app.releases diff) parts.1 in
     record {
       start = start.item;
       start_there = start.is;
@@ -152,7 +152,7 @@ module _ (irreflexive : BelowIsIrreflexive) (fulls_permitted : FullsArePermitted
   edge_from numbered = edge_of app.releases numbered.1
 
   abbrev numbered_door : ℕ × Release → Door
-  numbered_door numbered = door_of cohort numbered.0 numbered.1
+  numbered_door numbered = door_of cohort app.releases numbered.0 numbered.1
 
   fulls_are : all_fulls ≡ map (full from) (filter passes_full (doors_of cohort app.releases))
   fulls_are = fulls_permitted app key cohort target from release (differs_of app cohort target) track within
@@ -165,7 +165,7 @@ module _ (irreflexive : BelowIsIrreflexive) (fulls_permitted : FullsArePermitted
   edge-permitted (Full to) permitted =
       let found = full_there app key cohort target release (At from) to track permitted in
       let there = found.item in
-      let door = door_of cohort to there in
+      let door = door_of cohort app.releases to there in
       let numbered = Contains-numbered app.releases to there found.is in
       let in_doors = Contains-map numbered_door (enumerate_from 0 app.releases) (to, there) numbered in
       let kept = Contains-filter passes_full (doors_of cohort app.releases) door in_doors permitted in

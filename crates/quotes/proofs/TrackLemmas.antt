@@ -108,5 +108,5 @@ pub length-doors :
     (app : App) (key : TrackKey) (net : Net) → HasTrack app key net → length net.doors ≡ length app.releases
 length-doors app key net track =
     ap (λ (n : Net). length n.doors) track.is
-    ∙ length-map (enumerate_from 0 app.releases) (λ (numbered : ℕ × Release). door_of track.cohort numbered.0 numbered.1)
+    ∙ length-map (enumerate_from 0 app.releases) (λ (numbered : ℕ × Release). door_of track.cohort app.releases numbered.0 numbered.1)
     ∙ length-enumerate_from 0 app.releases

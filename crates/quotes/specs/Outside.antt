@@ -6,7 +6,7 @@ use Rattle.std.specs.Option.{option_map_or}
 use Rattle.version.specs.Versions.{is_below}
 use Rattle.records.specs.declared.content.Cohort.{Cohort}
 use Rattle.records.specs.declared.content.Release.{Release}
-use Rattle.payload_graph.specs.Permitted.{is_offered, leads_down, permits_full}
+use Rattle.payload_graph.specs.Permitted.{is_offered_at, leads_down, permits_full}
 use Rattle.payload_graph.specs.declared.payload.Payload.TheVariants.{Full}
 use Rattle.price_cert.specs.Laws.{IsSmall}
 use Rattle.price_cert.specs.Rows.{price_at}
@@ -30,7 +30,7 @@ rises_to target version to = is_below version to && not (is_below target to)
 -- a full package is permitted from a version, given whether a stone is between
 abbrev pub leads_to : Cohort → Bool → List ℕ → List ℕ → Bool → Release → Bool
 leads_to cohort rollback target version blocked release =
-    is_offered cohort release
+    is_offered_at cohort version release
     && ((not blocked && rises_to target version release.version)
     || (rollback && leads_down target version release.version))
 

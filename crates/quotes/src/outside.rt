@@ -11,7 +11,7 @@ ghost use Rattle.price_cert.specs.Rows.{price_of};
 ghost use Rattle.quotes.specs.Outside.{is_stone_above, leads_to, rises_to, sum_into, AreSmall, IsBest};
 
 use catalogue::{Cohort, Release};
-use payload_graph::is_offered;
+use payload_graph::is_offered_at;
 use price_cert::Row;
 use version::Version;
 
@@ -62,7 +62,7 @@ impl Visitor<'_> {
     fn is_led_to(&self, release: &Release, blocked: bool) -> bool
         ensures { result ≡ leads_to self.now.cohort.now self.now.rollback self.now.target self.now.version blocked release.now }
     {
-        is_offered(self.cohort, release)
+        is_offered_at(self.cohort, &self.version, release)
             && ((!blocked && self.rises_to(release)) || (self.rollback && self.falls_to(release)))
     }
 

@@ -11,7 +11,7 @@ use Rattle.records.specs.declared.content.Cohort.{Cohort}
 use Rattle.records.specs.declared.content.Diff.{Diff}
 use Rattle.records.specs.declared.content.Release.{Release}
 use Rattle.payload_graph.specs.Chains.{destination_of, index_of}
-use Rattle.payload_graph.specs.Permitted.{end_of, is_offered, jumps_stone, leads_down, leads_up, permits_differ, permits_from, permits_full, starts_at}
+use Rattle.payload_graph.specs.Permitted.{end_of, is_offered_at, jumps_stone, leads_down, leads_up, permits_differ, permits_from, permits_full, starts_at}
 use Rattle.payload_graph.specs.Places.{version_at}
 use Rattle.payload_graph.specs.declared.payload.Payload.{Payload}
 use Rattle.payload_graph.specs.declared.payload.Payload.TheVariants.{Full, Differ}
@@ -44,7 +44,7 @@ IsWay-full :
     (releases : List Release) (cohort : Cohort) (rollback : Bool) (target from : List ℕ) (to : Release) →
     permits_full releases cohort rollback target from to ≡ true → IsWay target from to.version
 IsWay-full releases cohort rollback target from to permitted =
-    let parts = and_parts (is_offered cohort to)
+    let parts = and_parts (is_offered_at cohort from to)
     (leads_up releases target from to.version || (rollback && leads_down target from to.version)) permitted in
     elim (or_cases (leads_up releases target from to.version) (rollback && leads_down target from to.version) parts.1) [
       | inl up ↦ IsWay-up releases target from to.version up
@@ -95,9 +95,9 @@ Leads-differ app cohort rollback target place index permitted =
     target diff) (slice_get app.diffs index) permitted in
     let diff = found.item in
     let parts = and_parts (starts_at app.releases place diff) (permits_differ app.releases cohort target diff) found.passed in
-    let end = Passes-option_map_or (λ (to : Release). is_offered cohort to && leads_up app.releases target diff.from to.version)
+    let end = Passes-option_map_or (λ (to : Release). is_offered_at cohort diff.from to && leads_up app.releases target diff.from to.version)
     (end_of app.releases diff) parts.1 in
-    let up = (and_parts (is_offered cohort end.item) (leads_up app.releases target diff.from end.item.version) end.passed).1 in
+    let up = (and_parts (is_offered_at cohort diff.from end.item) (leads_up app.releases target diff.from end.item.version) end.passed).1 in
     let to : destination_of app (Differ index) ≡ index_of app.releases diff.to =
     ap (λ (o : Option Diff). option_map_or (λ (d : Diff). index_of app.releases d.to) o (length app.releases)) found.is in
     record {
