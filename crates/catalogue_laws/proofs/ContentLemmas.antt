@@ -209,7 +209,7 @@ module _ (laws : VersionLaws) (agrees : LenientAgrees) (front : List App) (app :
         cases :
             (b : Bool) → bytes_eq release.floor zero_version ≡ b →
             Makes (cond b [] (edit_of_floor app release ∷ [])) (by_floor zero_version) (by_floor release.floor)
-        cases true none = ap by_floor (sym ((bytes_eq-Decides release.floor zero_version).0 none))
+        cases true none = ap by_floor ((bytes_eq-Decides release.floor zero_version).0 none)
         cases false given =
             let open_at = record release { floor = zero_version } in
             Makes-one (edit_of_floor app release) (by_floor zero_version) (by_floor release.floor)

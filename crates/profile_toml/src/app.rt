@@ -54,6 +54,7 @@ fn read_app(schema: Schema, table: &TableReader<'_>) -> Result<AppEntry, ReadErr
 }
 
 /// The tables `app` of a profile of a schema.
+#[derive(Clone, Copy)]
 pub(crate) struct AppTable {
     pub schema: Schema,
 }

@@ -24,10 +24,7 @@ struct Profile {
 
 // rule: Tables of a profile
 #[tactic(auto, unfolding(crate::specs::Profiles::profile_of))]
-fn read_tables(
-    schema: Schema,
-    document: &TableReader<'_>,
-) -> Result<Profile, ReadError<BadEntry>>
+fn read_tables(schema: Schema, document: &TableReader<'_>) -> Result<Profile, ReadError<BadEntry>>
     ensures { Reads (λ profile. profile) result (profile_of schema (placed document.now)) }
 {
     document.check_keys(&["schema", "mirror", "app"])?;

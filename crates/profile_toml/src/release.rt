@@ -53,10 +53,7 @@ pub(crate) fn read_package(table: &TableReader<'_>) -> Result<PackageEntry, Read
     })
 }
 
-fn check_release_keys(
-    schema: Schema,
-    table: &TableReader<'_>,
-) -> Result<(), ReadError<BadEntry>>
+fn check_release_keys(schema: Schema, table: &TableReader<'_>) -> Result<(), ReadError<BadEntry>>
     ensures { Reads (λ nothing. nothing) result (known (release_keys schema) (placed table.now)) }
 {
     match schema {
@@ -101,6 +98,7 @@ fn read_release(
 }
 
 /// The tables `release` of an app, in a profile of a schema.
+#[derive(Clone, Copy)]
 pub(crate) struct ReleaseTable {
     pub schema: Schema,
 }

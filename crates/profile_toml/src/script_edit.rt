@@ -242,6 +242,7 @@ fn read_edit(schema: Schema, table: &TableReader<'_>) -> Result<Edit, ReadError<
 }
 
 /// The tables `edit` of a script of a schema.
+#[derive(Clone, Copy)]
 pub(crate) struct EditTable {
     pub schema: Schema,
 }
