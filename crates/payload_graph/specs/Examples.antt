@@ -72,6 +72,18 @@ demo =
       diffs = diff_of 1 2 300 ∷ diff_of 1 3 100 ∷ diff_of 2 3 200 ∷ diff_of 2 4 500 ∷ diff_of 3 4 250 ∷ [];
     }
 
+-- `demo` with floors at 2.0 and 4.0, and 3.0 withdrawn or not
+abbrev pub floored : ℕ → ℕ → Bool → App
+floored second fourth withdrawn =
+    record demo {
+      releases =
+          release_of 1 1000 false
+          ∷ record (release_of 2 1200 true) { floor = major second }
+          ∷ record (release_of 3 1500 false) { withdrawn = withdrawn }
+          ∷ record (release_of 4 1600 false) { floor = major fourth }
+          ∷ [];
+    }
+
 -- the key of a cohort's track in the only app
 abbrev pub key_of : ℕ → Lane → Bool → TrackKey
 key_of cohort lane rollback = record { app = 0; cohort = cohort; lane = lane; rollback = rollback }
@@ -92,7 +104,7 @@ permitted_of app key =
     map (λ release. permitted_from app key (At release)) (range_with_len 0 (length app.releases))
 
 -- the payloads from the releases of `demo`: 8 on the default track, 4 on the held one, and 7 in the
--- cohort that rolls back, of which 3 lead down
+-- cohort that rolls back, of which 3 lead down; with the floor 3.0 at 4.0 there are 6 on the default track
 pub record ExampleIsWorked : Type 0 where
   pub target :
       permitted_of demo (key_of 0 lane.Target false)
@@ -110,5 +122,14 @@ pub record ExampleIsWorked : Type 0 where
   pub no_target : permitted_of demo (key_of 1 lane.Held true) ≡ [] ∷ [] ∷ [] ∷ [] ∷ []
   pub outside :
       permitted_from demo (key_of 0 lane.Target false) (Outside (replicate 16 0)) ≡ Full 0 ∷ Full 1 ∷ []
+  pub floor :
+      permitted_of (floored 0 3 false) (key_of 0 lane.Target false)
+      ≡ (Full 1 ∷ Differ 0 ∷ []) ∷ (Full 2 ∷ Differ 2 ∷ []) ∷ (Full 3 ∷ Differ 4 ∷ []) ∷ [] ∷ []
+  pub floor_downward :
+      permitted_from (floored 5 0 false) (key_of 1 lane.Target true) (At 3) ≡ Full 0 ∷ Full 2 ∷ []
+  pub outside_below_floor :
+      permitted_from (floored 0 3 false) (key_of 0 lane.Target false) (Outside (2 ∷ 5 ∷ replicate 14 0)) ≡ Full 2 ∷ []
+  pub outside_at_floor :
+      permitted_from (floored 0 3 false) (key_of 0 lane.Target false) (Outside (major 3)) ≡ Full 3 ∷ []
   pub chain : IsChain demo (key_of 0 lane.Target false) (At 0) (Differ 0 ∷ Differ 2 ∷ Differ 4 ∷ [])
   pub sum : sum_of demo (Differ 0 ∷ Differ 2 ∷ Differ 4 ∷ []) ≡ 750

@@ -1,9 +1,8 @@
 -- Tables of a small app, worked by hand: releases 1.0, the stone 2.0, 3.0 and 4.0.
 use Rattle.std.specs.Prelude.{◌≡◌, Bool, true, false, List, [], ◌∷◌, map, Option, None, Some}
 use Rattle.std.specs.List.{range_with_len}
-use Rattle.records.specs.declared.content.App.{App}
 use Rattle.cohorts.specs.declared.track.Lane.TheVariants as lane
-use Rattle.payload_graph.specs.Examples.{beta, demo, key_of, major, release_of, stable}
+use Rattle.payload_graph.specs.Examples.{beta, demo, floored, key_of, stable}
 use Rattle.payload_graph.specs.Net.{Net, net_of}
 use Rattle.payload_graph.specs.declared.edge.Kind.TheVariants.{Full, Differ}
 use Rattle.price_cert.specs.Rules.{broken_at}
@@ -22,20 +21,9 @@ held = net_of demo (key_of 0 lane.Held false) stable 2
 abbrev pub rollback : Net
 rollback = net_of demo (key_of 1 lane.Target true) beta 2
 
--- the app with the floor 3.0 at 4.0, and 3.0 withdrawn or not
-abbrev pub floored : Bool → App
-floored withdrawn =
-    record demo {
-      releases =
-          release_of 1 1000 false
-          ∷ release_of 2 1200 true
-          ∷ record (release_of 3 1500 false) { withdrawn = withdrawn }
-          ∷ record (release_of 4 1600 false) { floor = major 3 }
-          ∷ [];
-    }
-
+-- the first with the floor 3.0 at 4.0, and 3.0 withdrawn or not
 abbrev pub from_floor : Bool → Net
-from_floor withdrawn = net_of (floored withdrawn) (key_of 0 lane.Target false) stable 3
+from_floor withdrawn = net_of (floored 0 3 withdrawn) (key_of 0 lane.Target false) stable 3
 
 -- the rule that each row breaks, by ascending version
 abbrev pub broken : Net → List Row → List (Option Rule)
@@ -45,8 +33,8 @@ broken net rows = map (broken_at net rows) (range_with_len 0 4)
 abbrev pub none : List (Option Rule)
 none = None ∷ None ∷ None ∷ None ∷ []
 
--- three certified tables, and wrong ones: a price too low, one too high, none, a longer way, a full
--- package where the differential is smaller, a target that is not the end
+-- five certified tables, two of them with a floor, and wrong ones: a price too low, one too high, none, a
+-- longer way, a package from below its floor, a target that is not the end
 pub record ExampleIsWorked : Type 0 where
   pub upward_passes :
       broken upward (Price 750 Differ 1 ∷ Price 450 Differ 2 ∷ Price 250 Differ 3 ∷ End ∷ []) ≡ none

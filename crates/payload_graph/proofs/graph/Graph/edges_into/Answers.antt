@@ -1,8 +1,8 @@
-use Rattle.std.proofs.Common.{◌≡◌, ◌<◌, ◌++◌, cond, List, [], length, get_or, map, sym, ap, ◌∙◌, arith}
+use Rattle.std.proofs.Common.{◌≡◌, ◌<◌, ◌++◌, cond, List, [], length, get_or, sym, ap, ◌∙◌, arith}
 use Rattle.std.specs.List.{filter}
 use Rattle.payload_graph.proofs.IncomingLemmas.{edges_into-origins, entering_parts, entering}
 use Rattle.payload_graph.specs.Edges.{edges_into_left}
-use Rattle.payload_graph.specs.Net.{Net, edges_into, enters, opens}
+use Rattle.payload_graph.specs.Net.{Net, edges_into, opens}
 use Rattle.payload_graph.specs.Soundness.{no_door, origins_above, origins_below}
 use Rattle.payload_graph.specs.declared.door.Door.{Door}
 use Rattle.payload_graph.proofs.graph.Graph.edges_into.Goals.{then-self, else-self}
