@@ -17,11 +17,11 @@ after-None :
     ((front : List ℕ) → text ≡ front ++ byte ∷ [] → ⊥) → after byte backwards ≡ None
 after-None byte text [] is never = refl
 after-None byte text (last ∷ others) is never =
-  elim (cases_eq last byte) [
-    | inl same ↦
-        absurd (never (reverse others) (is ∙ reverse-append (last ∷ []) others ∙ ap (λ (n : ℕ). reverse others ++ n ∷ []) same))
-    | inr other ↦ ap (λ (found : Bool). cond found (Some (reverse others)) None) (ne_eqb last byte other)
-  ]
+    elim (cases_eq last byte) [
+      | inl same ↦
+          absurd (never (reverse others) (is ∙ reverse-append (last ∷ []) others ∙ ap (λ (n : ℕ). reverse others ++ n ∷ []) same))
+      | inr other ↦ ap (λ (found : Bool). cond found (Some (reverse others)) None) (ne_eqb last byte other)
+    ]
 
 pub before-None : (byte : ℕ) (text : List ℕ) → ((front : List ℕ) → text ≡ front ++ byte ∷ [] → ⊥) → before byte text ≡ None
 before-None byte text never = after-None byte text (reverse text) (sym (reverse-reverse text)) never

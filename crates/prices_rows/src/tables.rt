@@ -32,7 +32,8 @@ fn solves_the_tables_of_tracks(rt: HostRuntime) {
 
 // A floor on the target, at the version of a release, between two, and equal to its own; on a stone; above its own
 // release; with a downgrade; and the same asked of clients outside, just below a floor and exactly there.
-const FLOORS: &str = r#"stable target no|{ do = "set_floor", app = "demo", version = "4.0", floor = "3.0" }|table|| 750d1 450d2 250d3 end
+const FLOORS: &str =
+    r#"stable target no|{ do = "set_floor", app = "demo", version = "4.0", floor = "3.0" }|table|| 750d1 450d2 250d3 end
 stable target no|{ do = "set_floor", app = "demo", version = "4.0", floor = "3.0" }, { do = "set_withdrawn", app = "demo", version = "3.0", on = true }|table|| none none 250d3 end
 stable target no|{ do = "set_floor", app = "demo", version = "4.0", floor = "2.0.1" }|table|| 750d1 450d2 250d3 end
 stable target no|{ do = "set_floor", app = "demo", version = "4.0", floor = "2.0.1" }, { do = "set_withdrawn", app = "demo", version = "3.0", on = true }|table|| none none 250d3 end
