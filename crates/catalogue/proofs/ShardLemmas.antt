@@ -50,15 +50,15 @@ pub found_among-set :
     (other : List ℕ) →
     found_among (set shards (shard_of named) shard) other ≡ cond (bytes_eq named other) (Some declared) (found_among shards other)
 found_among-set shards shard old named declared there within found other =
-  elim (cases_eq (shard_of other) (shard_of named)) [
-    | inl same ↦
-        ap read (ap (slice_get (set shards (shard_of named) shard)) same ∙ slice_get-set_same shards (shard_of named) shard within)
-        ∙ found other
-        ∙ ap (cond (bytes_eq named other) (Some declared)) (sym (ap read (ap (slice_get shards) same ∙ there)))
-    | inr apart ↦
-        ap read (slice_get-set_other shards (shard_of named) (shard_of other) shard apart)
-        ∙ unnamed (bytes_eq named other) refl apart
-  ]
+    elim (cases_eq (shard_of other) (shard_of named)) [
+      | inl same ↦
+          ap read (ap (slice_get (set shards (shard_of named) shard)) same ∙ slice_get-set_same shards (shard_of named) shard within)
+          ∙ found other
+          ∙ ap (cond (bytes_eq named other) (Some declared)) (sym (ap read (ap (slice_get shards) same ∙ there)))
+      | inr apart ↦
+          ap read (slice_get-set_other shards (shard_of named) (shard_of other) shard apart)
+          ∙ unnamed (bytes_eq named other) refl apart
+    ]
   where
     read : Option Shard → Option Declared
     read found = option_and_then (λ (it : Shard). found_in_shard it other) found

@@ -10,7 +10,11 @@ use std::test::Fail;
 use values::ReadError;
 
 // Applies the edits that semicolons separate, each in a batch of its own.
-fn apply_each(alloc: Global, catalogue: &mut Catalogue, edits: &str) -> Result<(), ReadError<Refused>> {
+fn apply_each(
+    alloc: Global,
+    catalogue: &mut Catalogue,
+    edits: &str,
+) -> Result<(), ReadError<Refused>> {
     for edit in edits.split(';') {
         apply_lines(alloc, catalogue, edit)?;
     }

@@ -17,6 +17,10 @@ use Rattle.profile_toml.specs.declared.fault.ProfileFault.TheVariants as fault
 abbrev pub document_of : List ℕ → Option Members
 document_of text = if is_utf8 text then parse_document text else None
 
+-- the newest schema, which has all keys; profiles are written in it
+abbrev pub newest : Schema
+newest = schema.Two
+
 -- the schema of a number
 abbrev pub schema_numbered : ℕ → Result Schema ProfileFault
 schema_numbered number =

@@ -22,12 +22,16 @@ package_in table = do
   sha256 ← required as_str (codes "sha256") table
   Ok (record { version = version; name = name; size = size; sha256 = sha256 })
 
--- the keys of a release, in the order in which they are read; schema 2 has one more
-abbrev pub release_keys : Schema → List (List ℕ)
-release_keys One =
+-- the keys of a release of schema 1, in the order in which they are read
+abbrev pub keys_of_schema_1 : List (List ℕ)
+keys_of_schema_1 =
     codes "version" ∷ codes "name" ∷ codes "size" ∷ codes "sha256" ∷ codes "stone" ∷ codes "withdrawn"
     ∷ codes "audience" ∷ []
-release_keys Two = release_keys One ++ codes "floor" ∷ []
+
+-- those of a schema: the second has one more
+abbrev pub release_keys : Schema → List (List ℕ)
+release_keys One = keys_of_schema_1
+release_keys Two = keys_of_schema_1 ++ codes "floor" ∷ []
 
 -- rule: Release of a profile
 -- a release of an app; in schema 1 there is no floor, since its key is unknown

@@ -32,9 +32,9 @@ use Rattle.profile_toml.specs.declared.document.Schema.TheVariants.{One, Two}
 use Rattle.profile_toml.specs.declared.script_edit.Verb.{Verb}
 use Rattle.profile_toml.specs.declared.script_edit.Verb.TheVariants as verb
 
--- the kinds of edit, by what `do` says; schema 2 has one more
-abbrev pub verbs : Schema → List (List ℕ × Verb)
-verbs One =
+-- the kinds of edit of schema 1, by what `do` says
+abbrev pub verbs_of_schema_1 : List (List ℕ × Verb)
+verbs_of_schema_1 =
     (codes "add_app", verb.AddApp)
     ∷ (codes "add_release", verb.AddRelease)
     ∷ (codes "add_cohort", verb.AddCohort)
@@ -47,7 +47,11 @@ verbs One =
     ∷ (codes "set_audience", verb.SetAudience)
     ∷ (codes "set_rollback", verb.SetRollback)
     ∷ []
-verbs Two = (codes "set_floor", verb.SetFloor) ∷ verbs One
+
+-- those of a schema: the second has one more
+abbrev pub verbs : Schema → List (List ℕ × Verb)
+verbs One = verbs_of_schema_1
+verbs Two = (codes "set_floor", verb.SetFloor) ∷ verbs_of_schema_1
 
 abbrev pub verb_named : Schema → List ℕ → Option Verb
 verb_named schema name = lookup (bytes_eq name) (verbs schema)

@@ -10,7 +10,7 @@ use Rattle.profile_tables.specs.Fields.{known}
 use Rattle.profile_tables.specs.Tables.{PlacedTable, table_at}
 use Rattle.profile_tables.specs.declared.path.BadEntry.{BadEntry}
 use Rattle.profile_toml.specs.Diffs.{diff_in, diff_keys, diff_of}
-use Rattle.profile_toml.specs.declared.document.Schema.TheVariants.{Two}
+use Rattle.profile_toml.specs.Documents.{newest}
 use Rattle.profile_toml.specs.Mirrors.{mirror_keys, mirror_of}
 use Rattle.profile_toml.specs.Releases.{package_in, release_keys, release_of}
 use Rattle.profile_writer.proofs.KeyLemmas.{get_member-filled_table, known_among-filled_table}
@@ -50,7 +50,7 @@ mirror_of-mirror_table place mirror = by_keys (mirror_table mirror) (known_among
         ) refl
 
 abbrev pub ReleaseEntry : Type 0
-ReleaseEntry = Read (release_of Two)
+ReleaseEntry = Read (release_of newest)
 
 abbrev pub entry_of_release : Release → ReleaseEntry
 entry_of_release release =
@@ -68,10 +68,10 @@ entry_of_release release =
     }
 
 pub release_of-release_table : (place : List ℕ) (release : Release)
-    → release_of Two (table_at place (release_table release)) ≡ Ok (entry_of_release release)
+    → release_of newest (table_at place (release_table release)) ≡ Ok (entry_of_release release)
 unfolding release_of package_in
 release_of-release_table place release =
-    by_keys (release_table release) (known_among-filled_table (release_keys Two) place fields refl)
+    by_keys (release_table release) (known_among-filled_table (release_keys newest) place fields refl)
     (get_member-filled_table (codes "version") fields) (get_member-filled_table (codes "name") fields)
     (get_member-filled_table (codes "size") fields) (get_member-filled_table (codes "sha256") fields)
     (get_member-filled_table (codes "stone") fields) (get_member-filled_table (codes "withdrawn") fields)
@@ -80,7 +80,7 @@ release_of-release_table place release =
     fields : List Field
     fields = release_fields release
 
-    by_keys : (members : Members) → known (release_keys Two) (table_at place members) ≡ Ok tt
+    by_keys : (members : Members) → known (release_keys newest) (table_at place members) ≡ Ok tt
         → get_member (codes "version") members ≡ given_string release.spelled
         → get_member (codes "name") members ≡ given_string release.name
         → get_member (codes "size") members ≡ natural release.size
@@ -89,7 +89,7 @@ release_of-release_table place release =
         → get_member (codes "withdrawn") members ≡ flag release.withdrawn
         → get_member (codes "audience") members ≡ optional_list release.audience
         → get_member (codes "floor") members ≡ optional_string (floor_given release.floor)
-        → release_of Two (table_at place members) ≡ Ok (entry_of_release release)
+        → release_of newest (table_at place members) ≡ Ok (entry_of_release release)
     by_keys members all_known version name size sha256 stone withdrawn audience floor =
         rw (
           all_known,

@@ -9,8 +9,7 @@ use Rattle.records.specs.declared.content.App.{App}
 use Rattle.records.specs.declared.mirror.Mirror.{Mirror}
 use Rattle.toml.specs.Parse.{parse_document}
 use Rattle.profile_tables.specs.Tables.{document}
-use Rattle.profile_toml.specs.Documents.{schema_of}
-use Rattle.profile_toml.specs.declared.document.Schema.TheVariants.{Two}
+use Rattle.profile_toml.specs.Documents.{newest, schema_of}
 use Rattle.profile_toml.specs.Laws.{AreMirrors}
 use Rattle.profile_toml.specs.Reading.{profile_of_bytes}
 use Rattle.profile_writer.proofs.AppEntryLemmas.{profile_of-profile_table}
@@ -21,7 +20,7 @@ use Rattle.profile_writer.proofs.ReaderLemmas.{required-natural}
 use Rattle.profile_writer.specs.Fields.{profile_fields, profile_table}
 
 schema_of-written : (apps : List App) (mirrors : List Mirror)
-    → schema_of (document (profile_table apps mirrors)) ≡ Ok Two
+    → schema_of (document (profile_table apps mirrors)) ≡ Ok newest
 schema_of-written apps mirrors =
     let given = get_member-filled_table (codes "schema") (profile_fields apps mirrors) in
     rw (required-natural [] (codes "schema") (profile_table apps mirrors) 2 given) refl

@@ -28,11 +28,7 @@ pub(crate) fn spelling<'r>(releases: &'r [Release], version: &Version) -> &'r st
     }
 }
 
-fn write_floor(
-    alloc: Global,
-    table: &mut TableWriter,
-    floor: &Version,
-) -> Result<(), AllocError>
+fn write_floor(alloc: Global, table: &mut TableWriter, floor: &Version) -> Result<(), AllocError>
     ensures { OnOk result
         (filled table.new
         ≡ with_key (codes "floor") (optional_string (floor_given floor.now)) (filled table.old)) }
