@@ -1,7 +1,7 @@
 #!/usr/bin/env python3
 """Times how the graph of a track and its table are made, and how much memory they take.
 
-    bench/graphs.py [--releases N ..] [--turns N] [--runs N] [--lists N] [--keep FOLDER]
+    bench/graphs.py [--releases N ..] [--turns N] [--runs N] [--lists N] [--floors] [--keep FOLDER]
 
 It copies the crates that a table depends on to a folder, adds a program that makes the graph or the
 table of one track again and again, and proves and builds it by `rt run`, which takes some minutes;
@@ -17,11 +17,18 @@ none, divided by N; of each the least of the runs counts.
 
 At the end all tables of a catalogue are made: 64 apps of 128 releases and 32 cohorts, each cohort with
 both targets. `--lists 0` leaves that out.
+
+`--floors` counts the instructions of a table instead, by `valgrind --tool=callgrind`, for apps whose releases
+have floors in a pattern: `none` has one; `one` release has; the floor of each release is the `second`
+release, the one `before` it, the `8th` or the `64th` before it, or the one `half` way down; `worst` ends as
+many best packages as could be found. In `down` and `above` the target is the lowest release, which only a
+downgrade reaches; no release has a floor, or each has one above itself.
 """
 
 import argparse
 import os
 import pathlib
+import re
 import shutil
 import subprocess
 import sys
@@ -30,6 +37,7 @@ import tempfile
 TOP = pathlib.Path(__file__).resolve().parent.parent
 CRATES = ["values", "version", "records", "omaha_json", "catalogue", "cohorts", "payload_graph", "price_cert", "solver", "par_tables"]
 LINE = "graph_times: par_tables solver price_cert payload_graph catalogue cohorts values\n"
+PATTERNS = ("none", "one", "second", "before", "8th", "64th", "half", "worst", "down", "above")
 PROGRAM = r"""//! Makes the graph or the table of a track again and again.
 
 #![tactic(auto)]
@@ -37,7 +45,8 @@ PROGRAM = r"""//! Makes the graph or the table of a track again and again.
 ghost use Rattle.std.specs.Prelude.{◌<◌, length};
 
 use catalogue::{
-    AddApp, AddCohort, AddDiff, AddRelease, ApplyError, Batch, Catalogue, Edit, SetTarget,
+    AddApp, AddCohort, AddDiff, AddRelease, Batch, Catalogue, Edit, Refused, SetFloor,
+    SetRollback, SetTarget,
 };
 use cohorts::Lane;
 use par_tables::{TrackTables, tables};
@@ -46,7 +55,7 @@ use payload_graph::TrackKey;
 use solver::solve;
 use std::alloc::{AllocError, Global};
 use std::io;
-use values::Text;
+use values::{ReadError, Text};
 
 fn id_of(alloc: Global, app: u64) -> Result<Text, AllocError> {
     Ok(Text::new(format!(in alloc; "demo{app}")?))
@@ -80,7 +89,58 @@ fn added_cohort(alloc: Global, app: u64, cohort: u64) -> Result<Edit, AllocError
     Ok(Edit::AddCohort(AddCohort { app, cohort }))
 }
 
-fn added_release(alloc: Global, app: u64, index: u64) -> Result<Edit, AllocError> {
+// The index of the release that is a release's floor, by the name of the pattern.
+fn floor_of(pattern: &str, index: u64, releases: u64) -> Option<u64> {
+    match pattern {
+        "one" if index == releases / 4 * 3 => Some(releases / 3),
+        "second" if index > 1 => Some(1),
+        "before" => Some(index.saturating_sub(1)),
+        "8th" => Some(index.saturating_sub(8)),
+        "64th" => Some(index.saturating_sub(64)),
+        "half" => Some(index / 2),
+        "worst" if index >= releases / 2 => Some(releases.saturating_sub(index)),
+        "above" => Some(index.saturating_add(1)),
+        _ => None,
+    }
+}
+
+// The bytes of a full package: in the worst pattern, the fewer the higher its floor.
+fn size_of(pattern: &str, index: u64, releases: u64) -> u64 {
+    match pattern {
+        "worst" if index < releases / 2 => 1000000000,
+        "worst" => index.saturating_mul(1000),
+        _ => 1000000,
+    }
+}
+
+fn floor_set(alloc: Global, index: u64, floor: u64) -> Result<Edit, AllocError> {
+    let app = id_of(alloc, 0)?;
+    let version = version_of(alloc, index)?;
+    let floor = version_of(alloc, floor)?;
+    Ok(Edit::SetFloor(SetFloor { app, version, floor }))
+}
+
+fn rollback_set(alloc: Global) -> Result<Edit, AllocError> {
+    let app = id_of(alloc, 0)?;
+    let cohort = cohort_of(alloc, 0)?;
+    let on = true;
+    Ok(Edit::SetRollback(SetRollback { app, cohort, on }))
+}
+
+fn push_floors(alloc: Global, edits: &mut Vec<Edit>, pattern: &str, releases: u64) -> Result<(), AllocError> {
+    for index in 0..releases {
+        if let Some(floor) = floor_of(pattern, index, releases) {
+            edits.push(floor_set(alloc, index, floor)?)?;
+        }
+    }
+    if pattern == "down" || pattern == "above" {
+        edits.push(rollback_set(alloc)?)?;
+        edits.push(target_set(alloc, 0, 0, 0)?)?;
+    }
+    Ok(())
+}
+
+fn added_release(alloc: Global, app: u64, index: u64, size: u64) -> Result<Edit, AllocError> {
     let name = name_of(alloc, app, index, index)?;
     let app = id_of(alloc, app)?;
     let version = version_of(alloc, index)?;
@@ -89,7 +149,7 @@ fn added_release(alloc: Global, app: u64, index: u64) -> Result<Edit, AllocError
         app,
         version,
         name,
-        size: 1000000,
+        size,
         sha256,
     }))
 }
@@ -133,9 +193,9 @@ fn push_diffs(alloc: Global, edits: &mut Vec<Edit>, app: u64, from: u64, release
     Ok(())
 }
 
-fn push_releases(alloc: Global, edits: &mut Vec<Edit>, app: u64, releases: u64) -> Result<(), AllocError> {
+fn push_releases(alloc: Global, edits: &mut Vec<Edit>, app: u64, releases: u64, pattern: &str) -> Result<(), AllocError> {
     for index in 0..releases {
-        edits.push(added_release(alloc, app, index)?)?;
+        edits.push(added_release(alloc, app, index, size_of(pattern, index, releases))?)?;
     }
     for from in 0..releases {
         push_diffs(alloc, edits, app, from, releases)?;
@@ -153,13 +213,14 @@ fn push_cohorts(alloc: Global, edits: &mut Vec<Edit>, app: u64, cohorts: u64, re
     Ok(())
 }
 
-fn batch_of(alloc: Global, apps: u64, cohorts: u64, releases: u64) -> Result<Batch, AllocError> {
+fn batch_of(alloc: Global, apps: u64, cohorts: u64, releases: u64, pattern: &str) -> Result<Batch, AllocError> {
     let mut edits = Vec::new(alloc);
     for app in 0..apps {
         edits.push(added_app(alloc, app)?)?;
-        push_releases(alloc, &mut edits, app, releases)?;
+        push_releases(alloc, &mut edits, app, releases, pattern)?;
         push_cohorts(alloc, &mut edits, app, cohorts, releases)?;
     }
+    push_floors(alloc, &mut edits, pattern, releases)?;
     Ok(Batch::new(edits))
 }
 
@@ -168,7 +229,7 @@ fn key() -> TrackKey {
         app: 0,
         cohort: 0,
         lane: Lane::Target,
-        rollback: false,
+        rollback: true,
     }
 }
 
@@ -256,18 +317,18 @@ fn listed(alloc: Global, catalogue: &Catalogue, turns: u64) -> Result<u64, Alloc
     Ok(count_in(lists.as_slice()))
 }
 
-fn catalogue_of(alloc: Global, apps: u64, cohorts: u64, releases: u64) -> Result<Catalogue, ApplyError> {
-    let batch = batch_of(alloc, apps, cohorts, releases)?;
+fn catalogue_of(alloc: Global, apps: u64, cohorts: u64, releases: u64, pattern: &str) -> Result<Catalogue, ReadError<Refused>> {
+    let batch = batch_of(alloc, apps, cohorts, releases, pattern)?;
     Catalogue::empty(alloc).applied(&batch)
 }
 
-fn run_all(alloc: Global, releases: u64, turns: u64) -> Result<u64, ApplyError> {
-    let catalogue = catalogue_of(alloc, 64, 32, releases)?;
+fn run_all(alloc: Global, releases: u64, turns: u64) -> Result<u64, ReadError<Refused>> {
+    let catalogue = catalogue_of(alloc, 64, 32, releases, "none")?;
     Ok(listed(alloc, &catalogue, turns)?)
 }
 
-fn run_one(alloc: Global, mode: &str, releases: u64, turns: u64) -> Result<u64, ApplyError> {
-    let catalogue = catalogue_of(alloc, 1, 1, releases)?;
+fn run_one(alloc: Global, mode: &str, releases: u64, turns: u64, pattern: &str) -> Result<u64, ReadError<Refused>> {
+    let catalogue = catalogue_of(alloc, 1, 1, releases, pattern)?;
     let count = match mode {
         "whole" => whole(alloc, &catalogue, turns)?,
         "resolved" => resolved(alloc, &catalogue, turns)?,
@@ -277,14 +338,15 @@ fn run_one(alloc: Global, mode: &str, releases: u64, turns: u64) -> Result<u64, 
     Ok(count)
 }
 
-fn run(alloc: Global, mode: &str, releases: u64, turns: u64) -> Result<u64, ApplyError> {
+fn run(alloc: Global, mode: &str, releases: u64, turns: u64, pattern: &str) -> Result<u64, ReadError<Refused>> {
     match mode {
         "listed" => run_all(alloc, releases, turns),
-        _ => run_one(alloc, mode, releases, turns),
+        _ => run_one(alloc, mode, releases, turns, pattern),
     }
 }
 
-// Each line of the input: `whole`, `resolved`, `solved`, `kept` or `listed`, the releases and the turns.
+// Each line of the input: `whole`, `resolved`, `solved`, `kept` or `listed`, the releases, the turns and the pattern of
+// floors.
 fn main(rt: HostRuntime) -> io::Result<()> {
     let alloc = rt.alloc();
     for line in rt.lines(alloc) {
@@ -293,7 +355,8 @@ fn main(rt: HostRuntime) -> io::Result<()> {
         let mode = words.next().unwrap_or("");
         let releases = words.next().unwrap_or("").parse().unwrap_or(0);
         let turns = words.next().unwrap_or("").parse().unwrap_or(0);
-        match run(alloc, mode, releases, turns) {
+        let pattern = words.next().unwrap_or("none");
+        match run(alloc, mode, releases, turns, pattern) {
             Ok(count) => println!(rt; "{count}")?,
             Err(_) => println!(rt; "an edit is refused")?,
         }
@@ -352,6 +415,26 @@ def measure(program, releases, turns, runs):
     return whole, resolved, solved, (more - few) / count, run_once(program, "whole", releases, 1)[2]
 
 
+def count(program, releases, turns, pattern):
+    """The instructions of a run that makes so many tables."""
+    command = ["valgrind", "--tool=callgrind", "--callgrind-out-file=/dev/null", program]
+    ran = subprocess.run(command, input=f"solved {releases} {turns} {pattern}\n".encode(), capture_output=True, check=True)
+    found = re.search(rb"Collected : (\d+)", ran.stderr)
+    if not ran.stdout.strip().isdigit() or not found:
+        sys.exit(f"{' '.join(map(str, command))}: {ran.stdout.decode()}{ran.stderr.decode()}")
+    return int(found.group(1))
+
+
+def print_floors(program, releases, turns):
+    """Prints the instructions of a table for each pattern of floors, and by how many times they are more."""
+    print("floors  releases  instructions of a table  to none", flush=True)
+    none = None
+    for pattern in PATTERNS:
+        each = (count(program, releases, turns, pattern) - count(program, releases, 0, pattern)) / turns
+        none = none or each
+        print(f"{pattern:6}  {releases:8}  {each:23,.0f}  {each / none:7.3f}", flush=True)
+
+
 def measure_lists(program, turns, runs):
     """Milliseconds a list of all tables, its KiB, and the number of its tables."""
     time = per_turn(program, "listed", 128, turns, runs) / 1e3
@@ -365,11 +448,16 @@ def main():
     options.add_argument("--turns", type=int, default=2000, help="graphs of a run [default: 2000]")
     options.add_argument("--runs", type=int, default=5, help="runs of each [default: 5]")
     options.add_argument("--lists", type=int, default=4, help="lists of all tables of a run [default: 4]")
+    options.add_argument("--floors", action="store_true", help="count the instructions of tables with floors instead")
     options.add_argument("--keep", help="a folder that keeps the program")
     asked = options.parse_args()
     folder = pathlib.Path(asked.keep or tempfile.mkdtemp()).resolve()
     try:
         program = build(folder)
+        if asked.floors:
+            for releases in asked.releases:
+                print_floors(program, releases, min(asked.turns, 20))
+            return
         print("releases  payloads  of_track us  from resolved us  table us  solve us  KiB", flush=True)
         for releases in asked.releases:
             whole, resolved, solved, memory, payloads = measure(program, releases, asked.turns, asked.runs)

@@ -15,7 +15,7 @@ TOP = pathlib.Path(__file__).resolve().parent.parent
 EXAMPLES = TOP / "examples"
 SUMMARIES = {
     "staged.toml": "edition 1: 1 apps, 4 releases, 0 differentials, 2 cohorts, 3 tables\n",
-    "chains.toml": "edition 1: 1 apps, 5 releases, 4 differentials, 2 cohorts, 3 tables\n",
+    "chains.toml": "edition 1: 1 apps, 5 releases, 3 differentials, 2 cohorts, 3 tables\n",
 }
 TRACKS = [
     ("staged.toml", "demo", "stable", "target", "no"),

@@ -4,7 +4,7 @@ use Rattle.catalogue.proofs.Accepted.Apps.{TakesApp, TakesApp-from_no_fault}
 use Rattle.catalogue.proofs.Accepted.CohortSettings.{TakesSetting, TakesSetting-set_open, TakesSetting-set_rollback, TakesSetting-set_share, TakesSetting-set_target}
 use Rattle.catalogue.proofs.Accepted.Cohorts.{TakesCohort, TakesCohort-from_no_fault}
 use Rattle.catalogue.proofs.Accepted.Diffs.{TakesDiff, TakesDiff-from_no_fault}
-use Rattle.catalogue.proofs.Accepted.ReleaseSettings.{TakesReleaseSetting, TakesReleaseSetting-set_audience, TakesReleaseSetting-set_stone, TakesReleaseSetting-set_withdrawn}
+use Rattle.catalogue.proofs.Accepted.ReleaseSettings.{TakesReleaseSetting, TakesReleaseSetting-set_audience, TakesReleaseSetting-set_floor, TakesReleaseSetting-set_stone, TakesReleaseSetting-set_withdrawn}
 use Rattle.catalogue.proofs.Accepted.Releases.{TakesRelease, TakesRelease-from_no_fault}
 use Rattle.catalogue.specs.Changes.{Change, NewApp, NewCohort, NewDiff, NewRelease, SetsCohort, SetsRelease}
 use Rattle.catalogue.specs.Edits.{change_of, fault_of}
@@ -29,6 +29,7 @@ Fits-accepted apps (edit.AddDiff e) h = TakesDiff-from_no_fault apps e h
 Fits-accepted apps (edit.SetStone e) h = TakesReleaseSetting-set_stone apps e h
 Fits-accepted apps (edit.SetWithdrawn e) h = TakesReleaseSetting-set_withdrawn apps e h
 Fits-accepted apps (edit.SetAudience e) h = TakesReleaseSetting-set_audience apps e h
+Fits-accepted apps (edit.SetFloor e) h = TakesReleaseSetting-set_floor apps e h
 Fits-accepted apps (edit.AddCohort e) h = TakesCohort-from_no_fault apps e h
 Fits-accepted apps (edit.SetTarget e) h = TakesSetting-set_target apps e h
 Fits-accepted apps (edit.SetShare e) h = TakesSetting-set_share apps e h

@@ -19,7 +19,7 @@ use Rattle.catalogue.specs.declared.edits.releases.AddRelease.{AddRelease}
 use Rattle.catalogue.specs.declared.package_index.PackageIndex.{PackageIndex}
 use Rattle.records.specs.Lookups.{app_of, declared_of, diff_package, full_package, is_app, is_release, packages_in, packages_of, pair_of, place_of, place_of_pair}
 use Rattle.records.specs.declared.content.App.{App}
-use Rattle.records.specs.declared.content.Declared.{Declared}
+use Rattle.values.specs.declared.declared.Declared.{Declared}
 use Rattle.records.specs.declared.content.Release.{Release}
 use Rattle.catalogue.specs.Edits.Diffs.{tests_of_add_diff}
 use Rattle.catalogue.specs.Edits.Releases.{tests_of_add_release}

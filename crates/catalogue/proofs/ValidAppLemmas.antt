@@ -4,8 +4,8 @@ use Rattle.std.specs.Option.{is_none, option_map_or}
 use Rattle.std.specs.Str.{bytes_eq}
 use Rattle.std.proofs.lemmas.Bool.{and_from, and_parts}
 use Rattle.std.proofs.lemmas.Slice.Eq.{bytes_eq-Decides}
-use Rattle.version.specs.Laws.{LenientAgrees}
-use Rattle.version.specs.Versions.{is_below, lenient_version_of, version_of}
+use Rattle.version.specs.Laws.{LenientAgrees, PrintIsPlain}
+use Rattle.version.specs.Versions.{is_below, lenient_version_of, components_of, printed, version_of, zero_version}
 use Rattle.catalogue.proofs.Accepted.Apps.{TakesApp}
 use Rattle.catalogue.proofs.Accepted.Cohorts.{TakesCohort}
 use Rattle.catalogue.proofs.Accepted.Diffs.{TakesDiff}
@@ -23,7 +23,7 @@ use Rattle.catalogue.specs.Changes.{in_cohort, in_release, new_app, new_cohort, 
 use Rattle.values.specs.Lists.{change}
 use Rattle.records.specs.Forms.{is_cohort_name, is_hash, is_package_name, is_size}
 use Rattle.records.specs.Lookups.{has_cohort, has_hash, has_release, is_cohort, is_pair_below, is_release, pair_of, same_pair}
-use Rattle.records.specs.Validity.{IsValidApp, is_valid_audience, is_valid_cohort, is_valid_diff, is_valid_release, is_release_below, is_released, spells}
+use Rattle.records.specs.Validity.{IsValidApp, has_valid_floor, is_valid_audience, is_valid_cohort, is_valid_diff, is_valid_release, is_release_below, is_released, spells}
 use Rattle.records.specs.declared.content.App.{App}
 use Rattle.records.specs.declared.content.Cohort.{Cohort}
 use Rattle.records.specs.declared.content.Diff.{Diff}
@@ -86,7 +86,29 @@ spells-lenient agrees text spelled =
     ap (λ o. option_map_or (λ (r : List ℕ × ℕ). bytes_eq r.0 (lenient_version_of text)) o false) some.1
     ∙ (bytes_eq-Decides read.0 (lenient_version_of text)).1 (sym (agrees text read.0 read.1 some.1))
 
-module _ (laws : VersionLaws) (agrees : LenientAgrees) where
+-- what a version prints that a publisher's string spells spells the version
+pub spells-printed :
+    LenientAgrees → PrintIsPlain → (text : List ℕ) → is_none (version_of text) ≡ false →
+    spells (printed (lenient_version_of text)) (lenient_version_of text) ≡ true
+spells-printed agrees plain text spelled =
+    let some = Some-from_not_none (version_of text) spelled in
+    let version = some.0.0 in
+    let same : lenient_version_of text ≡ version = agrees text version some.0.1 some.1 in
+    rw same (
+    ap (λ o. option_map_or (λ (r : List ℕ × ℕ). bytes_eq r.0 version) o false) (plain text version some.0.1 some.1)
+    ∙ (bytes_eq-Decides version version).1 refl)
+
+-- `0` spells the floor of a new release
+version_of-zero : version_of (48 ∷ []) ≡ Some (zero_version, 1)
+unfolding version_of components_of
+version_of-zero = refl
+
+spells-zero_version : PrintIsPlain → spells (printed zero_version) zero_version ≡ true
+spells-zero_version plain =
+    ap (λ o. option_map_or (λ (r : List ℕ × ℕ). bytes_eq r.0 zero_version) o false) (plain (48 ∷ []) zero_version 1 version_of-zero)
+    ∙ (bytes_eq-Decides zero_version zero_version).1 refl
+
+module _ (laws : VersionLaws) (agrees : LenientAgrees) (plain : PrintIsPlain) where
   pub IsValidApp-with_release :
       (apps : List App) (e : AddRelease) (takes : TakesRelease apps e) →
       IsValidApp takes.app →
@@ -108,6 +130,7 @@ module _ (laws : VersionLaws) (agrees : LenientAgrees) where
             (λ hash same. ap (λ h. count_by (has_hash h) app.releases) ((bytes_eq-Decides hash release.hash).0 same) ∙ count_by-none (has_hash release.hash) app.releases takes.new_hash);
         releases_valid = list_all-Inserts (is_valid_release app.cohorts) release app.releases (placed release app.releases) among valid.releases_valid
             (and_from _ _ (and_from _ _ (and_from _ _ (and_from _ _ (spells-lenient agrees e.version takes.spelled) takes.named) takes.sized) (is_hash-hash_named e.sha256 takes.hashed)) refl);
+        floors_valid = list_all-Inserts has_valid_floor release app.releases (placed release app.releases) among valid.floors_valid (spells-zero_version plain);
         few_diffs = valid.few_diffs;
         diffs_ascend = valid.diffs_ascend;
         diffs_valid = list_all-weaker (is_valid_diff app.releases) (is_valid_diff (placed release app.releases))
@@ -131,6 +154,7 @@ module _ (laws : VersionLaws) (agrees : LenientAgrees) where
         releases_ascend = valid.releases_ascend;
         hashes_once = valid.hashes_once;
         releases_valid = valid.releases_valid;
+        floors_valid = valid.floors_valid;
         few_diffs = omega (arith, takes.room, length-Inserts diff app.diffs (placed_diff diff app.diffs) among);
         diffs_ascend = ascend-put_in is_pair_below same_pair pair_of (IsOrder-pairs laws) diff app.diffs valid.diffs_ascend takes.new_pair;
         diffs_valid = list_all-Inserts (is_valid_diff app.releases) diff app.diffs (placed_diff diff app.diffs) among valid.diffs_valid
@@ -150,8 +174,9 @@ pub IsValidApp-in_release :
     ((release : Release) → (f release).version ≡ release.version) →
     ((release : Release) → (f release).hash ≡ release.hash) →
     ((release : Release) → is_valid_release app.cohorts release ≡ true → is_valid_release app.cohorts (f release) ≡ true) →
+    ((release : Release) → has_valid_floor release ≡ true → has_valid_floor (f release) ≡ true) →
     IsValidApp app → IsValidApp (in_release version f app)
-IsValidApp-in_release version f app kept kept_hash keeps_good valid =
+IsValidApp-in_release version f app kept kept_hash keeps_good keeps_floor valid =
     let releases = change (is_release version) f app.releases in
     let released =
     λ (key : List ℕ) (there : has_release app.releases key ≡ true).
@@ -168,6 +193,7 @@ IsValidApp-in_release version f app kept kept_hash keeps_good valid =
           (λ x y. ap (λ (v : List ℕ). is_below v y.version) (kept x)) (λ x y. ap (is_below x.version) (kept y)) app.releases valid.releases_ascend;
       hashes_once = λ key. rw (count_by-change (is_release version) f (has_hash key) (λ r. ap (bytes_eq key) (kept_hash r)) app.releases) (valid.hashes_once key);
       releases_valid = list_all-change (is_release version) f (is_valid_release app.cohorts) keeps_good app.releases valid.releases_valid;
+      floors_valid = list_all-change (is_release version) f has_valid_floor keeps_floor app.releases valid.floors_valid;
       few_diffs = valid.few_diffs;
       diffs_ascend = valid.diffs_ascend;
       diffs_valid = list_all-weaker (is_valid_diff app.releases) (is_valid_diff releases)
@@ -216,6 +242,7 @@ IsValidApp-in_cohort name f app kept keeps_good valid =
       releases_valid = list_all-weaker (is_valid_release app.cohorts) (is_valid_release (change (is_cohort name) f app.cohorts))
           (is_valid_release-kept app.cohorts (change (is_cohort name) f app.cohorts)
           (λ key there. list_any-change (is_cohort name) f (is_cohort key) (λ cohort. ap (bytes_eq key) (kept cohort)) app.cohorts ∙ there)) app.releases valid.releases_valid;
+      floors_valid = valid.floors_valid;
       few_diffs = valid.few_diffs;
       diffs_ascend = valid.diffs_ascend;
       diffs_valid = valid.diffs_valid;
@@ -250,6 +277,7 @@ IsValidApp-with_cohort apps e takes valid =
       hashes_once = valid.hashes_once;
       releases_valid = list_all-weaker (is_valid_release app.cohorts) (is_valid_release cohorts)
           (is_valid_release-kept app.cohorts cohorts (λ name there. list_any-kept (is_cohort name) cohort app.cohorts cohorts among there)) app.releases valid.releases_valid;
+      floors_valid = valid.floors_valid;
       few_diffs = valid.few_diffs;
       diffs_ascend = valid.diffs_ascend;
       diffs_valid = valid.diffs_valid;
@@ -270,6 +298,7 @@ IsValidApp-new_app apps e takes = record {
   releases_ascend = refl;
   hashes_once = λ hash. omega arith;
   releases_valid = refl;
+  floors_valid = refl;
   few_diffs = omega arith;
   diffs_ascend = refl;
   diffs_valid = refl;

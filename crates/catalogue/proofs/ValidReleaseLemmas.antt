@@ -43,12 +43,14 @@ pub version-with_release_setting :
 version-with_release_setting (setting.Stone on) release = refl
 version-with_release_setting (setting.Withdrawn on) release = refl
 version-with_release_setting (setting.Audience names) release = refl
+version-with_release_setting (setting.Floor floor) release = refl
 
 pub hash-with_release_setting :
     (new : ReleaseSetting) (release : Release) → (with_release_setting new release).hash ≡ release.hash
 hash-with_release_setting (setting.Stone on) release = refl
 hash-with_release_setting (setting.Withdrawn on) release = refl
 hash-with_release_setting (setting.Audience names) release = refl
+hash-with_release_setting (setting.Floor floor) release = refl
 
 pub full_package-with_release_setting :
     (new : ReleaseSetting) (release : Release) →
@@ -56,3 +58,4 @@ pub full_package-with_release_setting :
 full_package-with_release_setting (setting.Stone on) release = refl
 full_package-with_release_setting (setting.Withdrawn on) release = refl
 full_package-with_release_setting (setting.Audience names) release = refl
+full_package-with_release_setting (setting.Floor floor) release = refl

@@ -5,9 +5,10 @@ use Rattle.std.specs.Str.{bytes_eq}
 use Rattle.std.proofs.lemmas.Grind.{flat_map-append}
 use Rattle.std.proofs.lemmas.List.{append-nil}
 use Rattle.std.proofs.lemmas.Slice.Eq.{bytes_eq-Decides}
-use Rattle.version.specs.Laws.{LenientAgrees}
+use Rattle.version.specs.Laws.{LenientAgrees, PrintIsPlain}
 use Rattle.catalogue.proofs.Accepted.Apps.{TakesApp}
 use Rattle.catalogue.proofs.Accepted.Diffs.{TakesDiff}
+use Rattle.catalogue.proofs.Accepted.ReleaseSettings.{IsSpelledFloor}
 use Rattle.catalogue.proofs.Accepted.Releases.{TakesRelease}
 use Rattle.values.proofs.ChangedLemmas.{AllByRecursion-change, AllByRecursion-push, count_by-change, length-change}
 use Rattle.catalogue.proofs.FitLemmas.{Fits, Fits-accepted}
@@ -17,17 +18,20 @@ use Rattle.values.proofs.InsertedLemmas.{IsOnce-Inserts, count_by-none, length-I
 use Rattle.values.proofs.InsertionLemmas.{Inserts-push, flat_map-change}
 use Rattle.records.proofs.KeyLemmas.{VersionLaws}
 use Rattle.catalogue.proofs.PackageLemmas.{Inserts-packages_of, Inserts-packages_of-diff, packages_in-in_release}
-use Rattle.catalogue.proofs.ValidAppLemmas.{IsValidApp-in_cohort, IsValidApp-in_release, IsValidApp-new_app, IsValidApp-with_cohort, IsValidApp-with_diff, IsValidApp-with_release}
+use Rattle.catalogue.proofs.ValidAppLemmas.{IsValidApp-in_cohort, IsValidApp-in_release, IsValidApp-new_app, IsValidApp-with_cohort, IsValidApp-with_diff, IsValidApp-with_release, spells-printed}
 use Rattle.catalogue.specs.Changes.{Change, NewApp, NewCohort, NewDiff, NewRelease, SetsCohort, SetsRelease, changed, in_cohort, in_release, new_app, new_cohort, new_diff, new_release, with_cohort, with_diff, with_release, with_release_setting, with_setting}
 use Rattle.values.specs.Lists.{change}
 use Rattle.catalogue.specs.Edits.{after, change_of, fault_of}
 use Rattle.records.specs.Forms.{same_id}
 use Rattle.records.specs.Lookups.{app_of, diff_package, full_package, is_app, packages_in, packages_of}
-use Rattle.records.specs.Validity.{IsValid, IsValidApp, is_package}
+use Rattle.records.specs.Validity.{IsValid, IsValidApp, has_valid_floor, is_package}
 use Rattle.records.specs.declared.content.App.{App}
+use Rattle.records.specs.declared.content.Release.{Release}
 use Rattle.catalogue.specs.declared.edit.Edit.{Edit}
 use Rattle.catalogue.specs.declared.edits.apps.AddApp.{AddApp}
 use Rattle.catalogue.specs.declared.edits.diffs.AddDiff.{AddDiff}
+use Rattle.catalogue.specs.declared.edits.release_settings.ReleaseSetting.{ReleaseSetting}
+use Rattle.catalogue.specs.declared.edits.release_settings.ReleaseSetting.TheVariants as setting
 use Rattle.catalogue.specs.declared.edits.releases.AddRelease.{AddRelease}
 
 -- identifiers that name one app count the same apps
@@ -53,9 +57,9 @@ IsValid-add_app apps e takes valid =
     }
 
 IsValid-add_release :
-    VersionLaws → LenientAgrees → (apps : List App) (e : AddRelease) → TakesRelease apps e → IsValid apps →
+    VersionLaws → LenientAgrees → PrintIsPlain → (apps : List App) (e : AddRelease) → TakesRelease apps e → IsValid apps →
     IsValid (change (is_app e.app) (with_release (new_release e)) apps)
-IsValid-add_release laws agrees apps e takes valid =
+IsValid-add_release laws agrees plain apps e takes valid =
     let release = new_release e in
     let changed = with_release release in
     record {
@@ -65,13 +69,13 @@ IsValid-add_release laws agrees apps e takes valid =
           (λ name same.
           ap (λ (n : List ℕ). count_by (is_package n) (packages_of apps)) ((bytes_eq-Decides name release.name).0 same)
           ∙ count_by-none (is_package release.name) (packages_of apps) (list_any-lookup (bytes_eq release.name) (packages_of apps) takes.new_name));
-      apps_valid = AllByRecursion-change (is_app e.app) changed IsValidApp apps takes.app takes.found valid.apps_valid (IsValidApp-with_release laws agrees apps e takes);
+      apps_valid = AllByRecursion-change (is_app e.app) changed IsValidApp apps takes.app takes.found valid.apps_valid (IsValidApp-with_release laws agrees plain apps e takes);
     }
 
 IsValid-add_diff :
-    VersionLaws → LenientAgrees → (apps : List App) (e : AddDiff) → TakesDiff apps e → IsValid apps →
+    VersionLaws → LenientAgrees → PrintIsPlain → (apps : List App) (e : AddDiff) → TakesDiff apps e → IsValid apps →
     IsValid (change (is_app e.app) (with_diff (new_diff e)) apps)
-IsValid-add_diff laws agrees apps e takes valid =
+IsValid-add_diff laws agrees plain apps e takes valid =
     let diff = new_diff e in
     let changed = with_diff diff in
     record {
@@ -81,7 +85,7 @@ IsValid-add_diff laws agrees apps e takes valid =
           (λ name same.
           ap (λ (n : List ℕ). count_by (is_package n) (packages_of apps)) ((bytes_eq-Decides name diff.name).0 same)
           ∙ count_by-none (is_package diff.name) (packages_of apps) (list_any-lookup (bytes_eq diff.name) (packages_of apps) takes.new_name));
-      apps_valid = AllByRecursion-change (is_app e.app) changed IsValidApp apps takes.app takes.found valid.apps_valid (IsValidApp-with_diff laws agrees apps e takes);
+      apps_valid = AllByRecursion-change (is_app e.app) changed IsValidApp apps takes.app takes.found valid.apps_valid (IsValidApp-with_diff laws agrees plain apps e takes);
     }
 
 -- a change of an app that keeps its identifier and its packages and keeps it valid
@@ -109,22 +113,32 @@ IsValid-empty = record {
   apps_valid = tt;
 }
 
-module _ (laws : VersionLaws) (agrees : LenientAgrees) where
+-- a setting leaves a release a valid floor
+has_valid_floor-with_release_setting :
+    LenientAgrees → PrintIsPlain → (new : ReleaseSetting) → IsSpelledFloor new →
+    (release : Release) → has_valid_floor release ≡ true →
+    has_valid_floor (with_release_setting new release) ≡ true
+has_valid_floor-with_release_setting agrees plain (setting.Floor floor) spelled release good =
+    rw spelled.2 (spells-printed agrees plain spelled.0 spelled.1)
+has_valid_floor-with_release_setting agrees plain new spelled release good = good
+
+module _ (laws : VersionLaws) (agrees : LenientAgrees) (plain : PrintIsPlain) where
   IsValid-changed :
       (apps : List App) (c : Change) → Fits apps c → IsValid apps → IsValid (changed c apps)
   IsValid-changed apps (NewApp e) takes valid = IsValid-add_app apps e takes valid
   IsValid-changed apps (NewRelease e) takes valid =
-      IsValid-add_release laws agrees apps e takes valid
+      IsValid-add_release laws agrees plain apps e takes valid
   IsValid-changed apps (NewCohort e) takes valid =
       IsValid-change e.app (with_cohort (new_cohort e.cohort)) apps takes.app takes.found (λ app. refl) (λ app. refl)
       (IsValidApp-with_cohort apps e takes) valid
-  IsValid-changed apps (NewDiff e) takes valid = IsValid-add_diff laws agrees apps e takes valid
+  IsValid-changed apps (NewDiff e) takes valid = IsValid-add_diff laws agrees plain apps e takes valid
   IsValid-changed apps (SetsRelease id version new) takes valid =
       let f = with_release_setting new in
       let names = takes.names in
       IsValid-change id (in_release version f) apps names.app names.found (λ app. refl)
       (packages_in-in_release version new)
-      (IsValidApp-in_release version f names.app (version-with_release_setting new) (hash-with_release_setting new) takes.keeps) valid
+      (IsValidApp-in_release version f names.app (version-with_release_setting new) (hash-with_release_setting new) takes.keeps
+      (has_valid_floor-with_release_setting agrees plain new takes.spelled)) valid
   IsValid-changed apps (SetsCohort id name new) takes valid =
       let names = takes.names in
       IsValid-change id (in_cohort name (with_setting new)) apps names.app names.found (λ app. refl) (λ app. refl)

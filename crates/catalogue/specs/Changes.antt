@@ -90,6 +90,7 @@ abbrev pub with_release_setting : ReleaseSetting → Release → Release
 with_release_setting (release_setting.Stone on) release = record release { stone = on }
 with_release_setting (release_setting.Withdrawn on) release = record release { withdrawn = on }
 with_release_setting (release_setting.Audience names) release = record release { audience = names }
+with_release_setting (release_setting.Floor floor) release = record release { floor = floor }
 
 -- an app with its release of a version changed
 abbrev pub in_release : List ℕ → (Release → Release) → App → App

@@ -13,7 +13,7 @@ use Rattle.catalogue.specs.Edits.Apps.{tests_of_add_app}
 use Rattle.catalogue.specs.Edits.CohortSettings.{setting_of_set_target, tests_of_set_open, tests_of_set_rollback, tests_of_set_share, tests_of_set_target}
 use Rattle.catalogue.specs.Edits.Cohorts.{tests_of_add_cohort}
 use Rattle.catalogue.specs.Edits.Diffs.{tests_of_add_diff}
-use Rattle.catalogue.specs.Edits.ReleaseSettings.{tests_of_set_audience, tests_of_set_stone, tests_of_set_withdrawn}
+use Rattle.catalogue.specs.Edits.ReleaseSettings.{tests_of_set_audience, tests_of_set_floor, tests_of_set_stone, tests_of_set_withdrawn}
 use Rattle.catalogue.specs.Edits.Releases.{tests_of_add_release}
 use Rattle.catalogue.specs.Faults.{first_fault}
 use Rattle.records.specs.declared.content.App.{App}
@@ -32,6 +32,7 @@ fault_of apps (edit.AddDiff e) = first_fault (tests_of_add_diff apps e)
 fault_of apps (edit.SetStone e) = first_fault (tests_of_set_stone apps e)
 fault_of apps (edit.SetWithdrawn e) = first_fault (tests_of_set_withdrawn apps e)
 fault_of apps (edit.SetAudience e) = first_fault (tests_of_set_audience apps e)
+fault_of apps (edit.SetFloor e) = first_fault (tests_of_set_floor apps e)
 fault_of apps (edit.AddCohort e) = first_fault (tests_of_add_cohort apps e)
 fault_of apps (edit.SetTarget e) = first_fault (tests_of_set_target apps e)
 fault_of apps (edit.SetShare e) = first_fault (tests_of_set_share apps e)
@@ -49,6 +50,8 @@ change_of (edit.SetWithdrawn e) =
     SetsRelease e.app (lenient_version_of e.version) (release_setting.Withdrawn e.on)
 change_of (edit.SetAudience e) =
     SetsRelease e.app (lenient_version_of e.version) (release_setting.Audience e.cohorts)
+change_of (edit.SetFloor e) =
+    SetsRelease e.app (lenient_version_of e.version) (release_setting.Floor (lenient_version_of e.floor))
 change_of (edit.AddCohort e) = NewCohort e
 change_of (edit.SetTarget e) = SetsCohort e.app e.cohort (setting_of_set_target e)
 change_of (edit.SetShare e) = SetsCohort e.app e.cohort (setting.Share e.share)

@@ -2,7 +2,7 @@
 use Rattle.std.specs.Prelude.{ℕ, ◌+◌, ◌*◌, ◌%◌, List, fold, map, Option, option_and_then, slice_get}
 use Rattle.std.specs.Arc.{arc_value}
 use Rattle.std.specs.BTreeMap.{get_by_text}
-use Rattle.records.specs.declared.content.Declared.{Declared}
+use Rattle.values.specs.declared.declared.Declared.{Declared}
 use Rattle.catalogue.specs.declared.package_index.PackageIndex.{PackageIndex}
 use Rattle.catalogue.specs.declared.package_index.Shard.{Shard}
 

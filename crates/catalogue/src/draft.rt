@@ -223,6 +223,7 @@ impl Draft {
             Edit::SetAudience(edit) => {
                 self.set_release(&edit.app, &edit.version, edit.setting()?)?
             }
+            Edit::SetFloor(edit) => self.set_release(&edit.app, &edit.version, edit.setting())?,
             Edit::AddCohort(edit) => self.add_cohort(edit)?,
             Edit::SetTarget(edit) => self.set_cohort(&edit.app, &edit.cohort, edit.setting()),
             Edit::SetShare(edit) => {
@@ -251,6 +252,7 @@ impl Draft {
     {
         version::laws::order();
         version::laws::spellings();
+        version::laws::printing();
         for (index, edit) in edits.iter().enumerate() {
             if let Err(fault) = edit.check(self) {
                 return Err(ReadError::Fault(Refused { index, fault }));

@@ -9,7 +9,7 @@ use crate::edits::apps::AddApp;
 use crate::edits::cohort_settings::{SetOpen, SetRollback, SetShare, SetTarget};
 use crate::edits::cohorts::AddCohort;
 use crate::edits::diffs::AddDiff;
-use crate::edits::release_settings::{SetAudience, SetStone, SetWithdrawn};
+use crate::edits::release_settings::{SetAudience, SetFloor, SetStone, SetWithdrawn};
 use crate::edits::releases::AddRelease;
 use crate::fault::Fault;
 use std::alloc::AllocError;
@@ -31,6 +31,8 @@ pub enum Edit {
     SetWithdrawn(SetWithdrawn),
     /// The audience of a release.
     SetAudience(SetAudience),
+    /// The floor of a release.
+    SetFloor(SetFloor),
     /// A cohort of an app, without targets, open to no hint.
     AddCohort(AddCohort),
     /// The two targets of a cohort.
@@ -56,6 +58,7 @@ impl Clone for Edit {
             Edit::SetStone(edit) => edit.clone().map(Edit::SetStone),
             Edit::SetWithdrawn(edit) => edit.clone().map(Edit::SetWithdrawn),
             Edit::SetAudience(edit) => edit.clone().map(Edit::SetAudience),
+            Edit::SetFloor(edit) => edit.clone().map(Edit::SetFloor),
             Edit::AddCohort(edit) => edit.clone().map(Edit::AddCohort),
             Edit::SetTarget(edit) => edit.clone().map(Edit::SetTarget),
             Edit::SetShare(edit) => edit.clone().map(Edit::SetShare),
@@ -80,6 +83,7 @@ impl Edit {
             Edit::SetStone(edit) => edit.check(draft),
             Edit::SetWithdrawn(edit) => edit.check(draft),
             Edit::SetAudience(edit) => edit.check(draft),
+            Edit::SetFloor(edit) => edit.check(draft),
             Edit::AddCohort(edit) => edit.check(draft),
             Edit::SetTarget(edit) => edit.check(draft),
             Edit::SetShare(edit) => edit.check(draft),

@@ -25,7 +25,9 @@ pub use crate::edits::apps::AddApp;
 pub use crate::edits::cohort_settings::{CohortSetting, SetOpen, SetRollback, SetShare, SetTarget};
 pub use crate::edits::cohorts::AddCohort;
 pub use crate::edits::diffs::AddDiff;
-pub use crate::edits::release_settings::{ReleaseSetting, SetAudience, SetStone, SetWithdrawn};
+pub use crate::edits::release_settings::{
+    ReleaseSetting, SetAudience, SetFloor, SetStone, SetWithdrawn,
+};
 pub use crate::edits::releases::AddRelease;
 pub use crate::fault::{Fault, Refused};
 pub use records::form::is_cohort_name;

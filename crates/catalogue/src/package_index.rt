@@ -1,6 +1,6 @@
 //! The packages of a catalogue by name.
 //!
-//! A package stands in one of 1021 shards, which its name says; a shard finds it in logarithmic time. An
+//! A package is in one of 1021 shards, which its name says; a shard finds it in logarithmic time. An
 //! index and its copies have their shards in common, until one of them puts a package in: then it copies
 //! that package's shard.
 

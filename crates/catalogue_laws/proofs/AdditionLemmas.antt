@@ -73,6 +73,7 @@ same_release-with_release_setting :
 same_release-with_release_setting release (setting.Stone on) old = refl
 same_release-with_release_setting release (setting.Withdrawn on) old = refl
 same_release-with_release_setting release (setting.Audience names) old = refl
+same_release-with_release_setting release (setting.Floor floor) old = refl
 
 -- the change brings such a release to the app of the identifier
 abbrev brings_release : List ℕ → Release → Change → Bool

@@ -6,8 +6,9 @@ use Rattle.std.specs.Option.{is_some, is_none}
 use Rattle.std.specs.Str.{bytes_eq}
 use Rattle.std.proofs.lemmas.Bool.{eqb-true, or_parts}
 use Rattle.std.proofs.lemmas.List.{append-nil, map-append}
+use Rattle.std.proofs.lemmas.Slice.Eq.{bytes_eq-Decides}
 use Rattle.version.specs.Laws.{LenientAgrees}
-use Rattle.version.specs.Versions.{is_below, lenient_version_of, version_of}
+use Rattle.version.specs.Versions.{is_below, lenient_version_of, printed, version_of, zero_version}
 use Rattle.catalogue.proofs.AcceptedLemmas.{None-from_not_some}
 use Rattle.catalogue.proofs.AppLemmas.{lowered}
 use Rattle.catalogue.proofs.ValidCohortLemmas.{ValidCohort, ValidCohort-from_test}
@@ -16,7 +17,7 @@ use Rattle.catalogue.proofs.ValidReleaseLemmas.{ValidRelease, ValidRelease-from_
 use Rattle.catalogue_laws.proofs.HistoryLemmas.{Makes, Makes-append}
 use Rattle.values.proofs.InsertedLemmas.{list_all-weaker}
 use Rattle.records.proofs.KeyLemmas.{IsOrder-pairs, IsOrder-versions, VersionLaws}
-use Rattle.catalogue_laws.proofs.LastAppLemmas.{accepts_app, accepts_audience, accepts_cohort, accepts_diff, accepts_open, accepts_release, accepts_rollback, accepts_share, accepts_stone, accepts_targets, accepts_withdrawn, bytes_eq-same, change-last}
+use Rattle.catalogue_laws.proofs.LastAppLemmas.{accepts_app, accepts_audience, accepts_cohort, accepts_diff, accepts_floor, accepts_open, accepts_release, accepts_rollback, accepts_share, accepts_stone, accepts_targets, accepts_withdrawn, bytes_eq-same, change-last}
 use Rattle.catalogue_laws.proofs.LastPackageLemmas.{added, added_diff, bare_release, declared_of-diff, declared_of-release, new_diff-added, new_release-added}
 use Rattle.catalogue_laws.proofs.MakingLemmas.{Makes-each, Makes-each_one, Makes-flag, Makes-one, Makes-option, Makes-same, outcome_from-Makes}
 use Rattle.values.proofs.OrderedLemmas.{has_in-above, put_in-last}
@@ -25,11 +26,11 @@ use Rattle.values.proofs.SplitLemmas.{AllByRecursion-at, ascend-before, change-a
 use Rattle.catalogue.specs.Batches.{outcome}
 use Rattle.catalogue.specs.Changes.{in_cohort, in_release, new_cohort, new_diff, new_release, with_cohort, with_diff, with_release, with_release_setting, with_setting}
 use Rattle.values.specs.Lists.{change}
-use Rattle.catalogue_laws.specs.Contents.{default_name, edit_of_cohort, edit_of_diff, edit_of_open, edit_of_release, edit_of_rollback, edit_of_share, edits_of_app, edits_of_audience, edits_of_content, edits_of_open, edits_of_release, edits_of_rollback, edits_of_settings, edits_of_share, edits_of_stone, edits_of_targets, edits_of_withdrawn, spelling_of}
+use Rattle.catalogue_laws.specs.Contents.{default_name, edit_of_cohort, edit_of_diff, edit_of_floor, edit_of_open, edit_of_release, edit_of_rollback, edit_of_share, edits_of_app, edits_of_audience, edits_of_content, edits_of_floor, edits_of_open, edits_of_release, edits_of_rollback, edits_of_settings, edits_of_share, edits_of_stone, edits_of_targets, edits_of_withdrawn, spelling_of}
 use Rattle.catalogue.specs.Edits.CohortSettings.{setting_of_set_target}
 use Rattle.records.specs.Limits.{max_apps, max_cohorts, max_diffs, max_releases, max_share}
 use Rattle.records.specs.Lookups.{has_cohort, has_diff, has_hash, has_release, is_app, is_cohort, is_pair_below, is_release, packages_of, pair_of, same_pair}
-use Rattle.records.specs.Validity.{IsValid, IsValidApp, is_diff_before, is_valid_audience, is_valid_release, is_package, is_release_below, spells}
+use Rattle.records.specs.Validity.{IsValid, IsValidApp, has_valid_floor, is_diff_before, is_valid_audience, is_valid_release, is_package, is_release_below, spells}
 use Rattle.values.specs.Lists.{IsOnce}
 use Rattle.records.specs.declared.content.App.{App}
 use Rattle.records.specs.declared.content.Cohort.{Cohort}
@@ -186,22 +187,44 @@ module _ (laws : VersionLaws) (agrees : LenientAgrees) (front : List App) (app :
     spelled : is_none (version_of release.spelled) ≡ false
     spelled = is_none-spells release.spelled release.version good.spelled
 
-    -- the content by the release's stone flag, its withdrawn flag, its audience
+    -- the content by the release's stone flag, its withdrawn flag, its audience, its floor
     abbrev by_stone : Bool → List App
-    by_stone on = released (record release { stone = on; withdrawn = false; audience = None })
+    by_stone on = released (record release { stone = on; withdrawn = false; audience = None; floor = zero_version })
 
     abbrev by_withdrawn : Bool → List App
-    by_withdrawn on = released (record release { withdrawn = on; audience = None })
+    by_withdrawn on = released (record release { withdrawn = on; audience = None; floor = zero_version })
 
     abbrev by_audience : Option (List (List ℕ)) → List App
-    by_audience names = released (record release { audience = names })
+    by_audience names = released (record release { audience = names; floor = zero_version })
+
+    abbrev by_floor : List ℕ → List App
+    by_floor floor = released (record release { floor = floor })
+
+    floored : spells (printed release.floor) release.floor ≡ true
+    floored = list_all-at has_valid_floor below release above (rw cut at valid.floors_valid)
+
+    makes_floor : Makes (edits_of_floor app release) (by_floor zero_version) (by_floor release.floor)
+    makes_floor = cases (bytes_eq release.floor zero_version) refl
+      where
+        cases :
+            (b : Bool) → bytes_eq release.floor zero_version ≡ b →
+            Makes (cond b [] (edit_of_floor app release ∷ [])) (by_floor zero_version) (by_floor release.floor)
+        cases true none = ap by_floor ((bytes_eq-Decides release.floor zero_version).0 none)
+        cases false given =
+            let open_at = record release { floor = zero_version } in
+            Makes-one (edit_of_floor app release) (by_floor zero_version) (by_floor release.floor)
+            (accepts_floor front app.id fresh (grown app cohorts (below ++ open_at ∷ []) []) refl release.spelled (printed release.floor)
+            spelled (is_none-spells (printed release.floor) release.floor floored) (there open_at refl))
+            (released-set (release_setting.Floor (lenient_version_of (printed release.floor))) open_at refl
+            ∙ ap by_floor (lenient_version_of-spells agrees (printed release.floor) release.floor floored))
 
     makes_release : Makes (edits_of_release app release) (stands cohorts below []) (released release)
     makes_release =
         let bare_at = bare_release release in
-        let stoned = record release { withdrawn = false; audience = None } in
-        let withdrawn = record release { audience = None } in
-        Makes-append (edit_of_release app release ∷ edits_of_stone app release ++ edits_of_withdrawn app release) (edits_of_audience app release) (stands cohorts below []) (by_withdrawn release.withdrawn) (released release)
+        let stoned = record release { withdrawn = false; audience = None; floor = zero_version } in
+        let withdrawn = record release { audience = None; floor = zero_version } in
+        Makes-append (edit_of_release app release ∷ edits_of_stone app release ++ edits_of_withdrawn app release ++ edits_of_audience app release) (edits_of_floor app release) (stands cohorts below []) (by_audience release.audience) (released release)
+        (Makes-append (edit_of_release app release ∷ edits_of_stone app release ++ edits_of_withdrawn app release) (edits_of_audience app release) (stands cohorts below []) (by_withdrawn release.withdrawn) (by_audience release.audience)
         (Makes-append (edit_of_release app release ∷ edits_of_stone app release) (edits_of_withdrawn app release) (stands cohorts below []) (by_stone release.stone) (by_withdrawn release.withdrawn)
         (Makes-append (edit_of_release app release ∷ []) (edits_of_stone app release) (stands cohorts below []) (released bare_at) (by_stone release.stone) makes_bare
         (Makes-flag release.stone (edit.SetStone (record { app = app.id; version = release.spelled; on = true })) by_stone
@@ -214,7 +237,7 @@ module _ (laws : VersionLaws) (agrees : LenientAgrees) (front : List App) (app :
         (λ names given. (
           accepts_audience front app.id fresh (grown app cohorts (below ++ withdrawn ∷ []) []) refl release.spelled release.audience spelled (there withdrawn refl) (is_valid_audience-bare app.cohorts release.audience good.heard),
           released-set (release_setting.Audience release.audience) withdrawn refl,
-        )))
+        )))) makes_floor
 
   -- its releases
   makes_releases : Makes (flat_map (edits_of_release app) app.releases) (stands (map bare app.cohorts) [] []) (stands (map bare app.cohorts) app.releases [])

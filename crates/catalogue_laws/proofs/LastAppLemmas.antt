@@ -15,14 +15,14 @@ use Rattle.catalogue.specs.Edits.Apps.{tests_of_add_app}
 use Rattle.catalogue.specs.Edits.CohortSettings.{is_misspelled, is_unreleased, tests_of_set_open, tests_of_set_rollback, tests_of_set_share, tests_of_set_target}
 use Rattle.catalogue.specs.Edits.Cohorts.{tests_of_add_cohort}
 use Rattle.catalogue.specs.Edits.Diffs.{tests_of_add_diff}
-use Rattle.catalogue.specs.Edits.ReleaseSettings.{tests_of_set_audience, tests_of_set_stone, tests_of_set_withdrawn}
+use Rattle.catalogue.specs.Edits.ReleaseSettings.{tests_of_set_audience, tests_of_set_floor, tests_of_set_stone, tests_of_set_withdrawn}
 use Rattle.catalogue.specs.Edits.Releases.{tests_of_add_release}
 use Rattle.records.specs.Forms.{hash_named, hash_of, is_app_id, is_cohort_name, is_package_name, is_size}
 use Rattle.records.specs.Limits.{max_apps, max_cohorts, max_diffs, max_releases, max_share}
 use Rattle.records.specs.Lookups.{app_of, declared_of, has_cohort, has_diff, has_hash, has_release, is_app}
 use Rattle.records.specs.Validity.{is_valid_audience}
 use Rattle.records.specs.declared.content.App.{App}
-use Rattle.records.specs.declared.content.Declared.{Declared}
+use Rattle.values.specs.declared.declared.Declared.{Declared}
 use Rattle.catalogue.specs.declared.edit.Edit.TheVariants as edit
 use Rattle.catalogue.specs.declared.edits.apps.AddApp.{AddApp}
 use Rattle.catalogue.specs.declared.edits.cohort_settings.SetOpen.{SetOpen}
@@ -32,6 +32,7 @@ use Rattle.catalogue.specs.declared.edits.cohort_settings.SetTarget.{SetTarget}
 use Rattle.catalogue.specs.declared.edits.cohorts.AddCohort.{AddCohort}
 use Rattle.catalogue.specs.declared.edits.diffs.AddDiff.{AddDiff}
 use Rattle.catalogue.specs.declared.edits.release_settings.SetAudience.{SetAudience}
+use Rattle.catalogue.specs.declared.edits.release_settings.SetFloor.{SetFloor}
 use Rattle.catalogue.specs.declared.edits.release_settings.SetStone.{SetStone}
 use Rattle.catalogue.specs.declared.edits.release_settings.SetWithdrawn.{SetWithdrawn}
 use Rattle.catalogue.specs.declared.edits.releases.AddRelease.{AddRelease}
@@ -254,6 +255,18 @@ module _ (front : List App) (id : List ℕ) (fresh : list_any (is_app id) front 
             (not_from_true _ (ap (λ (o : Option App). is_valid_audience (option_map_or (λ a. a.cohorts) o []) names) found ∙ known), tt),
           ),
         ),
+      )
+
+  pub accepts_floor :
+      (app : App) → app.id ≡ id → (text floor : List ℕ) → is_none (version_of text) ≡ false →
+      is_none (version_of floor) ≡ false → has_release app.releases (lenient_version_of text) ≡ true →
+      fault_of (front ++ app ∷ []) (edit.SetFloor (record { app = id; version = text; floor = floor })) ≡ None
+  accepts_floor app same text floor spelled floor_spelled there =
+      let apps = front ++ app ∷ [] in
+      let e : SetFloor = record { app = id; version = text; floor = floor } in
+      None-from_NoneHold (tests_of_set_floor apps e) (
+        ap (λ (o : Option App). is_none o) (app_of-last app same),
+        (spelled, (floor_spelled, (release_there app same (lenient_version_of text) there, tt))),
       )
 
   pub accepts_diff :

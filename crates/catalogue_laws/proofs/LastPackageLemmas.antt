@@ -5,6 +5,7 @@ use Rattle.std.specs.Str.{bytes_eq}
 use Rattle.std.proofs.lemmas.Grind.{flat_map-append}
 use Rattle.std.proofs.lemmas.List.{append-nil, map-append}
 use Rattle.version.specs.Laws.{LenientAgrees}
+use Rattle.version.specs.Versions.{zero_version}
 use Rattle.hex.specs.Hex.{encode_lower}
 use Rattle.catalogue.proofs.ValidDiffLemmas.{ValidDiff}
 use Rattle.catalogue.proofs.ValidReleaseLemmas.{ValidRelease}
@@ -18,7 +19,7 @@ use Rattle.records.specs.Validity.{is_package, spells}
 use Rattle.values.specs.Lists.{IsOnce}
 use Rattle.records.specs.declared.content.App.{App}
 use Rattle.records.specs.declared.content.Cohort.{Cohort}
-use Rattle.records.specs.declared.content.Declared.{Declared}
+use Rattle.values.specs.declared.declared.Declared.{Declared}
 use Rattle.records.specs.declared.content.Diff.{Diff}
 use Rattle.records.specs.declared.content.Release.{Release}
 use Rattle.catalogue.specs.declared.edits.diffs.AddDiff.{AddDiff}
@@ -26,7 +27,8 @@ use Rattle.catalogue.specs.declared.edits.releases.AddRelease.{AddRelease}
 
 -- a release as it is when it is added
 abbrev pub bare_release : Release → Release
-bare_release release = record release { stone = false; withdrawn = false; audience = None }
+bare_release release =
+    record release { stone = false; withdrawn = false; audience = None; floor = zero_version }
 
 -- the edit that adds a release
 abbrev pub added : List ℕ → Release → AddRelease

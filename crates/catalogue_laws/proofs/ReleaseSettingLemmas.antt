@@ -1,10 +1,11 @@
--- What is read of a release after an accepted edit: its stone and withdrawn flags, its audience.
+-- What is read of a release after an accepted edit: its stone and withdrawn flags, its audience, its
+-- floor.
 use Rattle.std.proofs.Common.{◌≡◌, ℕ, Bool, true, false, cond, ◌&&◌, List, [], ◌∷◌, find, Option, Some, None, refl, ap, sym, ◌∙◌}
 use Rattle.std.specs.List.{list_any}
 use Rattle.std.specs.Option.{option_map, option_map_or, unwrap_or}
 use Rattle.std.specs.Str.{bytes_eq}
 use Rattle.std.proofs.lemmas.Slice.Eq.{bytes_eq-Decides}
-use Rattle.version.specs.Versions.{lenient_version_of}
+use Rattle.version.specs.Versions.{lenient_version_of, zero_version}
 use Rattle.catalogue.proofs.Accepted.ReleaseSettings.{NamesRelease, TakesReleaseSetting}
 use Rattle.catalogue.proofs.Accepted.Releases.{TakesRelease}
 use Rattle.catalogue.proofs.AppLemmas.{read_app-change, read_app-kept, read_app-push_none, read_app-same_id, read_app-then}
@@ -17,7 +18,7 @@ use Rattle.catalogue.specs.Changes.{Change, NewApp, NewCohort, NewDiff, NewRelea
 use Rattle.values.specs.Lists.{change}
 use Rattle.catalogue.specs.Edits.{after, change_of, fault_of}
 use Rattle.records.specs.Forms.{same_id}
-use Rattle.catalogue_laws.specs.Histories.{audience_of, is_stone, is_withdrawn, names_release, read_release, sets_audience, sets_stone, sets_withdrawn}
+use Rattle.catalogue_laws.specs.Histories.{audience_of, floor_of, is_stone, is_withdrawn, names_release, read_release, sets_audience, sets_floor, sets_stone, sets_withdrawn}
 use Rattle.records.specs.Lookups.{app_of, is_app, is_release, place_of, releases_of}
 use Rattle.records.specs.declared.content.App.{App}
 use Rattle.records.specs.declared.content.Release.{Release}
@@ -212,3 +213,16 @@ audience_of-after id version apps (edit.SetAudience e) accepted =
     apps id version e.app (lenient_version_of e.version) (Fits-accepted apps (edit.SetAudience e) accepted)
 audience_of-after id version apps e accepted =
     read_release-left audience None (λ new. refl) (change_of e) (λ release. refl) apps (Fits-accepted apps e accepted) id version
+
+-- and its floor
+abbrev floor : Release → List ℕ
+floor release = release.floor
+
+pub floor_of-after :
+    (id version : List ℕ) (apps : List App) (e : Edit) → fault_of apps e ≡ None →
+    floor_of (after apps e) id version ≡ unwrap_or (sets_floor id version e) (floor_of apps id version)
+floor_of-after id version apps (edit.SetFloor e) accepted =
+    read_release-set floor zero_version (λ new. refl) (setting.Floor (lenient_version_of e.floor)) (lenient_version_of e.floor) (λ release. refl)
+    apps id version e.app (lenient_version_of e.version) (Fits-accepted apps (edit.SetFloor e) accepted)
+floor_of-after id version apps e accepted =
+    read_release-left floor zero_version (λ new. refl) (change_of e) (λ release. refl) apps (Fits-accepted apps e accepted) id version

@@ -6,10 +6,10 @@ use Rattle.catalogue_laws.proofs.HistoryLemmas.{Makes, holds-Makes}
 use Rattle.records.proofs.KeyLemmas.{VersionLaws}
 use Rattle.records.specs.Validity.{IsValid}
 use Rattle.records.specs.declared.content.App.{App}
-use Rattle.version.specs.Laws.{LenientAgrees}
+use Rattle.version.specs.Laws.{LenientAgrees, PrintIsPlain}
 
-module _ (laws : VersionLaws) (agrees : LenientAgrees) where
+module _ (laws : VersionLaws) (agrees : LenientAgrees) (plain : PrintIsPlain) where
   -- what accepted edits make of a valid content
   pub IsValid-Makes :
       (edits : List Edit) (apps made : List App) → Makes edits apps made → IsValid apps → IsValid made
-  IsValid-Makes = holds-Makes IsValid (IsValid-after laws agrees)
+  IsValid-Makes = holds-Makes IsValid (IsValid-after laws agrees plain)

@@ -1,5 +1,6 @@
 -- A small content with the edits that make it, worked by hand.
 use Rattle.std.specs.Prelude.{◌≡◌, ℕ, true, false, List, [], ◌∷◌, codes, replicate, None, Some}
+use Rattle.version.specs.Versions.{zero_version}
 use Rattle.catalogue_laws.specs.Contents.{edits_of_content}
 use Rattle.records.specs.declared.content.App.{App}
 use Rattle.records.specs.declared.content.Cohort.{Cohort}
@@ -7,7 +8,8 @@ use Rattle.records.specs.declared.content.Release.{Release}
 use Rattle.catalogue.specs.declared.edit.Edit.{Edit}
 use Rattle.catalogue.specs.declared.edit.Edit.TheVariants as edit
 
--- release 1.0, whose hash is 32 bytes 0x11, and release 2.0, whose hash is 32 bytes 0x22
+-- release 1.0, whose hash is 32 bytes 0x11, and release 2.0, whose hash is 32 bytes 0x22 and which may be
+-- taken from 1.0 on
 abbrev pub version_of_one : List ℕ
 version_of_one = 1 ∷ replicate 15 0
 
@@ -25,6 +27,7 @@ first_release =
       stone = false;
       withdrawn = false;
       audience = None;
+      floor = zero_version;
     }
 
 abbrev pub second_release : Release
@@ -38,6 +41,7 @@ second_release =
       stone = false;
       withdrawn = false;
       audience = None;
+      floor = version_of_one;
     }
 
 -- half of the default cohort's clients have 2.0, the others 1.0; the other cohort is open
@@ -94,6 +98,7 @@ small_edits =
       size = 56;
       sha256 = replicate 64 50;
     })
+    ∷ edit.SetFloor (record { app = codes "mini"; version = codes "2.0"; floor = codes "1.0" })
     ∷ edit.SetTarget
     (record {
       app = codes "mini";

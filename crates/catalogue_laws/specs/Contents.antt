@@ -2,7 +2,9 @@
 use Rattle.std.specs.Prelude.{◌≡◌, ℕ, ◌==◌, ◌||◌, true, List, [], ◌∷◌, ◌++◌, drop, find, map, if◌then◌else◌, is_some, option_map, Ok}
 use Rattle.std.specs.List.{flat_map}
 use Rattle.std.specs.Option.{option_map_or}
+use Rattle.std.specs.Str.{bytes_eq}
 use Rattle.hex.specs.Hex.{encode_lower}
+use Rattle.version.specs.Versions.{printed, zero_version}
 use Rattle.catalogue.specs.Batches.{outcome}
 use Rattle.records.specs.Limits.{max_share}
 use Rattle.records.specs.Lookups.{is_release}
@@ -60,11 +62,24 @@ edits_of_audience app release =
     ∷ []
     else []
 
+-- a release's floor is set, as it is printed
+abbrev pub edit_of_floor : App → Release → Edit
+edit_of_floor app release =
+    edit.SetFloor (record { app = app.id; version = release.spelled; floor = printed release.floor })
+
+-- and only if it is not 0, which a new release has
+abbrev pub edits_of_floor : App → Release → List Edit
+edits_of_floor app release =
+    if bytes_eq release.floor zero_version then [] else edit_of_floor app release ∷ []
+
 -- a release is added, and then its settings are set
 abbrev pub edits_of_release : App → Release → List Edit
 edits_of_release app release =
     edit_of_release app release
-    ∷ edits_of_stone app release ++ edits_of_withdrawn app release ++ edits_of_audience app release
+    ∷ edits_of_stone app release
+    ++ edits_of_withdrawn app release
+    ++ edits_of_audience app release
+    ++ edits_of_floor app release
 
 -- a differential is added; its versions are spelled as their releases are
 abbrev pub edit_of_diff : App → Diff → Edit

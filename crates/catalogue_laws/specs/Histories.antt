@@ -4,7 +4,7 @@ use Rattle.std.specs.Prelude.{◌≡◌, ℕ, ◌==◌, ◌&&◌, ◌++◌, Bool
 use Rattle.std.specs.List.{list_any, flat_map, slice_get}
 use Rattle.std.specs.Option.{option_map_or}
 use Rattle.std.specs.Str.{bytes_eq}
-use Rattle.version.specs.Versions.{lenient_version_of}
+use Rattle.version.specs.Versions.{lenient_version_of, zero_version}
 use Rattle.catalogue.specs.Batches.{outcome, run}
 use Rattle.catalogue.specs.Changes.{new_diff, new_release}
 use Rattle.records.specs.Forms.{same_id}
@@ -167,6 +167,10 @@ is_withdrawn = read_release (λ release. release.withdrawn) false
 abbrev pub audience_of : List App → List ℕ → List ℕ → Option (List (List ℕ))
 audience_of = read_release (λ release. release.audience) None
 
+-- the floor of a release, 0 if there is no such release
+abbrev pub floor_of : List App → List ℕ → List ℕ → List ℕ
+floor_of = read_release (λ release. release.floor) zero_version
+
 -- the stone flag that the edit sets for the release, if it sets it
 abbrev pub sets_stone : List ℕ → List ℕ → Edit → Option Bool
 sets_stone id version (edit.SetStone e) =
@@ -184,6 +188,14 @@ abbrev pub sets_audience : List ℕ → List ℕ → Edit → Option (Option (Li
 sets_audience id version (edit.SetAudience e) =
     if names_release id version e.app (lenient_version_of e.version) then Some e.cohorts else None
 sets_audience id version e = None
+
+-- the floor that the edit sets for the release, if it sets it
+abbrev pub sets_floor : List ℕ → List ℕ → Edit → Option (List ℕ)
+sets_floor id version (edit.SetFloor e) =
+    if names_release id version e.app (lenient_version_of e.version)
+    then Some (lenient_version_of e.floor)
+    else None
+sets_floor id version e = None
 
 -- what the last of the edits set, or the value before them
 abbrev pub last_set : {A : Type 0} → (Edit → Option A) → A → List Edit → A
@@ -234,6 +246,13 @@ AudiencesAreTheLastSet =
     (id version : List ℕ) →
     audience_of apps id version ≡ last_set (sets_audience id version) None (edits_of history)
 
+-- a release's floor is that of the last edit of the history that set it, else 0
+abbrev pub FloorsAreTheLastSet : Type 0
+FloorsAreTheLastSet =
+    (history : History) (apps : List App) → LeadsTo history apps →
+    (id version : List ℕ) →
+    floor_of apps id version ≡ last_set (sets_floor id version) zero_version (edits_of history)
+
 -- a batch that is accepted after a history makes a longer one
 abbrev pub HistoriesGrow : Type 0
 HistoriesGrow =
@@ -258,6 +277,7 @@ app_named (edit.AddDiff e) = e.app
 app_named (edit.SetStone e) = e.app
 app_named (edit.SetWithdrawn e) = e.app
 app_named (edit.SetAudience e) = e.app
+app_named (edit.SetFloor e) = e.app
 app_named (edit.AddCohort e) = e.app
 app_named (edit.SetTarget e) = e.app
 app_named (edit.SetShare e) = e.app

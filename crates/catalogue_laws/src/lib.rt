@@ -10,7 +10,7 @@
 
 ghost use Rattle.catalogue_laws.specs.ContentExamples.{SmallContentHasItsEdits};
 ghost use Rattle.catalogue_laws.specs.Contents.{ContentsAreMade};
-ghost use Rattle.catalogue_laws.specs.Histories.{AppsWereAdded, AudiencesAreTheLastSet, BatchesKeepOtherApps, CohortsWereAdded, DiffsWereAdded, HistoriesAreValid, HistoriesGrow, OpenFlagsAreTheLastSet, PrefixesAreAccepted, ReleasesWereAdded, RollbackFlagsAreTheLastSet, SharesAreTheLastSet, StonesAreTheLastSet, TargetsAreTheLastSet, WithdrawalsAreTheLastSet};
+ghost use Rattle.catalogue_laws.specs.Histories.{AppsWereAdded, AudiencesAreTheLastSet, BatchesKeepOtherApps, CohortsWereAdded, DiffsWereAdded, FloorsAreTheLastSet, HistoriesAreValid, HistoriesGrow, OpenFlagsAreTheLastSet, PrefixesAreAccepted, ReleasesWereAdded, RollbackFlagsAreTheLastSet, SharesAreTheLastSet, StonesAreTheLastSet, TargetsAreTheLastSet, WithdrawalsAreTheLastSet};
 
 /// States that an item is there exactly if some edit of the history added it.
 pub fn additions()
@@ -29,12 +29,13 @@ pub fn cohort_settings()
     ensures open_flags { OpenFlagsAreTheLastSet }
 {}
 
-/// States that a release's flags and audience are those of the last edit of the history that set them,
-/// else their first values.
+/// States that a release's flags, audience and floor are those of the last edit of the history that set
+/// them, else their first values.
 pub fn release_settings()
     ensures stones { StonesAreTheLastSet }
     ensures withdrawals { WithdrawalsAreTheLastSet }
     ensures audiences { AudiencesAreTheLastSet }
+    ensures floors { FloorsAreTheLastSet }
 {}
 
 /// States that a batch that is accepted after a history makes a longer history.
@@ -58,6 +59,7 @@ pub fn validity()
 {
     version::laws::order();
     version::laws::spellings();
+    version::laws::printing();
 }
 
 /// States that the edits of a valid content, in the order of a profile, are accepted from the empty

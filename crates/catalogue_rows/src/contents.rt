@@ -102,6 +102,11 @@ set_audience mini 1.0 beta,beta > release 1.0 mini-1.0.bin 3 17 for beta beta
 set_audience mini 1.0 beta;set_audience mini 1.0 stable > release 1.0 mini-1.0.bin 3 17 for stable
 set_audience mini 1.0 _ > release 1.0 mini-1.0.bin 3 17 for
 set_audience mini 1.0 beta;set_audience mini 1.0 - > release 1.0 mini-1.0.bin 3 17
+set_floor mini 2.0 1.0 > release 2.0 mini-2.0.bin 56 34 from 1.0
+set_floor mini 2.0 1.0;set_floor MINI 2 1.5.0 > release 2.0 mini-2.0.bin 56 34 from 1.5
+set_floor mini 2.0 1.0;set_floor mini 2.0 0 > release 2.0 mini-2.0.bin 56 34
+set_floor mini 1.0 9.9.9.9 > release 1.0 mini-1.0.bin 3 17 from 9.9.9.9
+set_floor mini 1.0 1;set_stone mini 1.0 on > release 1.0 mini-1.0.bin 3 17 stone from 1.0
 set_target mini stable 2.0 1.0;set_target mini stable - 1.0 > cohort stable - 1.0 1000
 set_target mini stable 2.0 -;set_withdrawn mini 2.0 on > cohort stable 2.0 - 1000
 set_audience mini 2.0 beta;set_target mini stable 2.0 - > cohort stable 2.0 - 1000
@@ -120,6 +125,7 @@ fn leaves(rt: &impl Abort, alloc: Global, row: &str) -> Result<(), Fail> {
     Ok(())
 }
 
+// rule: Floor of a release
 // rule: What an edit changes
 #[test]
 fn keeps_the_last_value_of_each_setting(rt: HostRuntime) -> Result<(), Fail> {

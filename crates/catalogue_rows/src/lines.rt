@@ -3,7 +3,7 @@
 // another name adds an app without an identifier, which every catalogue rejects.
 
 use catalogue::{
-    AddApp, AddCohort, AddDiff, AddRelease, Batch, Catalogue, Edit, Refused, SetAudience,
+    AddApp, AddCohort, AddDiff, AddRelease, Batch, Catalogue, Edit, Refused, SetAudience, SetFloor,
     SetOpen, SetRollback, SetShare, SetStone, SetTarget, SetWithdrawn,
 };
 use std::alloc::{AllocError, Global};
@@ -128,6 +128,14 @@ fn set_audience(fields: &mut Fields) -> Result<Edit, AllocError> {
     }))
 }
 
+fn set_floor(fields: &mut Fields) -> Edit {
+    Edit::SetFloor(SetFloor {
+        app: fields.string(),
+        version: fields.string(),
+        floor: fields.string(),
+    })
+}
+
 fn add_cohort(fields: &mut Fields) -> Edit {
     Edit::AddCohort(AddCohort {
         app: fields.string(),
@@ -183,6 +191,7 @@ fn edit_of_fields(verb: &str, fields: &mut Fields) -> Result<Edit, AllocError> {
         "set_stone" => set_stone(fields),
         "set_withdrawn" => set_withdrawn(fields),
         "set_audience" => return set_audience(fields),
+        "set_floor" => set_floor(fields),
         "add_cohort" => add_cohort(fields),
         "set_target" => set_target(fields),
         "set_share" => set_share(fields),

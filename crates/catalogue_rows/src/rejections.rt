@@ -96,6 +96,7 @@ C12 DiffExists | add_diff mini 1 2.0.0 mini-1.0.bin 1 33333333333333333333333333
 }
 
 // rule: Faults of an edit, in order
+// rule: Floor of a release
 #[test]
 fn rejects_a_release_setting_by_its_first_fault(rt: HostRuntime) -> Result<(), Fail> {
     let rows = "C1 UnknownApp | set_stone x 01 on
@@ -108,7 +109,13 @@ C1 UnknownApp | set_audience x 01 gamma
 C4 BadVersion | set_audience mini 01 gamma
 C11 UnknownRelease | set_audience mini 3.0 gamma
 C14 UnknownCohort | set_audience mini 2.0 beta,gamma
-C14 UnknownCohort | set_audience mini 2.0 Beta!";
+C14 UnknownCohort | set_audience mini 2.0 Beta!
+C1 UnknownApp | set_floor x 01 01
+C4 BadVersion | set_floor mini 01 1.0
+C4 BadVersion | set_floor mini 2.0 01
+C4 BadVersion | set_floor mini 3.0 1.0.0.0.0
+C4 BadVersion | set_floor mini 3.0 _
+C11 UnknownRelease | set_floor mini 3.0 1.0";
     rejects(&rt, rt.alloc(), rows)?;
     Ok(())
 }

@@ -36,6 +36,13 @@ fn push_audience(lines: &mut String, names: &Items<Text>) -> Result<(), AllocErr
     Ok(())
 }
 
+fn push_floor(lines: &mut String, floor: Version) -> Result<(), AllocError> {
+    if floor == Version::zero() {
+        return Ok(());
+    }
+    write!(lines, " from {floor}")
+}
+
 fn push_release(lines: &mut String, release: &Release) -> Result<(), AllocError> {
     let spelled = release.spelled.as_str();
     let name = release.name.as_str();
@@ -50,6 +57,7 @@ fn push_release(lines: &mut String, release: &Release) -> Result<(), AllocError>
     if let Some(names) = &release.audience {
         push_audience(lines, names)?;
     }
+    push_floor(lines, release.floor)?;
     lines.push('\n')
 }
 

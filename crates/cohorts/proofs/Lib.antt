@@ -1,3 +1,4 @@
 pub mod BucketLemmas
 pub mod CohortTextLemmas
+mod PinLemmas
 mod TrackLemmas

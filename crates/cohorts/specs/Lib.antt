@@ -1,3 +1,4 @@
 pub mod CohortTexts
 pub mod Laws
+pub mod Pins
 pub mod Tracks

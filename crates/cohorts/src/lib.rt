@@ -4,7 +4,8 @@
 //! the lane, the target, and whether the client may be downgraded. `assign` returns a client's
 //! track in an app, and `Session::assign` that of each client of one request, whose session is
 //! hashed at most once. `CohortText` reads and prints the string by which a client names its cohort
-//! and its bucket; `TrackNames` are the names by which an operator chooses a track. Read
+//! and its bucket; `TrackNames` are the names by which an operator chooses a track. A `Pin` is the prefix of
+//! versions that an administrator allows. Read
 //! `specs/Tracks.antt` for the assignment, `specs/CohortTexts.antt` for the strings, and `laws` for
 //! what holds of them.
 //!
@@ -15,10 +16,12 @@
 mod cohort_text;
 pub mod laws;
 mod names;
+mod pin;
 mod session;
 mod track;
 
 pub use crate::cohort_text::CohortText;
 pub use crate::names::TrackNames;
+pub use crate::pin::Pin;
 pub use crate::session::Session;
 pub use crate::track::{Lane, Track, assign, target_in};

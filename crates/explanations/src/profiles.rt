@@ -14,9 +14,9 @@ Remedy: Check the file with any TOML tool, which names the line.
         "F2",
         "F2 BadSchema
 Found in: a profile.
-The file doesn't say `schema = 1`.
+The file says neither `schema = 1` nor `schema = 2`.
 Usual cause: The key is missing, is in quotes, or the file is for another version of the program.
-Remedy: Begin the file with `schema = 1`.
+Remedy: Begin the file with `schema = 2`.
 ",
     ),
     (
@@ -24,7 +24,7 @@ Remedy: Begin the file with `schema = 1`.
         "F3 BadEntry
 Found in: a profile.
 The entry at that path is missing, unknown or of another type.
-Usual cause: A misspelled key, a number in quotes, or a key that the table must have.
+Usual cause: A misspelled key, a number in quotes, a key that the table must have, or a `floor` in schema 1.
 Remedy: Look at the path: `app[0].release[2].size` is the size of the third release of the first app.
 ",
     ),

@@ -10,11 +10,11 @@ use Rattle.http_heads.specs.declared.status.Status.{Status}
 use Rattle.http_heads.specs.declared.status.Status.TheVariants as status
 use Rattle.http_desks.specs.Downloads.{Downloads, Reads, download, joined_blocks}
 use Rattle.http_wire.specs.Sending.{AppendsPart}
-use Rattle.http_wire.specs.declared.device.Failed.{Failed}
+use Rattle.values.specs.declared.failed.Failed.{Failed}
 use Rattle.http_wire.proofs.KnownLemmas.{Appends-then, AppendsPart-then}
 use Rattle.http_desks.specs.declared.answering.Handled.{Handled}
 use Rattle.http_desks.specs.declared.answering.Handled.TheVariants.{Answered, Cut}
-use Rattle.http_desks.specs.declared.desk.Declared.{Declared}
+use Rattle.values.specs.declared.declared.Declared.{Declared}
 use Rattle.http_desks.specs.Calls.{Call}
 use Rattle.http_desks.specs.Uses.{Mismatched, Read, Broken, Use}
 use Rattle.http_desks.specs.Replies.{Answers, Fetches, head_lines}

@@ -3,7 +3,7 @@ use Rattle.std.specs.Prelude.{◌≡◌, ◌+◌, ◌-◌, ◌*◌, ◌/◌, ◌
 use Rattle.std.specs.Io.KnownBytes.{Appends}
 use Rattle.sha2.specs.Sha256.{sha256}
 use Rattle.http_wire.specs.Sending.{AppendsPart}
-use Rattle.http_wire.specs.declared.device.Failed.{Failed}
+use Rattle.values.specs.declared.failed.Failed.{Failed}
 
 -- the bytes, unless reading them failed
 abbrev pub bytes_read : Result (Unit {0}) Failed → List ℕ → Option (List ℕ)

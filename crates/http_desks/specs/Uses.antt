@@ -3,7 +3,7 @@ use Rattle.std.specs.Prelude.{◌≡◌, ◌≢◌, ◌≤◌, ℕ, List, [], �
 use Rattle.http_heads.specs.Targets.{package_in, path_in}
 use Rattle.http_desks.specs.Downloads.{IsRead, Reads, ReadsFrom, full_blocks}
 use Rattle.http_desks.specs.declared.desk.DeskStatus.{DeskStatus}
-use Rattle.http_desks.specs.declared.desk.Declared.{Declared}
+use Rattle.values.specs.declared.declared.Declared.{Declared}
 use Rattle.http_desks.specs.declared.method.Method.{Method}
 use Rattle.http_desks.specs.declared.method.Method.TheVariants.{Get, Post, Other}
 use Rattle.http_desks.specs.Calls.{Call, Asks, Looks}

@@ -3,6 +3,7 @@ ghost use Rattle.http_desks.specs.Calls.{Call, Asks, Looks, answer_in};
 ghost use Rattle.http_desks.specs.Replies.{status_of};
 
 use http_heads::Status;
+use values::Declared;
 
 /// The status that a desk gives its reply.
 #[derive(Clone, Copy, Debug, Drop, PartialEq, Eq)]
@@ -47,15 +48,6 @@ pub enum Off {
     Memory,
     /// The service has closed.
     Closed,
-}
-
-/// What the catalogue says of a package's file.
-#[derive(Clone, Copy, Debug, Drop, PartialEq, Eq)]
-pub struct Declared {
-    /// The file's length in bytes.
-    pub size: u64,
-    /// The SHA-256 of the file.
-    pub hash: [u8; 32],
 }
 
 /// Replies to the messages to one path, and knows the packages.

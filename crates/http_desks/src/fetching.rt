@@ -2,11 +2,11 @@ ghost use Rattle.std.specs.Prelude.{◌≡◌, ◌+◌, ℕ, length, is_ok, if�
 ghost use Rattle.http_desks.specs.Replies.{Fetches};
 
 use crate::answering::Handled;
-use crate::desk::Declared;
 use crate::download::send_package;
 use crate::package::Packages;
 use http_heads::{ReplyHead, Status};
 use http_wire::{Failed, Sink, send_reply};
+use values::Declared;
 
 // rule: Reply to a message
 // Writes the head of a package, and the package if its file has the declared length.

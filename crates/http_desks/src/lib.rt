@@ -25,9 +25,10 @@ mod site;
 
 pub use crate::answering::{Handled, Request, answer};
 pub use crate::clock::Clock;
-pub use crate::desk::{Answer, Declared, Desk, DeskStatus, Off};
+pub use crate::desk::{Answer, Desk, DeskStatus, Off};
 pub use crate::download::{BLOCK, send_package};
 pub use crate::empty::send_empty;
 pub use crate::method::Method;
 pub use crate::package::Packages;
 pub use crate::site::Site;
+pub use values::Declared;

@@ -11,7 +11,7 @@ use Rattle.http_heads.specs.declared.status.Status.{Status}
 use Rattle.http_wire.specs.Bodies.{BodyFound}
 use Rattle.http_wire.specs.Devices.{Came}
 use Rattle.http_wire.specs.Heads.{IsLongHead}
-use Rattle.http_wire.specs.declared.device.Failed.{Failed}
+use Rattle.values.specs.declared.failed.Failed.{Failed}
 use Rattle.http_wire.specs.declared.head.Head.{Head}
 use Rattle.http_wire.proofs.KnownLemmas.{Consumes-then}
 use Rattle.http_sessions.specs.declared.ends.End.TheVariants.{Unfinished}

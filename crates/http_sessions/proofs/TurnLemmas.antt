@@ -5,7 +5,7 @@ use Rattle.std.proofs.lemmas.List.{length-take-le}
 use Rattle.std.specs.Io.KnownBytes.{Appends, Consumes, IsAtEnd}
 use Rattle.http_heads.specs.declared.status.Status.{Status}
 use Rattle.http_wire.specs.Sending.{AppendsPart}
-use Rattle.http_wire.specs.declared.device.Failed.{Failed}
+use Rattle.values.specs.declared.failed.Failed.{Failed}
 use Rattle.http_desks.specs.declared.answering.Handled.{Handled}
 use Rattle.http_desks.specs.declared.method.Method.{Method}
 use Rattle.http_desks.specs.Calls.{Call, Leads}

@@ -5,7 +5,7 @@ use Rattle.httparse.specs.Grammar.{IsRequestHead, NeverHasRequest, RequestHead, 
 use Rattle.http_heads.specs.declared.status.Status.{Status}
 use Rattle.http_heads.specs.declared.status.Status.TheVariants as status
 use Rattle.http_wire.specs.Heads.{IsLongHead, IsPartOfHead}
-use Rattle.http_wire.specs.declared.device.Failed.{Failed}
+use Rattle.values.specs.declared.failed.Failed.{Failed}
 use Rattle.http_desks.specs.Uses.{method_of}
 use Rattle.http_sessions.specs.declared.message.Message.{Message}
 use Rattle.http_sessions.specs.declared.message.Message.TheVariants.{Whole, Rejected, Ended}

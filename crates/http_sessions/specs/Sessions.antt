@@ -4,7 +4,7 @@ use Rattle.std.specs.List.{AllByRecursion}
 use Rattle.std.specs.Io.KnownBytes.{Appends, Consumes}
 use Rattle.http_heads.specs.declared.status.Status.{Status}
 use Rattle.http_wire.specs.Sending.{AppendsPart}
-use Rattle.http_wire.specs.declared.device.Failed.{Failed}
+use Rattle.values.specs.declared.failed.Failed.{Failed}
 use Rattle.http_desks.specs.declared.answering.Handled.{Handled}
 use Rattle.http_desks.specs.declared.answering.Handled.TheVariants as handled
 use Rattle.http_desks.specs.declared.method.Method.{Method}

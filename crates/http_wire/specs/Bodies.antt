@@ -1,7 +1,7 @@
 -- A body of a known length after a head (RFC 9112, section 6.3).
 use Rattle.std.specs.Prelude.{◌≡◌, ◌<◌, ℕ, List, [], ◌++◌, length, Bool, true, false, Option, Result, Ok, Err}
 use Rattle.std.specs.Io.KnownBytes.{Consumes, IsAtEnd}
-use Rattle.http_wire.specs.declared.device.Failed.{Failed}
+use Rattle.values.specs.declared.failed.Failed.{Failed}
 
 -- rule: Body of a request
 -- the bytes begin with the body, and the others wait; or there are fewer, and none waits

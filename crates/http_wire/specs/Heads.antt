@@ -6,7 +6,7 @@ use Rattle.httparse.specs.Grammar.{HasNoRequest, MayBecomeRequest, NeverHasReque
 use Rattle.httparse.specs.Spans.{IsWithin, IsHeaderWithin, IsRequestOf}
 use Rattle.httparse.specs.declared.spans.RequestSpans.{RequestSpans}
 use Rattle.httparse.specs.declared.spans.HeaderSpan.{HeaderSpan}
-use Rattle.http_wire.specs.declared.device.Failed.{Failed}
+use Rattle.values.specs.declared.failed.Failed.{Failed}
 use Rattle.http_wire.specs.declared.head.Head.{Head}
 use Rattle.http_wire.specs.declared.head.Head.TheVariants as head
 

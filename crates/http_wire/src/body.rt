@@ -1,8 +1,9 @@
 ghost use Rattle.std.specs.Prelude.{◌≡◌, ◌+◌, length, is_ok, min, take, drop, ◌++◌, if◌then◌else◌};
 ghost use Rattle.http_wire.specs.Bodies.{BodyFound};
 
-use crate::device::{Failed, Source};
+use crate::device::Source;
 use crate::window::Window;
+use values::Failed;
 
 // Moves the bytes that wait to the front of the body, as many as fit.
 fn take_waiting(window: &mut Window, body: &mut [u8]) -> usize

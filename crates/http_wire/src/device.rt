@@ -1,9 +1,7 @@
 ghost use Rattle.std.specs.Prelude.{◌≡◌, ◌+◌, ◌<◌, ◌≤◌, ℕ, List, Option, length, IfOk, is_ok, if◌then◌else◌};
 ghost use Rattle.std.specs.Io.KnownBytes.{ReadConsumes, WriteAppends};
 
-/// A read or a write failed.
-#[derive(Clone, Copy, Debug, Drop, PartialEq, Eq)]
-pub struct Failed;
+use values::Failed;
 
 /// Gives bytes in pieces.
 pub trait Source {

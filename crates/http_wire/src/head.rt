@@ -2,10 +2,11 @@ ghost use Rattle.std.specs.Prelude.{◌≡◌, ◌+◌, length, is_ok, if◌then
 ghost use Rattle.http_wire.specs.Devices.{Came};
 ghost use Rattle.http_wire.specs.Heads.{HeadFound};
 
-use crate::device::{Failed, Source};
+use crate::device::Source;
 use crate::window::{MAX_HEAD, Window};
 use httparse::spans::{HeaderSpan, RequestSpans, parse_request};
 use httparse::{Error, Status};
+use values::Failed;
 
 /// How many places `read_head` needs: a head of `MAX_HEAD` bytes has no more fields.
 pub const MAX_FIELDS: usize = 5461;

@@ -25,7 +25,7 @@ mod watch;
 mod window;
 
 pub use crate::body::read_body;
-pub use crate::device::{Failed, Sink, Source};
+pub use crate::device::{Sink, Source};
 pub use crate::head::{Head, MAX_FIELDS, read_head};
 pub use crate::reply::send_reply;
 pub use crate::sending::send;
@@ -33,3 +33,4 @@ pub use crate::sink::WatchedSink;
 pub use crate::source::WatchedSource;
 pub use crate::watch::{Unwatched, Watch};
 pub use crate::window::{MAX_HEAD, Window};
+pub use values::Failed;

@@ -2,10 +2,11 @@ ghost use Rattle.std.specs.Prelude.{◌≡◌, ◌+◌, ◌++◌, List, [], ◌�
 ghost use Rattle.http_heads.specs.Replies.{head_bytes, type_line};
 ghost use Rattle.http_wire.specs.Sending.{Sends, joined};
 
-use crate::device::{Failed, Sink};
+use crate::device::Sink;
 use crate::sending::{join, send, send_all};
 use http_heads::{ReplyHead, allow_field, last_field};
 use itoa::Buffer;
+use values::Failed;
 
 // Writes the strings in one write, if they fit the block.
 fn send_joined<W: Sink>(sink: &mut W, block: &mut [u8], texts: &[&[u8]]) -> Result<(), Failed>

@@ -1,7 +1,8 @@
 ghost use Rattle.std.specs.Prelude.{◌≡◌, ◌+◌, ◌≤◌, length, take, is_ok, IfSome, if◌then◌else◌};
 ghost use Rattle.http_wire.specs.Sending.{Sends, joined};
 
-use crate::device::{Failed, Sink};
+use crate::device::Sink;
+use values::Failed;
 
 // rule: Sending whole
 /// Writes all of the bytes; a failure finds a first part of them written, and not all.

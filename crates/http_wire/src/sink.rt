@@ -1,8 +1,9 @@
 ghost use Rattle.std.specs.Prelude.{◌≡◌, ◌≤◌, ◌<◌, ◌+◌, length, IfOk, is_ok, if◌then◌else◌};
 ghost use Rattle.std.specs.Io.KnownBytes.{WriteAppends};
 
-use crate::device::{Failed, Sink};
+use crate::device::Sink;
 use crate::watch::Watch;
+use values::Failed;
 
 /// A sink whose bytes a watch is shown.
 #[derive(Drop)]

@@ -1,8 +1,9 @@
 ghost use Rattle.std.specs.Prelude.{◌≡◌, ◌≤◌, ◌+◌, length, IfOk, is_ok, if◌then◌else◌};
 ghost use Rattle.std.specs.Io.KnownBytes.{ReadConsumes};
 
-use crate::device::{Failed, Source};
+use crate::device::Source;
 use crate::watch::Watch;
+use values::Failed;
 
 /// A source whose bytes a watch is shown.
 #[derive(Drop)]

@@ -1,9 +1,10 @@
 ghost use Rattle.std.specs.Prelude.{◌≡◌, ℕ, ◌+◌, ◌-◌, ◌<◌, ◌≤◌, List, [], length, take, drop, IfOk, is_ok, if◌then◌else◌};
 ghost use Rattle.http_wire.specs.Devices.{Fills};
 
-use crate::device::{Failed, Source};
+use crate::device::Source;
 use std::alloc::{AllocError, Global};
 use std::marker::Model;
+use values::Failed;
 
 /// The most bytes that a head may have.
 pub const MAX_HEAD: usize = 16384;

@@ -8,10 +8,11 @@ use Rattle.omaha_json.specs.RequestReading.{request_of_bytes}
 use Rattle.omaha_json.specs.declared.fault.RequestFault.{RequestFault}
 use Rattle.omaha_server.specs.Answering.{Answers}
 use Rattle.omaha_server.specs.Builtin.{builtin_service}
-use Rattle.omaha_server.specs.Services.{service_of_bytes}
-use Rattle.omaha_server.specs.declared.fault.ServiceFault.{ServiceFault}
-use Rattle.omaha_server.specs.declared.fault.ServiceFault.TheVariants as service
+use Rattle.omaha_server.specs.Services.{Profile, service_of}
 use Rattle.omaha_server.specs.declared.service.Service.{Service}
+use Rattle.profile_toml.specs.Reading.{profile_of_bytes}
+use Rattle.profile_toml.specs.declared.fault.ProfileFault.{ProfileFault}
+use Rattle.catalogue.specs.declared.fault.Refused.{Refused}
 use Rattle.omaha_cli.specs.Streams.{Streams}
 use Rattle.omaha_arguments.specs.declared.command.Once.{Once}
 use Rattle.omaha_cli.specs.declared.failure.Failure.{Failure}
@@ -31,8 +32,29 @@ max_profile = 67108864
 abbrev pub Files : Type 0
 Files = List ℕ → Known
 
+-- the service of a profile's edits and mirrors, or its first edit that is rejected as the failure
+abbrev pub or_edit : Result Service Refused → Result Service Failure
+or_edit (Ok service) = Ok service
+or_edit (Err refused) = Err (failure.Edit refused)
+
+-- the service of a profile that was read, or its fault
+abbrev pub service_by : Result Profile ProfileFault → Result Service Failure
+service_by (Ok profile) = or_edit (service_of profile)
+service_by (Err fault) = Err (failure.Profile fault)
+
+-- rule: Service of a profile
+-- the service of a profile's bytes; its first fault, or the first of its edits that is rejected
+abbrev pub service_of_bytes : List ℕ → Result Service Failure
+service_of_bytes text = service_by (profile_of_bytes text)
+
+-- what is made of a profile, unless memory ran out
+abbrev pub IsMade : Result Service Failure → Result Service Failure → Type 0
+IsMade made (Ok service) = made ≡ Ok service
+IsMade made (Err failure.Memory) = ⊤
+IsMade made (Err refusal) = made ≡ Err refusal
+
 -- the file's bytes make this service, or have this fault
-abbrev pub IsOfFile : Known → Result Service ServiceFault → Type 0
+abbrev pub IsOfFile : Known → Result Service Failure → Type 0
 IsOfFile file made = (bytes : List ℕ) × IsWhole file max_profile bytes × (service_of_bytes bytes ≡ made)
 
 -- the file can't be read, or has too many bytes
@@ -47,9 +69,9 @@ IsServed files None (Err refusal) = refusal ≡ failure.Memory
 IsServed files (Some path) (Ok service) = IsOfFile (files path) (Ok service)
 IsServed files (Some path) (Err (failure.File named)) = (named ≡ path) × IsUnreadable (files path)
 IsServed files (Some path) (Err (failure.Profile fault)) =
-    IsOfFile (files path) (Err (service.Profile fault))
+    IsOfFile (files path) (Err (failure.Profile fault))
 IsServed files (Some path) (Err (failure.Edit refused)) =
-    IsOfFile (files path) (Err (service.Edit refused))
+    IsOfFile (files path) (Err (failure.Edit refused))
 IsServed files (Some path) (Err failure.Memory) = ⊤
 IsServed files (Some path) (Err refusal) = ⊥
 

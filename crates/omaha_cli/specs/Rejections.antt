@@ -1,9 +1,7 @@
 -- A reader's error as a failure of the program.
+use Rattle.catalogue.specs.declared.fault.Refused.{Refused}
 use Rattle.omaha_json.specs.declared.fault.RequestFault.{RequestFault}
-use Rattle.omaha_server.specs.declared.fault.ServiceFault.{ServiceFault}
-use Rattle.omaha_server.specs.declared.fault.ServiceFault.TheVariants as service
-use Rattle.package_files.specs.declared.paths.PathError.{PathError}
-use Rattle.package_files.specs.declared.paths.PathError.TheVariants as paths
+use Rattle.profile_toml.specs.declared.fault.ProfileFault.{ProfileFault}
 use Rattle.reports.specs.declared.fault.CertificateError.{CertificateError}
 use Rattle.reports.specs.declared.fault.CertificateError.TheVariants as certificate
 use Rattle.streams.specs.declared.reading.ReadFailure.{ReadFailure}
@@ -19,10 +17,13 @@ failure_of_input input.Broken = failure.Read
 failure_of_input input.TooLong = failure.TooLong
 failure_of_input input.Memory = failure.Memory
 
-abbrev pub failure_of_service : ReadError ServiceFault → Failure
-failure_of_service errors.Memory = failure.Memory
-failure_of_service (errors.Fault (service.Profile fault)) = failure.Profile fault
-failure_of_service (errors.Fault (service.Edit refused)) = failure.Edit refused
+abbrev pub failure_of_profile : ReadError ProfileFault → Failure
+failure_of_profile errors.Memory = failure.Memory
+failure_of_profile (errors.Fault fault) = failure.Profile fault
+
+abbrev pub failure_of_edit : ReadError Refused → Failure
+failure_of_edit errors.Memory = failure.Memory
+failure_of_edit (errors.Fault refused) = failure.Edit refused
 
 abbrev pub failure_of_request : ReadError RequestFault → Failure
 failure_of_request errors.Memory = failure.Memory
@@ -31,10 +32,6 @@ failure_of_request (errors.Fault fault) = failure.Request fault
 abbrev pub failure_of_certificate : CertificateError → Failure
 failure_of_certificate certificate.Memory = failure.Memory
 failure_of_certificate error = failure.Certificate error
-
-abbrev pub failure_of_path : PathError → Failure
-failure_of_path (paths.File path reason) = failure.Undescribed path reason
-failure_of_path paths.Memory = failure.Memory
 
 abbrev pub failure_of_walk : ReadError Fault → Failure
 failure_of_walk errors.Memory = failure.Memory

@@ -1,22 +1,43 @@
 // The command `describe`.
 
 ghost use Rattle.std.specs.Prelude.{Err, IfErr, IfOk, Ok, string_bytes};
-ghost use Rattle.omaha_cli.specs.Describing.{IsFound, PrintsDescriptions};
+ghost use Rattle.omaha_cli.specs.Describing.{IsFailureAt, IsFound, PrintsDescriptions};
 ghost use Rattle.streams.specs.Streams.{Known};
 
 use crate::failure::Failure;
 use crate::printing::print;
-use package_files::{Folders, describe_paths};
+use package_files::{DescribeError, Folders, describe_path};
 use std::alloc::Global;
 use streams::WriteWhole;
 use values::Text;
 
-// What is found of the files at paths.
+// The failure of a file at a path that is not described.
+fn failure_at(path: &Text, reason: DescribeError) -> Failure
+    ensures { IsFailureAt path.now reason result }
+{
+    match reason {
+        DescribeError::Memory => Failure::Memory,
+        reason => match path.clone() {
+            Ok(path) => Failure::Undescribed(path, reason),
+            Err(_) => Failure::Memory,
+        },
+    }
+}
+
+// rule: Descriptions of paths
+// What is found of the files at paths: their descriptions, or the first that is not described.
 fn lines_of<R: Folders>(alloc: Global, rt: &R, paths: &[Text]) -> Result<String, Failure>
     ensures ok { IfOk result (λ text. IsFound (R.storage rt.now) paths.now (Ok (string_bytes text))) }
     ensures err { IfErr result (λ failure. IsFound (R.storage rt.now) paths.now (Err failure)) }
 {
-    Ok(describe_paths(alloc, rt, paths)?)
+    let mut lines = String::new(alloc);
+    for path in paths {
+        match describe_path(alloc, rt, path.as_str()) {
+            Ok(text) => lines.push_str(text.as_str())?,
+            Err(reason) => return Err(failure_at(path, reason)),
+        }
+    }
+    Ok(lines)
 }
 
 // rule: Printed descriptions

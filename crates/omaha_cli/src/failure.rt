@@ -3,8 +3,7 @@ ghost use Rattle.omaha_cli.specs.Failures.{failure_string};
 
 use catalogue::Refused;
 use omaha_json::RequestFault;
-use omaha_server::ServiceFault;
-use package_files::{DescribeError, PathError};
+use package_files::DescribeError;
 use profile_toml::ProfileFault;
 use reports::CertificateError;
 use std::alloc::AllocError;
@@ -122,16 +121,29 @@ impl From<ReadFailure> for Failure {
     }
 }
 
-impl From<ReadError<ServiceFault>> for Failure {
+impl From<ReadError<ProfileFault>> for Failure {
     ghost use Rattle.std.specs.Prelude.{◌≡◌};
-    ghost use Rattle.omaha_cli.specs.Rejections.{failure_of_service};
+    ghost use Rattle.omaha_cli.specs.Rejections.{failure_of_profile};
 
-    ghost from_gives = { λ error failure. failure ≡ failure_of_service error };
+    ghost from_gives = { λ error failure. failure ≡ failure_of_profile error };
 
-    fn from(error: ReadError<ServiceFault>) -> Failure {
+    fn from(error: ReadError<ProfileFault>) -> Failure {
         match error {
-            ReadError::Fault(ServiceFault::Profile(fault)) => Failure::Profile(fault),
-            ReadError::Fault(ServiceFault::Edit(refused)) => Failure::Edit(refused),
+            ReadError::Fault(fault) => Failure::Profile(fault),
+            ReadError::Memory => Failure::Memory,
+        }
+    }
+}
+
+impl From<ReadError<Refused>> for Failure {
+    ghost use Rattle.std.specs.Prelude.{◌≡◌};
+    ghost use Rattle.omaha_cli.specs.Rejections.{failure_of_edit};
+
+    ghost from_gives = { λ error failure. failure ≡ failure_of_edit error };
+
+    fn from(error: ReadError<Refused>) -> Failure {
+        match error {
+            ReadError::Fault(refused) => Failure::Edit(refused),
             ReadError::Memory => Failure::Memory,
         }
     }
@@ -161,20 +173,6 @@ impl From<CertificateError> for Failure {
         match error {
             CertificateError::Memory => Failure::Memory,
             error => Failure::Certificate(error),
-        }
-    }
-}
-
-impl From<PathError> for Failure {
-    ghost use Rattle.std.specs.Prelude.{◌≡◌};
-    ghost use Rattle.omaha_cli.specs.Rejections.{failure_of_path};
-
-    ghost from_gives = { λ error failure. failure ≡ failure_of_path error };
-
-    fn from(error: PathError) -> Failure {
-        match error {
-            PathError::File(path, reason) => Failure::Undescribed(path, reason),
-            PathError::Memory => Failure::Memory,
         }
     }
 }

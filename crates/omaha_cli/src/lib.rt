@@ -26,13 +26,11 @@ mod unreadable;
 mod walking;
 
 pub use crate::failure::Failure;
-pub use crate::once::respond;
+pub use crate::once::{read_service, respond};
 pub use crate::reporting::report_on;
 pub use crate::running::{Ending, Status, run};
 pub use crate::unreadable::report_unreadable;
 pub use omaha_arguments::{Command, Comparison, Once, Question, Report, Serve, Walk};
 pub use omaha_client::Connector;
-pub use omaha_server::{
-    Host, Place, ServerError, Service, ServiceFault, answer, builtin_service, read_service,
-};
+pub use omaha_server::{Host, Place, ServerError, Service, answer, builtin_service};
 pub use package_files::Folders;

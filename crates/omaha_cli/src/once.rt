@@ -1,12 +1,14 @@
 // The command `once`: a reply to the one request that a reader holds.
 
 ghost use Rattle.std.specs.Prelude.{Some};
-ghost use Rattle.omaha_cli.specs.Once.{IsServed, Replies, Responds};
+ghost use Rattle.omaha_cli.specs.Once.{IsMade, IsServed, Replies, Responds, service_of_bytes};
 ghost use Rattle.omaha_cli.specs.Streams.{Streams};
 
 use crate::failure::Failure;
 use omaha_arguments::Once;
-use omaha_server::{Service, answer, builtin_service, read_service};
+use omaha_server::{Service, answer, builtin_service, make_service};
+use profile_toml::{laws, read_profile};
+use std::alloc::Global;
 use std::sync::Wait;
 use streams::{Disk, ReadFailure, ReadWhole, WriteWhole};
 use values::Text;
@@ -17,13 +19,26 @@ const MAX_INPUT: u32 = 262144;
 /// How many bytes a profile may have.
 pub(crate) const MAX_PROFILE: u32 = 67108864;
 
+// rule: Service of a profile
+/// Makes the service of a profile.
+///
+/// Fails with the profile's first fault, as `profile_toml::read_profile` does; else with the first of its edits that
+/// the empty catalogue rejects.
+pub fn read_service(alloc: Global, profile: &[u8]) -> Result<Service, Failure>
+    ensures { IsMade (service_of_bytes profile.now) result }
+{
+    laws::mirrors();
+    let (batch, mirrors) = read_profile(alloc, profile)?;
+    Ok(make_service(alloc, batch, mirrors)?)
+}
+
 // rule: Maximum of a profile
 /// Reads a profile's file, and makes what requests are replied to from.
 pub(crate) fn open_profile<R: Disk + AllocGlobal>(rt: &R, path: &Text) -> Result<Service, Failure>
     ensures { IsServed (R.file_at rt.now) (Some path.now) result }
 {
     match rt.read_file(rt.alloc(), path.as_str(), MAX_PROFILE) {
-        Ok(bytes) => Ok(read_service(rt.alloc(), bytes.as_slice())?),
+        Ok(bytes) => read_service(rt.alloc(), bytes.as_slice()),
         Err(ReadFailure::Memory) => Err(Failure::Memory),
         Err(_) => Err(Failure::File(path.clone()?)),
     }

@@ -4,7 +4,6 @@ use omaha_cli::{Failure, Once, Service, answer, builtin_service, read_service, r
 use std::alloc::{AllocError, Global};
 use std::sync::Wait;
 use std::test::Fail;
-use values::ReadError;
 
 // Whether a service replies so to a request.
 fn replies_so<R: Wait>(
@@ -39,8 +38,7 @@ fn replies_from_the_builtin_catalogue(rt: HostRuntime) -> Result<(), Fail> {
 fn fault_of(alloc: Global, profile: &str) -> Result<String, AllocError> {
     match read_service(alloc, profile.as_bytes()) {
         Ok(_) => String::from_str(alloc, "a service"),
-        Err(ReadError::Memory) => String::from_str(alloc, "memory"),
-        Err(ReadError::Fault(fault)) => format!(in alloc; "{fault}"),
+        Err(failure) => format!(in alloc; "{failure}"),
     }
 }
 
@@ -52,12 +50,12 @@ fn is_wrong(alloc: Global, profile: &str, wanted: &str) -> bool {
     }
 }
 
-// rule: Printed fault of a service
+// rule: Printed failure
 // rule: Service of a profile
 #[test]
 fn makes_no_service_of_a_rejected_profile(rt: HostRuntime) {
     assert!(rt; is_wrong(rt.alloc(), UNRELEASED, "edit 6: C11 UnknownRelease"));
-    assert!(rt; is_wrong(rt.alloc(), "schema = 2", "F2 BadSchema"));
+    assert!(rt; is_wrong(rt.alloc(), "schema = 3", "F2 BadSchema"));
 }
 
 #[test]

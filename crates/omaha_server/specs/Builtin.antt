@@ -65,8 +65,8 @@ builtin_apps =
       id = codes "mini";
       cohorts = record { name = codes "stable"; target = Some (2 ∷ replicate 15 0); held = None; share = 1000; rollback = false; hintable = false } ∷ [];
       releases =
-          record { version = 1 ∷ replicate 15 0; spelled = codes "1.0"; name = codes "mini-1.0.bin"; size = 3; hash = first_hash; stone = false; withdrawn = false; audience = None }
-          ∷ record { version = 2 ∷ replicate 15 0; spelled = codes "2.0"; name = codes "mini-2.0.bin"; size = 56; hash = second_hash; stone = false; withdrawn = false; audience = None }
+          record { version = 1 ∷ replicate 15 0; spelled = codes "1.0"; name = codes "mini-1.0.bin"; size = 3; hash = first_hash; stone = false; withdrawn = false; audience = None; floor = replicate 16 0 }
+          ∷ record { version = 2 ∷ replicate 15 0; spelled = codes "2.0"; name = codes "mini-2.0.bin"; size = 56; hash = second_hash; stone = false; withdrawn = false; audience = None; floor = replicate 16 0 }
           ∷ [];
       diffs = [];
     } ∷ []

@@ -1,6 +1,6 @@
 //! The server of a service: its update checks and its packages, over HTTP.
 //!
-//! A `Service` is an edition with its mirrors. `read_service` makes one of a profile's bytes: read
+//! A `Service` is an edition with its mirrors. `make_service` makes one of a profile's edits and mirrors: read
 //! `specs/Services.antt`; `builtin_service` makes that of the catalogue in `specs/Builtin.antt`.
 //! `answer` turns the bytes of one request into those of the reply, over books of the mirrors' budgets:
 //! read `specs/Answering.antt`.
@@ -16,7 +16,6 @@
 mod answering;
 mod builtin;
 mod error;
-mod fault;
 mod host;
 mod logging;
 mod mirrors;
@@ -26,8 +25,7 @@ mod totals;
 
 pub use crate::answering::answer;
 pub use crate::error::ServerError;
-pub use crate::fault::ServiceFault;
 pub use crate::host::Host;
 pub use crate::mirrors::Mirrors;
-pub use crate::service::{Service, builtin_service, read_service};
+pub use crate::service::{Service, builtin_service, make_service};
 pub use crate::serving::{Place, serve};

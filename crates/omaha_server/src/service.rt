@@ -1,18 +1,16 @@
-// What the program replies from, and how a profile makes it.
+// What the program replies from, and how a profile's edits and mirrors make it.
 
 ghost use Rattle.std.specs.Prelude.{◌≡◌, IfOk};
 ghost use Rattle.editions.specs.Editions.{content_of};
 ghost use Rattle.omaha_server.specs.Builtin.{builtin_apps, builtin_service};
-ghost use Rattle.omaha_server.specs.Services.{service_of, service_of_bytes};
+ghost use Rattle.omaha_server.specs.Services.{service_of};
 ghost use Rattle.profile_toml.specs.Laws.{AreMirrors};
 ghost use Rattle.values.specs.Reading.{Reads};
 
 use crate::builtin::{builtin_edition, builtin_mirror};
-use crate::fault::ServiceFault;
 use crate::mirrors::Mirrors;
-use catalogue::{Batch, Mirror};
+use catalogue::{Batch, Mirror, Refused};
 use editions::{Edition, NextError};
-use profile_toml::{laws, read_profile};
 use std::alloc::{AllocError, Global};
 use values::ReadError;
 
@@ -40,12 +38,14 @@ pub fn builtin_service(alloc: Global) -> Result<Service, AllocError>
     })
 }
 
-// Makes the service of a profile's edits and mirrors.
-fn publish(
+/// Makes the service of a profile's edits and mirrors.
+///
+/// Fails with the first of the edits that the empty catalogue rejects.
+pub fn make_service(
     alloc: Global,
     batch: Batch,
     mirrors: Vec<Mirror>,
-) -> Result<Service, ReadError<ServiceFault>>
+) -> Result<Service, ReadError<Refused>>
     requires { AreMirrors mirrors.items }
     ensures { Reads (λ service. service) result (service_of (batch, mirrors.items)) }
 {
@@ -54,24 +54,8 @@ fn publish(
             edition,
             mirrors: Mirrors::new(mirrors),
         }),
-        Err(NextError::Refused(refused)) => Err(ReadError::Fault(ServiceFault::Edit(refused))),
+        Err(NextError::Refused(refused)) => Err(ReadError::Fault(refused)),
         Err(NextError::Memory) => Err(ReadError::Memory),
         Err(NextError::HistoryFull) => unreachable!(),
-    }
-}
-
-// rule: Service of a profile
-/// Makes the service of a profile.
-///
-/// Fails with the profile's first fault, as `profile_toml::read_profile` does; else with the first of
-/// its edits that the empty catalogue rejects.
-pub fn read_service(alloc: Global, profile: &[u8]) -> Result<Service, ReadError<ServiceFault>>
-    ensures { Reads (λ service. service) result (service_of_bytes profile.now) }
-{
-    laws::mirrors();
-    match read_profile(alloc, profile) {
-        Ok((batch, mirrors)) => publish(alloc, batch, mirrors),
-        Err(ReadError::Memory) => Err(ReadError::Memory),
-        Err(ReadError::Fault(fault)) => Err(ReadError::Fault(ServiceFault::Profile(fault))),
     }
 }

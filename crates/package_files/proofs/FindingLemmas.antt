@@ -5,7 +5,7 @@ use Rattle.std.proofs.lemmas.List.{append-nil, append_assoc, map_more, take_more
 use Rattle.http_desks.specs.Downloads.{Reads}
 use Rattle.records.specs.Lookups.{packages_in, packages_of}
 use Rattle.records.specs.declared.content.App.{App}
-use Rattle.records.specs.declared.content.Declared.{Declared}
+use Rattle.values.specs.declared.declared.Declared.{Declared}
 use Rattle.package_files.specs.Findings.{Adds, AreFindings, IsFound, Package, Sizes, finding_of}
 use Rattle.package_files.specs.declared.finding.Finding.{Finding}
 use Rattle.package_files.specs.declared.finding.Mismatch.{Mismatch}

@@ -1,4 +1,3 @@
 mod DescriptionLemmas
 mod FindingLemmas
 mod HashLemmas
-mod ReportLemmas

@@ -1,7 +1,7 @@
 -- What is found of the files of declared packages; this project's profile.
 use Rattle.std.specs.Prelude.{◌≡◌, ◌≢◌, ℕ, List, [], ◌∷◌, ◌++◌, Option, None, Some}
 use Rattle.http_desks.specs.Downloads.{Reads}
-use Rattle.records.specs.declared.content.Declared.{Declared}
+use Rattle.values.specs.declared.declared.Declared.{Declared}
 use Rattle.package_files.specs.Hashing.{IsHashed}
 use Rattle.package_files.specs.declared.finding.Finding.{Finding}
 use Rattle.package_files.specs.declared.finding.Mismatch.{Mismatch}

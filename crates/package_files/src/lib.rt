@@ -5,7 +5,7 @@
 //! its SHA-256. Both read any `Packages` in blocks of 65536 bytes. Read `specs/Hashing.antt`,
 //! `specs/Findings.antt` and `specs/Descriptions.antt`.
 //!
-//! `Folders` opens folders of packages. `describe_paths` describes files that are named by their paths, and
+//! `Folders` opens folders of packages. `describe_path` describes a file that is named by its path, and
 //! `findings_string` writes findings, a line each. Read `specs/Storages.antt`, then `specs/Paths.antt` and
 //! `specs/FindingLines.antt`.
 //!
@@ -27,4 +27,4 @@ pub use crate::describing::{DescribeError, describe};
 pub use crate::finding::{Finding, Mismatch};
 pub use crate::findings::findings_string;
 pub use crate::folders::Folders;
-pub use crate::paths::{PathError, describe_paths};
+pub use crate::paths::describe_path;

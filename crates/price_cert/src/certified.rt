@@ -67,7 +67,7 @@ impl Certified {
         row_at(self.rows(), release).price()
     }
 
-    /// Copies the table. If memory runs out, nothing changes.
+    /// Makes an equal table that shares its rows with this one. If memory runs out, nothing changes.
     pub fn copy(&self) -> Result<Certified, AllocError>
         ensures { IfOk result (λ copied. copied ≡ self.now) }
     {
@@ -81,7 +81,7 @@ impl Certified {
         })
     }
 
-    /// Gives the table back; whoever takes it may change it.
+    /// Gives the table back; whoever takes it may change it, and changes no copy.
     pub fn into_prices(self) -> Prices
         ensures key { result.key ≡ self.net.key }
         ensures rows { result.rows ≡ self.rows }

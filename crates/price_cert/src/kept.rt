@@ -37,6 +37,11 @@ impl<T> Kept<T> {
     }
 }
 
+// A kept value is there for contracts alone, so nothing of a `T` goes to another thread with it.
+unsafe impl<T> Send for Kept<T> {}
+
+unsafe impl<T> Sync for Kept<T> {}
+
 impl<T> Drop for Kept<T> {
     fn drop(self) {
         let Self { marker: _ } = self;

@@ -4,7 +4,7 @@ ghost use Rattle.std.specs.Prelude.{◌≡◌};
 ghost use Rattle.price_cert.specs.Rows.{price_of, row_at};
 
 use payload_graph::{Kind, TrackKey};
-use values::Items;
+use values::SharedItems;
 
 /// What a table states of a release.
 #[derive(Clone, Copy, Debug, PartialEq, Eq)]
@@ -52,6 +52,6 @@ pub(crate) fn row_at(rows: &[Row], release: usize) -> Row
 pub struct Prices {
     /// The key of the track.
     pub key: TrackKey,
-    /// A row for each release of the app, by ascending version.
-    pub rows: Items<Row>,
+    /// A row for each release of the app, by ascending version; copies of a table share them.
+    pub rows: SharedItems<Row>,
 }

@@ -15,7 +15,7 @@ use catalogue::{App, Catalogue, Cohort, Release};
 use payload_graph::{Graph, TrackKey};
 use price_cert::{Prices, Row};
 use std::alloc::Global;
-use values::{Items, ReadError};
+use values::{Items, ReadError, SharedItems};
 
 fn read_headings<'a>(
     alloc: Global,
@@ -110,6 +110,7 @@ pub fn read_prices(
     let Some(target) = app.releases.as_slice().get(graph.target()) else {
         return Err(ReadError::Fault(Fault::BadLine { n: 1 }));
     };
-    let rows = read_body(alloc, app, cohort, &key, target, text)?;
+    let body = read_body(alloc, app, cohort, &key, target, text)?;
+    let rows = SharedItems::new(alloc, body.into_vec())?;
     Ok(Prices { key, rows })
 }

@@ -17,21 +17,27 @@ const EDITS: &str = r#"1|1|{ do = "add_app", app = "demo", default = "stable" },
 1|5|{ do = "add_release", app = "demo", version = "1.0", name = "demo-1.bin", size = @, sha256 = "0000000000000000000000000000000000000000000000000000000000000001" },
 4|1|{ do = "set_stone", app = "demo", version = "1.0", on = true },
 4|1|{ do = "set_withdrawn", app = "demo", version = "1.0", on = true },
+3|7|{ do = "set_floor", app = "demo", version = "1.0", floor = "@.0" },
 1|5|{ do = "add_release", app = "demo", version = "2.0", name = "demo-2.bin", size = @, sha256 = "0000000000000000000000000000000000000000000000000000000000000002" },
 4|1|{ do = "set_stone", app = "demo", version = "2.0", on = true },
 4|1|{ do = "set_withdrawn", app = "demo", version = "2.0", on = true },
+3|7|{ do = "set_floor", app = "demo", version = "2.0", floor = "@.0" },
 1|5|{ do = "add_release", app = "demo", version = "3.0", name = "demo-3.bin", size = @, sha256 = "0000000000000000000000000000000000000000000000000000000000000003" },
 4|1|{ do = "set_stone", app = "demo", version = "3.0", on = true },
 4|1|{ do = "set_withdrawn", app = "demo", version = "3.0", on = true },
+3|7|{ do = "set_floor", app = "demo", version = "3.0", floor = "@.0" },
 1|5|{ do = "add_release", app = "demo", version = "4.0", name = "demo-4.bin", size = @, sha256 = "0000000000000000000000000000000000000000000000000000000000000004" },
 4|1|{ do = "set_stone", app = "demo", version = "4.0", on = true },
 4|1|{ do = "set_withdrawn", app = "demo", version = "4.0", on = true },
+3|7|{ do = "set_floor", app = "demo", version = "4.0", floor = "@.0" },
 1|5|{ do = "add_release", app = "demo", version = "5.0", name = "demo-5.bin", size = @, sha256 = "0000000000000000000000000000000000000000000000000000000000000005" },
 4|1|{ do = "set_stone", app = "demo", version = "5.0", on = true },
 4|1|{ do = "set_withdrawn", app = "demo", version = "5.0", on = true },
+3|7|{ do = "set_floor", app = "demo", version = "5.0", floor = "@.0" },
 1|5|{ do = "add_release", app = "demo", version = "6.0", name = "demo-6.bin", size = @, sha256 = "0000000000000000000000000000000000000000000000000000000000000006" },
 4|1|{ do = "set_stone", app = "demo", version = "6.0", on = true },
 4|1|{ do = "set_withdrawn", app = "demo", version = "6.0", on = true },
+3|7|{ do = "set_floor", app = "demo", version = "6.0", floor = "@.0" },
 2|5|{ do = "add_diff", app = "demo", from = "1.0", to = "2.0", name = "demo-1-2.bin", size = @, sha256 = "0000000000000000000000000000000100000000000000000000000000000002" },
 2|5|{ do = "add_diff", app = "demo", from = "1.0", to = "3.0", name = "demo-1-3.bin", size = @, sha256 = "0000000000000000000000000000000100000000000000000000000000000003" },
 2|5|{ do = "add_diff", app = "demo", from = "1.0", to = "4.0", name = "demo-1-4.bin", size = @, sha256 = "0000000000000000000000000000000100000000000000000000000000000004" },
@@ -80,7 +86,7 @@ fn push_edits(script: &mut String, state: &mut u64) -> Result<(), AllocError> {
 /// The script of a seed.
 pub(crate) fn script_of(alloc: Global, seed: u64) -> Option<&'static str> {
     let mut state = seed;
-    let mut script = String::from_str(alloc, "schema = 1\nbase = 0\nedit = [\n").ok()?;
+    let mut script = String::from_str(alloc, "schema = 2\nbase = 0\nedit = [\n").ok()?;
     push_edits(&mut script, &mut state).ok()?;
     Some(keep(alloc, script)?.as_str())
 }

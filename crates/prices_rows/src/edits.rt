@@ -14,7 +14,7 @@ use std::alloc::{AllocError, Global};
 macro_rules! demo {
     ($size:literal) => {
         concat!(
-            r#"schema = 1
+            r#"schema = 2
 base = 0
 edit = [
 { do = "add_app", app = "demo", default = "stable" },

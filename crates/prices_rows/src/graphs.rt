@@ -54,6 +54,8 @@ const CHANGES: &str = r#"
 { do = "set_stone", app = "demo", version = "1.0", on = true }, { do = "set_stone", app = "demo", version = "4.0", on = true }
 { do = "set_stone", app = "demo", version = "3.0", on = true }, { do = "set_withdrawn", app = "demo", version = "3.0", on = true }
 { do = "set_stone", app = "demo", version = "2.0", on = false }
+{ do = "set_floor", app = "demo", version = "4.0", floor = "3.0" }, { do = "set_floor", app = "demo", version = "2.0", floor = "1.5" }
+{ do = "set_floor", app = "demo", version = "3.0", floor = "5.0" }, { do = "set_floor", app = "demo", version = "1.0", floor = "3.0" }
 { do = "set_withdrawn", app = "demo", version = "2.0", on = true }, { do = "set_audience", app = "demo", version = "2.0", cohorts = ["beta"] }
 { do = "set_withdrawn", app = "demo", version = "4.0", on = true }, { do = "set_withdrawn", app = "demo", version = "3.0", on = true }
 { do = "set_audience", app = "demo", version = "4.0", cohorts = ["beta"] }

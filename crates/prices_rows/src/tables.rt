@@ -2,7 +2,7 @@
 
 use crate::asks::{agree, wrong_row};
 use crate::chances::script_of;
-use crate::edits::{DEMO, largest};
+use crate::edits::{DEMO, TIED, largest};
 use std::alloc::Global;
 use std::test::Fail;
 
@@ -27,6 +27,49 @@ stable target no|{ do = "set_target", app = "demo", cohort = "stable", target = 
 #[test]
 fn solves_the_tables_of_tracks(rt: HostRuntime) {
     let wrong = wrong_row(rt.alloc(), DEMO, ROWS);
+    assert!(rt; wrong.is_empty(), "{wrong}");
+}
+
+// A floor on the target, at the version of a release, between two, and equal to its own; on a stone; above its own
+// release; with a downgrade; and the same asked of clients outside, just below a floor and exactly there.
+const FLOORS: &str =
+    r#"stable target no|{ do = "set_floor", app = "demo", version = "4.0", floor = "3.0" }|table|| 750d1 450d2 250d3 end
+stable target no|{ do = "set_floor", app = "demo", version = "4.0", floor = "3.0" }, { do = "set_withdrawn", app = "demo", version = "3.0", on = true }|table|| none none 250d3 end
+stable target no|{ do = "set_floor", app = "demo", version = "4.0", floor = "2.0.1" }|table|| 750d1 450d2 250d3 end
+stable target no|{ do = "set_floor", app = "demo", version = "4.0", floor = "2.0.1" }, { do = "set_withdrawn", app = "demo", version = "3.0", on = true }|table|| none none 250d3 end
+stable target no|{ do = "set_floor", app = "demo", version = "4.0", floor = "2.0" }, { do = "set_withdrawn", app = "demo", version = "3.0", on = true }|table|| 800d1 500d3 250d3 end
+stable target no|{ do = "set_floor", app = "demo", version = "3.0", floor = "3.0" }|table|| 800d1 500d3 250d3 end
+stable target no|{ do = "set_floor", app = "demo", version = "3.0", floor = "7.0" }|table|| 800d1 500d3 250d3 end
+stable target no|{ do = "set_floor", app = "demo", version = "4.0", floor = "4.0" }|table|| none none none end
+stable target no|{ do = "set_floor", app = "demo", version = "2.0", floor = "1.0.0.1" }|table|| none 450d2 250d3 end
+stable target no|{ do = "set_floor", app = "demo", version = "2.0", floor = "1.0" }|table|| 750d1 450d2 250d3 end
+stable target no|{ do = "set_floor", app = "demo", version = "3.0", floor = "7.0" }, { do = "set_floor", app = "demo", version = "3.0", floor = "0" }|table|| 750d1 450d2 250d3 end
+beta target yes|{ do = "set_floor", app = "demo", version = "3.0", floor = "3.5" }|table|| none none end 1500f2
+beta target yes|{ do = "set_floor", app = "demo", version = "3.0", floor = "4.0" }|table|| none none end 1500f2
+beta target yes|{ do = "set_floor", app = "demo", version = "3.0", floor = "4.1" }|table|| none none end none
+beta target yes|{ do = "set_floor", app = "demo", version = "2.0", floor = "4.1" }|table|| none 200d2 end 1500f2
+stable target no|{ do = "set_floor", app = "demo", version = "2.0", floor = "1.0" }|at|outside 0|f0 1750
+stable target no|{ do = "set_floor", app = "demo", version = "2.0", floor = "1.0" }|at|outside 0.9|f0 1750
+stable target no|{ do = "set_floor", app = "demo", version = "2.0", floor = "1.0" }|at|outside 1.0|f1 1650
+stable target no|{ do = "set_floor", app = "demo", version = "4.0", floor = "3.0" }, { do = "set_withdrawn", app = "demo", version = "3.0", on = true }|at|1|no chain
+beta target yes|{ do = "set_floor", app = "demo", version = "3.0", floor = "5.0" }|at|outside 4.9|no chain
+beta target yes|{ do = "set_floor", app = "demo", version = "3.0", floor = "5.0" }|at|outside 5.0|f2 1500"#;
+
+// rule: Floor
+#[test]
+fn clients_below_a_floor_take_another_way(rt: HostRuntime) {
+    let wrong = wrong_row(rt.alloc(), DEMO, FLOORS);
+    assert!(rt; wrong.is_empty(), "{wrong}");
+}
+
+// Past 3.0 and by it there are as many bytes from 2.0.
+const FLOORS_OF_A_TIE: &str = r#"stable target no||at|1|d3 450
+stable target no|{ do = "set_floor", app = "demo", version = "4.0", floor = "3.0" }|at|1|d2 450"#;
+
+// rule: Floor
+#[test]
+fn floor_decides_between_equal_sums(rt: HostRuntime) {
+    let wrong = wrong_row(rt.alloc(), TIED, FLOORS_OF_A_TIE);
     assert!(rt; wrong.is_empty(), "{wrong}");
 }
 
@@ -91,7 +134,7 @@ fn agrees(alloc: Global, seed: u64) -> Option<bool> {
 // rule: Least sum
 #[test]
 fn agrees_with_a_slow_program(rt: HostRuntime) {
-    for seed in 0..40u64 {
+    for seed in 0..200u64 {
         assert!(rt; agrees(rt.alloc(), seed) == Some(true), "{seed}");
     }
 }

@@ -59,7 +59,7 @@ size = 1600
 sha256 = "f6baafd1031d17352089de2cab65da3e5ec401f3418c1ec88b21210ec68f92f2"
 "#;
 
-const STAGED_WRITTEN: &str = r#"schema = 1
+const STAGED_WRITTEN: &str = r#"schema = 2
 
 [[app]]
 default = "stable"
@@ -112,7 +112,7 @@ const CHAINS: &str =
 #
 #   omaha once --profile examples/chains.toml < examples/chain.json
 
-schema = 1
+schema = 2
 
 [[mirror]]
 name = "m0"
@@ -162,11 +162,14 @@ size = 1550
 sha256 = "ebce1864d5b6c9b9f1213cd49a389da835bd32c1058c6af1891d95d9b06e0952"
 withdrawn = true
 
+# It reads the documents only as 3.0 and later store them, and 3.0 converts those of older releases. So its
+# floor is 3.0: a client below 3.0 takes 3.0 first, by whichever packages are smallest.
 [[app.release]]
 version = "4.0"
 name = "demo-4.0.bin"
 size = 1600
 sha256 = "f6baafd1031d17352089de2cab65da3e5ec401f3418c1ec88b21210ec68f92f2"
+floor = "3.0"
 
 # A differential installs a release from the one before it, and from no other.
 [[app.diff]]
@@ -184,13 +187,6 @@ size = 200
 sha256 = "1829d0e6baf71177ec93c3b5527b0d845318513798a80cd6252a9ed25379a020"
 
 [[app.diff]]
-from = "2.0"
-to = "4.0"
-name = "demo-2.0-4.0.bin"
-size = 500
-sha256 = "1ea3389b979c8fab814695a0e9c94e9ce2dc7d77017b90d45a8bdd415b7890e5"
-
-[[app.diff]]
 from = "3.0"
 to = "4.0"
 name = "demo-3.0-4.0.bin"
@@ -198,7 +194,7 @@ size = 250
 sha256 = "190e4e6cbf0faeafa605cc8c8a99f9fbf8caf092e5d5a1de853522a6c6adcd6b"
 "#;
 
-const CHAINS_WRITTEN: &str = r#"schema = 1
+const CHAINS_WRITTEN: &str = r#"schema = 2
 
 [[app]]
 default = "stable"
@@ -227,13 +223,6 @@ name = "demo-2.0-3.0.bin"
 sha256 = "1829d0e6baf71177ec93c3b5527b0d845318513798a80cd6252a9ed25379a020"
 size = 200
 to = "3.0"
-
-[[app.diff]]
-from = "2.0"
-name = "demo-2.0-4.0.bin"
-sha256 = "1ea3389b979c8fab814695a0e9c94e9ce2dc7d77017b90d45a8bdd415b7890e5"
-size = 500
-to = "4.0"
 
 [[app.diff]]
 from = "3.0"
@@ -269,6 +258,7 @@ version = "3.5"
 withdrawn = true
 
 [[app.release]]
+floor = "3.0"
 name = "demo-4.0.bin"
 sha256 = "f6baafd1031d17352089de2cab65da3e5ec401f3418c1ec88b21210ec68f92f2"
 size = 1600

@@ -2,12 +2,14 @@
 //!
 //! `profiles` has rows of profiles and `scripts` of scripts, hostile ones too; `limits` has rows at
 //! the catalogue's limits, with what the catalogue reports of them. `rewriting` has each catalogue's
-//! written profile. `shown` says how a row is written. It holds tests alone.
+//! written profile, `floors` one of releases with floors. `shown` says how a row is written. It holds tests alone.
 
 #![tactic(auto)]
 
 #[cfg(test)]
 mod examples;
+#[cfg(test)]
+mod floors;
 #[cfg(test)]
 mod limits;
 #[cfg(test)]

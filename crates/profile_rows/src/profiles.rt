@@ -14,15 +14,17 @@ F2 BadSchema |
 F2 BadSchema | # only this
 F2 BadSchema | schema = 9
 F2 BadSchema | schema = 0
-F2 BadSchema | schema = 2
+F2 BadSchema | schema = 3
 F2 BadSchema | schema = "1"
 F2 BadSchema | schema = 1.0
 F2 BadSchema | schema = -1
-F2 BadSchema | schema = 2~a = 1~mirror = []
+F2 BadSchema | schema = 3~a = 1~mirror = []
 F2 BadSchema | schema = true~app = 1
 F2 BadSchema | schema.x = 1
 F3 BadEntry mirror | schema = 1
 F3 BadEntry mirror | schema = 0x1
+F3 BadEntry mirror | schema = 2
+F3 BadEntry a | schema = 2~a = 1~mirror = []
 F3 BadEntry mirror | "schema" = 0b0000_0001
 > schema = 1~
 F1 NotToml | a = %81*[%%81*]%
@@ -233,7 +235,15 @@ F3 BadEntry app[0].release[0].audience | audience = 'b'
 F3 BadEntry app[0].release[0].audience | [app.release.audience]~b = true
 F3 BadEntry app[0].release[0].audience[0] | audience = [['b']]
 F3 BadEntry app[0].release[0].audience[1] | audience = ['b', 1, 2]
-F3 BadEntry app[0].release[0].cohorts | audience = 1~cohorts = ['b']"#;
+F3 BadEntry app[0].release[0].cohorts | audience = 1~cohorts = ['b']
+F3 BadEntry app[0].release[0].floor | floor = '1'
+F3 BadEntry app[0].release[0].floor | stone = 1~floor = '0'
+F3 BadEntry app[0].release[0].floor | floor = '1'~[[app.release]]~x = 1
+> schema = 2~mirror = [{ name = "m", codebase = "http://m/", budget = 7 }]~[[app]]~id = "a"~default = "b"~[[app.release]]~version = '1'~name = 'n'~size = 1~sha256 = 'x'~
+F3 BadEntry app[0].release[0].audience | floor = 1~audience = 'b'
+F3 BadEntry app[0].release[0].floor | floor = 1
+F3 BadEntry app[0].release[0].floor | floor = 1~[[app.release]]~x = 1
+F3 BadEntry app[0].release[0].floors | floor = 1~floors = '1'"#;
 
 // rule: App of a profile
 // rule: Name of a cohort in a profile
@@ -264,6 +274,12 @@ m http://m/ 7; app a b; share a b 1; rollback a b true; open a b true; | cohort 
 m http://m/ 7; app a b; cohort a c; release a 1 n 1 x; stone a 1 true; withdrawn a 1 true; audience a 1 [c,b,c,]; release a 2 o 2 y; audience a 2 []; release a 3 p 3 z; diff a 1 2 d 4 w; diff a 9 8 e 5 v; target a b 2 none; | diff=[{from='1',to='2',name='d',size=4,sha256='w'},{from='9',to='8',name='e',size=5,sha256='v'}]~cohort=[{name='b',target='2',rollback=false},{name='c'}]~release=[{version='1',name='n',size=1,sha256='x',audience=['c','b','c'],withdrawn=true,stone=true},{version='2',name='o',size=2,sha256='y',stone=false,withdrawn=false,audience=[]},{version='3',name='p',size=3,sha256='z'}]
 m http://m/ 7; app a b; share a b 1001; | cohort = [{name='b',share=1001}]
 m http://m/ 7; app a b; cohort a c; release a 9 n 1 x; share a c 2; | release=[{version='9',name='n',size=1,sha256='x'}]~cohort=[{name='c',share=2}]
+> schema = 2~mirror = [{ name = "m", codebase = "http://m/", budget = 7 }]~[[app]]~id = "a"~default = "b"~[[app.release]]~version = '2'~name = 'n'~size = 1~sha256 = 'x'~
+m http://m/ 7; app a b; release a 2 n 1 x; | 
+m http://m/ 7; app a b; release a 2 n 1 x; floor a 2 1.5; | floor = '1.5'
+m http://m/ 7; app a b; release a 2 n 1 x; floor a 2 0; | floor = '0'
+m http://m/ 7; app a b; release a 2 n 1 x; floor a 2 any; | floor = 'any'
+m http://m/ 7; app a b; release a 2 n 1 x; stone a 2 true; audience a 2 [b,]; floor a 2 3; release a 4 o 2 y; floor a 4 2; | floor = '3'~audience = ['b']~stone = true~[[app.release]]~version = '4'~name = 'o'~size = 2~sha256 = 'y'~floor = '2'
 > schema = 1~mirror = [{ name = "m", codebase = "http://m/", budget = 7 }]~[[app]]~id = "a"~default = "b"~cohort = [{ name = "b", share = 1 }]~[[app.release]]~version = "9"~name = "n"~sha256 = "x"~size = 
 m http://m/ 7; app a b; release a 9 n 9223372036854775807 x; share a b 1; | 9223372036854775807
 m http://m/ 7; app a b; release a 9 n 10 x; share a b 1; | +1_0

@@ -7,7 +7,8 @@ const SCRIPTS: &str = r#"F1 NotToml | schema =
 F1 NotToml | schema = 9~x =
 F2 BadSchema | 
 F2 BadSchema | schema = 9~base = 1
-F2 BadSchema | schema = 2~x = 1
+F2 BadSchema | schema = 3~x = 1
+F3 BadEntry x | schema = 2~x = 1
 > schema = 1~
 F3 BadEntry base | 
 F3 BadEntry x | x = 1
@@ -94,7 +95,16 @@ F3 BadEntry edit[0].version | edit = [{ do = 'set_audience', app = 'a', cohorts 
 F3 BadEntry edit[0].cohorts | edit = [{ do = 'set_audience', app = 'a', version = '1', cohorts = 'c' }]
 F3 BadEntry edit[0].cohorts[1] | edit = [{ do = 'set_audience', app = 'a', version = '1', cohorts = ['c', 1] }]
 F3 BadEntry edit[0].cohort | edit = [{ do = 'set_rollback', app = 'a', on = 1 }]
-F3 BadEntry edit[0].on | edit = [{ do = 'set_rollback', app = 'a', cohort = 'c' }]"#;
+F3 BadEntry edit[0].on | edit = [{ do = 'set_rollback', app = 'a', cohort = 'c' }]
+F3 BadEntry edit[0].do | edit = [{ do = 'set_floor', app = 'a', version = '2', floor = '1' }]
+> schema = 2~base = 7~
+F3 BadEntry edit[0].do | edit = [{ do = 'set_floors' }]
+F3 BadEntry edit[0].app | edit = [{ do = 'set_floor' }]
+F3 BadEntry edit[0].version | edit = [{ do = 'set_floor', app = 'a', floor = 1 }]
+F3 BadEntry edit[0].floor | edit = [{ do = 'set_floor', app = 'a', version = '2' }]
+F3 BadEntry edit[0].floor | edit = [{ do = 'set_floor', app = 'a', version = '2', floor = 1 }]
+F3 BadEntry edit[0].on | edit = [{ do = 'set_floor', app = 'a', version = '2', on = true }]
+F3 BadEntry edit[0].floor | edit = [{ do = 'add_release', app = 'a', floor = '1' }]"#;
 
 // rule: Faults of a script
 // rule: Number of a script's edits
@@ -122,7 +132,10 @@ on 7; withdrawn demo 3.0 true; | [[edit]]~do = "set_withdrawn"~app = "demo"~vers
 on 7; audience a 1 all; | edit = [{ do = 'set_audience', app = 'a', version = '1' }]
 on 7; audience a 1 []; audience a 1 [c,b,c,]; | edit = [{do='set_audience',app='a',version='1',cohorts=[]},{do='set_audience',app='a',version='1',cohorts=['c','b','c']}]
 on 7; rollback a c true; rollback a c false; | edit = [{do='set_rollback',app='a',cohort='c',on=true},{do='set_rollback',app='a',cohort='c',on=false}]
-on 7; open a c false; cohort a d; | edit = [{do='set_open',app='a',cohort='c',on=false},{do='add_cohort',app='a',cohort='d'}]"#;
+on 7; open a c false; cohort a d; | edit = [{do='set_open',app='a',cohort='c',on=false},{do='add_cohort',app='a',cohort='d'}]
+> schema = 2~base = 7~
+on 7; floor a 2 1.5; floor a 2 0; | edit = [{do='set_floor',app='a',version='2',floor='1.5'},{do='set_floor',app='a',version='2',floor='0'}]
+on 7; stone a 2 true; floor a 2 x; | edit = [{do='set_stone',app='a',version='2',on=true},{do='set_floor',app='a',version='2',floor='x'}]"#;
 
 // rule: Edit of a script
 #[test]

@@ -5,7 +5,8 @@
 // before the documents of the rows below it.
 
 use catalogue::{
-    AddDiff, AddRelease, App, Batch, Catalogue, Edit, Mirror, SetAudience, SetShare, SetTarget,
+    AddDiff, AddRelease, App, Batch, Catalogue, Edit, Mirror, SetAudience, SetFloor, SetShare,
+    SetTarget,
 };
 use profile_toml::{ProfileFault, read_profile, read_script};
 use std::alloc::{AllocError, Global};
@@ -82,6 +83,12 @@ fn push_audience(line: &mut String, edit: &SetAudience) -> Result<(), AllocError
     }
 }
 
+fn push_floor(line: &mut String, edit: &SetFloor) -> Result<(), AllocError> {
+    push_words(line, "floor", &edit.app, &edit.version)?;
+    let floor = edit.floor.as_str();
+    write!(line, " {floor}")
+}
+
 fn push_edit(line: &mut String, edit: &Edit) -> Result<(), AllocError> {
     match edit {
         Edit::AddApp(e) => push_words(line, "app", &e.app, &e.default),
@@ -91,6 +98,7 @@ fn push_edit(line: &mut String, edit: &Edit) -> Result<(), AllocError> {
         Edit::SetStone(e) => push_switch(line, "stone", &e.app, &e.version, e.on),
         Edit::SetWithdrawn(e) => push_switch(line, "withdrawn", &e.app, &e.version, e.on),
         Edit::SetAudience(e) => push_audience(line, e),
+        Edit::SetFloor(e) => push_floor(line, e),
         Edit::SetTarget(e) => push_target(line, e),
         Edit::SetShare(e) => push_share(line, e),
         Edit::SetRollback(e) => push_switch(line, "rollback", &e.app, &e.cohort, e.on),
@@ -160,7 +168,8 @@ fn applied_line(alloc: Global, batch: &Batch) -> Result<String, AllocError> {
     let mut catalogue = Catalogue::empty(alloc);
     match catalogue.apply(batch) {
         Ok(()) => counts(alloc, catalogue.apps()),
-        Err(error) => format!(in alloc; "{error}"),
+        Err(ReadError::Memory) => Err(AllocError),
+        Err(ReadError::Fault(refused)) => format!(in alloc; "{refused}"),
     }
 }
 

@@ -38,7 +38,7 @@ size = 11
 sha256 = "b94d27b9934d3e08a52e52d7da7dabfac484efe37a5380ee9088f7ace2efcde9"
 "#;
 
-const MINI_WRITTEN: &str = r#"schema = 1
+const MINI_WRITTEN: &str = r#"schema = 2
 
 [[app]]
 default = "stable"
@@ -101,7 +101,7 @@ size = 56
 sha256 = "248d6a61d20638b8e5c026930c3e6039a33ce45964ff2167f6ecedd419db06c1"
 "#;
 
-const BUILT_IN_WRITTEN: &str = r#"schema = 1
+const BUILT_IN_WRITTEN: &str = r#"schema = 2
 
 [[app]]
 default = "stable"
@@ -214,7 +214,7 @@ size = 100
 sha256 = "1313131313131313131313131313131313131313131313131313131313131313"
 "#;
 
-const DEMO_WRITTEN: &str = r#"schema = 1
+const DEMO_WRITTEN: &str = r#"schema = 2
 
 [[app]]
 default = "stable"
@@ -379,7 +379,7 @@ id = "Empty"
 default = "only"
 "#;
 
-const ODD_WRITTEN: &str = r#"schema = 1
+const ODD_WRITTEN: &str = r#"schema = 2
 
 [[app]]
 default = "all"

@@ -21,11 +21,11 @@ pub trait TableKind {
     /// What a table of this kind is read as.
     type Record: Drop;
 
-    ghost reads: { PlacedTable → Result Self.Record Bad };
+    ghost reads: { Self → PlacedTable → Result Self.Record Bad };
 
     /// Reads a table.
-    fn read(table: &TableReader<'_>) -> Result<Self::Record, ReadError<BadEntry>>
-        ensures { Reads (λ read. read) result (reads (placed table.now)) };
+    fn read(&self, table: &TableReader<'_>) -> Result<Self::Record, ReadError<BadEntry>>
+        ensures { Reads (λ read. read) result (reads self.now (placed table.now)) };
 }
 
 /// The tables of a list.
@@ -89,14 +89,14 @@ impl<'t> TableList<'t> {
     }
 
     // rule: Tables of a list
-    /// Reads each table, as its kind says.
-    pub fn read<K: TableKind>(&self) -> Result<Items<K::Record>, ReadError<BadEntry>>
-        ensures { Reads (λ records. records) result (each K.reads (listed self.now)) }
+    /// Reads each table, as the kind says.
+    pub fn read<K: TableKind>(&self, kind: &K) -> Result<Items<K::Record>, ReadError<BadEntry>>
+        ensures { Reads (λ records. records) result (each (K.reads kind.now) (listed self.now)) }
     {
         let mut records = Items::empty(self.alloc);
         for (index, value) in self.values.iter().enumerate() {
             let table = self.table(index, value)?;
-            let record = K::read(&table)?;
+            let record = kind.read(&table)?;
             records.push(record)?;
         }
         Ok(records)

@@ -17,15 +17,17 @@ use Rattle.profile_tables.proofs.PathLemmas.{IsOneLine-path_of}
 use Rattle.profile_toml.specs.Apps.{app_keys, app_of}
 use Rattle.profile_toml.specs.Cohorts.{cohort_keys, cohort_of, cohorts_after, cohorts_of, is_named, new_name}
 use Rattle.profile_toml.specs.Diffs.{diff_in, diff_keys, diff_of}
-use Rattle.profile_toml.specs.Documents.{check_schema, document_of, entries, is_schema_1}
+use Rattle.profile_toml.specs.Documents.{document_of, entries, schema_of, schema_read}
 use Rattle.profile_toml.specs.FaultStrings.{fault_string}
 use Rattle.profile_toml.specs.Mirrors.{invalid_mirror, valid_mirrors, mirror_keys, mirror_of}
 use Rattle.profile_toml.specs.Profiles.{profile_keys, profile_of}
 use Rattle.profile_toml.specs.Reading.{profile_of_bytes, script_of_bytes}
 use Rattle.profile_toml.specs.Releases.{package_in, release_keys, release_of}
-use Rattle.profile_toml.specs.ScriptEdits.{app_added, audience_set, cohort_added, diff_added, edit_in, edit_of, keys_of_edit, open_set, release_added, rollback_set, share_set, stone_set, target_set, verb_named, verb_of, withdrawn_set}
+use Rattle.profile_toml.specs.ScriptEdits.{app_added, audience_set, cohort_added, diff_added, edit_in, edit_of, floor_set, keys_of_edit, open_set, release_added, rollback_set, share_set, stone_set, target_set, verb_named, verb_of, withdrawn_set}
 use Rattle.profile_toml.specs.Scripts.{few_edits, max_edits, script_keys, script_of}
 use Rattle.profile_toml.specs.declared.cohort.CohortEntry.{CohortEntry}
+use Rattle.profile_toml.specs.declared.document.Schema.{Schema}
+use Rattle.profile_toml.specs.declared.document.Schema.TheVariants as schemas
 use Rattle.profile_toml.specs.declared.fault.ProfileFault.{ProfileFault}
 use Rattle.profile_toml.specs.declared.fault.ProfileFault.TheVariants as fault
 use Rattle.profile_toml.specs.declared.script_edit.Verb.{Verb}
@@ -47,14 +49,15 @@ FailsInOneLine-package_in = λ table at.
     needs as_natural (codes "size") table _ at (λ size.
     needs as_str (codes "sha256") table _ at (λ sha256. HasLine-ok _))))
 
-FailsInOneLine-release_of : FailsInOneLine release_of
+FailsInOneLine-release_of : (schema : Schema) → FailsInOneLine (release_of schema)
 unfolding release_of
-FailsInOneLine-release_of = λ table at.
-    knows release_keys table _ at (λ all_known.
+FailsInOneLine-release_of schema = λ table at.
+    knows (release_keys schema) table _ at (λ all_known.
     HasLine-then (package_in table) _ (FailsInOneLine-package_in table at) (λ full.
     takes as_bool (codes "stone") table _ at (λ stone.
     takes as_bool (codes "withdrawn") table _ at (λ withdrawn.
-    takes_strings (codes "audience") table _ at (λ audience. HasLine-ok _)))))
+    takes_strings (codes "audience") table _ at (λ audience.
+    takes as_str (codes "floor") table _ at (λ floor. HasLine-ok _))))))
 
 FailsInOneLine-diff_in : FailsInOneLine diff_in
 unfolding diff_in
@@ -99,9 +102,9 @@ HasLine-cohorts_after before list index (item value values) of_list =
     HasLine-then (cohort_of before table) _ (FailsInOneLine-cohort_of before table at) (λ cohort.
     HasLine-cohorts_after (before ++ cohort ∷ []) list (index + 1) values of_list))
 
-FailsInOneLine-app_of : FailsInOneLine app_of
+FailsInOneLine-app_of : (schema : Schema) → FailsInOneLine (app_of schema)
 unfolding app_of
-FailsInOneLine-app_of = λ table at.
+FailsInOneLine-app_of schema = λ table at.
     knows app_keys table _ at (λ all_known.
     needs as_str (codes "id") table _ at (λ id.
     needs as_str (codes "default") table _ at (λ default.
@@ -110,29 +113,29 @@ FailsInOneLine-app_of = λ table at.
     takes_list (codes "diff") table _ at (λ diff_list at_diffs.
     HasLine-then (cohorts_of cohort_list) _
     (HasLine-cohorts_after [] cohort_list.path 0 cohort_list.items at_cohorts) (λ cohorts.
-    reads_each release_of release_list _ FailsInOneLine-release_of at_releases (λ releases.
+    reads_each (release_of schema) release_list _ (FailsInOneLine-release_of schema) at_releases (λ releases.
     reads_each diff_of diff_list _ FailsInOneLine-diff_of at_diffs (λ diffs.
     HasLine-ok _)))))))))
 
-FailsInOneLine-profile_of : FailsInOneLine profile_of
+FailsInOneLine-profile_of : (schema : Schema) → FailsInOneLine (profile_of schema)
 unfolding profile_of
-FailsInOneLine-profile_of = λ table at.
+FailsInOneLine-profile_of schema = λ table at.
     knows profile_keys table _ at (λ all_known.
     needs_list (codes "mirror") table _ at (λ mirror_list at_mirrors.
     takes_list (codes "app") table _ at (λ app_list at_apps.
     reads_each mirror_of mirror_list _ FailsInOneLine-mirror_of at_mirrors (λ mirrors.
-    reads_each app_of app_list _ FailsInOneLine-app_of at_apps (λ apps. HasLine-ok _)))))
+    reads_each (app_of schema) app_list _ (FailsInOneLine-app_of schema) at_apps (λ apps. HasLine-ok _)))))
 
-FailsInOneLine-verb_of : FailsInOneLine verb_of
+FailsInOneLine-verb_of : (schema : Schema) → FailsInOneLine (verb_of schema)
 unfolding verb_of
-FailsInOneLine-verb_of = λ table at.
+FailsInOneLine-verb_of schema = λ table at.
     needs as_str (codes "do") table _ at (λ name.
-    HasLine-ok_or (verb_named name) (invalid_key table.place (codes "do"))
+    HasLine-ok_or (verb_named schema name) (invalid_key table.place (codes "do"))
     (IsOneLine-path_of table.place (codes "do") at))
 
 -- what an edit of a script says
 FailsInOneLine-edit_in : (kind : Verb) → FailsInOneLine (edit_in kind)
-unfolding edit_in app_added release_added cohort_added target_set share_set open_set diff_added stone_set withdrawn_set audience_set rollback_set
+unfolding edit_in app_added release_added cohort_added target_set share_set open_set diff_added stone_set withdrawn_set audience_set floor_set rollback_set
 FailsInOneLine-edit_in verb.AddApp = λ table at.
     HasLine-then (app_added table) _
     (knows (keys_of_edit verb.AddApp) table _ at (λ all_known.
@@ -192,6 +195,12 @@ FailsInOneLine-edit_in verb.SetAudience = λ table at.
     needs as_str (codes "app") table _ at (λ app.
     needs as_str (codes "version") table _ at (λ version.
     takes_strings (codes "cohorts") table _ at (λ cohorts. HasLine-ok _))))) (λ e. HasLine-ok _)
+FailsInOneLine-edit_in verb.SetFloor = λ table at.
+    HasLine-then (floor_set table) _
+    (knows (keys_of_edit verb.SetFloor) table _ at (λ all_known.
+    needs as_str (codes "app") table _ at (λ app.
+    needs as_str (codes "version") table _ at (λ named.
+    needs as_str (codes "floor") table _ at (λ floor. HasLine-ok _))))) (λ e. HasLine-ok _)
 FailsInOneLine-edit_in verb.SetRollback = λ table at.
     HasLine-then (rollback_set table) _
     (knows (keys_of_edit verb.SetRollback) table _ at (λ all_known.
@@ -199,18 +208,18 @@ FailsInOneLine-edit_in verb.SetRollback = λ table at.
     needs as_str (codes "cohort") table _ at (λ named.
     needs as_bool (codes "on") table _ at (λ on. HasLine-ok _))))) (λ e. HasLine-ok _)
 
-FailsInOneLine-edit_of : FailsInOneLine edit_of
+FailsInOneLine-edit_of : (schema : Schema) → FailsInOneLine (edit_of schema)
 unfolding edit_of
-FailsInOneLine-edit_of = λ table at.
-    HasLine-then (verb_of table) _ (FailsInOneLine-verb_of table at) (λ kind. FailsInOneLine-edit_in kind table at)
+FailsInOneLine-edit_of schema = λ table at.
+    HasLine-then (verb_of schema table) _ (FailsInOneLine-verb_of schema table at) (λ kind. FailsInOneLine-edit_in kind table at)
 
-FailsInOneLine-script_of : FailsInOneLine script_of
+FailsInOneLine-script_of : (schema : Schema) → FailsInOneLine (script_of schema)
 unfolding script_of
-FailsInOneLine-script_of = λ table at.
+FailsInOneLine-script_of schema = λ table at.
     knows script_keys table _ at (λ all_known.
     needs as_natural (codes "base") table _ at (λ base.
     takes_list (codes "edit") table _ at (λ edit_list at_edits.
-    reads_each edit_of edit_list _ FailsInOneLine-edit_of at_edits (λ edits. HasLine-ok _))))
+    reads_each (edit_of schema) edit_list _ (FailsInOneLine-edit_of schema) at_edits (λ edits. HasLine-ok _))))
 
 -- if there is a fault, it prints as one line
 PrintsLine : {A : Type 0} → Result A ProfileFault → Type 0
@@ -229,17 +238,18 @@ unfolding PrintsLine
 PrintsLine-document (Some entry) = tt
 PrintsLine-document None = refl
 
-PrintsLine-check_schema : (table : PlacedTable) → PrintsLine (check_schema table)
+PrintsLine-schema_of : (table : PlacedTable) → PrintsLine (schema_of table)
 unfolding PrintsLine
-PrintsLine-check_schema table = by_read (required as_natural (codes "schema") table)
+PrintsLine-schema_of table = by_read (required as_natural (codes "schema") table)
   where
-    by_test : (test : Bool)
-        → PrintsLine {A = Unit {0}} (cond test (Ok tt) (Err fault.BadSchema))
-    by_test true = tt
-    by_test false = refl
+    by_tests : (one two : Bool)
+        → PrintsLine (cond one (Ok schemas.One) (cond two (Ok schemas.Two) (Err fault.BadSchema)))
+    by_tests true two = tt
+    by_tests false true = tt
+    by_tests false false = refl
 
-    by_read : (read : Result ℕ BadEntry) → PrintsLine (is_schema_1 read)
-    by_read (Ok number) = by_test (number == 1)
+    by_read : (read : Result ℕ BadEntry) → PrintsLine (schema_read read)
+    by_read (Ok number) = by_tests (number == 1) (number == 2)
     by_read (Err bad) = refl
 
 PrintsLine-entries : {A : Type 0} (read : Result A BadEntry) → HasLine read → PrintsLine (entries read)
@@ -270,10 +280,10 @@ unfolding PrintsLine profile_of_bytes
 PrintsLine-profile_of_bytes text =
     PrintsLine-then (ok_or (document_of text) fault.NotToml) _
     (PrintsLine-document (document_of text)) (λ members.
-    PrintsLine-then (check_schema (document members)) _
-    (PrintsLine-check_schema (document members)) (λ schema_is_1.
-    PrintsLine-then (entries (profile_of (document members))) _
-    (PrintsLine-entries (profile_of (document members)) (FailsInOneLine-profile_of (document members) refl))
+    PrintsLine-then (schema_of (document members)) _
+    (PrintsLine-schema_of (document members)) (λ schema.
+    PrintsLine-then (entries (profile_of schema (document members))) _
+    (PrintsLine-entries (profile_of schema (document members)) (FailsInOneLine-profile_of schema (document members) refl))
     (λ profile.
     PrintsLine-then (valid_mirrors profile.mirrors) _ (PrintsLine-valid_mirrors profile.mirrors)
     (λ mirrors. tt))))
@@ -283,10 +293,10 @@ unfolding PrintsLine script_of_bytes
 PrintsLine-script_of_bytes text =
     PrintsLine-then (ok_or (document_of text) fault.NotToml) _
     (PrintsLine-document (document_of text)) (λ members.
-    PrintsLine-then (check_schema (document members)) _
-    (PrintsLine-check_schema (document members)) (λ schema_is_1.
-    PrintsLine-then (entries (script_of (document members))) _
-    (PrintsLine-entries (script_of (document members)) (FailsInOneLine-script_of (document members) refl))
+    PrintsLine-then (schema_of (document members)) _
+    (PrintsLine-schema_of (document members)) (λ schema.
+    PrintsLine-then (entries (script_of schema (document members))) _
+    (PrintsLine-entries (script_of schema (document members)) (FailsInOneLine-script_of schema (document members) refl))
     (λ script.
     PrintsLine-then (few_edits script.1) _ (PrintsLine-few_edits script.1) (λ edits. tt))))
 

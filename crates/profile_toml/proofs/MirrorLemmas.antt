@@ -10,7 +10,7 @@ use Rattle.records.specs.declared.mirror.Mirror.{Mirror}
 use Rattle.profile_tables.specs.Fields.{◌>>=◌}
 use Rattle.profile_tables.specs.Tables.{document}
 use Rattle.profile_toml.specs.Apps.{edits_of}
-use Rattle.profile_toml.specs.Documents.{check_schema, document_of, entries}
+use Rattle.profile_toml.specs.Documents.{document_of, entries, schema_of}
 use Rattle.profile_toml.specs.Laws.{AreMirrors}
 use Rattle.profile_toml.specs.Mirrors.{invalid_mirror, first_invalid_after, valid_mirrors, is_invalid_after, is_named, max_mirrors}
 use Rattle.profile_toml.specs.Profiles.{profile_of}
@@ -129,8 +129,8 @@ pub AreMirrors-profile_of_bytes : (text : List ℕ) (edits : List Edit) (mirrors
 unfolding profile_of_bytes
 AreMirrors-profile_of_bytes text edits mirrors read =
     let members = bind-ok (ok_or (document_of text) NotToml) _ (edits, mirrors) read in
-    let schema = bind-ok (check_schema (document members.0)) _ (edits, mirrors) members.2 in
-    let profile = bind-ok (entries (profile_of (document members.0))) _ (edits, mirrors) schema.2 in
+    let schema = bind-ok (schema_of (document members.0)) _ (edits, mirrors) members.2 in
+    let profile = bind-ok (entries (profile_of schema.0 (document members.0))) _ (edits, mirrors) schema.2 in
     let good = bind-ok (valid_mirrors profile.0.mirrors) _ (edits, mirrors) profile.2 in
     let pairs : (edits_of profile.0.apps, good.0) ≡ (edits, mirrors) = cc (good.2) in
     let same : good.0 ≡ mirrors = ap (λ (p : List Edit × List Mirror). p.1) pairs in

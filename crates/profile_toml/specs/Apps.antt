@@ -13,6 +13,7 @@ use Rattle.profile_toml.specs.Cohorts.{cohort_edits, cohorts_of, setting_edits}
 use Rattle.profile_toml.specs.Diffs.{diff_edits, diff_of}
 use Rattle.profile_toml.specs.Releases.{release_edits, release_of}
 use Rattle.profile_toml.specs.declared.app.AppEntry.{AppEntry}
+use Rattle.profile_toml.specs.declared.document.Schema.{Schema}
 
 -- the keys of an app, in the order in which they are read
 abbrev pub app_keys : List (List ℕ)
@@ -20,8 +21,8 @@ app_keys = codes "id" ∷ codes "default" ∷ codes "cohort" ∷ codes "release"
 
 -- rule: App of a profile
 -- an app: its own keys, then its cohorts, its releases and its differentials
-unfoldable pub app_of : PlacedTable → Result AppEntry BadEntry
-app_of table = do
+unfoldable pub app_of : Schema → PlacedTable → Result AppEntry BadEntry
+app_of schema table = do
   all_known ← known app_keys table
   id ← required as_str (codes "id") table
   default ← required as_str (codes "default") table
@@ -29,7 +30,7 @@ app_of table = do
   release_list ← optional_tables (codes "release") table
   diff_list ← optional_tables (codes "diff") table
   cohorts ← cohorts_of cohort_list
-  releases ← each release_of release_list
+  releases ← each (release_of schema) release_list
   diffs ← each diff_of diff_list
   Ok (record { id = id; default = default; cohorts = cohorts; releases = releases; diffs = diffs })
 

@@ -1,5 +1,5 @@
 -- What profiles and scripts have in common: UTF-8 and TOML, as the crate `toml` reads it, and the
--- schema 1; this project's profile.
+-- schemas 1 and 2, of which the second has floors; this project's profile.
 use Rattle.std.specs.Prelude.{ℕ, ◌==◌, List, if◌then◌else◌, Option, None, Result, Ok, Err, codes}
 use Rattle.std.specs.Str.{is_utf8}
 use Rattle.toml.specs.Data.{Members}
@@ -7,6 +7,8 @@ use Rattle.toml.specs.Parse.{parse_document}
 use Rattle.profile_tables.specs.Fields.{as_natural, required}
 use Rattle.profile_tables.specs.Tables.{PlacedTable}
 use Rattle.profile_tables.specs.declared.path.BadEntry.{BadEntry}
+use Rattle.profile_toml.specs.declared.document.Schema.{Schema}
+use Rattle.profile_toml.specs.declared.document.Schema.TheVariants as schema
 use Rattle.profile_toml.specs.declared.fault.ProfileFault.{ProfileFault}
 use Rattle.profile_toml.specs.declared.fault.ProfileFault.TheVariants as fault
 
@@ -15,15 +17,20 @@ use Rattle.profile_toml.specs.declared.fault.ProfileFault.TheVariants as fault
 abbrev pub document_of : List ℕ → Option Members
 document_of text = if is_utf8 text then parse_document text else None
 
--- the schema that was read is 1
-abbrev pub is_schema_1 : Result ℕ BadEntry → Result (Unit {0}) ProfileFault
-is_schema_1 (Ok number) = if number == 1 then Ok tt else Err fault.BadSchema
-is_schema_1 (Err bad) = Err fault.BadSchema
+-- the schema of a number
+abbrev pub schema_numbered : ℕ → Result Schema ProfileFault
+schema_numbered number =
+    if number == 1 then Ok schema.One else if number == 2 then Ok schema.Two else Err fault.BadSchema
+
+-- the schema of the number that was read
+abbrev pub schema_read : Result ℕ BadEntry → Result Schema ProfileFault
+schema_read (Ok number) = schema_numbered number
+schema_read (Err bad) = Err fault.BadSchema
 
 -- rule: Schema of a profile
--- the key `schema` is the integer 1
-abbrev pub check_schema : PlacedTable → Result (Unit {0}) ProfileFault
-check_schema table = is_schema_1 (required as_natural (codes "schema") table)
+-- the key `schema` is the integer 1 or 2
+abbrev pub schema_of : PlacedTable → Result Schema ProfileFault
+schema_of table = schema_read (required as_natural (codes "schema") table)
 
 -- what is read of a document's entries; an invalid one is the document's fault
 abbrev pub entries : {A : Type 0} → Result A BadEntry → Result A ProfileFault

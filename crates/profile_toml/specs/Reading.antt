@@ -7,7 +7,7 @@ use Rattle.records.specs.declared.mirror.Mirror.{Mirror}
 use Rattle.profile_tables.specs.Fields.{◌>>=◌}
 use Rattle.profile_tables.specs.Tables.{document}
 use Rattle.profile_toml.specs.Apps.{edits_of}
-use Rattle.profile_toml.specs.Documents.{check_schema, document_of, entries}
+use Rattle.profile_toml.specs.Documents.{document_of, entries, schema_of}
 use Rattle.profile_toml.specs.Mirrors.{valid_mirrors}
 use Rattle.profile_toml.specs.Profiles.{profile_of}
 use Rattle.profile_toml.specs.Scripts.{few_edits, script_of}
@@ -15,23 +15,23 @@ use Rattle.profile_toml.specs.declared.fault.ProfileFault.{ProfileFault}
 use Rattle.profile_toml.specs.declared.fault.ProfileFault.TheVariants.{NotToml}
 
 -- rule: Faults of a profile
--- the edits that a profile makes, and its mirrors: its schema is checked first, its mirrors
--- last
+-- the edits that a profile makes, and its mirrors: its schema is read first, its mirrors
+-- are checked last
 unfoldable pub profile_of_bytes : List ℕ → Result (List Edit × List Mirror) ProfileFault
 profile_of_bytes text = do
   members ← ok_or (document_of text) NotToml
-  schema_is_1 ← check_schema (document members)
-  profile ← entries (profile_of (document members))
+  schema ← schema_of (document members)
+  profile ← entries (profile_of schema (document members))
   mirrors ← valid_mirrors profile.mirrors
   Ok (edits_of profile.apps, mirrors)
 
 -- rule: Faults of a script
--- the number of the edition that a script is written for, and its edits: its schema is checked
--- first, the number of its edits last
+-- the number of the edition that a script is written for, and its edits: its schema is read
+-- first, the number of its edits is checked last
 unfoldable pub script_of_bytes : List ℕ → Result (ℕ × List Edit) ProfileFault
 script_of_bytes text = do
   members ← ok_or (document_of text) NotToml
-  schema_is_1 ← check_schema (document members)
-  script ← entries (script_of (document members))
+  schema ← schema_of (document members)
+  script ← entries (script_of schema (document members))
   edits ← few_edits script.1
   Ok (script.0, edits)

@@ -1,4 +1,4 @@
--- A release of a profile: its keys and its edits; this project's profile.
+-- A release of a profile: its keys, by the profile's schema, and its edits; this project's profile.
 use Rattle.std.specs.Prelude.{ℕ, Bool, true, false, List, [], ◌∷◌, ◌++◌, codes, if◌then◌else◌, Option, Some, None, unwrap_or, Result, Ok}
 use Rattle.toml.specs.Data.{as_bool, as_str}
 use Rattle.catalogue.specs.declared.edits.releases.AddRelease.{AddRelease}
@@ -8,6 +8,8 @@ use Rattle.profile_tables.specs.Fields.{◌>>=◌, as_natural, known, optional, 
 use Rattle.profile_tables.specs.Tables.{PlacedTable}
 use Rattle.profile_tables.specs.Strings.{optional_strings}
 use Rattle.profile_tables.specs.declared.path.BadEntry.{BadEntry}
+use Rattle.profile_toml.specs.declared.document.Schema.{Schema}
+use Rattle.profile_toml.specs.declared.document.Schema.TheVariants.{One, Two}
 use Rattle.profile_toml.specs.declared.release.PackageEntry.{PackageEntry}
 use Rattle.profile_toml.specs.declared.release.ReleaseEntry.{ReleaseEntry}
 
@@ -20,24 +22,26 @@ package_in table = do
   sha256 ← required as_str (codes "sha256") table
   Ok (record { version = version; name = name; size = size; sha256 = sha256 })
 
--- the keys of a release, in the order in which they are read
-abbrev pub release_keys : List (List ℕ)
-release_keys =
+-- the keys of a release, in the order in which they are read; schema 2 has one more
+abbrev pub release_keys : Schema → List (List ℕ)
+release_keys One =
     codes "version" ∷ codes "name" ∷ codes "size" ∷ codes "sha256" ∷ codes "stone" ∷ codes "withdrawn"
     ∷ codes "audience" ∷ []
+release_keys Two = release_keys One ++ codes "floor" ∷ []
 
 -- rule: Release of a profile
--- a release of an app
-unfoldable pub release_of : PlacedTable → Result ReleaseEntry BadEntry
-release_of table = do
-  all_known ← known release_keys table
+-- a release of an app; in schema 1 there is no floor, since its key is unknown
+unfoldable pub release_of : Schema → PlacedTable → Result ReleaseEntry BadEntry
+release_of schema table = do
+  all_known ← known (release_keys schema) table
   full ← package_in table
   stone ← optional as_bool (codes "stone") table
   withdrawn ← optional as_bool (codes "withdrawn") table
   audience ← optional_strings (codes "audience") table
+  floor ← optional as_str (codes "floor") table
   let is_stone = unwrap_or stone false
   let is_withdrawn = unwrap_or withdrawn false
-  Ok (record { full = full; stone = is_stone; withdrawn = is_withdrawn; audience = audience })
+  Ok (record { full = full; stone = is_stone; withdrawn = is_withdrawn; audience = audience; floor = floor })
 
 -- the release as an edit adds it to an app
 abbrev pub added_to : List ℕ → PackageEntry → AddRelease
@@ -66,6 +70,12 @@ audience_edits app version None = []
 audience_edits app version (Some names) =
     edit.SetAudience (record { app = app; version = version; cohorts = Some names }) ∷ []
 
+-- its floor is set, if it is given
+abbrev pub floor_edits : List ℕ → List ℕ → Option (List ℕ) → List Edit
+floor_edits app version None = []
+floor_edits app version (Some floor) =
+    edit.SetFloor (record { app = app; version = version; floor = floor }) ∷ []
+
 -- rule: Edits of a release of a profile
 -- the edits of a release
 abbrev pub release_edits : List ℕ → ReleaseEntry → List Edit
@@ -74,3 +84,4 @@ release_edits app release =
     ++ stone_edits app release.full.version release.stone
     ++ withdrawn_edits app release.full.version release.withdrawn
     ++ audience_edits app release.full.version release.audience
+    ++ floor_edits app release.full.version release.floor

@@ -1,5 +1,5 @@
 -- The edits of a script: what each kind of table says, or its first invalid entry; this project's profile,
--- schema 1. Which keys an edit has depends on its `do`, so that is read first; unknown keys follow, and
+-- schemas 1 and 2. Which keys an edit has depends on its `do`, so that is read first; unknown keys follow, and
 -- then the known ones in the order of the edit's keys.
 use Rattle.std.specs.Prelude.{ℕ, List, [], ◌∷◌, codes, Option, Result, Ok}
 use Rattle.std.specs.Map.{lookup}
@@ -14,6 +14,7 @@ use Rattle.catalogue.specs.declared.edits.cohort_settings.SetShare.{SetShare}
 use Rattle.catalogue.specs.declared.edits.cohort_settings.SetTarget.{SetTarget}
 use Rattle.catalogue.specs.declared.edits.diffs.AddDiff.{AddDiff}
 use Rattle.catalogue.specs.declared.edits.release_settings.SetAudience.{SetAudience}
+use Rattle.catalogue.specs.declared.edits.release_settings.SetFloor.{SetFloor}
 use Rattle.catalogue.specs.declared.edits.release_settings.SetStone.{SetStone}
 use Rattle.catalogue.specs.declared.edits.release_settings.SetWithdrawn.{SetWithdrawn}
 use Rattle.catalogue.specs.declared.edits.releases.AddRelease.{AddRelease}
@@ -26,12 +27,14 @@ use Rattle.profile_tables.specs.Strings.{optional_strings}
 use Rattle.profile_tables.specs.declared.path.BadEntry.{BadEntry}
 use Rattle.profile_toml.specs.Diffs.{diff_added_to, diff_in}
 use Rattle.profile_toml.specs.Releases.{added_to, package_in}
+use Rattle.profile_toml.specs.declared.document.Schema.{Schema}
+use Rattle.profile_toml.specs.declared.document.Schema.TheVariants.{One, Two}
 use Rattle.profile_toml.specs.declared.script_edit.Verb.{Verb}
 use Rattle.profile_toml.specs.declared.script_edit.Verb.TheVariants as verb
 
--- the kinds of edit, by what `do` says
-abbrev pub verbs : List (List ℕ × Verb)
-verbs =
+-- the kinds of edit, by what `do` says; schema 2 has one more
+abbrev pub verbs : Schema → List (List ℕ × Verb)
+verbs One =
     (codes "add_app", verb.AddApp)
     ∷ (codes "add_release", verb.AddRelease)
     ∷ (codes "add_cohort", verb.AddCohort)
@@ -44,15 +47,16 @@ verbs =
     ∷ (codes "set_audience", verb.SetAudience)
     ∷ (codes "set_rollback", verb.SetRollback)
     ∷ []
+verbs Two = (codes "set_floor", verb.SetFloor) ∷ verbs One
 
-abbrev pub verb_named : List ℕ → Option Verb
-verb_named name = lookup (bytes_eq name) verbs
+abbrev pub verb_named : Schema → List ℕ → Option Verb
+verb_named schema name = lookup (bytes_eq name) (verbs schema)
 
 -- the kind of an edit
-unfoldable pub verb_of : PlacedTable → Result Verb BadEntry
-verb_of table = do
+unfoldable pub verb_of : Schema → PlacedTable → Result Verb BadEntry
+verb_of schema table = do
   name ← required as_str (codes "do") table
-  ok_or (verb_named name) (invalid_key table.place (codes "do"))
+  ok_or (verb_named schema name) (invalid_key table.place (codes "do"))
 
 -- the keys of an edit, in the order in which they are read
 abbrev pub keys_of_edit : Verb → List (List ℕ)
@@ -69,6 +73,7 @@ keys_of_edit verb.AddDiff =
 keys_of_edit verb.SetStone = codes "do" ∷ codes "app" ∷ codes "version" ∷ codes "on" ∷ []
 keys_of_edit verb.SetWithdrawn = codes "do" ∷ codes "app" ∷ codes "version" ∷ codes "on" ∷ []
 keys_of_edit verb.SetAudience = codes "do" ∷ codes "app" ∷ codes "version" ∷ codes "cohorts" ∷ []
+keys_of_edit verb.SetFloor = codes "do" ∷ codes "app" ∷ codes "version" ∷ codes "floor" ∷ []
 keys_of_edit verb.SetRollback = codes "do" ∷ codes "app" ∷ codes "cohort" ∷ codes "on" ∷ []
 
 -- what the keys of each kind say
@@ -149,6 +154,14 @@ audience_set table = do
   cohorts ← optional_strings (codes "cohorts") table
   Ok (record { app = app; version = version; cohorts = cohorts })
 
+unfoldable pub floor_set : PlacedTable → Result SetFloor BadEntry
+floor_set table = do
+  all_known ← known (keys_of_edit verb.SetFloor) table
+  app ← required as_str (codes "app") table
+  version ← required as_str (codes "version") table
+  floor ← required as_str (codes "floor") table
+  Ok (record { app = app; version = version; floor = floor })
+
 unfoldable pub rollback_set : PlacedTable → Result SetRollback BadEntry
 rollback_set table = do
   all_known ← known (keys_of_edit verb.SetRollback) table
@@ -169,11 +182,12 @@ edit_in verb.AddDiff table = diff_added table >>= λ e. Ok (edit.AddDiff e)
 edit_in verb.SetStone table = stone_set table >>= λ e. Ok (edit.SetStone e)
 edit_in verb.SetWithdrawn table = withdrawn_set table >>= λ e. Ok (edit.SetWithdrawn e)
 edit_in verb.SetAudience table = audience_set table >>= λ e. Ok (edit.SetAudience e)
+edit_in verb.SetFloor table = floor_set table >>= λ e. Ok (edit.SetFloor e)
 edit_in verb.SetRollback table = rollback_set table >>= λ e. Ok (edit.SetRollback e)
 
 -- rule: Edit of a script
--- an edit of a script
-unfoldable pub edit_of : PlacedTable → Result Edit BadEntry
-edit_of table = do
-  kind ← verb_of table
+-- an edit of a script of a schema
+unfoldable pub edit_of : Schema → PlacedTable → Result Edit BadEntry
+edit_of schema table = do
+  kind ← verb_of schema table
   edit_in kind table

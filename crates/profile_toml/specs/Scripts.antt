@@ -1,5 +1,5 @@
 -- What a script's tables say: the edition that it is written for and its edits, or the first invalid
--- entry; this project's profile, schema 1.
+-- entry; this project's profile, schemas 1 and 2.
 use Rattle.std.specs.Prelude.{ℕ, nat_le, List, [], ◌∷◌, length, codes, if◌then◌else◌, Result, Ok, Err}
 use Rattle.catalogue.specs.declared.edit.Edit.{Edit}
 use Rattle.profile_tables.specs.Fields.{◌>>=◌, as_natural, known, required}
@@ -7,6 +7,7 @@ use Rattle.profile_tables.specs.Lists.{each, optional_tables}
 use Rattle.profile_tables.specs.Tables.{PlacedTable}
 use Rattle.profile_tables.specs.declared.path.BadEntry.{BadEntry}
 use Rattle.profile_toml.specs.ScriptEdits.{edit_of}
+use Rattle.profile_toml.specs.declared.document.Schema.{Schema}
 use Rattle.profile_toml.specs.declared.fault.ProfileFault.{ProfileFault}
 use Rattle.profile_toml.specs.declared.fault.ProfileFault.TheVariants.{TooManyEdits}
 
@@ -23,11 +24,11 @@ abbrev pub script_keys : List (List ℕ)
 script_keys = codes "schema" ∷ codes "base" ∷ codes "edit" ∷ []
 
 -- rule: Tables of a script
--- a script, of schema 1: the edition that it is written for, and its edits
-unfoldable pub script_of : PlacedTable → Result (ℕ × List Edit) BadEntry
-script_of table = do
+-- a script, of a schema: the edition that it is written for, and its edits
+unfoldable pub script_of : Schema → PlacedTable → Result (ℕ × List Edit) BadEntry
+script_of schema table = do
   all_known ← known script_keys table
   base ← required as_natural (codes "base") table
   edit_list ← optional_tables (codes "edit") table
-  edits ← each edit_of edit_list
+  edits ← each (edit_of schema) edit_list
   Ok (base, edits)

@@ -11,6 +11,7 @@ ghost use Rattle.profile_toml.specs.Releases.{release_edits};
 
 use crate::cohort::{CohortEntry, push_cohort, push_settings, read_cohorts};
 use crate::diff::{DiffEntry, DiffTable, push_diff};
+use crate::document::Schema;
 use crate::release::{ReleaseEntry, ReleaseTable, push_release};
 use catalogue::{AddApp, Edit};
 use profile_tables::{BadEntry, TableKind, TableReader};
@@ -34,8 +35,8 @@ pub(crate) struct AppEntry {
 
 // rule: App of a profile
 #[tactic(auto, unfolding(crate::specs::Apps::app_of))]
-fn read_app(table: &TableReader<'_>) -> Result<AppEntry, ReadError<BadEntry>>
-    ensures { Reads (λ app. app) result (app_of (placed table.now)) }
+fn read_app(schema: Schema, table: &TableReader<'_>) -> Result<AppEntry, ReadError<BadEntry>>
+    ensures { Reads (λ app. app) result (app_of schema (placed table.now)) }
 {
     table.check_keys(&["id", "default", "cohort", "release", "diff"])?;
     let id = table.string("id")?;
@@ -47,23 +48,26 @@ fn read_app(table: &TableReader<'_>) -> Result<AppEntry, ReadError<BadEntry>>
         id,
         default,
         cohorts: read_cohorts(table.alloc(), &cohorts)?,
-        releases: releases.read::<ReleaseTable>()?,
-        diffs: diffs.read::<DiffTable>()?,
+        releases: releases.read(&ReleaseTable { schema })?,
+        diffs: diffs.read(&DiffTable)?,
     })
 }
 
-/// The tables `app` of a profile.
-pub(crate) struct AppTable;
+/// The tables `app` of a profile of a schema.
+#[derive(Clone, Copy)]
+pub(crate) struct AppTable {
+    pub schema: Schema,
+}
 
 impl TableKind for AppTable {
     ghost use Rattle.profile_toml.specs.Apps.{app_of};
 
     type Record = AppEntry;
 
-    ghost reads = { app_of };
+    ghost reads = { λ kind. app_of kind.schema };
 
-    fn read(table: &TableReader<'_>) -> Result<AppEntry, ReadError<BadEntry>> {
-        read_app(table)
+    fn read(&self, table: &TableReader<'_>) -> Result<AppEntry, ReadError<BadEntry>> {
+        read_app(self.schema, table)
     }
 }
 

@@ -56,9 +56,9 @@ impl TableKind for DiffTable {
 
     type Record = DiffEntry;
 
-    ghost reads = { diff_of };
+    ghost reads = { λ kind. diff_of };
 
-    fn read(table: &TableReader<'_>) -> Result<DiffEntry, ReadError<BadEntry>> {
+    fn read(&self, table: &TableReader<'_>) -> Result<DiffEntry, ReadError<BadEntry>> {
         read_diff(table)
     }
 }

@@ -4,7 +4,7 @@ ghost use Rattle.std.specs.Option.{ok_or};
 ghost use Rattle.values.specs.Reading.{Reads};
 ghost use Rattle.toml.specs.View.{table_view};
 ghost use Rattle.profile_tables.specs.Readers.{placed};
-ghost use Rattle.profile_toml.specs.Documents.{check_schema, document_of};
+ghost use Rattle.profile_toml.specs.Documents.{document_of, schema_of};
 ghost use Rattle.profile_toml.specs.declared.fault.ProfileFault.TheVariants.{NotToml};
 
 use crate::fault::ProfileFault;
@@ -12,6 +12,15 @@ use profile_tables::TableReader;
 use std::alloc::Global;
 use toml::Table;
 use values::ReadError;
+
+/// Which keys and edits a document may have.
+#[derive(Clone, Copy)]
+pub(crate) enum Schema {
+    /// Schema 1: no floors.
+    One,
+    /// Schema 2: releases have floors, and a script sets them.
+    Two,
+}
 
 // rule: TOML of a profile
 /// Parses a TOML document, or returns `NotToml`.
@@ -30,12 +39,13 @@ pub(crate) fn parse(alloc: Global, bytes: &[u8]) -> Result<Table, ReadError<Prof
 }
 
 // rule: Schema of a profile
-/// Returns `BadSchema` unless the document is of schema 1.
-pub(crate) fn check_schema(document: &TableReader<'_>) -> Result<(), ReadError<ProfileFault>>
-    ensures { Reads (λ nothing. nothing) result (check_schema (placed document.now)) }
+/// Reads the document's schema, or returns `BadSchema`.
+pub(crate) fn read_schema(document: &TableReader<'_>) -> Result<Schema, ReadError<ProfileFault>>
+    ensures { Reads (λ schema. schema) result (schema_of (placed document.now)) }
 {
     match document.natural("schema") {
-        Ok(number) if number == 1 => Ok(()),
+        Ok(number) if number == 1 => Ok(Schema::One),
+        Ok(number) if number == 2 => Ok(Schema::Two),
         Err(ReadError::Memory) => Err(ReadError::Memory),
         _ => Err(ReadError::Fault(ProfileFault::BadSchema)),
     }

@@ -9,7 +9,7 @@ use values::Text;
 pub enum ProfileFault {
     /// F1: the bytes are not UTF-8, or not TOML.
     NotToml,
-    /// F2: the document has no key `schema` with the integer 1.
+    /// F2: the document has no key `schema` with the integer 1 or 2.
     BadSchema,
     /// F3: the path of the first unknown key, missing key, value of a wrong type or negative
     /// integer, or of the name of a cohort that repeats an earlier one, as

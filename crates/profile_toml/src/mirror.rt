@@ -34,9 +34,9 @@ impl TableKind for MirrorTable {
 
     type Record = Mirror;
 
-    ghost reads = { mirror_of };
+    ghost reads = { λ kind. mirror_of };
 
-    fn read(table: &TableReader<'_>) -> Result<Mirror, ReadError<BadEntry>> {
+    fn read(&self, table: &TableReader<'_>) -> Result<Mirror, ReadError<BadEntry>> {
         read_mirror(table)
     }
 }

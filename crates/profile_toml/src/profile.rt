@@ -7,7 +7,7 @@ ghost use Rattle.profile_toml.specs.Profiles.{profile_of};
 ghost use Rattle.profile_toml.specs.Reading.{profile_of_bytes};
 
 use crate::app::{AppEntry, AppTable, edits_of};
-use crate::document::{check_schema, parse};
+use crate::document::{Schema, parse, read_schema};
 use crate::fault::ProfileFault;
 use crate::mirror::{MirrorTable, check_mirrors};
 use catalogue::{Batch, Mirror};
@@ -24,22 +24,25 @@ struct Profile {
 
 // rule: Tables of a profile
 #[tactic(auto, unfolding(crate::specs::Profiles::profile_of))]
-fn read_tables(document: &TableReader<'_>) -> Result<Profile, ReadError<BadEntry>>
-    ensures { Reads (λ profile. profile) result (profile_of (placed document.now)) }
+fn read_tables(schema: Schema, document: &TableReader<'_>) -> Result<Profile, ReadError<BadEntry>>
+    ensures { Reads (λ profile. profile) result (profile_of schema (placed document.now)) }
 {
     document.check_keys(&["schema", "mirror", "app"])?;
     let mirrors = document.list("mirror")?;
     let apps = document.optional_list("app")?;
     Ok(Profile {
-        mirrors: mirrors.read::<MirrorTable>()?,
-        apps: apps.read::<AppTable>()?,
+        mirrors: mirrors.read(&MirrorTable)?,
+        apps: apps.read(&AppTable { schema })?,
     })
 }
 
-fn read_entries(document: &TableReader<'_>) -> Result<Profile, ReadError<ProfileFault>>
-    ensures { Reads (λ profile. profile) result (entries (profile_of (placed document.now))) }
+fn read_entries(
+    schema: Schema,
+    document: &TableReader<'_>,
+) -> Result<Profile, ReadError<ProfileFault>>
+    ensures { Reads (λ profile. profile) result (entries (profile_of schema (placed document.now))) }
 {
-    match read_tables(document) {
+    match read_tables(schema, document) {
         Ok(profile) => Ok(profile),
         Err(ReadError::Memory) => Err(ReadError::Memory),
         Err(ReadError::Fault(bad)) => Err(ReadError::Fault(ProfileFault::BadEntry(bad.path))),
@@ -47,7 +50,7 @@ fn read_entries(document: &TableReader<'_>) -> Result<Profile, ReadError<Profile
 }
 
 // rule: Faults of a profile
-/// Reads a profile of schema 1: the edits that make its catalogue, and its one to four mirrors.
+/// Reads a profile of schema 1 or 2: the edits that make its catalogue, and its one to four mirrors.
 ///
 /// Returns the first fault in the order of `ProfileFault`. Tables are read from the top: the
 /// profile's own keys, the mirrors, then each app with its cohorts and its releases. A table's
@@ -63,8 +66,8 @@ pub fn read_profile(
 {
     let document = parse(alloc, bytes)?;
     let document = TableReader::new(alloc, &document);
-    check_schema(&document)?;
-    let Profile { mirrors, apps } = read_entries(&document)?;
+    let schema = read_schema(&document)?;
+    let Profile { mirrors, apps } = read_entries(schema, &document)?;
     let mirrors = check_mirrors(mirrors)?;
     let edits = edits_of(alloc, apps)?;
     Ok((Batch::new(edits.into_vec()), mirrors.into_vec()))

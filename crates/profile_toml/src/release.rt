@@ -2,10 +2,12 @@
 
 ghost use Rattle.std.specs.Prelude.{◌≡◌, ◌++◌, OnOk};
 ghost use Rattle.values.specs.Reading.{Reads};
+ghost use Rattle.profile_tables.specs.Fields.{known};
 ghost use Rattle.profile_tables.specs.Readers.{placed};
-ghost use Rattle.profile_toml.specs.Releases.{added_to, audience_edits, package_in, release_edits, release_of, stone_edits, withdrawn_edits};
+ghost use Rattle.profile_toml.specs.Releases.{added_to, audience_edits, floor_edits, package_in, release_edits, release_keys, release_of, stone_edits, withdrawn_edits};
 
-use catalogue::{AddRelease, Edit, SetAudience, SetStone, SetWithdrawn};
+use crate::document::Schema;
+use catalogue::{AddRelease, Edit, SetAudience, SetFloor, SetStone, SetWithdrawn};
 use profile_tables::{BadEntry, TableKind, TableReader};
 use std::alloc::AllocError;
 use values::{Items, ReadError, Text};
@@ -34,6 +36,8 @@ pub(crate) struct ReleaseEntry {
     pub withdrawn: bool,
     /// The key `audience`, the names of cohorts, if it is given.
     pub audience: Option<Items<Text>>,
+    /// The key `floor`, a version, if it is given.
+    pub floor: Option<Text>,
 }
 
 /// Reads what a table says of a release's version and its full package.
@@ -49,40 +53,65 @@ pub(crate) fn read_package(table: &TableReader<'_>) -> Result<PackageEntry, Read
     })
 }
 
+fn check_release_keys(schema: Schema, table: &TableReader<'_>) -> Result<(), ReadError<BadEntry>>
+    ensures { Reads (λ nothing. nothing) result (known (release_keys schema) (placed table.now)) }
+{
+    match schema {
+        Schema::One => table.check_keys(&[
+            "version",
+            "name",
+            "size",
+            "sha256",
+            "stone",
+            "withdrawn",
+            "audience",
+        ]),
+        Schema::Two => table.check_keys(&[
+            "version",
+            "name",
+            "size",
+            "sha256",
+            "stone",
+            "withdrawn",
+            "audience",
+            "floor",
+        ]),
+    }
+}
+
 // rule: Release of a profile
 #[tactic(auto, unfolding(crate::specs::Releases::release_of))]
-fn read_release(table: &TableReader<'_>) -> Result<ReleaseEntry, ReadError<BadEntry>>
-    ensures { Reads (λ release. release) result (release_of (placed table.now)) }
+fn read_release(
+    schema: Schema,
+    table: &TableReader<'_>,
+) -> Result<ReleaseEntry, ReadError<BadEntry>>
+    ensures { Reads (λ release. release) result (release_of schema (placed table.now)) }
 {
-    table.check_keys(&[
-        "version",
-        "name",
-        "size",
-        "sha256",
-        "stone",
-        "withdrawn",
-        "audience",
-    ])?;
+    check_release_keys(schema, table)?;
     Ok(ReleaseEntry {
         full: read_package(table)?,
         stone: table.optional_flag("stone")?.unwrap_or(false),
         withdrawn: table.optional_flag("withdrawn")?.unwrap_or(false),
         audience: table.optional_strings("audience")?,
+        floor: table.optional_string("floor")?,
     })
 }
 
-/// The tables `release` of an app.
-pub(crate) struct ReleaseTable;
+/// The tables `release` of an app, in a profile of a schema.
+#[derive(Clone, Copy)]
+pub(crate) struct ReleaseTable {
+    pub schema: Schema,
+}
 
 impl TableKind for ReleaseTable {
     ghost use Rattle.profile_toml.specs.Releases.{release_of};
 
     type Record = ReleaseEntry;
 
-    ghost reads = { release_of };
+    ghost reads = { λ kind. release_of kind.schema };
 
-    fn read(table: &TableReader<'_>) -> Result<ReleaseEntry, ReadError<BadEntry>> {
-        read_release(table)
+    fn read(&self, table: &TableReader<'_>) -> Result<ReleaseEntry, ReadError<BadEntry>> {
+        read_release(self.schema, table)
     }
 }
 
@@ -145,21 +174,40 @@ fn push_withdrawn(
 
 fn push_audience(
     app: &Text,
-    version: Text,
+    version: &Text,
     audience: Option<Items<Text>>,
     edits: &mut Items<Edit>,
 ) -> Result<(), AllocError>
-    ensures { OnOk result (edits.new ≡ edits.old ++ audience_edits app.now version audience) }
+    ensures { OnOk result (edits.new ≡ edits.old ++ audience_edits app.now version.now audience) }
 {
     let Some(names) = audience else {
         return Ok(());
     };
     let edit = SetAudience {
         app: app.clone()?,
-        version,
+        version: version.clone()?,
         cohorts: Some(names),
     };
     edits.push(Edit::SetAudience(edit))
+}
+
+fn push_floor(
+    app: &Text,
+    version: Text,
+    floor: Option<Text>,
+    edits: &mut Items<Edit>,
+) -> Result<(), AllocError>
+    ensures { OnOk result (edits.new ≡ edits.old ++ floor_edits app.now version floor) }
+{
+    let Some(floor) = floor else {
+        return Ok(());
+    };
+    let edit = SetFloor {
+        app: app.clone()?,
+        version,
+        floor,
+    };
+    edits.push(Edit::SetFloor(edit))
 }
 
 // rule: Edits of a release of a profile
@@ -176,10 +224,12 @@ pub(crate) fn push_release(
         stone,
         withdrawn,
         audience,
+        floor,
     } = release;
     let version = full.version.clone()?;
     edits.push(Edit::AddRelease(added_to(app.clone()?, full)))?;
     push_stone(app, &version, stone, edits)?;
     push_withdrawn(app, &version, withdrawn, edits)?;
-    push_audience(app, version, audience, edits)
+    push_audience(app, &version, audience, edits)?;
+    push_floor(app, version, floor, edits)
 }

@@ -6,7 +6,7 @@ ghost use Rattle.profile_toml.specs.Documents.{entries};
 ghost use Rattle.profile_toml.specs.Reading.{script_of_bytes};
 ghost use Rattle.profile_toml.specs.Scripts.{few_edits, script_of};
 
-use crate::document::{check_schema, parse};
+use crate::document::{Schema, parse, read_schema};
 use crate::fault::ProfileFault;
 use crate::script_edit::EditTable;
 use catalogue::{Batch, Edit};
@@ -28,19 +28,25 @@ fn check_count(edits: Items<Edit>) -> Result<Items<Edit>, ReadError<ProfileFault
 
 // rule: Tables of a script
 #[tactic(auto, unfolding(crate::specs::Scripts::script_of))]
-fn read_tables(document: &TableReader<'_>) -> Result<(u64, Items<Edit>), ReadError<BadEntry>>
-    ensures { Reads (λ script. script) result (script_of (placed document.now)) }
+fn read_tables(
+    schema: Schema,
+    document: &TableReader<'_>,
+) -> Result<(u64, Items<Edit>), ReadError<BadEntry>>
+    ensures { Reads (λ script. script) result (script_of schema (placed document.now)) }
 {
     document.check_keys(&["schema", "base", "edit"])?;
     let base = document.natural("base")?;
     let edits = document.optional_list("edit")?;
-    Ok((base, edits.read::<EditTable>()?))
+    Ok((base, edits.read(&EditTable { schema })?))
 }
 
-fn read_entries(document: &TableReader<'_>) -> Result<(u64, Items<Edit>), ReadError<ProfileFault>>
-    ensures { Reads (λ script. script) result (entries (script_of (placed document.now))) }
+fn read_entries(
+    schema: Schema,
+    document: &TableReader<'_>,
+) -> Result<(u64, Items<Edit>), ReadError<ProfileFault>>
+    ensures { Reads (λ script. script) result (entries (script_of schema (placed document.now))) }
 {
-    match read_tables(document) {
+    match read_tables(schema, document) {
         Ok(script) => Ok(script),
         Err(ReadError::Memory) => Err(ReadError::Memory),
         Err(ReadError::Fault(bad)) => Err(ReadError::Fault(ProfileFault::BadEntry(bad.path))),
@@ -48,7 +54,7 @@ fn read_entries(document: &TableReader<'_>) -> Result<(u64, Items<Edit>), ReadEr
 }
 
 // rule: Faults of a script
-/// Reads a script of schema 1: the number of the edition that it is written for, and its edits.
+/// Reads a script of schema 1 or 2: the number of the edition that it is written for, and its edits.
 ///
 /// Returns the first fault in the order of `ProfileFault`. Tables are read from the top. An edit's
 /// `do` is read before its other keys, of which unknown ones are reported first, the least in byte
@@ -59,8 +65,8 @@ pub fn read_script(alloc: Global, bytes: &[u8]) -> Result<(u64, Batch), ReadErro
 {
     let document = parse(alloc, bytes)?;
     let document = TableReader::new(alloc, &document);
-    check_schema(&document)?;
-    let (base, edits) = read_entries(&document)?;
+    let schema = read_schema(&document)?;
+    let (base, edits) = read_entries(schema, &document)?;
     let edits = check_count(edits)?;
     Ok((base, Batch::new(edits.into_vec())))
 }

@@ -3,13 +3,15 @@
 ghost use Rattle.std.specs.Prelude.{◌≡◌};
 ghost use Rattle.values.specs.Reading.{Reads};
 ghost use Rattle.profile_tables.specs.Readers.{placed};
-ghost use Rattle.profile_toml.specs.ScriptEdits.{app_added, audience_set, cohort_added, diff_added, edit_in, edit_of, open_set, release_added, rollback_set, share_set, stone_set, target_set, verb_named, verb_of, withdrawn_set};
+ghost use Rattle.profile_toml.specs.ScriptEdits.{app_added, audience_set, cohort_added, diff_added, edit_in, edit_of, floor_set, open_set, release_added, rollback_set, share_set, stone_set, target_set, verb_named, verb_of, withdrawn_set};
+ghost use Rattle.profile_toml.specs.declared.document.Schema.TheVariants.{One};
 
 use crate::diff::{diff_added_to, read_diff_package};
+use crate::document::Schema;
 use crate::release::{added_to, read_package};
 use catalogue::{
-    AddApp, AddCohort, AddDiff, AddRelease, Edit, SetAudience, SetOpen, SetRollback, SetShare,
-    SetStone, SetTarget, SetWithdrawn,
+    AddApp, AddCohort, AddDiff, AddRelease, Edit, SetAudience, SetFloor, SetOpen, SetRollback,
+    SetShare, SetStone, SetTarget, SetWithdrawn,
 };
 use profile_tables::{BadEntry, TableKind, TableReader};
 use values::ReadError;
@@ -27,12 +29,13 @@ enum Verb {
     SetStone,
     SetWithdrawn,
     SetAudience,
+    SetFloor,
     SetRollback,
 }
 
 impl Verb {
-    fn from_name(name: &str) -> Option<Verb>
-        ensures { result ≡ verb_named name.now }
+    fn in_schema_1(name: &str) -> Option<Verb>
+        ensures { result ≡ verb_named One name.now }
     {
         match name {
             "add_app" => Some(Verb::AddApp),
@@ -49,14 +52,24 @@ impl Verb {
             _ => None,
         }
     }
+
+    fn from_name(schema: Schema, name: &str) -> Option<Verb>
+        ensures { result ≡ verb_named schema name.now }
+    {
+        match schema {
+            Schema::One => Verb::in_schema_1(name),
+            Schema::Two if name == "set_floor" => Some(Verb::SetFloor),
+            Schema::Two => Verb::in_schema_1(name),
+        }
+    }
 }
 
 #[tactic(auto, unfolding(crate::specs::ScriptEdits::verb_of))]
-fn read_verb(table: &TableReader<'_>) -> Result<Verb, ReadError<BadEntry>>
-    ensures { Reads (λ verb. verb) result (verb_of (placed table.now)) }
+fn read_verb(schema: Schema, table: &TableReader<'_>) -> Result<Verb, ReadError<BadEntry>>
+    ensures { Reads (λ verb. verb) result (verb_of schema (placed table.now)) }
 {
     let name = table.string("do")?;
-    match Verb::from_name(name.as_str()) {
+    match Verb::from_name(schema, name.as_str()) {
         Some(verb) => Ok(verb),
         None => Err(ReadError::Fault(table.invalid_entry("do")?)),
     }
@@ -175,6 +188,18 @@ fn read_set_audience(table: &TableReader<'_>) -> Result<SetAudience, ReadError<B
     })
 }
 
+#[tactic(auto, unfolding(crate::specs::ScriptEdits::floor_set))]
+fn read_set_floor(table: &TableReader<'_>) -> Result<SetFloor, ReadError<BadEntry>>
+    ensures { Reads (λ edit. edit) result (floor_set (placed table.now)) }
+{
+    table.check_keys(&["do", "app", "version", "floor"])?;
+    Ok(SetFloor {
+        app: table.string("app")?,
+        version: table.string("version")?,
+        floor: table.string("floor")?,
+    })
+}
+
 #[tactic(auto, unfolding(crate::specs::ScriptEdits::rollback_set))]
 fn read_set_rollback(table: &TableReader<'_>) -> Result<SetRollback, ReadError<BadEntry>>
     ensures { Reads (λ edit. edit) result (rollback_set (placed table.now)) }
@@ -202,30 +227,34 @@ fn read_edit_of(verb: Verb, table: &TableReader<'_>) -> Result<Edit, ReadError<B
         Verb::SetStone => Ok(Edit::SetStone(read_set_stone(table)?)),
         Verb::SetWithdrawn => Ok(Edit::SetWithdrawn(read_set_withdrawn(table)?)),
         Verb::SetAudience => Ok(Edit::SetAudience(read_set_audience(table)?)),
+        Verb::SetFloor => Ok(Edit::SetFloor(read_set_floor(table)?)),
         Verb::SetRollback => Ok(Edit::SetRollback(read_set_rollback(table)?)),
     }
 }
 
 // rule: Edit of a script
 #[tactic(auto, unfolding(crate::specs::ScriptEdits::edit_of))]
-fn read_edit(table: &TableReader<'_>) -> Result<Edit, ReadError<BadEntry>>
-    ensures { Reads (λ edit. edit) result (edit_of (placed table.now)) }
+fn read_edit(schema: Schema, table: &TableReader<'_>) -> Result<Edit, ReadError<BadEntry>>
+    ensures { Reads (λ edit. edit) result (edit_of schema (placed table.now)) }
 {
-    let verb = read_verb(table)?;
+    let verb = read_verb(schema, table)?;
     read_edit_of(verb, table)
 }
 
-/// The tables `edit` of a script.
-pub(crate) struct EditTable;
+/// The tables `edit` of a script of a schema.
+#[derive(Clone, Copy)]
+pub(crate) struct EditTable {
+    pub schema: Schema,
+}
 
 impl TableKind for EditTable {
     ghost use Rattle.profile_toml.specs.ScriptEdits.{edit_of};
 
     type Record = Edit;
 
-    ghost reads = { edit_of };
+    ghost reads = { λ kind. edit_of kind.schema };
 
-    fn read(table: &TableReader<'_>) -> Result<Edit, ReadError<BadEntry>> {
-        read_edit(table)
+    fn read(&self, table: &TableReader<'_>) -> Result<Edit, ReadError<BadEntry>> {
+        read_edit(self.schema, table)
     }
 }

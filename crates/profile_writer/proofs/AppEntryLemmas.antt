@@ -17,6 +17,7 @@ use Rattle.profile_tables.specs.Tables.{document, table_at}
 use Rattle.profile_toml.specs.Apps.{app_keys, app_of}
 use Rattle.profile_toml.specs.Cohorts.{cohort_keys, cohort_of, cohorts_after, is_named, new_name}
 use Rattle.profile_toml.specs.Diffs.{diff_of}
+use Rattle.profile_toml.specs.declared.document.Schema.TheVariants.{Two}
 use Rattle.profile_toml.specs.Mirrors.{mirror_of}
 use Rattle.profile_toml.specs.Profiles.{profile_keys, profile_of}
 use Rattle.profile_toml.specs.Releases.{release_of}
@@ -100,7 +101,7 @@ cohorts_after-tables list index releases front (cohort ∷ back) once =
     rw (cohort_of-cohort_table (map (entry_of_cohort releases) front) _ releases cohort unnamed, ← one_more, split_next front cohort back) rest
 
 abbrev pub AppEntry : Type 0
-AppEntry = Read app_of
+AppEntry = Read (app_of Two)
 
 abbrev pub entry_of_app : App → AppEntry
 entry_of_app app =
@@ -118,9 +119,9 @@ none_asked [] = tt
 none_asked (x ∷ xs) = (tt, none_asked xs)
 
 releases_again : (list : List ℕ) (releases : List Release)
-    → each_from release_of list 0 (table_items (map release_table releases)) ≡ Ok (map entry_of_release releases)
+    → each_from (release_of Two) list 0 (table_items (map release_table releases)) ≡ Ok (map entry_of_release releases)
 releases_again list releases =
-    each_from-again (λ release. Unit {0}) release_of release_table entry_of_release
+    each_from-again (λ release. Unit {0}) (release_of Two) release_table entry_of_release
     (λ place release asked. release_of-release_table place release) list 0 releases (none_asked releases)
 
 diffs_again : (list : List ℕ) (releases : List Release) (diffs : List Diff)
@@ -136,7 +137,7 @@ mirrors_again list mirrors =
     (λ place mirror asked. mirror_of-mirror_table place mirror) list 0 mirrors (none_asked mirrors)
 
 app_of-app_table : (place : List ℕ) (app : App) → IsValidApp app
-    → app_of (table_at place (app_table app)) ≡ Ok (entry_of_app app)
+    → app_of Two (table_at place (app_table app)) ≡ Ok (entry_of_app app)
 unfolding app_of
 app_of-app_table place app valid =
     by_keys (app_table app) (known_among-filled_table app_keys place fields refl)
@@ -153,7 +154,7 @@ app_of-app_table place app valid =
         → get_member (codes "cohort") members ≡ tables (map (cohort_table app.releases) app.cohorts)
         → get_member (codes "release") members ≡ tables (map release_table app.releases)
         → get_member (codes "diff") members ≡ tables (map (diff_table app.releases) app.diffs)
-        → app_of (table_at place members) ≡ Ok (entry_of_app app)
+        → app_of Two (table_at place members) ≡ Ok (entry_of_app app)
     by_keys members all_known id default cohort release diff =
         rw (
           all_known,
@@ -168,10 +169,10 @@ app_of-app_table place app valid =
         ) refl
 
 abbrev pub Profile : Type 0
-Profile = Read profile_of
+Profile = Read (profile_of Two)
 
 pub profile_of-profile_table : (apps : List App) (mirrors : List Mirror) → AllByRecursion IsValidApp apps → 1 ≤ length mirrors
-    → profile_of (document (profile_table apps mirrors)) ≡ Ok (record { mirrors = mirrors; apps = map entry_of_app apps })
+    → profile_of Two (document (profile_table apps mirrors)) ≡ Ok (record { mirrors = mirrors; apps = map entry_of_app apps })
 unfolding profile_of
 profile_of-profile_table apps [] valid some = absurd (omega arith)
 profile_of-profile_table apps (first ∷ others) valid some =
@@ -184,7 +185,7 @@ profile_of-profile_table apps (first ∷ others) valid some =
     by_keys : (members : Members) → known profile_keys (document members) ≡ Ok tt
         → get_member (codes "mirror") members ≡ tables (map mirror_table (first ∷ others))
         → get_member (codes "app") members ≡ tables (map app_table apps)
-        → profile_of (document members) ≡ Ok (record { mirrors = first ∷ others; apps = map entry_of_app apps })
+        → profile_of Two (document members) ≡ Ok (record { mirrors = first ∷ others; apps = map entry_of_app apps })
     by_keys members all_known mirror app =
         rw (
           all_known,

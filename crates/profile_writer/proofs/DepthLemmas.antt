@@ -8,7 +8,7 @@ use Rattle.records.specs.declared.content.Release.{Release}
 use Rattle.records.specs.declared.mirror.Mirror.{Mirror}
 use Rattle.toml.specs.Data.{Members, items_depth, members_depth}
 use Rattle.profile_writer.proofs.KeyLemmas.{members_depth-filled_table, value_depth}
-use Rattle.profile_writer.specs.Fields.{app_fields, app_table, cohort_fields, cohort_table, diff_fields, diff_table, mirror_fields, mirror_table, profile_fields, profile_table, release_fields, release_table, share_given}
+use Rattle.profile_writer.specs.Fields.{app_fields, app_table, cohort_fields, cohort_table, diff_fields, diff_table, floor_given, mirror_fields, mirror_table, profile_fields, profile_table, release_fields, release_table, share_given}
 use Rattle.profile_writer.specs.Tables.{flag, optional_natural, optional_string, optional_list, table_items, tables, string_items}
 
 items_depth-string_items : (texts : List (List ℕ)) → items_depth (string_items texts) ≡ 0
@@ -66,7 +66,13 @@ release_shallow release =
             omega arith,
             (
               value_depth-flag release.stone,
-              (value_depth-flag release.withdrawn, (value_depth-optional_list release.audience, tt)),
+              (
+                value_depth-flag release.withdrawn,
+                (
+                  value_depth-optional_list release.audience,
+                  (value_depth-optional_string (floor_given release.floor), tt),
+                ),
+              ),
             ),
           ),
         ),

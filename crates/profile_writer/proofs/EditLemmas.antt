@@ -15,12 +15,13 @@ use Rattle.records.specs.declared.content.App.{App}
 use Rattle.records.specs.declared.content.Cohort.{Cohort}
 use Rattle.records.specs.declared.content.Diff.{Diff}
 use Rattle.records.specs.declared.content.Release.{Release}
+use Rattle.version.specs.Versions.{printed, zero_version}
 use Rattle.values.proofs.SplitLemmas.{list_any-before, split_next}
 use Rattle.values.specs.Lists.{IsOnce}
 use Rattle.profile_toml.specs.Apps.{app_edits, edits_of}
 use Rattle.profile_toml.specs.Cohorts.{cohort_edits, setting_edits, share_edits}
 use Rattle.profile_toml.specs.Diffs.{diff_edits}
-use Rattle.profile_toml.specs.Releases.{audience_edits, release_edits}
+use Rattle.profile_toml.specs.Releases.{audience_edits, floor_edits, release_edits}
 use Rattle.profile_writer.proofs.AppEntryLemmas.{entry_of_app, entry_of_cohort}
 use Rattle.profile_writer.proofs.EntryLemmas.{entry_of_diff, entry_of_release}
 
@@ -55,11 +56,21 @@ audience_edits-given : (id version : List ℕ) (audience : Option (List (List �
 audience_edits-given id version None = refl
 audience_edits-given id version (Some names) = refl
 
+floor_edits-given : (id version floor : List ℕ) (none : Bool)
+    → floor_edits id version (cond none None (Some (printed floor)))
+    ≡ cond none [] (edit.SetFloor (record { app = id; version = version; floor = printed floor }) ∷ [])
+floor_edits-given id version floor true = refl
+floor_edits-given id version floor false = refl
+
 release_edits-all : (app : App) (releases : List Release)
     → flat_map (release_edits app.id) (map entry_of_release releases) ≡ flat_map (edits_of_release app) releases
 release_edits-all app [] = refl
 release_edits-all app (release ∷ releases) =
-    rw (audience_edits-given app.id release.spelled release.audience, release_edits-all app releases) refl
+    rw (
+      audience_edits-given app.id release.spelled release.audience,
+      floor_edits-given app.id release.spelled release.floor (bytes_eq release.floor zero_version),
+      release_edits-all app releases,
+    ) refl
 
 diff_edits-all : (app : App) (diffs : List Diff)
     → flat_map (diff_edits app.id) (map (entry_of_diff app.releases) diffs) ≡ map (edit_of_diff app) diffs

@@ -10,12 +10,13 @@ use Rattle.profile_tables.specs.Fields.{known}
 use Rattle.profile_tables.specs.Tables.{PlacedTable, table_at}
 use Rattle.profile_tables.specs.declared.path.BadEntry.{BadEntry}
 use Rattle.profile_toml.specs.Diffs.{diff_in, diff_keys, diff_of}
+use Rattle.profile_toml.specs.declared.document.Schema.TheVariants.{Two}
 use Rattle.profile_toml.specs.Mirrors.{mirror_keys, mirror_of}
 use Rattle.profile_toml.specs.Releases.{package_in, release_keys, release_of}
 use Rattle.profile_writer.proofs.KeyLemmas.{get_member-filled_table, known_among-filled_table}
-use Rattle.profile_writer.proofs.ReaderLemmas.{given, optional-flag, optional_strings-given, required-natural, required-string}
-use Rattle.profile_writer.specs.Fields.{diff_fields, diff_table, mirror_fields, mirror_table, release_fields, release_table}
-use Rattle.profile_writer.specs.Tables.{Field, flag, natural, optional_list, given_string}
+use Rattle.profile_writer.proofs.ReaderLemmas.{given, optional-flag, optional-string, optional_strings-given, required-natural, required-string}
+use Rattle.profile_writer.specs.Fields.{diff_fields, diff_table, floor_given, mirror_fields, mirror_table, release_fields, release_table}
+use Rattle.profile_writer.specs.Tables.{Field, flag, natural, optional_list, optional_string, given_string}
 
 -- what a table is read as
 abbrev pub Read : {A : Type 0} → (PlacedTable → Result A BadEntry) → Type 0
@@ -49,7 +50,7 @@ mirror_of-mirror_table place mirror = by_keys (mirror_table mirror) (known_among
         ) refl
 
 abbrev pub ReleaseEntry : Type 0
-ReleaseEntry = Read release_of
+ReleaseEntry = Read (release_of Two)
 
 abbrev pub entry_of_release : Release → ReleaseEntry
 entry_of_release release =
@@ -63,22 +64,23 @@ entry_of_release release =
       stone = release.stone;
       withdrawn = release.withdrawn;
       audience = release.audience;
+      floor = floor_given release.floor;
     }
 
 pub release_of-release_table : (place : List ℕ) (release : Release)
-    → release_of (table_at place (release_table release)) ≡ Ok (entry_of_release release)
+    → release_of Two (table_at place (release_table release)) ≡ Ok (entry_of_release release)
 unfolding release_of package_in
 release_of-release_table place release =
-    by_keys (release_table release) (known_among-filled_table release_keys place fields refl)
+    by_keys (release_table release) (known_among-filled_table (release_keys Two) place fields refl)
     (get_member-filled_table (codes "version") fields) (get_member-filled_table (codes "name") fields)
     (get_member-filled_table (codes "size") fields) (get_member-filled_table (codes "sha256") fields)
     (get_member-filled_table (codes "stone") fields) (get_member-filled_table (codes "withdrawn") fields)
-    (get_member-filled_table (codes "audience") fields)
+    (get_member-filled_table (codes "audience") fields) (get_member-filled_table (codes "floor") fields)
   where
     fields : List Field
     fields = release_fields release
 
-    by_keys : (members : Members) → known release_keys (table_at place members) ≡ Ok tt
+    by_keys : (members : Members) → known (release_keys Two) (table_at place members) ≡ Ok tt
         → get_member (codes "version") members ≡ given_string release.spelled
         → get_member (codes "name") members ≡ given_string release.name
         → get_member (codes "size") members ≡ natural release.size
@@ -86,8 +88,9 @@ release_of-release_table place release =
         → get_member (codes "stone") members ≡ flag release.stone
         → get_member (codes "withdrawn") members ≡ flag release.withdrawn
         → get_member (codes "audience") members ≡ optional_list release.audience
-        → release_of (table_at place members) ≡ Ok (entry_of_release release)
-    by_keys members all_known version name size sha256 stone withdrawn audience =
+        → get_member (codes "floor") members ≡ optional_string (floor_given release.floor)
+        → release_of Two (table_at place members) ≡ Ok (entry_of_release release)
+    by_keys members all_known version name size sha256 stone withdrawn audience floor =
         rw (
           all_known,
           required-string place (codes "version") members release.spelled version,
@@ -97,6 +100,7 @@ release_of-release_table place release =
           optional-flag place (codes "stone") members release.stone stone,
           optional-flag place (codes "withdrawn") members release.withdrawn withdrawn,
           optional_strings-given place (codes "audience") members release.audience audience,
+          optional-string place (codes "floor") members (floor_given release.floor) floor,
           unwrap_or-given release.stone,
           unwrap_or-given release.withdrawn,
         ) refl

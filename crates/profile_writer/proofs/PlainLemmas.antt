@@ -11,7 +11,7 @@ use Rattle.records.specs.declared.content.Release.{Release}
 use Rattle.records.specs.declared.mirror.Mirror.{Mirror}
 use Rattle.toml.specs.Data.{Data, Members, member, no_members}
 use Rattle.profile_writer.proofs.OneTextLemmas.{is_plain, items_are_plain, members_are_plain}
-use Rattle.profile_writer.specs.Fields.{app_fields, app_table, cohort_fields, cohort_table, diff_fields, diff_table, mirror_fields, mirror_table, profile_fields, profile_table, release_fields, release_table, share_given}
+use Rattle.profile_writer.specs.Fields.{app_fields, app_table, cohort_fields, cohort_table, diff_fields, diff_table, floor_given, mirror_fields, mirror_table, profile_fields, profile_table, release_fields, release_table, share_given}
 use Rattle.profile_writer.specs.Tables.{Field, flag, optional_natural, optional_string, optional_list, put, table_items, filled_table, tables, string_items, with_fields, with_key}
 
 members_are_plain-put : (key : List ℕ) (value : Data) (filled : Members) → is_plain value ≡ true
@@ -99,7 +99,10 @@ release_plain release =
               is_plain-flag release.stone,
               (
                 is_plain-flag release.withdrawn,
-                (is_plain-optional_list release.audience, tt),
+                (
+                  is_plain-optional_list release.audience,
+                  (is_plain-optional_string (floor_given release.floor), tt),
+                ),
               ),
             ),
           ),

@@ -9,7 +9,8 @@ use Rattle.records.specs.declared.content.App.{App}
 use Rattle.records.specs.declared.mirror.Mirror.{Mirror}
 use Rattle.toml.specs.Parse.{parse_document}
 use Rattle.profile_tables.specs.Tables.{document}
-use Rattle.profile_toml.specs.Documents.{check_schema}
+use Rattle.profile_toml.specs.Documents.{schema_of}
+use Rattle.profile_toml.specs.declared.document.Schema.TheVariants.{Two}
 use Rattle.profile_toml.specs.Laws.{AreMirrors}
 use Rattle.profile_toml.specs.Reading.{profile_of_bytes}
 use Rattle.profile_writer.proofs.AppEntryLemmas.{profile_of-profile_table}
@@ -19,11 +20,11 @@ use Rattle.profile_writer.proofs.MirrorLemmas.{valid_mirrors-AreMirrors}
 use Rattle.profile_writer.proofs.ReaderLemmas.{required-natural}
 use Rattle.profile_writer.specs.Fields.{profile_fields, profile_table}
 
-check_schema-written : (apps : List App) (mirrors : List Mirror)
-    → check_schema (document (profile_table apps mirrors)) ≡ Ok tt
-check_schema-written apps mirrors =
+schema_of-written : (apps : List App) (mirrors : List Mirror)
+    → schema_of (document (profile_table apps mirrors)) ≡ Ok Two
+schema_of-written apps mirrors =
     let given = get_member-filled_table (codes "schema") (profile_fields apps mirrors) in
-    rw (required-natural [] (codes "schema") (profile_table apps mirrors) 1 given) refl
+    rw (required-natural [] (codes "schema") (profile_table apps mirrors) 2 given) refl
 
 pub profile_of_bytes-written : (text : List ℕ) (apps : List App) (mirrors : List Mirror)
     → IsUtf8 text → parse_document text ≡ Some (profile_table apps mirrors)
@@ -34,7 +35,7 @@ profile_of_bytes-written text apps mirrors utf8 parsed valid are =
     rw (
       is_utf8-from_IsUtf8 text utf8,
       parsed,
-      check_schema-written apps mirrors,
+      schema_of-written apps mirrors,
       profile_of-profile_table apps mirrors valid are.some,
       valid_mirrors-AreMirrors mirrors are,
       edits_of-entries apps valid,

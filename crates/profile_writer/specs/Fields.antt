@@ -1,8 +1,10 @@
--- The keys of each table of a content's profile, with their values; this project's profile, schema 1. What
--- reading assumes if a key is missing is left out. Versions are spelled as they were added, and hashes as 64
--- lower-case digits.
+-- The keys of each table of a content's profile, with their values; this project's profile, schema 2. What
+-- reading assumes if a key is missing is left out. Versions are spelled as they were added, floors as they
+-- print, and hashes as 64 lower-case digits.
 use Rattle.std.specs.Prelude.{ℕ, ◌==◌, List, [], ◌∷◌, codes, map, if◌then◌else◌, Option, None, Some, option_map}
+use Rattle.std.specs.Str.{bytes_eq}
 use Rattle.hex.specs.Hex.{encode_lower}
+use Rattle.version.specs.Versions.{printed, zero_version}
 use Rattle.catalogue_laws.specs.Contents.{default_name, spelling_of}
 use Rattle.records.specs.Limits.{max_share}
 use Rattle.records.specs.declared.content.App.{App}
@@ -38,6 +40,10 @@ cohort_fields releases cohort =
     ∷ (codes "open", flag cohort.hintable)
     ∷ []
 
+-- the floor of a release, but 0
+abbrev pub floor_given : List ℕ → Option (List ℕ)
+floor_given floor = if bytes_eq floor zero_version then None else Some (printed floor)
+
 -- rule: Written release
 -- a release
 abbrev pub release_fields : Release → List Field
@@ -49,6 +55,7 @@ release_fields release =
     ∷ (codes "stone", flag release.stone)
     ∷ (codes "withdrawn", flag release.withdrawn)
     ∷ (codes "audience", optional_list release.audience)
+    ∷ (codes "floor", optional_string (floor_given release.floor))
     ∷ []
 
 -- rule: Written differential
@@ -93,7 +100,7 @@ app_table app = filled_table (app_fields app)
 -- a content with its mirrors
 abbrev pub profile_fields : List App → List Mirror → List Field
 profile_fields apps mirrors =
-    (codes "schema", natural 1)
+    (codes "schema", natural 2)
     ∷ (codes "mirror", tables (map mirror_table mirrors))
     ∷ (codes "app", tables (map app_table apps))
     ∷ []

@@ -13,7 +13,7 @@ use catalogue::{Catalogue, Mirror};
 use std::alloc::{AllocError, Global};
 use toml::Table;
 
-const SCHEMA: u64 = 1;
+const SCHEMA: u64 = 2;
 
 // rule: Written mirror
 fn write_mirror(alloc: Global, mirror: &Mirror) -> Result<Table, AllocError>
@@ -58,7 +58,7 @@ fn write_tables(
 
 // rule: Bytes of a profile
 // rule: Written profile
-/// Writes a catalogue and its mirrors as a profile of schema 1.
+/// Writes a catalogue and its mirrors as a profile of schema 2.
 ///
 /// A key has a line of its own, the keys of a table are in byte order, and values that reading assumes are
 /// left out. Apps and cohorts are in the order of their addition, the default cohort first; releases

@@ -1,12 +1,14 @@
 //! The releases and the differentials of an app.
 
-ghost use Rattle.std.specs.Prelude.{◌≡◌, ◌<◌, ◌^◌, true, map, option_map, IfOk};
+ghost use Rattle.std.specs.Prelude.{◌≡◌, ◌<◌, ◌^◌, true, codes, map, option_map, IfOk, OnOk};
 ghost use Rattle.std.specs.List.{AllByRecursion};
 ghost use Rattle.catalogue_laws.specs.Contents.{spelling_of};
 ghost use Rattle.records.specs.Validity.{is_release_below};
 ghost use Rattle.toml.specs.View.{table_view};
 ghost use Rattle.values.specs.Ordered.{ascend};
-ghost use Rattle.profile_writer.specs.Fields.{diff_table, release_table};
+ghost use Rattle.profile_writer.specs.Fields.{diff_table, floor_given, release_table};
+ghost use Rattle.profile_writer.specs.Tables.{optional_string, with_key};
+ghost use Rattle.profile_writer.specs.Writers.{filled};
 
 use crate::table::TableWriter;
 use catalogue::{Diff, Release};
@@ -26,6 +28,22 @@ pub(crate) fn spelling<'r>(releases: &'r [Release], version: &Version) -> &'r st
     }
 }
 
+fn write_floor(
+    alloc: Global,
+    table: &mut TableWriter,
+    floor: &Version,
+) -> Result<(), AllocError>
+    ensures { OnOk result
+        (filled table.new
+        ≡ with_key (codes "floor") (optional_string (floor_given floor.now)) (filled table.old)) }
+{
+    if floor.is_equal(&Version::zero()) {
+        return Ok(());
+    }
+    let printed = format!(in alloc; "{floor}")?;
+    table.string("floor", printed.as_str())
+}
+
 // rule: Written release
 fn write_release(alloc: Global, release: &Release) -> Result<Table, AllocError>
     requires { release.now.size < 2 ^ 63 }
@@ -40,6 +58,7 @@ fn write_release(alloc: Global, release: &Release) -> Result<Table, AllocError>
     table.flag("stone", release.stone)?;
     table.flag("withdrawn", release.withdrawn)?;
     table.optional_strings("audience", &release.audience)?;
+    write_floor(alloc, &mut table, &release.floor)?;
     Ok(table.into_table())
 }
 

@@ -3,7 +3,7 @@ use Rattle.std.specs.Prelude.{◌≡◌, ℕ, ◌≤◌, ◌&&◌, ◌||◌, Boo
 use Rattle.std.specs.List.{AllByRecursion, list_all}
 use Rattle.std.specs.Option.{option_map_or}
 use Rattle.std.specs.Str.{bytes_eq}
-use Rattle.version.specs.Versions.{is_below, version_of}
+use Rattle.version.specs.Versions.{is_below, printed, version_of}
 use Rattle.records.specs.Forms.{is_app_id, is_cohort_name, is_hash, is_package_name, is_size}
 use Rattle.records.specs.Limits.{max_apps, max_cohorts, max_diffs, max_releases, max_share}
 use Rattle.records.specs.Lookups.{has_cohort, has_hash, has_release, is_app, is_cohort, is_pair_below, packages_of, pair_of}
@@ -11,7 +11,7 @@ use Rattle.values.specs.Lists.{IsOnce}
 use Rattle.values.specs.Ordered.{ascend}
 use Rattle.records.specs.declared.content.App.{App}
 use Rattle.records.specs.declared.content.Cohort.{Cohort}
-use Rattle.records.specs.declared.content.Declared.{Declared}
+use Rattle.values.specs.declared.declared.Declared.{Declared}
 use Rattle.records.specs.declared.content.Diff.{Diff}
 use Rattle.records.specs.declared.content.Release.{Release}
 
@@ -58,6 +58,10 @@ is_valid_release cohorts release =
     && is_hash release.hash
     && is_valid_audience cohorts release.audience
 
+-- a release's floor is one that an edit can set again: printed, it is a string that spells it
+abbrev pub has_valid_floor : Release → Bool
+has_valid_floor release = spells (printed release.floor) release.floor
+
 -- a differential: upward between releases, its package's name, bytes and hash
 abbrev pub is_valid_diff : List Release → Diff → Bool
 is_valid_diff releases diff =
@@ -79,6 +83,7 @@ pub record IsValidApp (app : App) : Type 0 where
   pub releases_ascend : ascend is_release_below app.releases ≡ true
   pub hashes_once : IsOnce has_hash app.releases
   pub releases_valid : list_all (is_valid_release app.cohorts) app.releases ≡ true
+  pub floors_valid : list_all has_valid_floor app.releases ≡ true
   pub few_diffs : length app.diffs ≤ max_diffs
   pub diffs_ascend : ascend is_diff_before app.diffs ≡ true
   pub diffs_valid : list_all (is_valid_diff app.releases) app.diffs ≡ true

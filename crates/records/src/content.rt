@@ -75,7 +75,7 @@ pub struct Release {
     pub withdrawn: bool,
     /// The names of the cohorts that it is open to; all cohorts if there is none.
     pub audience: Option<Items<Text>>,
-    /// Its floor: the lowest version that it may be taken from; 0 if any version may take it.
+    /// Its floor: the lowest version that may be updated to it; 0 if any may.
     pub floor: Version,
 }
 
@@ -109,13 +109,4 @@ pub struct Cohort {
     pub rollback: bool,
     /// Whether a client's hint may name it.
     pub hintable: bool,
-}
-
-/// What the catalogue declares of a package: its bytes and its SHA-256.
-#[derive(Clone, Copy, Debug, PartialEq, Eq)]
-pub struct Declared {
-    /// How many bytes the package has, 1 to 2^40.
-    pub size: u64,
-    /// The SHA-256 of the package.
-    pub hash: [u8; 32],
 }

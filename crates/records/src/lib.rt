@@ -14,5 +14,6 @@ pub mod form;
 pub mod lookup;
 mod mirror;
 
-pub use crate::content::{App, Cohort, Declared, Diff, Release};
+pub use crate::content::{App, Cohort, Diff, Release};
 pub use crate::mirror::Mirror;
+pub use values::Declared;

@@ -27,6 +27,7 @@ no_release =
       stone = false;
       withdrawn = false;
       audience = None;
+      floor = [];
     }
 
 kept_some : {A B : Type 0} (f : A → B) (found : Option A) → IsSome found → IsSome (option_map f found)

@@ -55,6 +55,28 @@ fn jumps_no_stone_that_is_closed(rt: HostRuntime) {
     check_rows(&rt, Kind::Choice, edition, CLOSED);
 }
 
+const FLOORED: &str = "full 0 for 1000 | 0,stable:0,false
+differential 0 for 300 | 1,stable:0,false";
+
+// rule: Floor
+#[test]
+fn brings_a_client_to_the_floor_first(rt: HostRuntime) {
+    let edition = edition_after(rt.alloc(), CHAINED, "set_floor demo 2.0 1.0");
+    check_rows(&rt, Kind::Choice, edition, FLOORED);
+}
+
+const BELOW: &str = "none | 1,stable:0,false
+none | 2,stable:0,false
+differential 4 for 250 | 3,stable:0,false";
+
+// rule: Floor
+#[test]
+fn offers_nothing_below_a_floor(rt: HostRuntime) {
+    let edits = "set_floor demo 4.0 3.0;set_withdrawn demo 3.0 on";
+    let edition = edition_after(rt.alloc(), CHAINED, edits);
+    check_rows(&rt, Kind::Choice, edition, BELOW);
+}
+
 const DIFFERENTIAL: &str =
     r#"{"appid":"demo","cohort":"stable:0","cohortname":"stable","status":"ok","updatecheck":{"manifest":{"packages":{"package":[{"fp":"1.2222222222222222222222222222222222222222222222222222222222222222","hash_sha256":"2222222222222222222222222222222222222222222222222222222222222222","hashdiff_sha256":"1212121212121212121212121212121212121212121212121212121212121212","name":"demo-2.0.bin","namediff":"demo-1.0-2.0.bin","size":1200,"sizediff":300}]},"version":"2.0"},"status":"ok","urls":{"url":[{"codebase":"http://m0.example/p/"},{"codebasediff":"http://m0.example/p/"}]}}} | {"appid":"demo","cohort":"stable:0","packages":{"package":[{"fp":"1.1111111111111111111111111111111111111111111111111111111111111111"}]},"updatecheck":{},"version":"1.0"}
 {"appid":"demo","cohort":"stable:0","cohortname":"stable","status":"ok","updatecheck":{"manifest":{"packages":{"package":[{"fp":"1.2222222222222222222222222222222222222222222222222222222222222222","hash_sha256":"2222222222222222222222222222222222222222222222222222222222222222","name":"demo-2.0.bin","size":1200}]},"version":"2.0"},"status":"ok","urls":{"url":[{"codebase":"http://m0.example/p/"}]}}} | {"appid":"demo","cohort":"stable:0","updatecheck":{},"version":"x.y"}"#;

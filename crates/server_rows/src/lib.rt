@@ -22,6 +22,7 @@ mod chains;
 mod cohort_texts;
 #[cfg(test)]
 mod connection;
+mod crossing;
 #[cfg(test)]
 mod descriptions;
 #[cfg(test)]
@@ -41,6 +42,7 @@ mod one_worker;
 #[cfg(test)]
 mod opened;
 #[cfg(test)]
+mod pins;
 mod plans;
 #[cfg(test)]
 mod publishing;

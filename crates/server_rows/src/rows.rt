@@ -3,6 +3,7 @@
 use crate::asking::{print_day, print_reply};
 use crate::catalogue_of_rows::print_findings;
 use crate::descriptions::print_description;
+use crate::pins::print_allowed;
 use crate::plans::{client_at, print_cohort, print_plan, print_track};
 use crate::shelf::Shelf;
 use editions::Edition;
@@ -27,6 +28,8 @@ pub(crate) enum Kind {
     Track,
     /// The parts of a cohort text.
     Cohort,
+    /// The versions that a prefix allows.
+    Pin,
     /// The findings in files.
     Findings,
     /// The description of a file.
@@ -42,6 +45,7 @@ fn find(alloc: Global, kind: Kind, edition: &Edition, asked: &str) -> Option<Str
         Kind::Choice => print_plan(alloc, edition, client_at(alloc, asked)?.as_str()),
         Kind::Track => print_track(alloc, edition.catalogue(), asked),
         Kind::Cohort => print_cohort(alloc, asked),
+        Kind::Pin => print_allowed(alloc, asked),
         Kind::Findings => print_findings(alloc, &Shelf { files: asked }),
         Kind::Description => print_description(alloc, asked),
     }

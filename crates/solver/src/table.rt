@@ -8,7 +8,7 @@ use crate::filling::fill;
 use payload_graph::Graph;
 use price_cert::{Certified, Prices, Row, check};
 use std::alloc::{AllocError, Global};
-use values::Items;
+use values::SharedItems;
 
 fn solved_rows(alloc: Global, graph: &Graph) -> Result<Vec<Row>, AllocError>
     ensures { IfOk result (λ rows. AreCertified graph.now rows.items) }
@@ -30,7 +30,7 @@ pub fn solve(alloc: Global, graph: &Graph) -> Result<Certified, AllocError>
     let rows = solved_rows(alloc, graph)?;
     let prices = Prices {
         key: graph.key(),
-        rows: Items::new(rows),
+        rows: SharedItems::new(alloc, rows)?,
     };
     match check(graph, prices) {
         Ok(certified) => Ok(certified),

@@ -1,8 +1,7 @@
 ghost use Rattle.std.specs.Prelude.{◌≡◌, ◌+◌, ◌++◌, [], OnOk, is_ok, if◌then◌else◌};
 ghost use Rattle.update_client.specs.Installing.{committed, uncommitted};
 
-use crate::link::Failed;
-use values::Text;
+use values::{Failed, Text};
 
 /// One accepted offer.
 #[derive(Clone, Drop)]

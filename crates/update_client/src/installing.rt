@@ -7,8 +7,9 @@ ghost use Rattle.update_client.specs.Installing.{IsStaged, Installs, Rejects, li
 
 use crate::fault::Fault;
 use crate::installer::{Installer, Step};
-use crate::link::{Failed, Link};
+use crate::link::Link;
 use sha2::{Digest, Sha256};
+use values::Failed;
 
 // Whether what was hashed has this digest.
 fn agrees(hasher: Sha256, hash: &[u8; 32]) -> bool

@@ -27,6 +27,7 @@ pub use crate::fault::Fault;
 pub use crate::hearing::Accepted;
 pub use crate::installer::{Installer, Step};
 pub use crate::installing::install;
-pub use crate::link::{Failed, Link};
+pub use crate::link::Link;
 pub use crate::trace::Trace;
 pub use crate::walking::{MAX_STEPS, Walk};
+pub use values::Failed;

@@ -3,10 +3,7 @@ ghost use Rattle.std.specs.Result.{result_map_both};
 ghost use Rattle.update_client.specs.Installing.{posted};
 
 use std::alloc::Global;
-
-/// A call of a link or of an installer failed.
-#[derive(Clone, Copy, Debug, Drop, PartialEq, Eq)]
-pub struct Failed;
+use values::Failed;
 
 /// Posts requests to a server, and carries downloads.
 pub trait Link {

@@ -10,10 +10,9 @@ use Rattle.records.specs.Lookups.{declared_of, diff_package, full_package, packa
 use Rattle.records.specs.Validity.{IsValid, IsValidApp, is_valid_audience, is_valid_diff, is_valid_release}
 use Rattle.records.specs.declared.content.App.{App}
 use Rattle.records.specs.declared.content.Cohort.{Cohort}
-use Rattle.records.specs.declared.content.Declared.{Declared}
+use Rattle.values.specs.declared.declared.Declared.{Declared}
 use Rattle.records.specs.declared.content.Diff.{Diff}
 use Rattle.records.specs.declared.content.Release.{Release}
-use Rattle.update_desk.specs.Desks.{package_of}
 
 -- a package's byte is ASCII
 is_package_byte-ascii : (byte : ℕ) → is_package_byte byte ≡ true → byte < 128
@@ -74,7 +73,6 @@ lookup-no_string name (entry ∷ entries) no_string (here, strings) =
     ap (λ b. cond b (Some entry.1) (lookup (bytes_eq name) entries)) other ∙ lookup-no_string name entries no_string strings
 
 -- nothing is declared of a name that is no string
-pub package_of-no_string : (apps : List App) (name : List ℕ) → IsValid apps → ¬ (IsUtf8 name) → None ≡ package_of apps name
-package_of-no_string apps name valid no_string =
-    let none : declared_of apps name ≡ None = lookup-no_string name (packages_of apps) no_string (AreStrings-apps apps valid.apps_valid) in
-    rw none refl
+pub declared_of-no_string : (apps : List App) (name : List ℕ) → IsValid apps → ¬ (IsUtf8 name) → None ≡ declared_of apps name
+declared_of-no_string apps name valid no_string =
+    sym (lookup-no_string name (packages_of apps) no_string (AreStrings-apps apps valid.apps_valid))

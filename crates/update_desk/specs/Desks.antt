@@ -1,14 +1,12 @@
 -- The desk of update checks: how it replies to a message, and which packages it knows; this project's
 -- profile.
-use Rattle.std.specs.Prelude.{◌≡◌, ℕ, List, [], Option, None, Some, Ok, Err, option_map}
+use Rattle.std.specs.Prelude.{◌≡◌, ℕ, List, [], Option, None, Some, Ok, Err}
 use Rattle.http_desks.specs.Calls.{Call, Asks, Looks}
 use Rattle.http_desks.specs.declared.desk.DeskStatus.{DeskStatus}
 use Rattle.http_desks.specs.declared.desk.DeskStatus.TheVariants as status
-use Rattle.http_desks.specs.declared.desk.Declared.{Declared}
 use Rattle.mirror_ledger.specs.Asks.{Ask}
 use Rattle.omaha_json.specs.declared.fault.RequestFault.{RequestFault}
 use Rattle.records.specs.Lookups.{declared_of}
-use Rattle.records.specs.declared.content.App.{App}
 use Rattle.values.specs.declared.read_error.ReadError.TheVariants as errors
 use Rattle.update_desk.specs.Answering.{Answers, Stock}
 
@@ -25,13 +23,8 @@ abbrev pub IsAnswer : Stock → List ℕ → ℕ → List Ask → List Ask → O
 IsAnswer stock input moment before after None = Answers stock input moment before after (Err errors.Memory)
 IsAnswer stock input moment before after (Some answer) = HasStatus stock input moment before after answer.0 answer.1
 
--- what is declared of the package of a name
-abbrev pub package_of : List App → List ℕ → Option Declared
-package_of content name =
-    option_map (λ declared. record { size = declared.size; hash = declared.hash }) (declared_of content name)
-
 -- rule: Desk of update checks
 -- a call of the desk, with the asks before and after it; a look-up asks for nothing
 abbrev pub IsCall : Stock → List Ask → Call → List Ask → Type 0
 IsCall stock before (Asks input moment answer) after = IsAnswer stock input moment before after answer
-IsCall stock before (Looks name found) after = (found ≡ package_of stock.content name) × (after ≡ before)
+IsCall stock before (Looks name found) after = (found ≡ declared_of stock.content name) × (after ≡ before)

@@ -1,29 +1,19 @@
 // The packages that a catalogue declares.
 
 ghost use Rattle.std.specs.Prelude.{◌≡◌};
-ghost use Rattle.update_desk.specs.Desks.{package_of};
+ghost use Rattle.records.specs.Lookups.{declared_of};
 
-use catalogue::Catalogue;
-use http_desks::Declared;
+use catalogue::{Catalogue, Declared};
 use std::str;
 
 // rule: Desk of update checks
 /// Finds what a catalogue declares of the package of a name, which may be any bytes.
 pub(crate) fn find_package(catalogue: &Catalogue, name: &[u8]) -> Option<Declared>
-    ensures { result ≡ package_of catalogue.now name.now }
+    ensures { result ≡ declared_of catalogue.now name.now }
 {
     catalogue.validity();
-    let Ok(name) = str::from_utf8(name) else {
-        return None;
-    };
-    match catalogue.package(name) {
-        Some(declared) => {
-            let hash = declared.hash;
-            Some(Declared {
-                size: declared.size,
-                hash,
-            })
-        }
-        None => None,
+    match str::from_utf8(name) {
+        Ok(name) => catalogue.package(name),
+        Err(_) => None,
     }
 }

@@ -1,5 +1,5 @@
 -- A version's string reads back as the version.
-use Rattle.std.proofs.Common.{◌≡◌, ◌≢◌, ℕ, ◌+◌, ◌-◌, ◌^◌, ◌<◌, ◌≤◌, Bool, true, false, cond, eqb, List, [], ◌∷◌, ◌++◌, length, get_or, take, drop, map, max, reverse, Some, suc, unwrap_or, refl, sym, ap, ◌∙◌, arith, length-append}
+use Rattle.std.proofs.Common.{◌≡◌, ◌≢◌, ℕ, ◌+◌, ◌-◌, ◌^◌, ◌<◌, ◌≤◌, Bool, true, false, cond, eqb, List, [], ◌∷◌, ◌++◌, length, get_or, take, drop, map, max, reverse, Some, suc, zero, unwrap_or, refl, sym, ap, ◌∙◌, arith, length-append}
 use Rattle.std.proofs.Math.ListN.{replicate}
 use Rattle.std.specs.Fmt.{decimal}
 use Rattle.std.specs.List.{All, join_with_byte, prefix_len}
@@ -7,15 +7,17 @@ use Rattle.std.specs.Option.{option_map}
 use Rattle.std.specs.Str.{all_ascii_digits}
 use Rattle.std.specs.Str.Parse.{digits_value}
 use Rattle.std.proofs.lemmas.Bool.Decides.{nat_tests}
-use Rattle.std.proofs.lemmas.Fmt.{decimal_nonempty, digits_decimal, digits_value-decimal}
-use Rattle.std.proofs.lemmas.List.{get_or-replicate, get_or_default, get_or-reverse, take-replicate, length-map, length-replicate, length-reverse, length-take-le, replicate-append-replicate, reverse-append, reverse-reverse, same_lists}
-use Rattle.std.proofs.lemmas.List.Elements.{All-take}
+use Rattle.std.proofs.lemmas.Fmt.{decimal_digit, decimal_nonempty, digits_decimal, digits_value-decimal, first_decimal}
+use Rattle.std.proofs.lemmas.List.{get_or-replicate, get_or_default, get_or-reverse, take-replicate, length-map, length-replicate, length-reverse, length-take, length-take-le, replicate-append-replicate, reverse-append, reverse-reverse, same_lists}
+use Rattle.std.proofs.lemmas.List.Elements.{All-append, All-replicate, All-take}
+use Rattle.std.proofs.lemmas.List.Folds.{prefix_len-append, prefix_len-replicate}
 use Rattle.std.proofs.lemmas.List.Sums.{prefix_len-le-length}
 use Rattle.std.proofs.lemmas.List.Splits.{slice_split_at, slice_split_none}
 use Rattle.std.proofs.lemmas.Str.Parse.{IsNumeralModel, not_in_digits, numerals_by_value, tells_all_ascii_digits}
-use Rattle.version.specs.declared.parse.Form.TheVariants.{Lenient}
-use Rattle.version.specs.Versions.{lenient_version_of, number_in, numbers_of, padded, parts_of, printed, shown_components, zeros_at_end}
-use Rattle.version.proofs.SpellingLemmas.{components_of_some}
+use Rattle.version.specs.declared.parse.Form.{Form}
+use Rattle.version.specs.declared.parse.Form.TheVariants.{Lenient, Plain}
+use Rattle.version.specs.Versions.{components_of, has_leading_zero, lenient_version_of, max_components, number_in, number_of, numbers_of, padded, parts_of, printed, shown_components, version_of, zeros_at_end}
+use Rattle.version.proofs.SpellingLemmas.{components_of_some, version_of-numbers}
 
 -- the strings of ASCII digits are those of decimal digits
 numerals : IsNumeralModel (λ digits. all_ascii_digits digits ≡ true) (digits_value 10)
@@ -44,25 +46,41 @@ parts_of-join_with_byte (first ∷ (second ∷ others)) some small =
     slice_split_at dots (decimal first) 46 (join_with_byte 46 (map decimal (second ∷ others))) (decimal-no_dot first (omega (arith, small 0 0 (omega arith)))) refl
     ∙ ap (λ parts. decimal first ∷ parts) (parts_of-join_with_byte (second ∷ others) (omega arith) rest)
 
+-- a number's string has no zero before further digits
+decimal-no_leading_zero : (number : ℕ) → number < 2 ^ 32 → has_leading_zero (decimal number) ≡ false
+decimal-no_leading_zero zero small = rw (decimal_digit 0 (omega arith)) refl
+decimal-no_leading_zero (suc less) small =
+    let first : 48 < get_or (decimal (suc less)) 0 0 = first_decimal (suc less) (omega arith) (omega arith) in
+    grind (arith, nat_tests)
+
 -- a number's string spells the number
-number_in-decimal :
+number_of-decimal :
     (number : ℕ) →
     number < 2 ^ 32 →
-    number_in Lenient (decimal number) ≡ Some number
-number_in-decimal number small =
+    number_of (decimal number) ≡ Some number
+number_of-decimal number small =
     let some : 0 < length (decimal number) = decimal_nonempty number (omega arith) in
     let digits : all_ascii_digits (decimal number) ≡ true = digits_decimal numerals number (omega arith) in
     let value : digits_value 10 (decimal number) ≡ number = digits_value-decimal numerals number (omega arith) in
     rw (digits, value) (grind (arith, nat_tests))
 
+-- and so in each form
+number_in-decimal :
+    (form : Form) (number : ℕ) →
+    number < 2 ^ 32 →
+    number_in form (decimal number) ≡ Some number
+number_in-decimal Plain number small =
+    rw (decimal-no_leading_zero number small) (number_of-decimal number small)
+number_in-decimal Lenient number small = number_of-decimal number small
+
 -- numbers' strings spell the numbers
 numbers_of-decimals :
-    (numbers : List ℕ) →
+    (form : Form) (numbers : List ℕ) →
     All (λ number. number < 2 ^ 32) numbers →
-    numbers_of Lenient (map decimal numbers) ≡ Some numbers
-numbers_of-decimals [] small = refl
-numbers_of-decimals (first ∷ others) small =
-    rw (number_in-decimal first (small 0 0 (omega arith)), numbers_of-decimals others (λ place past within. small (suc place) past (omega arith))) refl
+    numbers_of form (map decimal numbers) ≡ Some numbers
+numbers_of-decimals form [] small = refl
+numbers_of-decimals form (first ∷ others) small =
+    rw (number_in-decimal form first (small 0 0 (omega arith)), numbers_of-decimals form others (λ place past within. small (suc place) past (omega arith))) refl
 
 -- how many zeros a list begins with
 abbrev leading_zeros : List ℕ → ℕ
@@ -149,6 +167,23 @@ parts_of-printed :
 unfolding printed
 parts_of-printed version some small = parts_of-join_with_byte (shown_components version) some small
 
+-- a version's string spells the version in a form that allows as many components as are shown
+components_of-printed :
+    (form : Form) (version : List ℕ) →
+    length version ≡ 16 →
+    All (λ number. number < 2 ^ 32) version →
+    length (shown_components version) ≤ max_components form →
+    components_of form (printed version) ≡ Some (version, length (shown_components version))
+components_of-printed form version sixteen small few =
+    let shown : List ℕ = shown_components version in
+    let kept : ℕ = max (length version - zeros_at_end version) 2 in
+    let cut : length shown ≡ kept = length-take-le kept version (omega arith) in
+    let small_shown = All-take (λ number. number < 2 ^ 32) kept version small in
+    let parts : parts_of (printed version) ≡ map decimal shown = parts_of-printed version (omega arith) small_shown in
+    let few_parts : length (parts_of (printed version)) ≤ max_components form = omega (arith, ap length parts, length-map shown decimal) in
+    components_of_some form (printed version) shown few_parts (ap (numbers_of form) parts ∙ numbers_of-decimals form shown small_shown)
+    ∙ ap (λ numbers. Some (numbers, length shown)) (padded-shown_components version sixteen)
+
 -- a version's string counts as the version
 pub lenient_version_of-printed :
     (version : List ℕ) →
@@ -157,12 +192,38 @@ pub lenient_version_of-printed :
     lenient_version_of (printed version) ≡ version
 unfolding lenient_version_of
 lenient_version_of-printed version sixteen small =
-    let kept : ℕ = max (length version - zeros_at_end version) 2 in
-    let shown : List ℕ = take kept version in
-    let cut : length shown ≡ kept = length-take-le kept version (omega arith) in
-    let small_shown = All-take (λ number. number < 2 ^ 32) kept version small in
-    let parts : parts_of (printed version) ≡ map decimal shown = parts_of-printed version (omega arith) small_shown in
-    let few : length (parts_of (printed version)) ≤ 16 = omega (arith, ap length parts, length-map shown decimal) in
-    let read = components_of_some Lenient (printed version) shown few (ap (numbers_of Lenient) parts ∙ numbers_of-decimals shown small_shown) in
-    ap (λ option. unwrap_or (option_map (λ pair. pair.0) option) (replicate 16 0)) read
-    ∙ padded-shown_components version sixteen
+    let cut : length (shown_components version) ≤ 16 = omega (arith, length-take (max (length version - zeros_at_end version) 2) version) in
+    ap (λ option. unwrap_or (option_map (λ pair. pair.0) option) (replicate 16 0)) (components_of-printed Lenient version sixteen small cut)
+
+-- numbers that zeros fill show as many as they are, or two
+length-shown_components-padded :
+    (numbers : List ℕ) → length numbers ≤ 4 → length (shown_components (padded numbers)) ≤ 4
+length-shown_components-padded numbers few =
+    let zeros : ℕ = 16 - length numbers in
+    let version : List ℕ = padded numbers in
+    let is_zero : ℕ → Bool = λ number. eqb number 0 in
+    let long : length version ≡ 16 = omega (arith, length-append numbers (replicate zeros 0), length-replicate {A = ℕ} zeros 0) in
+    let turned : reverse version ≡ replicate zeros 0 ++ reverse numbers =
+    reverse-append numbers (replicate zeros 0) ∙ ap (λ front. front ++ reverse numbers) (reverse-zeros zeros) in
+    let front : leading_zeros (replicate zeros 0) ≡ zeros = prefix_len-replicate is_zero zeros 0 refl in
+    let all : length (replicate {A = ℕ} zeros 0) ≡ zeros = length-replicate zeros 0 in
+    let joined = prefix_len-append is_zero (replicate zeros 0) (reverse numbers) in
+    let many : zeros ≤ leading_zeros (replicate zeros 0 ++ reverse numbers) = grind (arith, nat_tests) in
+    let ending : zeros_at_end version ≡ leading_zeros (reverse version) = length-take-le (leading_zeros (reverse version)) (reverse version) (prefix_len-le-length is_zero (reverse version)) in
+    let same = ap leading_zeros turned in
+    omega (arith, length-take (max (length version - zeros_at_end version) 2) version)
+
+-- a version that a publisher's string spells prints as such a string of the same version
+pub version_of-printed :
+    (text version : List ℕ) (written : ℕ) →
+    version_of text ≡ Some (version, written) →
+    version_of (printed version) ≡ Some (version, length (shown_components version))
+unfolding version_of
+version_of-printed text version written plain =
+    let spelled = version_of-numbers text version written plain in
+    let numbers = spelled.0 in
+    let zeros : ℕ = 16 - length numbers in
+    let few : length numbers ≤ 4 = spelled.1 in
+    let small = All-append (λ number. number < 2 ^ 32) numbers (replicate zeros 0) spelled.2 (All-replicate (λ number. number < 2 ^ 32) zeros 0 (omega arith)) in
+    let long : length (padded numbers) ≡ 16 = omega (arith, length-append numbers (replicate zeros 0), length-replicate {A = ℕ} zeros 0) in
+    rw (← spelled.3) (components_of-printed Plain (padded numbers) long small (length-shown_components-padded numbers few))

@@ -1,14 +1,17 @@
 -- What the parts of a string spell, together and one by one.
-use Rattle.std.proofs.Common.{◌≡◌, ℕ, ◌<◌, ◌≤◌, ◌^◌, Bool, true, false, cond, List, [], ◌∷◌, ◌++◌, length, Option, Some, None, Result, Ok, Err, refl, ap, arith, nat_le, unwrap_or, suc, zero, get_or}
+use Rattle.std.proofs.Common.{◌≡◌, ℕ, ◌<◌, ◌≤◌, ◌^◌, ◌&&◌, Bool, true, false, cond, List, [], ◌∷◌, ◌++◌, length, Option, Some, None, Result, Ok, Err, refl, ap, arith, nat_le, nat_lt, unwrap_or, suc, zero, get_or}
 use Rattle.std.proofs.Math.ListN.{replicate}
 use Rattle.std.specs.Option.{option_map}
 use Rattle.std.specs.Result.{OkIff, result_ok}
 use Rattle.std.specs.Str.{all_ascii_digits}
 use Rattle.std.specs.Str.Parse.{digits_value}
+use Rattle.std.specs.List.{All}
+use Rattle.std.proofs.lemmas.Bool.{and_parts, leb-true, ltb-true}
 use Rattle.std.proofs.lemmas.Bool.Decides.{nat_tests}
+use Rattle.std.proofs.lemmas.List.Elements.{All-cons, All-nil}
 use Rattle.version.specs.declared.parse.Form.{Form}
 use Rattle.version.specs.declared.parse.Form.TheVariants.{Plain, Lenient}
-use Rattle.version.specs.Versions.{components_of, has_leading_zero, lenient_version_of, max_components, number_in, number_of, numbers_of, padded, parts_of, prepended, version_of}
+use Rattle.version.specs.Versions.{components_of, has_leading_zero, is_number, lenient_version_of, max_components, number_in, number_of, numbers_of, padded, parts_of, prepended, version_of}
 
 -- the number that std's `parse` gives for a string without a leading `+`
 pub number_of-from_parse :
@@ -146,6 +149,42 @@ numbers_of-lenient (part ∷ parts) numbers plain =
     let rest : numbers_of Lenient parts ≡ Some split.1 = numbers_of-lenient parts split.1 split.3 in
     rw (first, rest) split.4
 
+-- the number that a part spells is small
+number_of-small : (part : List ℕ) (number : ℕ) → number_of part ≡ Some number → number < 2 ^ 32
+number_of-small part number spelled = cases (is_number part) refl spelled
+  where
+    cases :
+        (test : Bool) → is_number part ≡ test →
+        cond test (Some (digits_value 10 part)) None ≡ Some number → number < 2 ^ 32
+    cases true tested spelled =
+        let parts = and_parts (nat_lt 0 (length part) && all_ascii_digits part) (nat_lt (digits_value 10 part) (2 ^ 32)) tested in
+        let same : digits_value 10 part ≡ number = cc in
+        rw (← same) (ltb-true (digits_value 10 part) (2 ^ 32) parts.1)
+    cases false tested spelled = cc
+
+-- a part that spells a number in some form spells a small one
+number_in-small :
+    (form : Form) (part : List ℕ) (number : ℕ) →
+    number_in form part ≡ Some number →
+    number < 2 ^ 32
+number_in-small Plain part number spelled =
+    number_of-small part number (unless_parts (has_leading_zero part) (number_of part) number spelled)
+number_in-small Lenient part number spelled = number_of-small part number spelled
+
+-- parts spell as many numbers as they are, and each is small
+pub numbers_of-parts :
+    (form : Form) (parts : List (List ℕ)) (numbers : List ℕ) →
+    numbers_of form parts ≡ Some numbers →
+    (length numbers ≡ length parts) × All (λ number. number < 2 ^ 32) numbers
+numbers_of-parts form [] numbers spelled =
+    let none : numbers ≡ [] = cc in
+    rw none (refl, All-nil (λ number. number < 2 ^ 32))
+numbers_of-parts form (part ∷ parts) numbers spelled =
+    let split = prepended_parts (number_in form part) (numbers_of form parts) numbers spelled in
+    let whole : split.0 ∷ split.1 ≡ numbers = cc in
+    let others = numbers_of-parts form parts split.1 split.3 in
+    rw (← whole) (omega arith, All-cons (λ number. number < 2 ^ 32) split.0 split.1 (number_in-small form part split.0 split.2) others.1)
+
 -- a part of few parts is one of more
 few_parts : (parts : ℕ) → nat_le parts 4 ≡ true → parts ≤ 16
 few_parts parts few = grind (arith, nat_tests)
@@ -169,3 +208,17 @@ pub lenient_version_of-unwrap_or :
     (unwrap_or (components_of Lenient text) (replicate 16 0, count)).0 ≡ lenient_version_of text
 unfolding lenient_version_of
 lenient_version_of-unwrap_or text count = first_or (components_of Lenient text) (replicate 16 0) count
+
+-- the numbers of a publisher's string: at most four, each small, and the version is those and zeros
+pub version_of-numbers :
+    (text version : List ℕ) (written : ℕ) →
+    version_of text ≡ Some (version, written) →
+    (numbers : List ℕ) × (length numbers ≤ 4) × All (λ number. number < 2 ^ 32) numbers × (padded numbers ≡ version)
+unfolding version_of components_of
+version_of-numbers text version written plain =
+    let parts : List (List ℕ) = parts_of text in
+    let chosen = chosen_parts (nat_le (length parts) 4) (option_map (λ numbers. (padded numbers, length numbers)) (numbers_of Plain parts)) (version, written) plain in
+    let mapped = option_map_parts (λ numbers. (padded numbers, length numbers)) (numbers_of Plain parts) (version, written) chosen.1 in
+    let spelled = numbers_of-parts Plain parts mapped.0 mapped.1 in
+    let few : length parts ≤ 4 = leb-true (length parts) 4 chosen.0 in
+    (mapped.0, omega (arith, spelled.0), spelled.1, ap (λ read. read.0) mapped.2)

@@ -1,6 +1,6 @@
 -- What holds of all versions, and of all strings.
 use Rattle.std.specs.Prelude.{◌≡◌, ℕ, ◌^◌, ◌<◌, All, List, length, Some, true, false}
-use Rattle.version.specs.Versions.{is_below, lenient_version_of, printed, version_of}
+use Rattle.version.specs.Versions.{is_below, lenient_version_of, printed, shown_components, version_of}
 
 -- no version is below itself
 abbrev pub BelowIsIrreflexive : Type 0
@@ -29,3 +29,10 @@ PrintReadsBack =
     (version : List ℕ) →
     length version ≡ 16 → All (λ number. number < 2 ^ 32) version →
     lenient_version_of (printed version) ≡ version
+
+-- a version that a publisher's string spells prints as such a string of the same version
+abbrev pub PrintIsPlain : Type 0
+PrintIsPlain =
+    (text version : List ℕ) (written : ℕ) →
+    version_of text ≡ Some (version, written) →
+    version_of (printed version) ≡ Some (version, length (shown_components version))

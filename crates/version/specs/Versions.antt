@@ -6,7 +6,7 @@ use Rattle.std.specs.List.{join_with_byte, slice_split}
 use Rattle.std.specs.Option.{option_map}
 use Rattle.std.specs.Ordering.{is_lt, nat_cmp}
 use Rattle.std.specs.Cmp.Lexicographic.{slice_cmp}
-use Rattle.std.specs.Str.{all_ascii_digits}
+use Rattle.std.specs.Str.{all_ascii_digits, bytes_eq}
 use Rattle.std.specs.Str.Parse.{digits_value}
 use Rattle.version.specs.declared.parse.Form.{Form}
 use Rattle.version.specs.declared.parse.Form.TheVariants.{Plain, Lenient}
@@ -64,6 +64,14 @@ components_of form text =
 -- the version that a publisher's string spells, and how many components the string writes
 unfoldable pub version_of : List ℕ → Option (List ℕ × ℕ)
 version_of text = components_of Plain text
+
+-- the version that a client's string spells, and how many components the string writes, if it spells one
+unfoldable pub client_version_of : List ℕ → Option (List ℕ × ℕ)
+client_version_of text = components_of Lenient text
+
+-- the first components of a version, so many, are those of another
+abbrev pub begins_as : ℕ → List ℕ → List ℕ → Bool
+begins_as count version other = bytes_eq (take count version) (take count other)
 
 -- the lowest version
 abbrev pub zero_version : List ℕ

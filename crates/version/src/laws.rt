@@ -1,6 +1,6 @@
 //! What holds of all versions and strings, each law as the contract of a function.
 
-ghost use Rattle.version.specs.Laws.{BelowIsIrreflexive, BelowIsTotal, BelowIsTransitive, LenientAgrees, PrintReadsBack};
+ghost use Rattle.version.specs.Laws.{BelowIsIrreflexive, BelowIsTotal, BelowIsTransitive, LenientAgrees, PrintIsPlain, PrintReadsBack};
 
 /// States that `is_below` orders versions: strictly, and any two that differ.
 pub fn order()
@@ -14,7 +14,9 @@ pub fn spellings()
     ensures { LenientAgrees }
 {}
 
-/// States that what a version prints counts as the same version when a client sends it.
+/// States that what a version prints counts as the same version when a client sends it, and is a
+/// publisher's string of the same version if the version has one.
 pub fn printing()
-    ensures { PrintReadsBack }
+    ensures lenient { PrintReadsBack }
+    ensures plain { PrintIsPlain }
 {}

@@ -1,5 +1,5 @@
 ghost use Rattle.std.specs.Prelude.{◌≡◌, ◌↔◌, ◌≤◌, IsTrue, Some, bytes_eq, length};
-ghost use Rattle.version.specs.Versions.{is_below, lenient_version_of, printed, version_of, zero_version, zeros_at_end};
+ghost use Rattle.version.specs.Versions.{begins_as, client_version_of, is_below, lenient_version_of, printed, version_of, zero_version, zeros_at_end};
 
 use crate::parse::{COMPONENTS, Form, read};
 use std::fmt;
@@ -61,6 +61,25 @@ impl Version {
         let zero = [0; COMPONENTS];
         let (components, _) = read(text, Form::Lenient).unwrap_or((zero, 1));
         Version { components }
+    }
+
+    /// Reads a version as a client sends it, and counts its components.
+    ///
+    /// It accepts the strings that `lenient` reads, and is `None` for those that count there as `0` since they
+    /// spell no version.
+    pub fn read(text: &str) -> Option<(Version, usize)>
+        ensures { result ≡ client_version_of text.now }
+    {
+        let (components, count) = read(text, Form::Lenient)?;
+        Some((Version { components }, count))
+    }
+
+    /// Whether the first `count` components of this version are those of another; `count` is at most 16.
+    pub fn begins_as(&self, other: &Version, count: usize) -> bool
+        requires { count ≤ 16 }
+        ensures { result ≡ begins_as count self.now other.now }
+    {
+        self.components[..count] == other.components[..count]
     }
 
     // rule: Order of versions

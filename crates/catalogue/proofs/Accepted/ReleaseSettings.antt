@@ -1,11 +1,11 @@
 -- What is known of a setting that a release may be given.
-use Rattle.std.proofs.Common.{◌≡◌, ℕ, true, false, not, List, Some, None}
+use Rattle.std.proofs.Common.{◌≡◌, ℕ, true, false, not, List, Some, None, refl}
 use Rattle.std.specs.Option.{is_none}
-use Rattle.version.specs.Versions.{lenient_version_of}
+use Rattle.version.specs.Versions.{lenient_version_of, version_of}
 use Rattle.catalogue.proofs.AcceptedLemmas.{NoneHold-first_fault, Some-from_not_none, true-from_not}
 use Rattle.catalogue.proofs.ValidReleaseLemmas.{is_valid_release-audience}
 use Rattle.catalogue.specs.Changes.{with_release_setting}
-use Rattle.catalogue.specs.Edits.ReleaseSettings.{tests_of_set_audience, tests_of_set_stone, tests_of_set_withdrawn}
+use Rattle.catalogue.specs.Edits.ReleaseSettings.{tests_of_set_audience, tests_of_set_floor, tests_of_set_stone, tests_of_set_withdrawn}
 use Rattle.catalogue.specs.Faults.{first_fault}
 use Rattle.records.specs.Lookups.{app_of, has_release, releases_of}
 use Rattle.records.specs.Validity.{is_valid_release}
@@ -14,6 +14,7 @@ use Rattle.records.specs.declared.content.Release.{Release}
 use Rattle.catalogue.specs.declared.edits.release_settings.ReleaseSetting.{ReleaseSetting}
 use Rattle.catalogue.specs.declared.edits.release_settings.ReleaseSetting.TheVariants as setting
 use Rattle.catalogue.specs.declared.edits.release_settings.SetAudience.{SetAudience}
+use Rattle.catalogue.specs.declared.edits.release_settings.SetFloor.{SetFloor}
 use Rattle.catalogue.specs.declared.edits.release_settings.SetStone.{SetStone}
 use Rattle.catalogue.specs.declared.edits.release_settings.SetWithdrawn.{SetWithdrawn}
 
@@ -31,12 +32,19 @@ NamesRelease-from_tests apps id version known there =
     let found = some.1 in
     record { app = some.0; found = found; there = true-from_not _ (rw found at there) }
 
+-- a floor that is set is a version that some string of a publisher spells
+abbrev pub IsSpelledFloor : ReleaseSetting → Type 0
+IsSpelledFloor (setting.Floor floor) =
+    (text : List ℕ) × (is_none (version_of text) ≡ false) × (floor ≡ lenient_version_of text)
+IsSpelledFloor new = Unit {0}
+
 -- an accepted setting: the release is there, and stays valid with it
 pub record TakesReleaseSetting (apps : List App) (id version : List ℕ) (new : ReleaseSetting) : Type 0 where
   pub names : NamesRelease apps id version
   pub keeps :
       (release : Release) → is_valid_release names.app.cohorts release ≡ true →
       is_valid_release names.app.cohorts (with_release_setting new release) ≡ true
+  pub spelled : IsSpelledFloor new
 
 pub TakesReleaseSetting-set_stone :
     (apps : List App) (e : SetStone) → first_fault (tests_of_set_stone apps e) ≡ None →
@@ -46,6 +54,7 @@ TakesReleaseSetting-set_stone apps e h =
     record {
       names = NamesRelease-from_tests apps e.app (lenient_version_of e.version) tests.0 tests.1.1.0;
       keeps = λ release good. good;
+      spelled = tt;
     }
 
 pub TakesReleaseSetting-set_withdrawn :
@@ -56,6 +65,7 @@ TakesReleaseSetting-set_withdrawn apps e h =
     record {
       names = NamesRelease-from_tests apps e.app (lenient_version_of e.version) tests.0 tests.1.1.0;
       keeps = λ release good. good;
+      spelled = tt;
     }
 
 pub TakesReleaseSetting-set_audience :
@@ -68,4 +78,16 @@ TakesReleaseSetting-set_audience apps e h =
     record {
       names = names;
       keeps = is_valid_release-audience names.app.cohorts e.cohorts (true-from_not _ (rw found at tests.1.1.1.0));
+      spelled = tt;
+    }
+
+pub TakesReleaseSetting-set_floor :
+    (apps : List App) (e : SetFloor) → first_fault (tests_of_set_floor apps e) ≡ None →
+    TakesReleaseSetting apps e.app (lenient_version_of e.version) (setting.Floor (lenient_version_of e.floor))
+TakesReleaseSetting-set_floor apps e h =
+    let tests = NoneHold-first_fault (tests_of_set_floor apps e) h in
+    record {
+      names = NamesRelease-from_tests apps e.app (lenient_version_of e.version) tests.0 tests.1.1.1.0;
+      keeps = λ release good. good;
+      spelled = (e.floor, tests.1.1.0, refl);
     }

@@ -6,6 +6,7 @@ use Rattle.records.specs.Lookups.{app_of, cohorts_of, has_release, releases_of}
 use Rattle.records.specs.Validity.{is_valid_audience}
 use Rattle.records.specs.declared.content.App.{App}
 use Rattle.catalogue.specs.declared.edits.release_settings.SetAudience.{SetAudience}
+use Rattle.catalogue.specs.declared.edits.release_settings.SetFloor.{SetFloor}
 use Rattle.catalogue.specs.declared.edits.release_settings.SetStone.{SetStone}
 use Rattle.catalogue.specs.declared.edits.release_settings.SetWithdrawn.{SetWithdrawn}
 use Rattle.catalogue.specs.declared.fault.Fault.{Fault}
@@ -33,3 +34,14 @@ tests_of_set_audience apps e =
     (not (is_valid_audience (cohorts_of apps e.app) e.cohorts), fault.UnknownCohort)
     ∷ []
     )
+
+-- rule: Floor of a release
+-- a floor: its form is tested between that of the release's version and the release; it may be
+-- above the release
+abbrev pub tests_of_set_floor : List App → SetFloor → List (Bool × Fault)
+tests_of_set_floor apps e =
+    (is_none (app_of apps e.app), fault.UnknownApp)
+    ∷ (is_none (version_of e.version), fault.BadVersion)
+    ∷ (is_none (version_of e.floor), fault.BadVersion)
+    ∷ (not (has_release (releases_of apps e.app) (lenient_version_of e.version)), fault.UnknownRelease)
+    ∷ []

@@ -1,11 +1,12 @@
-//! What is set of a release that is there: its stone and withdrawn flags, its audience.
+//! What is set of a release that is there: its stone and withdrawn flags, its audience, its floor.
 
 ghost use Rattle.std.specs.Prelude.{◌≡◌, IfOk};
 ghost use Rattle.std.specs.List.{list_all};
 ghost use Rattle.std.specs.Option.{option_copied};
 ghost use Rattle.std.specs.Result.{result_err};
+ghost use Rattle.version.specs.Versions.{lenient_version_of};
 ghost use Rattle.catalogue.specs.Changes.{with_release_setting};
-ghost use Rattle.catalogue.specs.Edits.ReleaseSettings.{tests_of_set_audience, tests_of_set_stone, tests_of_set_withdrawn};
+ghost use Rattle.catalogue.specs.Edits.ReleaseSettings.{tests_of_set_audience, tests_of_set_floor, tests_of_set_stone, tests_of_set_withdrawn};
 ghost use Rattle.catalogue.specs.Faults.{first_fault};
 ghost use Rattle.records.specs.Lookups.{has_cohort};
 ghost use Rattle.records.specs.Validity.{IsValid, is_valid_audience};
@@ -17,6 +18,7 @@ use records::lookup::has_cohort;
 use records::{Cohort, Release};
 use std::alloc::AllocError;
 use values::{Items, Text};
+use version::Version;
 
 /// Sets whether a release is a stepping stone, which no package may jump over.
 #[derive(Clone, Drop)]
@@ -52,12 +54,25 @@ pub struct SetAudience {
     pub cohorts: Option<Items<Text>>,
 }
 
+/// Sets the floor of a release: the lowest version that may take it.
+#[derive(Clone, Drop)]
+pub struct SetFloor {
+    /// The app's identifier, in any case.
+    pub app: Text,
+    /// The release's version.
+    pub version: Text,
+    /// The lowest version that may take it from then on; `0` if any may. No release needs to have this
+    /// version, and it may be above the release's own.
+    pub floor: Text,
+}
+
 /// What one edit sets of a release.
 #[derive(Drop)]
 pub enum ReleaseSetting {
     Stone(bool),
     Withdrawn(bool),
     Audience(Option<Items<Text>>),
+    Floor(Version),
 }
 
 impl ReleaseSetting {
@@ -69,6 +84,7 @@ impl ReleaseSetting {
             ReleaseSetting::Stone(on) => release.stone = on,
             ReleaseSetting::Withdrawn(on) => release.withdrawn = on,
             ReleaseSetting::Audience(names) => release.audience = names,
+            ReleaseSetting::Floor(floor) => release.floor = floor,
         }
     }
 }
@@ -133,5 +149,26 @@ impl SetAudience {
             return Err(Fault::UnknownCohort);
         }
         Ok(())
+    }
+}
+
+impl SetFloor {
+    /// What the edit sets.
+    pub(crate) fn setting(&self) -> ReleaseSetting
+        ensures { result ≡ setting.Floor (lenient_version_of self.now.floor) }
+    {
+        ReleaseSetting::Floor(Version::lenient(self.floor.as_str()))
+    }
+
+    // rule: Floor of a release
+    /// Returns the edit's first fault against the draft, if it has one.
+    pub(crate) fn check(&self, draft: &Draft) -> Result<(), Fault>
+        requires { IsValid draft.now.apps }
+        ensures { result_err result ≡ first_fault (tests_of_set_floor draft.now.apps self.now) }
+    {
+        let app = draft.named_app(&self.app)?;
+        let version = spelled_version(&self.version)?;
+        spelled_version(&self.floor)?;
+        named_release(app, &version)
     }
 }

@@ -15,4 +15,4 @@ returns c =
       total = c.order.ensures.total;
     } in
     λ history apps led.
-    IsValid-Makes laws c.spellings.ensures (edits_of history) [] apps (Makes-from_run history [] apps led) IsValid-empty
+    IsValid-Makes laws c.spellings.ensures c.printing.ensures.plain (edits_of history) [] apps (Makes-from_run history [] apps led) IsValid-empty

@@ -1,4 +1,4 @@
-use Rattle.std.proofs.Common.{sym, ap, ◌∙◌}
+use Rattle.std.proofs.Common.{length, sym, ap, ◌∙◌}
 use Rattle.payload_graph.specs.declared.payload.TrackKey.{TrackKey}
 use Rattle.payload_graph.specs.Net.{net_among}
 use Rattle.price_certificates.specs.Headings.{headings}
@@ -16,5 +16,5 @@ returns-clause-sized c =
     let rows =
     length-rows_after app.releases
     (read_headings app c.in-Some.cohort.now c.key-key.result c.in-Some-get.target.now headings 1 c.args.text.now)
-    c.in_ok-rows.rows c.in_ok-rows.ensures in
-    rows ∙ sym doors
+    c.in_ok-body.body c.in_ok-body.ensures in
+    ap length (c.in_ok-rows.ensures ∙ c.into_vec.ensures) ∙ rows ∙ sym doors

@@ -13,7 +13,7 @@ loop-index-preserved c =
       transitive = c.order.ensures.transitive;
       total = c.order.ensures.total;
     } in
-    let valid = IsValid-after laws c.spellings.ensures c.loop-index.self.apps c.index-edits-index.result (sym c.in_default.ensures) before.valid in
+    let valid = IsValid-after laws c.spellings.ensures c.printing.ensures.plain c.loop-index.self.apps c.index-edits-index.result (sym c.in_default.ensures) before.valid in
     record {
       indexed = done.indexed;
       valid = rw (sym done.content) at valid;

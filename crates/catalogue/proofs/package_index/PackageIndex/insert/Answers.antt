@@ -3,7 +3,7 @@ use Rattle.std.specs.Arc.{arc_value}
 use Rattle.std.specs.Str.{bytes_eq}
 use Rattle.std.proofs.lemmas.List.{length-map, map-set}
 use Rattle.std.proofs.lemmas.Option.{slice_get-map, slice_get_read}
-use Rattle.records.specs.declared.content.Declared.{Declared}
+use Rattle.values.specs.declared.declared.Declared.{Declared}
 use Rattle.catalogue.proofs.ShardLemmas.{found_among-set}
 use Rattle.catalogue.specs.PackageIndex.{found_among, shard_of}
 use Rattle.catalogue.specs.declared.package_index.Shard.{Shard}

@@ -8,5 +8,5 @@ use Rattle.profile_tables.proofs.list.TableList.read.Given as goal
 abbrev pub invariant-loop-index : goal.invariant-loop-index
 invariant-loop-index g l =
     with_front l.records
-    (each_from g.K.TableKind.reads l.self.path l.index (items_view (drop l.index l.self.values.now)))
-    ≡ each g.K.TableKind.reads (listed l.self)
+    (each_from (g.K.TableKind.reads l.kind) l.self.path l.index (items_view (drop l.index l.self.values.now)))
+    ≡ each (g.K.TableKind.reads l.kind) (listed l.self)

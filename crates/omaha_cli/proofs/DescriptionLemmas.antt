@@ -1,12 +1,12 @@
 -- Descriptions of paths, one after the other.
-use Rattle.std.proofs.Common.{◌≡◌, ◌<◌, ◌+◌, ℕ, List, [], ◌∷◌, ◌++◌, get_or, length, refl, sym, ap, ◌∙◌, subst, take, zero, suc, arith}
+use Rattle.std.proofs.Common.{◌≡◌, ◌<◌, ◌+◌, ℕ, List, [], ◌∷◌, ◌++◌, get_or, inl, inr, length, refl, sym, ap, ◌∙◌, subst, take, zero, suc, arith}
 use Rattle.std.proofs.lemmas.List.{append-nil, append_assoc, take_more}
 use Rattle.std.specs.Prelude.{Ok, Err}
 use Rattle.package_files.specs.declared.describing.DescribeError.{DescribeError}
-use Rattle.package_files.specs.Paths.{AreDescribed, IsDescribed, IsErrorAt, IsUndescribed, StopsAt}
+use Rattle.package_files.specs.Paths.{IsDescribed}
 use Rattle.package_files.specs.Storages.{Storage}
-use Rattle.package_files.specs.declared.paths.PathError.{PathError}
-use Rattle.package_files.specs.declared.paths.PathError.TheVariants as why
+use Rattle.omaha_cli.specs.Describing.{AreDescribed, IsFailureAt, IsFound}
+use Rattle.omaha_cli.specs.declared.failure.Failure.{Failure}
 
 -- one more file is described
 AreDescribed-more :
@@ -47,14 +47,12 @@ around (first ∷ rest) (suc index) path within here =
     (found.0, ap (λ (r : List (List ℕ)). first ∷ r) found.1)
 
 -- the file of the path at an index is not described
-pub IsUndescribed-item :
-    (storage : Storage) (paths : List (List ℕ)) (index : ℕ) (path text : List ℕ) (reason : DescribeError) (told : PathError) →
+pub IsFound-stop :
+    (storage : Storage) (paths : List (List ℕ)) (index : ℕ) (path text : List ℕ) (reason : DescribeError) (refusal : Failure) →
     index < length paths → path ≡ get_or paths index path →
-    AreDescribed storage (take index paths) text → IsDescribed storage path (Err reason) → IsErrorAt path reason told →
-    IsUndescribed storage paths told
-IsUndescribed-item storage paths index path text reason (why.File named other) within here before is (same, equal) =
+    AreDescribed storage (take index paths) text → IsDescribed storage path (Err reason) → IsFailureAt path reason refusal →
+    IsFound storage paths (Err refusal)
+IsFound-stop storage paths index path text reason refusal within here before is (inl memory) = inl memory
+IsFound-stop storage paths index path text reason refusal within here before is (inr named) =
     let found = around paths index path within here in
-    let P : List ℕ → Type 0 = λ p. StopsAt storage paths p other in
-    let Q : DescribeError → Type 0 = λ r. IsDescribed storage path (Err r) in
-    subst P (sym same) (take index paths, found.0, text, found.1, before, subst Q (sym equal) is)
-IsUndescribed-item storage paths index path text reason why.Memory within here before is told = tt
+    inr (path, reason, named, (take index paths, found.0, text, found.1, before, is))

@@ -1,14 +1,14 @@
 use Rattle.std.proofs.Common.{◌++◌, ◌∙◌, ℕ, List, Ok, Err, ap, string_bytes, subst}
-use Rattle.package_files.proofs.ReportLemmas.{AreDescribed-item, IsUndescribed-item}
 use Rattle.package_files.specs.Paths.{IsDescribed}
-use Rattle.package_files.proofs.paths.describe_paths.Goals as goal
+use Rattle.omaha_cli.proofs.DescriptionLemmas.{AreDescribed-item, IsFound-stop}
+use Rattle.omaha_cli.proofs.describing.lines_of.Goals as goal
 
 pub returns-in-Err-clause-err : goal.returns-in-Err-clause-err
 returns-in-Err-clause-err g c =
     let storage = g.R.Folders.storage c.args.rt.now in
-    let P : List ℕ → Type 0 = λ path. IsDescribed storage path (Err c.in-Err.error) in
-    IsUndescribed-item storage c.args.paths.now c.loop-path.path-index c.path-item.result (string_bytes c.loop-path.lines) c.in-Err.error c.error_at.result
-    c.loop-path-test.true c.path-item.is c.loop-path.invariant (subst P c.as_str.ensures c.in-Err.ensures.err) c.error_at.ensures
+    let P : List ℕ → Type 0 = λ path. IsDescribed storage path (Err c.in-Err.reason) in
+    IsFound-stop storage c.args.paths.now c.loop-path.path-index c.path-item.result (string_bytes c.loop-path.lines) c.in-Err.reason c.failure_at.result
+    c.loop-path-test.true c.path-item.is c.loop-path.invariant (subst P c.as_str.ensures c.in-Err.ensures.err) c.failure_at.ensures
 
 pub loop-path-preserved : goal.loop-path-preserved
 loop-path-preserved g c =
