@@ -30,8 +30,8 @@ pub(crate) fn print_allowed(alloc: Global, prefix: &str) -> Option<String> {
 
 // A row is a prefix, and which of the versions it allows.
 const PREFIXES: &str = "\
- = 0 1.2 1.2.3 1.2.3.4 1.2.34 4 4.0.1 4.1 40
 0 = 0
+ = 0 1.2 1.2.3 1.2.3.4 1.2.34 4 4.0.1 4.1 40
 4 = 4 4.0.1 4.1
 04 = 4 4.0.1 4.1
 4. = 4 4.0.1 4.1
