@@ -23,7 +23,8 @@ pub struct Door {
     pub offered: bool,
     /// Whether it is a stone, which no payload jumps.
     pub stone: bool,
-    /// The index of the lowest release from which clients may update to it; 0 if they may from all.
+    /// The index of the lowest release from which clients may update to it: 0 if they may from all, and
+    /// the number of releases if they may from none.
     pub floor: usize,
 }
 

@@ -45,7 +45,9 @@ fn meets_floor(from: &Version, release: &Release) -> bool
     !from.is_below(&release.floor)
 }
 
-/// Whether a release is offered to a cohort's clients at a version, which also isn't below its floor.
+/// Whether a release is offered to the clients of a cohort that are at a version.
+///
+/// It is if it is offered to the cohort, and the version isn't below the release's floor.
 pub fn is_offered_at(cohort: &Cohort, from: &Version, release: &Release) -> bool
     ensures { result ≡ is_offered_at cohort.now from.now release.now }
 {
