@@ -22,6 +22,7 @@ mod chains;
 mod cohort_texts;
 #[cfg(test)]
 mod connection;
+#[cfg(test)]
 mod crossing;
 #[cfg(test)]
 mod descriptions;
@@ -43,6 +44,7 @@ mod one_worker;
 mod opened;
 #[cfg(test)]
 mod pins;
+#[cfg(test)]
 mod plans;
 #[cfg(test)]
 mod publishing;
