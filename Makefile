@@ -46,7 +46,7 @@ serving:
 	tests/walk.py
 
 install:
-	@echo "proves the libraries of the program, $(JOBS) side by side; 45 minutes on four processors the first time"
+	@echo "proves the libraries of the program, $(JOBS) side by side; 35 minutes on four processors the first time"
 	cd crates/omaha && rt all check --jobs $(JOBS)
 	cd crates/omaha && rt run < stdin
 	install -d $(DESTDIR)$(PREFIX)/bin
