@@ -40,7 +40,8 @@ pub fn builtin_service(alloc: Global) -> Result<Service, AllocError>
 
 /// Makes the service of a profile's edits and mirrors.
 ///
-/// Fails with the first of the edits that the empty catalogue rejects.
+/// The mirrors are one to four valid ones, no two of one name, as `profile_toml::read_profile` returns them. Fails
+/// with the first of the edits that the empty catalogue rejects.
 pub fn make_service(
     alloc: Global,
     batch: Batch,
