@@ -1,6 +1,6 @@
 -- Pins: which versions an administrator allows a client's app; this project's profile of the Omaha protocol's
 -- member `targetversionprefix`.
-use Rattle.std.specs.Prelude.{ℕ, ◌==◌, Bool, true, false, List, [], ◌∷◌, reverse, bytes_eq, min, Option, None, Some, unwrap_or, if◌then◌else◌}
+use Rattle.std.specs.Prelude.{ℕ, ◌==◌, Bool, true, false, List, [], ◌∷◌, reverse, bytes_eq, Option, None, Some, unwrap_or, if◌then◌else◌}
 use Rattle.version.specs.Versions.{begins_as, client_version_of}
 use Rattle.cohorts.specs.declared.pin.Pin.{Pin}
 use Rattle.cohorts.specs.declared.pin.Pin.TheVariants as pin
@@ -40,6 +40,6 @@ pin_of (byte ∷ rest) = pin_by (byte ∷ rest) (before 36 (byte ∷ rest))
 -- the pin allows the version; a version has sixteen components
 abbrev pub matches : Pin → List ℕ → Bool
 matches pin.Any version = true
-matches (pin.Prefix first count) version = begins_as (min count 16) version first
+matches (pin.Prefix first count) version = begins_as count version first
 matches (pin.Only only) version = bytes_eq version only
 matches pin.Nothing version = false

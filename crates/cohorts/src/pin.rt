@@ -68,7 +68,7 @@ impl Pin {
             Pin::Prefix {
                 version: first,
                 count,
-            } => version.begins_as(first, (*count).min(16)),
+            } => version.begins_as(first, *count),
             Pin::Only(only) => version.is_equal(only),
             Pin::Nothing => false,
         }

@@ -1,6 +1,6 @@
 -- Versions, what strings spell them, and their order: this project's profile of the versions that the
 -- Omaha protocol leaves to the application. A version is the list of its sixteen numbers.
-use Rattle.std.specs.Prelude.{ℕ, ◌-◌, ◌^◌, Bool, List, [], ◌∷◌, ◌++◌, map, max, reverse, take, take_while, ◌&&◌, ◌==◌, if◌then◌else◌, length, nat_lt, nat_le, replicate, slice_index, Option, Some, None, unwrap_or}
+use Rattle.std.specs.Prelude.{ℕ, ◌-◌, ◌^◌, Bool, List, [], ◌∷◌, ◌++◌, map, max, min, reverse, take, take_while, ◌&&◌, ◌==◌, if◌then◌else◌, length, nat_lt, nat_le, replicate, slice_index, Option, Some, None, unwrap_or}
 use Rattle.std.specs.Fmt.{decimal}
 use Rattle.std.specs.List.{join_with_byte, slice_split}
 use Rattle.std.specs.Option.{option_map}
@@ -69,9 +69,9 @@ version_of text = components_of Plain text
 unfoldable pub client_version_of : List ℕ → Option (List ℕ × ℕ)
 client_version_of text = components_of Lenient text
 
--- the first components of a version, so many, are those of another
+-- the first components of a version, so many of its sixteen, are those of another
 abbrev pub begins_as : ℕ → List ℕ → List ℕ → Bool
-begins_as count version other = bytes_eq (take count version) (take count other)
+begins_as count version other = bytes_eq (take (min count 16) version) (take (min count 16) other)
 
 -- the lowest version
 abbrev pub zero_version : List ℕ

@@ -1,4 +1,4 @@
-ghost use Rattle.std.specs.Prelude.{◌≡◌, ◌↔◌, ◌≤◌, IsTrue, Some, bytes_eq, length};
+ghost use Rattle.std.specs.Prelude.{◌≡◌, ◌↔◌, IsTrue, Some, bytes_eq, length};
 ghost use Rattle.version.specs.Versions.{begins_as, client_version_of, is_below, lenient_version_of, printed, version_of, zero_version, zeros_at_end};
 
 use crate::parse::{COMPONENTS, Form, read};
@@ -74,11 +74,12 @@ impl Version {
         Some((Version { components }, count))
     }
 
-    /// Whether the first `count` components of this version are those of another; `count` is at most 16.
+    /// Whether the first `count` components of this version are those of another; all sixteen if `count` is
+    /// above 16.
     pub fn begins_as(&self, other: &Version, count: usize) -> bool
-        requires { count ≤ 16 }
         ensures { result ≡ begins_as count self.now other.now }
     {
+        let count = count.min(COMPONENTS);
         self.components[..count] == other.components[..count]
     }
 
