@@ -5,6 +5,7 @@ use Rattle.records.specs.declared.content.App.{App}
 use Rattle.records.specs.declared.content.Cohort.{Cohort}
 use Rattle.records.specs.declared.content.Diff.{Diff}
 use Rattle.records.specs.declared.content.Release.{Release}
+use Rattle.cohorts.specs.declared.pin.Pin.TheVariants as pin
 use Rattle.cohorts.specs.declared.track.Lane.{Lane}
 use Rattle.cohorts.specs.declared.track.Lane.TheVariants as lane
 use Rattle.payload_graph.specs.Chains.{IsChain, sum_of}
@@ -86,7 +87,7 @@ floored second fourth withdrawn =
 
 -- the key of a cohort's track in the only app
 abbrev pub key_of : ℕ → Lane → Bool → TrackKey
-key_of cohort lane rollback = record { app = 0; cohort = cohort; lane = lane; rollback = rollback }
+key_of cohort lane rollback = record { app = 0; cohort = cohort; lane = lane; rollback = rollback; pin = pin.Any }
 
 -- all payloads of an app: the full ones, then the differentials
 abbrev pub payloads_of : App → List Payload

@@ -8,7 +8,7 @@ use Rattle.records.specs.Limits.{max_releases}
 use Rattle.records.specs.declared.content.Cohort.{Cohort}
 use Rattle.records.specs.declared.content.Release.{Release}
 use Rattle.records.specs.declared.content.App.{App}
-use Rattle.payload_graph.specs.Chains.{lane_target}
+use Rattle.payload_graph.specs.Chains.{cohort_target}
 use Rattle.payload_graph.specs.Permitted.{rolls_back}
 use Rattle.payload_graph.specs.declared.payload.TrackKey.{TrackKey}
 use Rattle.payload_graph.specs.Net.{Net, between, doors_of, opens, to_stone}
@@ -115,15 +115,15 @@ net_from key cohort releases target resolved =
       key = key;
       target = target;
       rollback = rolls_back cohort key;
-      doors = doors_of cohort releases;
-      differs = filter (is_reached target (doors_of cohort releases)) resolved;
+      doors = doors_of cohort key.pin releases;
+      differs = filter (is_reached target (doors_of cohort key.pin releases)) resolved;
     }
 
--- the graph of a cohort's lane with the resolved differentials given, none if it has no target
+-- the graph of a key in its cohort with the resolved differentials given, none if it has no target
 abbrev pub net_in_cohort : App → TrackKey → Cohort → List Edge → Option Net
 net_in_cohort app key cohort resolved =
     option_map (λ target. net_from key cohort app.releases target resolved)
-    (lane_target app cohort key.lane)
+    (cohort_target app cohort key)
 
 -- the same of a track of an app
 abbrev pub net_in_app : App → TrackKey → List Edge → Option Net

@@ -75,7 +75,7 @@ impl Graph {
         requires resolved { AreResolved (length releases.now) resolved.now }
         ensures { IfOk result (λ graph. graph ≡ net_from key.now cohort.now releases.now target resolved.now) }
     {
-        let doors = doors_of(alloc, cohort, releases)?;
+        let doors = doors_of(alloc, cohort, &key.pin, releases)?;
         let reaches = reaches_of(alloc, doors.as_slice(), target)?;
         let differs = reached_in(
             alloc,

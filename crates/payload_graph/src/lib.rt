@@ -40,6 +40,6 @@ pub use crate::edges::{Edges, Fulls};
 pub use crate::graph::Graph;
 pub use crate::incoming::EdgesInto;
 pub use crate::payload::{Payload, TrackKey};
-pub use crate::permitted::{is_offered, is_offered_at, permits, rolls_back};
+pub use crate::permitted::{is_offered_at, permits, rolls_back};
 pub use crate::place::{Place, place_of};
 pub use crate::track::Differentials;
