@@ -87,7 +87,7 @@ impl Edition {
         &self.catalogue
     }
 
-    /// Borrows the certified tables of all tracks with a target, in their order.
+    /// Borrows the certified tables of all tracks with a target, of clients without a pin, in their order.
     pub fn tables(&self) -> &[Certified]
         ensures { AreTables (content_of self.now) result.now }
     {
@@ -97,7 +97,7 @@ impl Edition {
     // rule: Tables of an edition
     /// Finds the certified table of a track, `None` if the track has no target.
     ///
-    /// The key allows a downgrade only if its cohort does.
+    /// The key's clients have no pin, and it allows a downgrade only if its cohort does.
     pub fn table(&self, key: &TrackKey) -> Option<&Certified>
         requires { IsTrackKey (content_of self.now) key.now }
         ensures { option_map (λ table. table.now.net) result ≡ net_among (content_of self.now) key.now }

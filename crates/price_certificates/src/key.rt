@@ -7,7 +7,7 @@ use crate::fault::Fault;
 use crate::heading::{Heading, value_in};
 use crate::lines::split_line;
 use catalogue::Catalogue;
-use cohorts::Lane;
+use cohorts::{Lane, Pin};
 use payload_graph::TrackKey;
 
 fn value_of(heading: Heading, n: usize, text: &[u8]) -> Result<(&str, &[u8]), Fault>
@@ -79,13 +79,14 @@ fn key_of(app: usize, cohort: usize, text: &[u8]) -> Result<TrackKey, Fault>
         cohort,
         lane: lane_named(lane),
         rollback: rollback == "yes",
+        pin: Pin::Any,
     })
 }
 
 // rule: Key of a certificate
 /// Reads the key of the track that a certificate names, from its first five lines.
 ///
-/// What is after them is not looked at. Otherwise it returns the first wrong line: P1 `BadLine` if it is not
+/// The key is of clients without a pin. What is after those lines is not looked at. Otherwise it returns the first wrong line: P1 `BadLine` if it is not
 /// well formed or is missing, P2 `NotOfThisGraph` if it names an app that the catalogue does not have in
 /// this spelling, or a cohort that the app does not have. It takes no memory.
 pub fn read_key(catalogue: &Catalogue, text: &[u8]) -> Result<TrackKey, Fault>
