@@ -2,6 +2,7 @@
 
 ghost use Rattle.std.specs.Prelude.{◌≡◌, ◌<◌, IfErr, IfOk, Ok, Err, length};
 ghost use Rattle.records.specs.Lookups.{releases_at};
+ghost use Rattle.cohorts.specs.declared.pin.Pin.TheVariants as pin;
 ghost use Rattle.payload_graph.specs.Net.{net_among};
 ghost use Rattle.price_certificates.specs.Strings.{spelled_at};
 ghost use Rattle.editions.specs.Editions.{content_of};
@@ -40,7 +41,8 @@ fn judge(
     graph: &Graph,
     text: &[u8],
 ) -> Result<(), CertificateError>
-    requires { net_among catalogue.now graph.now.key ≡ Some graph.now }
+    requires graph { net_among catalogue.now graph.now.key ≡ Some graph.now }
+    requires pin { graph.now.key.pin ≡ pin.Any }
     ensures ok { IfOk result (λ done. IsJudged catalogue.now graph.now text.now (Ok done)) }
     ensures err { IfErr result (λ error. IsJudged catalogue.now graph.now text.now (Err error)) }
 {
@@ -74,9 +76,9 @@ pub fn verify(alloc: Global, edition: &Edition, text: &[u8]) -> Result<(), Certi
         Ok(key) => key,
         Err(fault) => return Err(CertificateError::Line(fault)),
     };
-    if table_of(edition, &key).is_none() {
+    let Some(_table) = table_of(edition, &key) else {
         return Err(CertificateError::NoTrack);
-    }
+    };
     match Graph::of_track(alloc, catalogue, &key)? {
         Some(graph) => judge(alloc, catalogue, &graph, text),
         None => Err(CertificateError::NoTrack),
