@@ -1,6 +1,6 @@
 -- Which payloads a client may be offered on a track; this project's profile. Each test is one line of
 -- the rule. Releases are those of the app, by ascending version.
-use Rattle.std.specs.Prelude.{ℕ, ◌&&◌, ◌||◌, not, Bool, true, false, List, find, slice_get, Option}
+use Rattle.std.specs.Prelude.{ℕ, ◌&&◌, ◌||◌, not, Bool, false, List, find, slice_get, Option}
 use Rattle.std.specs.List.{list_any}
 use Rattle.std.specs.Option.{option_map_or}
 use Rattle.version.specs.Versions.{is_below}

@@ -50,13 +50,7 @@ fn floor_of(releases: &[Release], version: &Version) -> usize
     }
 }
 
-fn door_of(
-    cohort: &Cohort,
-    pin: &Pin,
-    releases: &[Release],
-    to: usize,
-    release: &Release,
-) -> Door
+fn door_of(cohort: &Cohort, pin: &Pin, releases: &[Release], to: usize, release: &Release) -> Door
     requires { ascend is_release_below releases.now ≡ true }
     ensures { result ≡ door_of cohort.now pin.now releases.now to release.now }
 {

@@ -12,31 +12,31 @@ use Rattle.payload_graph.proofs.graph.Graph.of_parts.Goals as goal
 
 pub reaches_of-requires : goal.reaches_of-requires
 reaches_of-requires c =
-    let sized = length-doors_of c.args.cohort.now c.args.releases.now in
+    let sized = length-doors_of c.args.cohort.now c.args.key.now.pin c.args.releases.now in
     let same = ap length c.in_ok-doors.ensures in
     let shown = ap length c.as_slice.ensures.value in
     omega arith
 
 pub reached_in-requires-clause-within : goal.reached_in-requires-clause-within
 reached_in-requires-clause-within c =
-    let sized = length-doors_of c.args.cohort.now c.args.releases.now in
+    let sized = length-doors_of c.args.cohort.now c.args.key.now.pin c.args.releases.now in
     let same = ap length c.in_ok-doors.ensures in
     let shown = ap length c.as_slice-2.ensures.value in
     omega arith
 
 pub reached_in-requires-clause-resolved : goal.reached_in-requires-clause-resolved
 reached_in-requires-clause-resolved c =
-    let sized = length-doors_of c.args.cohort.now c.args.releases.now in
+    let sized = length-doors_of c.args.cohort.now c.args.key.now.pin c.args.releases.now in
     let count = ap length c.as_slice-2.ensures.value ∙ ap length c.in_ok-doors.ensures ∙ sized in
     subst (λ n. AreResolved n c.args.resolved.now) (sym count) c.requires.resolved
 
 pub invariant_of-result : goal.invariant_of-result
 invariant_of-result c =
-    let sized = length-doors_of c.args.cohort.now c.args.releases.now in
+    let sized = length-doors_of c.args.cohort.now c.args.key.now.pin c.args.releases.now in
     let same = ap length c.in_ok-doors.ensures in
     record {
       within = omega arith;
-      numbered = rw c.in_ok-doors.ensures (AreNumbered-doors_of c.args.cohort.now c.args.releases.now);
+      numbered = rw c.in_ok-doors.ensures (AreNumbered-doors_of c.args.cohort.now c.args.key.now.pin c.args.releases.now);
       reached = rw c.as_slice.ensures.value at c.in_ok-reaches.ensures;
       opened = rw c.as_slice-4.ensures.value at c.in_ok-late.ensures;
       sorted =
@@ -47,7 +47,7 @@ invariant_of-result c =
           (All-reached c.args.target (length c.args.releases.now) c.as_slice-2.result.now c.args.resolved.now (omega (arith, ap length c.as_slice-2.ensures.value)) c.requires.resolved);
       bounded = record {
         few = omega (arith, c.requires.bounded.few);
-        doors_sized = rw c.in_ok-doors.ensures (All-sized-doors_of c.args.cohort.now c.args.releases.now c.requires.bounded);
+        doors_sized = rw c.in_ok-doors.ensures (All-sized-doors_of c.args.cohort.now c.args.key.now.pin c.args.releases.now c.requires.bounded);
         differs_sized =
             rw c.in_ok-differs.ensures
             (All-filter (is_reached c.args.target c.as_slice-2.result.now) (λ (edge : Edge). is_size edge.bytes ≡ true) c.args.resolved.now c.requires.resolved.sized);
