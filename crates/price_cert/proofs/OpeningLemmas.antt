@@ -21,19 +21,23 @@ use Rattle.price_cert.proofs.StepLemmas.{IsBest-lower, IsBest-take, opens-both}
 -- tests of what a filter keeps
 all-filter : {A : Type 0} (p r : A → Bool) (xs : List A) → list_all p (filter r xs) ≡ list_all (λ x. not (r x) || p x) xs
 all-filter p r [] = refl
-all-filter {A} p r (x ∷ xs) = cases (r x)
+all-filter {A} p r (x ∷ xs) = cases (r x) (all-filter p r xs)
   where
-    cases : (b : Bool) → list_all p (cond b (x ∷ filter r xs) (filter r xs)) ≡ ((not b || p x) && list_all (λ y. not (r y) || p y) xs)
-    cases true = ap (λ b. p x && b) (all-filter p r xs)
-    cases false = all-filter p r xs
+    cases :
+        (b : Bool) → list_all p (filter r xs) ≡ list_all (λ y. not (r y) || p y) xs →
+        list_all p (cond b (x ∷ filter r xs) (filter r xs)) ≡ ((not b || p x) && list_all (λ y. not (r y) || p y) xs)
+    cases true rest = ap (λ b. p x && b) rest
+    cases false rest = rest
 
 any-filter : {A : Type 0} (p r : A → Bool) (xs : List A) → list_any p (filter r xs) ≡ list_any (λ x. r x && p x) xs
 any-filter p r [] = refl
-any-filter {A} p r (x ∷ xs) = cases (r x)
+any-filter {A} p r (x ∷ xs) = cases (r x) (any-filter p r xs)
   where
-    cases : (b : Bool) → list_any p (cond b (x ∷ filter r xs) (filter r xs)) ≡ ((b && p x) || list_any (λ y. r y && p y) xs)
-    cases true = ap (λ b. p x || b) (any-filter p r xs)
-    cases false = any-filter p r xs
+    cases :
+        (b : Bool) → list_any p (filter r xs) ≡ list_any (λ y. r y && p y) xs →
+        list_any p (cond b (x ∷ filter r xs) (filter r xs)) ≡ ((b && p x) || list_any (λ y. r y && p y) xs)
+    cases true rest = ap (λ b. p x || b) rest
+    cases false rest = rest
 
 implied : (r p : Bool) → (not r || p) ≡ true → r ≡ true → p ≡ true
 implied true p is kept = is
@@ -47,6 +51,10 @@ or_cases : (a b : Bool) → (a || b) ≡ true → (a ≡ true) ⊎ (b ≡ true)
 or_cases true b is = inl refl
 or_cases false b is = inr is
 
+or-false : (a : Bool) → (a || false) ≡ true → a ≡ true
+or-false true is = refl
+or-false false is = is
+
 -- a door's full package after other payloads
 pub IsBest-taken :
     (rows : List Row) (edges : List Edge) (from : ℕ) (door : Door) (row : Row) →
@@ -58,32 +66,32 @@ IsBest-taken rows edges from door row best = cases (opens from door)
     cases false = subst (λ (es : List Edge). IsBest rows es row) (sym (append-nil edges)) best
 
 module _ (doors : List Door) (from : ℕ) (numbered : AreNumbered doors) (there : from < length doors) where
-  next : ℕ
+  abbrev pub next : ℕ
   next = from + 1
 
-  door : ℕ → Door
+  abbrev pub door : ℕ → Door
   door k = get_or doors k no_door
 
   -- the full packages of the next release through the doors of the release before it
-  kept : List Edge
+  abbrev pub kept : List Edge
   kept = map (full next) (filter (opens from) (take from doors))
 
   -- those through the release before it
-  own : List Edge
+  abbrev pub own : List Edge
   own = fulls next (door from ∷ [])
 
-  sized : length (take next doors) ≡ next
-  sized = length-take-le next doors (omega arith)
+  length-next : length (take next doors) ≡ next
+  length-next = length-take-le next doors (omega arith)
 
-  sized_before : length (take from doors) ≡ from
-  sized_before = length-take-le from doors (omega arith)
+  length-before : length (take from doors) ≡ from
+  length-before = length-take-le from doors (omega arith)
 
   numbered_at : (k : ℕ) → k < length doors → (door k).to ≡ k
   numbered_at k within = numbered k within
 
   -- a lower door that opens from the next release alone opens there
   opened : (k : ℕ) → k < from → opens from (door k) ≡ false → opens next (door k) ≡ true → is_floor_of next (door k) ≡ true
-  opened k lower shut open_next = cases (is_floor_of next (door k)) refl
+  opened k below shut open_next = cases (is_floor_of next (door k)) refl
     where
       cases : (b : Bool) → is_floor_of next (door k) ≡ b → is_floor_of next (door k) ≡ true
       cases true is = is
@@ -99,7 +107,7 @@ module _ (doors : List Door) (from : ℕ) (numbered : AreNumbered doors) (there 
       (le-leb (door k).floor next (let low = leb-true (door k).floor from parts.0 in omega (arith, low))) parts.1
 
   module _ (q : Edge → Bool) where
-    test : Door → Bool
+    abbrev test : Door → Bool
     test d = q (full next d)
 
     -- what all those payloads pass, all full packages of the next release pass
@@ -108,7 +116,7 @@ module _ (doors : List Door) (from : ℕ) (numbered : AreNumbered doors) (there 
         list_all-map q (full next) (filter (opens next) (take next doors))
         ∙ all-filter test (opens next) (take next doors)
         ∙ list_all-from_AllPass (λ d. not (opens next d) || test d) (take next doors) (λ k d within.
-        let low : k < next = omega (arith, sized, within) in
+        let low : k < next = omega (arith, length-next, within) in
         let at : get_or (take next doors) k d ≡ door k =
         get_or-take next doors k d low ∙ get_or_default doors k d no_door (omega (arith, low)) in
         ap (λ (e : Door). not (opens next e) || test e) at
@@ -140,14 +148,14 @@ module _ (doors : List Door) (from : ℕ) (numbered : AreNumbered doors) (there 
             ∙ inner.1
 
         by_before : (k : ℕ) → k < from → (b : Bool) → opens from (door k) ≡ b → opens next (door k) ≡ true → test (door k) ≡ true
-        by_before k lower true is open_next =
-            let each = AllPass-from_list_all (λ d. not (opens from d) || test d) (take from doors) low_doors k no_door (omega (arith, sized_before)) in
-            let at = get_or-take from doors k no_door lower in
+        by_before k below true is open_next =
+            let each = AllPass-from_list_all (λ d. not (opens from d) || test d) (take from doors) low_doors k no_door (omega (arith, length-before)) in
+            let at = get_or-take from doors k no_door below in
             implied (opens from (door k)) (test (door k)) (ap (λ (e : Door). not (opens from e) || test e) (sym at) ∙ each) is
-        by_before k lower false is open_next =
+        by_before k below false is open_next =
             let each = AllPass-from_list_all (λ d. not (is_floor_of next d) || (not (opens next d) || test d)) doors late k no_door (omega arith) in
             implied (opens next (door k)) (test (door k))
-            (implied (is_floor_of next (door k)) (not (opens next (door k)) || test (door k)) each (opened k lower is open_next)) open_next
+            (implied (is_floor_of next (door k)) (not (opens next (door k)) || test (door k)) each (opened k below is open_next)) open_next
 
         by_place : (k : ℕ) → k < next → (k ≡ from) ⊎ ¬ (k ≡ from) → opens next (door k) ≡ true → test (door k) ≡ true
         by_place k low (inl same) open_next =
@@ -169,7 +177,7 @@ module _ (doors : List Door) (from : ℕ) (numbered : AreNumbered doors) (there 
         found k low open_next passes =
             list_any-map q (full next) (filter (opens next) (take next doors))
             ∙ any-filter test (opens next) (take next doors)
-            ∙ list_any_at (λ d. opens next d && test d) (take next doors) k no_door (omega (arith, sized))
+            ∙ list_any_at (λ d. opens next d && test d) (take next doors) k no_door (omega (arith, length-next))
             (ap (λ (e : Door). opens next e && test e) (get_or-take next doors k no_door low)
             ∙ and_from (opens next (door k)) (test (door k)) open_next passes)
 
@@ -179,17 +187,17 @@ module _ (doors : List Door) (from : ℕ) (numbered : AreNumbered doors) (there 
             (sym (any-filter test (opens from) (take from doors)) ∙ sym (list_any-map q (full next) (filter (opens from) (take from doors))) ∙ low) in
             let k = any.0 in
             let within = any.2 in
-            let lower : k < from = omega (arith, sized_before, within) in
+            let below : k < from = omega (arith, length-before, within) in
             let at : any.1 ≡ door k =
-            sym any.3 ∙ get_or-take from doors k any.1 lower ∙ get_or_default doors k any.1 no_door (omega (arith, lower)) in
+            sym any.3 ∙ get_or-take from doors k any.1 below ∙ get_or_default doors k any.1 no_door (omega (arith, below)) in
             let parts = and_parts (opens from (door k)) (test (door k)) (ap (λ (e : Door). opens from e && test e) (sym at) ∙ any.4) in
-            found k (omega (arith, lower)) (opens-next k parts.0) parts.1
+            found k (omega (arith, below)) (opens-next k parts.0) parts.1
 
         by_own : list_any q own ≡ true → list_any q (fulls next (take next doors)) ≡ true
         by_own last =
             let is : ((opens next (door from) && test (door from)) || false) ≡ true =
             sym (any-filter test (opens next) (door from ∷ [])) ∙ sym (list_any-map q (full next) (filter (opens next) (door from ∷ []))) ∙ last in
-            let parts = and_parts (opens next (door from)) (test (door from)) (elim (or_cases (opens next (door from) && test (door from)) false is) [ | inl it ↦ it | inr no ↦ absurd (false≢true no) ]) in
+            let parts = and_parts (opens next (door from)) (test (door from)) (or-false (opens next (door from) && test (door from)) is) in
             found from (omega arith) parts.0 parts.1
 
         by_late : list_any q (openings doors next) ≡ true → list_any q (fulls next (take next doors)) ≡ true
@@ -233,7 +241,7 @@ pub All-sized-openings :
 All-sized-openings doors index sized =
     let some = All-filter (is_floor_of index) (λ (door : Door). is_size door.bytes ≡ true) doors sized in
     let open_ones = All-filter (opens index) (λ (door : Door). is_size door.bytes ≡ true) (filter (is_floor_of index) doors) some in
-    All-map (full index) (filter (opens index) (filter (is_floor_of index) doors)) open_ones
+    All-map (λ (edge : Edge). is_size edge.bytes ≡ true) (full index) (filter (opens index) (filter (is_floor_of index) doors)) open_ones
 
 -- on a track that rolls back, the best full package of the next release
 pub IsBest-above :

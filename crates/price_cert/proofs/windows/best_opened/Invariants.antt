@@ -5,4 +5,4 @@ use Rattle.price_cert.proofs.windows.best_opened.Given as goal
 
 abbrev pub invariant-loop-edge : goal.invariant-loop-edge
 invariant-loop-edge l =
-    (edges : List Edge) → IsBest l.rows edges l.best → IsBest l.rows (edges ++ take l.edge-index l.openings) l.row
+    (edges : List Edge) → IsBest l.rows edges l.fn.best → IsBest l.rows (edges ++ take l.edge-index l.openings) l.row
