@@ -7,7 +7,7 @@ use Rattle.payload_graph.specs.Soundness.{AreResolved, is_reached}
 use Rattle.std.specs.List.{All}
 use Rattle.payload_graph.specs.declared.door.Door.{Door}
 use Rattle.payload_graph.specs.declared.edge.Edge.{Edge}
-use Rattle.payload_graph.proofs.DoorLemmas.{All-floors-doors_of, All-sized-doors_of, AreNumbered-doors_of, length-doors_of}
+use Rattle.payload_graph.proofs.DoorLemmas.{All-sized-doors_of, AreNumbered-doors_of, length-doors_of}
 use Rattle.payload_graph.proofs.graph.Graph.of_parts.Goals as goal
 
 pub reaches_of-requires : goal.reaches_of-requires
@@ -30,11 +30,6 @@ reached_in-requires-clause-resolved c =
     let count = ap length c.as_slice-2.ensures.value ∙ ap length c.in_ok-doors.ensures ∙ sized in
     subst (λ n. AreResolved n c.args.resolved.now) (sym count) c.requires.resolved
 
-pub floors_of-requires : goal.floors_of-requires
-floors_of-requires c =
-    subst (λ (doors : List Door). All (λ (door : Door). door.floor ≤ length doors) doors)
-    (sym (c.as_slice-4.ensures.value ∙ c.in_ok-doors.ensures)) (All-floors-doors_of c.args.cohort.now c.args.key.now.pin c.args.releases.now)
-
 pub invariant_of-result : goal.invariant_of-result
 invariant_of-result c =
     let sized = length-doors_of c.args.cohort.now c.args.key.now.pin c.args.releases.now in
@@ -43,7 +38,7 @@ invariant_of-result c =
       within = omega arith;
       numbered = rw c.in_ok-doors.ensures (AreNumbered-doors_of c.args.cohort.now c.args.key.now.pin c.args.releases.now);
       reached = rw c.as_slice.ensures.value at c.in_ok-reaches.ensures;
-      floored = rw c.as_slice-4.ensures.value at c.in_ok-floors.ensures;
+      opened = rw c.as_slice-4.ensures.value at c.in_ok-late.ensures;
       sorted =
           rw c.in_ok-differs.ensures
           (IsNonDecreasingBy-filter (λ (edge : Edge). edge.from) (is_reached c.args.target c.as_slice-2.result.now) c.args.resolved.now c.requires.resolved.sorted);
