@@ -61,7 +61,7 @@ module _ (irreflexive : BelowIsIrreflexive) (fulls : FullsArePermitted) (differs
       (sizes_valid has.app.cohorts has.app.releases (AllPass-from_list_all (is_valid_release has.app.cohorts) has.app.releases has.valid.releases_valid))
 
   -- the version that the clients of the key are meant to have in a cohort
-  sought_in : Option Cohort → Option (List ℕ)
+  abbrev sought_in : Option Cohort → Option (List ℕ)
   sought_in cohort = option_and_then (λ (cohort : Cohort). track_target has.app.releases cohort key.lane key.pin) cohort
 
   sought_is :

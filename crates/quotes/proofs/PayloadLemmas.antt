@@ -53,10 +53,10 @@ pub permits-track :
     (app : App) (key : TrackKey) (cohort : Cohort) (target : ℕ) (release : Release) (place : Place) (payload : Payload) →
     IsTrack app key cohort target release →
     permits app key place payload
-    ≡ permits_from app cohort (rolls_back cohort key) release.version place payload
+    ≡ permits_from app cohort key release.version place payload
 permits-track app key cohort target release place payload track =
     ap (λ (o : Option Cohort). option_map_or (λ (c : Cohort). permits_in app c key place payload) o false) track.cohort_there
-    ∙ ap (λ (o : Option (List ℕ)). option_map_or (λ (v : List ℕ). permits_from app cohort (rolls_back cohort key) v place payload) o false) track.targeted
+    ∙ ap (λ (o : Option (List ℕ)). option_map_or (λ (v : List ℕ). permits_from app cohort key v place payload) o false) track.targeted
 
 -- the release of a full package is there
 pub full_there :
