@@ -1,18 +1,18 @@
 //! Whether a certificate is valid.
 
-ghost use Rattle.std.specs.Prelude.{◌≡◌, ◌<◌, IfErr, IfOk, Ok, Err, length};
+ghost use Rattle.std.specs.Prelude.{◌≡◌, ◌<◌, IfErr, IfOk, IfSome, Ok, Err, length};
 ghost use Rattle.records.specs.Lookups.{releases_at};
 ghost use Rattle.cohorts.specs.declared.pin.Pin.TheVariants as pin;
 ghost use Rattle.payload_graph.specs.Net.{net_among};
 ghost use Rattle.price_certificates.specs.Strings.{spelled_at};
 ghost use Rattle.editions.specs.Editions.{content_of};
-ghost use Rattle.reports.specs.Certificates.{IsJudged, Verifies};
+ghost use Rattle.reports.specs.Certificates.{IsJudged, Verifies, table_net};
 
 use crate::fault::CertificateError;
 use crate::tables::table_of;
 use catalogue::Catalogue;
 use editions::Edition;
-use payload_graph::Graph;
+use payload_graph::{Graph, TrackKey};
 use price_cert::check;
 use price_certificates::{read_key, read_prices};
 use std::alloc::{AllocError, Global};
@@ -32,6 +32,22 @@ fn spelled_at(
         Some(release) => release.spelled.clone(),
         None => Text::copy_of(alloc, ""),
     }
+}
+
+// The graph that the table of a key is of, `None` if there is no table; the key's clients have no pin.
+fn graph_of(
+    alloc: Global,
+    edition: &Edition,
+    key: &TrackKey,
+) -> Result<Option<Graph>, AllocError>
+    requires { key.now.pin ≡ pin.Any }
+    ensures net { IfOk result (λ graph. graph ≡ table_net (content_of edition.now) key.now) }
+    ensures key { IfOk result (λ graph. IfSome graph (λ net. net.key ≡ key.now)) }
+{
+    let Some(_table) = table_of(edition, key) else {
+        return Ok(None);
+    };
+    Graph::of_track(alloc, edition.catalogue(), key)
 }
 
 // What a certificate is found to be, of the graph of its track.
@@ -76,10 +92,7 @@ pub fn verify(alloc: Global, edition: &Edition, text: &[u8]) -> Result<(), Certi
         Ok(key) => key,
         Err(fault) => return Err(CertificateError::Line(fault)),
     };
-    let Some(_table) = table_of(edition, &key) else {
-        return Err(CertificateError::NoTrack);
-    };
-    match Graph::of_track(alloc, catalogue, &key)? {
+    match graph_of(alloc, edition, &key)? {
         Some(graph) => judge(alloc, catalogue, &graph, text),
         None => Err(CertificateError::NoTrack),
     }
