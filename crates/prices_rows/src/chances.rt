@@ -59,8 +59,8 @@ const EDITS: &str = r#"1|1|{ do = "add_app", app = "demo", default = "stable" },
 2|5|{ do = "add_diff", app = "demo", from = "2.1", to = "2.2", name = "demo-4-5.bin", size = @, sha256 = "0000000000000000000000000000000400000000000000000000000000000005" },
 2|5|{ do = "add_diff", app = "demo", from = "2.1", to = "2.3", name = "demo-4-6.bin", size = @, sha256 = "0000000000000000000000000000000400000000000000000000000000000006" },
 2|5|{ do = "add_diff", app = "demo", from = "2.2", to = "2.3", name = "demo-5-6.bin", size = @, sha256 = "0000000000000000000000000000000500000000000000000000000000000006" },
-1|3|{ do = "set_target", app = "demo", cohort = "stable", target = "1.@" },
-2|3|{ do = "set_target", app = "demo", cohort = "stable", target = "2.@" },
+1|3|{ do = "set_target", app = "demo", cohort = "stable", target = "2.@" },
+4|3|{ do = "set_target", app = "demo", cohort = "stable", target = "1.@" },
 1|1|{ do = "set_rollback", app = "demo", cohort = "stable", on = true },"#;
 
 // Puts an edit at the end, with a number that is at most the limit for `@`.
