@@ -1,17 +1,12 @@
 -- What may be chosen for an app of a request.
-use Rattle.std.proofs.Common.{◌≡◌, ℕ, ◌==◌, inr, not, Bool, true, false, List, [], ◌∷◌, length, Option, None, Some, refl, sym, ap, ◌∙◌, subst}
+use Rattle.std.proofs.Common.{◌≡◌, ℕ, inr, List, [], ◌∷◌, Option, None, Some, refl, sym, ap, ◌∙◌, subst}
 use Rattle.std.specs.List.{slice_get}
-use Rattle.std.specs.Option.{option_and_then, option_map, option_map_or, IfSome}
-use Rattle.std.proofs.lemmas.Bool.{and_parts, false≢true}
+use Rattle.std.specs.Option.{option_and_then, option_map, IfSome}
 use Rattle.records.specs.Lookups.{releases_at}
 use Rattle.records.specs.declared.content.App.{App}
 use Rattle.records.specs.declared.content.Cohort.{Cohort}
 use Rattle.records.specs.declared.content.Release.{Release}
 use Rattle.omaha_json.specs.declared.request.AppAsk.{AppAsk}
-use Rattle.omaha_json.specs.declared.request.Check.{Check}
-use Rattle.cohorts.specs.Pins.{pin_of}
-use Rattle.cohorts.specs.Tracks.{pin_asked}
-use Rattle.cohorts.specs.declared.pin.Pin.TheVariants as pin
 use Rattle.payload_graph.specs.Chains.{IsChain, bytes_of, destination_of, cohort_target, target_index}
 use Rattle.payload_graph.specs.Places.{place_of}
 use Rattle.payload_graph.specs.declared.payload.Payload.{Payload}
@@ -22,7 +17,7 @@ use Rattle.payload_graph.specs.Net.{net_among, net_in, net_of}
 use Rattle.quotes.specs.Quotes.{IsQuote, IsQuoteAmong}
 use Rattle.quotes.specs.declared.quote.Quote.TheVariants.{Next}
 use Rattle.replies.specs.Clients.{Client, key_of}
-use Rattle.replies.specs.Plans.{IsChoice, IsChoiceAmong, IsClientChoice, is_open, wants_update}
+use Rattle.replies.specs.Plans.{IsChoice, IsChoiceAmong, IsClientChoice}
 use Rattle.replies.specs.declared.choices.Choice.{Choice}
 
 -- the releases at an app's index are the app's
@@ -94,21 +89,6 @@ IsClientChoice-among apps client ask key place choice there keyed placed chosen 
     let own = subst (λ (key : TrackKey). IsChoiceAmong apps key place choice) keyed chosen in
     let here = IsChoice-among apps (key_of client) place choice client.app there own in
     subst (λ (place : Place). IsChoice client.app (key_of client) place choice) at here
-
--- an app that wants an update has no pin
-pub pin_asked-open : (ask : AppAsk) → wants_update ask ≡ true → pin_asked ask ≡ pin.Any
-pin_asked-open ask wants = by_check ask.check wants
-  where
-    by_prefix : (prefix : List ℕ) → (length prefix == 0) ≡ true → pin_of prefix ≡ pin.Any
-    by_prefix [] is = refl
-    by_prefix (byte ∷ rest) is = absurd (false≢true is)
-
-    by_check :
-        (check : Option Check) → option_map_or is_open check false ≡ true →
-        option_map_or (λ (c : Check). pin_of c.prefix) check pin.Any ≡ pin.Any
-    by_check None wants = absurd (false≢true wants)
-    by_check (Some check) wants =
-        by_prefix check.prefix (and_parts (not check.disabled) (length check.prefix == 0) wants).1
 
 -- without a target nothing
 pub IsClientChoice-no_graph :
