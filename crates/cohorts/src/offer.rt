@@ -44,7 +44,12 @@ fn is_offered_within(cohort: &Cohort, pin: &Pin, limit: &Version, release: &Rele
     !limit.is_below(&release.version) && is_offered(cohort, pin, release)
 }
 
-fn find_highest(releases: &[Release], cohort: &Cohort, pin: &Pin, limit: &Version) -> Option<Version>
+fn find_highest(
+    releases: &[Release],
+    cohort: &Cohort,
+    pin: &Pin,
+    limit: &Version,
+) -> Option<Version>
     ensures { result ≡ highest_offered releases.now cohort.now pin.now limit.now }
 {
     let highest = releases

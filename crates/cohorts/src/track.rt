@@ -125,13 +125,7 @@ fn read_pin(ask: &AppAsk) -> Pin
 
 // The track of a bucket in the cohort at an index.
 // rule: Rollback of a track
-fn track_in(
-    releases: &[Release],
-    cohort: &Cohort,
-    index: usize,
-    bucket: u16,
-    ask: &AppAsk,
-) -> Track
+fn track_in(releases: &[Release], cohort: &Cohort, index: usize, bucket: u16, ask: &AppAsk) -> Track
     ensures { result ≡ track_in releases.now cohort.now index bucket ask.now }
 {
     let lane = choose_lane(cohort, bucket);

@@ -1,12 +1,12 @@
 -- The full packages that open at a release, among those of all doors below their floors.
-use Rattle.std.proofs.Common.{◌≡◌, ℕ, ◌<◌, ◌≤◌, ◌⊎◌, ◌&&◌, inl, inr, Bool, true, false, cond, not, List, [], ◌∷◌, eqb, leb, ltb, map, Option, None, Some, Less, Equal, refl, sym, ap, ◌∙◌, arith}
+use Rattle.std.proofs.Common.{◌≡◌, ℕ, ◌⊎◌, ◌&&◌, inl, inr, Bool, true, false, cond, not, List, [], ◌∷◌, eqb, leb, ltb, map, None, Some, Less, Equal, refl, sym, ap, ◌∙◌, arith}
 use Rattle.std.specs.Cmp.{nat_cmp_is}
 use Rattle.std.specs.List.{cons_option, filter, filter_map}
 use Rattle.std.specs.List.Sorted.{IsStableByKey}
 use Rattle.std.specs.Ordering.{is_lt, nat_cmp}
 use Rattle.std.proofs.lemmas.Bool.{cases_eq, cases_lt, eq-eqb, le-leb, ne_eqb}
 use Rattle.payload_graph.specs.Net.{full, fulls, leaves, opens}
-use Rattle.payload_graph.specs.Soundness.{AreOpenings, is_floor_of, late_edge, no_door, openings}
+use Rattle.payload_graph.specs.Soundness.{is_floor_of, late_edge, no_door, openings}
 use Rattle.payload_graph.specs.declared.door.Door.{Door}
 use Rattle.payload_graph.specs.declared.edge.Edge.{Edge}
 

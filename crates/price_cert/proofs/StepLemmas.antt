@@ -1,11 +1,11 @@
 -- The best full packages of neighbours' windows, and one differential more.
 use Rattle.std.proofs.Common.{◌≡◌, ℕ, ◌+◌, ◌<◌, ◌≤◌, ◌&&◌, inl, inr, Bool, true, false, cond, eqb, leb, ltb, List, [], ◌∷◌, ◌++◌, get_or, length, take, slice_get, Option, None, Some, refl, sym, ap, ◌∙◌, subst, arith}
-use Rattle.std.specs.List.{All, filter, list_any}
+use Rattle.std.specs.List.{All, filter}
 use Rattle.std.specs.Option.{option_map_or}
-use Rattle.std.proofs.lemmas.Bool.{and_from, and_parts, cases_lt, eq-eqb, eqb-true, false≢true, le-leb, leb-true, lt-leb, lt-ltb, or_parts}
-use Rattle.std.proofs.lemmas.List.Elements.{All-cons, All-from_get_or, All-head, All-nil, All-tail}
+use Rattle.std.proofs.lemmas.Bool.{and_from, and_parts, cases_lt, eq-eqb, eqb-true, false≢true, le-leb, leb-true, lt-leb, lt-ltb}
+use Rattle.std.proofs.lemmas.List.Elements.{All-head, All-tail}
 use Rattle.std.proofs.lemmas.Option.{get_or_from_slice_get}
-use Rattle.std.proofs.lemmas.List.{append_assoc, get_or-take, length-take-le, take_more}
+use Rattle.std.proofs.lemmas.List.{append_assoc, take_more}
 use Rattle.records.specs.Forms.{is_size}
 use Rattle.payload_graph.specs.Laws.{WindowsGrowDown, WindowsHoldDoors}
 use Rattle.payload_graph.specs.Net.{Net, fulls, opens, window}
@@ -14,7 +14,7 @@ use Rattle.payload_graph.specs.declared.door.Door.{Door}
 use Rattle.payload_graph.specs.declared.edge.Edge.{Edge}
 use Rattle.price_cert.specs.declared.row.Row.{Row}
 use Rattle.price_cert.specs.declared.row.Row.TheVariants.{Nothing}
-use Rattle.price_cert.proofs.BestLemmas.{IsBest-back, IsBest-door_back, IsBest-door_front, IsBest-fewer, IsBest-from, IsBest-nothing}
+use Rattle.price_cert.proofs.BestLemmas.{IsBest-back, IsBest-door_back, IsBest-door_front, IsBest-fewer, IsBest-nothing}
 use Rattle.price_cert.specs.Best.{IsBest, beyond, improved, is_still_open, lower, taken}
 
 -- a window below the target is a door before the rest of it

@@ -26,11 +26,7 @@ pub(crate) fn find_track<'a>(
 }
 
 /// The release that the clients of a key are meant to have, if any.
-pub(crate) fn find_target<'a>(
-    app: &'a App,
-    cohort: &Cohort,
-    key: &TrackKey,
-) -> Option<&'a Release>
+pub(crate) fn find_target<'a>(app: &'a App, cohort: &Cohort, key: &TrackKey) -> Option<&'a Release>
     ensures { option_map (λ release. release.now) result ≡ target_at app.now cohort.now key.now }
 {
     match track_target(app.releases.as_slice(), cohort, key.lane, &key.pin) {

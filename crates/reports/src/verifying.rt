@@ -35,11 +35,7 @@ fn spelled_at(
 }
 
 // The graph that the table of a key is of, `None` if there is no table; the key's clients have no pin.
-fn graph_of(
-    alloc: Global,
-    edition: &Edition,
-    key: &TrackKey,
-) -> Result<Option<Graph>, AllocError>
+fn graph_of(alloc: Global, edition: &Edition, key: &TrackKey) -> Result<Option<Graph>, AllocError>
     requires { key.now.pin ≡ pin.Any }
     ensures net { IfOk result (λ graph. graph ≡ table_net (content_of edition.now) key.now) }
     ensures key { IfOk result (λ graph. IfSome graph (λ net. net.key ≡ key.now)) }

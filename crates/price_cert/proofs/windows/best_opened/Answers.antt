@@ -1,11 +1,8 @@
-use Rattle.std.proofs.Common.{◌≡◌, ℕ, ◌++◌, List, [], true, sym, subst, take}
-use Rattle.std.specs.List.{All, filter}
-use Rattle.std.proofs.lemmas.List.{append-nil}
+use Rattle.std.proofs.Common.{◌≡◌, true, sym, subst}
+use Rattle.std.specs.List.{All}
 use Rattle.records.specs.Forms.{is_size}
-use Rattle.payload_graph.specs.Soundness.{openings}
 use Rattle.payload_graph.specs.declared.edge.Edge.{Edge}
 use Rattle.payload_graph.specs.declared.edge.Kind.TheVariants as kind
-use Rattle.price_cert.specs.Best.{IsBest}
 use Rattle.price_cert.proofs.OpeningLemmas.{All-sized-openings}
 use Rattle.price_cert.proofs.StepLemmas.{IsBest-differ}
 use Rattle.price_cert.proofs.windows.best_opened.Goals as goal

@@ -1,11 +1,9 @@
-use Rattle.std.proofs.Common.{◌≡◌, ◌≤◌, List, true, subst, length, ap, sym, ◌∙◌, arith, rules}
+use Rattle.std.proofs.Common.{◌≡◌, true, subst, length, ap, sym, ◌∙◌, arith, rules}
 use Rattle.std.proofs.lemmas.List.Elements.{All-filter}
 use Rattle.std.proofs.lemmas.List.Kept.{IsNonDecreasingBy-filter}
 use Rattle.records.specs.Forms.{is_size}
 use Rattle.payload_graph.proofs.ReachedLemmas.{All-reached}
 use Rattle.payload_graph.specs.Soundness.{AreResolved, is_reached}
-use Rattle.std.specs.List.{All}
-use Rattle.payload_graph.specs.declared.door.Door.{Door}
 use Rattle.payload_graph.specs.declared.edge.Edge.{Edge}
 use Rattle.payload_graph.proofs.DoorLemmas.{All-sized-doors_of, AreNumbered-doors_of, length-doors_of}
 use Rattle.payload_graph.proofs.graph.Graph.of_parts.Goals as goal
