@@ -164,12 +164,12 @@ fn permits_in_app(app: &App, key: &TrackKey, place: &Place, payload: &Payload) -
 // rule: Permitted on a track
 /// Whether a payload may be offered to the clients of a track at a place.
 ///
-/// The track has a target, the release that the payload leads to is offered to the track's clients, the place's
-/// version meets that release's floor, and either the payload leads up, not above the target, with no stone strictly
-/// between; or it is a full package that leads down from above the target, and the cohort and the key allow that. A
-/// differential starts at the place itself. An index that is out of range is no error: nothing is
-/// permitted. It tests every release for a stone; to go through all payloads of a track, make its
-/// graph.
+/// The track has a target, the release that the payload leads to is offered to the track's clients,
+/// the place's version meets its floor, and either the payload leads up, not above the target, with no
+/// stone strictly between; or it is a full package that leads down from above the target, and the cohort
+/// and the key allow that. A differential starts at the place itself. An index that is out of range is no
+/// error: nothing is permitted. It tests every release for a stone; to go through all payloads of a track,
+/// make its graph.
 pub fn permits(catalogue: &Catalogue, key: &TrackKey, place: &Place, payload: &Payload) -> bool
     ensures { result ≡ permits_among catalogue.now key.now place.now payload.now }
 {

@@ -88,9 +88,9 @@ fn key_of(app: usize, cohort: usize, text: &[u8]) -> Result<TrackKey, Fault>
 // rule: Key of a certificate
 /// Reads the key of the track that a certificate names, from its first five lines.
 ///
-/// The key is of clients without a pin. What is after those lines is not looked at. Otherwise it returns the first wrong line: P1 `BadLine` if it is not
-/// well formed or is missing, P2 `NotOfThisGraph` if it names an app that the catalogue does not have in
-/// this spelling, or a cohort that the app does not have. It takes no memory.
+/// The key is of clients without a pin. What is after those lines is not looked at. Otherwise it returns the first
+/// wrong line: P1 `BadLine` if it is not well formed or is missing, P2 `NotOfThisGraph` if it names an app that the
+/// catalogue does not have in this spelling, or a cohort that the app does not have. It takes no memory.
 pub fn read_key(catalogue: &Catalogue, text: &[u8]) -> Result<TrackKey, Fault>
     ensures key { IsRead (λ key. key) result (key_of_string catalogue.now text.now) }
     ensures pin { IfOk result (λ key. key.pin ≡ pin.Any) }

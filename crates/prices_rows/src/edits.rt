@@ -87,8 +87,8 @@ pub(crate) fn graph_of(
     }
 }
 
-/// A key from its words: `stable target no`, the last one is whether the client allows a downgrade; or `stable target no
-/// pin 4.`, of clients that send the prefix `4.`.
+/// A key from its words: `stable target no`, of which the last one is whether the client allows a downgrade. With the
+/// words `pin 4.` after them it is of clients that send the prefix `4.`.
 pub(crate) fn key_of(words: &str) -> TrackKey {
     let (words, prefix) = words.split_once(" pin ").unwrap_or((words, ""));
     let cohort = if words.starts_with("stable") {
