@@ -1,4 +1,4 @@
-ghost use Rattle.std.specs.Prelude.{◌≡◌, ◌↔◌, IsTrue, Some, bytes_eq, length};
+ghost use Rattle.std.specs.Prelude.{◌≡◌, ◌↔◌, ◌≤◌, IsTrue, Some, bytes_eq, length};
 ghost use Rattle.version.specs.Versions.{begins_as, client_version_of, is_below, lenient_version_of, printed, version_of, zero_version, zeros_at_end};
 
 use crate::parse::{COMPONENTS, Form, read};
