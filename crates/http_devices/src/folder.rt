@@ -98,9 +98,7 @@ impl<'a, S: RegularFiles<F>, F: Drop> OpenPackages for Folder<'a, S, F> {
     ghost opens = { λ _ name opened. IfOk opened (λ _. is_file_name name ≡ true) };
 
     fn open(&self, name: &[u8]) -> Result<u64, OpenError> {
-        let Some(name) = file_name(name) else {
-            return Err(OpenError::Missing);
-        };
+        let name = file_name(name).ok_or(OpenError::Missing)?;
         match self.opened.try_borrow_mut() {
             Ok(mut opened) => opened.open(self.files, self.path, name),
             Err(_) => Err(OpenError::Unreadable),

@@ -2,7 +2,7 @@
 //!
 //! `Reading` and `Writing` are the `Source` and the `Sink` over any reader and writer, such as a socket;
 //! each counts its failures. A `Folder` has the packages of a server, a file each, over whatever opens
-//! `RegularFiles`; `OpenPackages` tells why one can't be opened. `SystemClock` gives the time. Read
+//! `RegularFiles`; `OpenPackages` says why one can't be opened. `SystemClock` gives the time. Read
 //! `specs/Names.antt` for the names that a folder opens.
 //!
 //! It opens no connection, and doesn't know which packages a catalogue has.

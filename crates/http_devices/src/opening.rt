@@ -3,7 +3,7 @@ ghost use Rattle.http_devices.specs.declared.open_error.OpenError.{OpenError as 
 
 use crate::open_error::OpenError;
 
-/// Opens packages by their names, and tells why one can't be opened.
+/// Opens packages by their names, or says why one can't be opened.
 pub trait OpenPackages {
     // what opening a name may give: the size of its file, or why there is none
     ghost opens: { Self → List ℕ → Result ℕ Reason → Type 0 };

@@ -68,11 +68,10 @@ const KEYS: [&str; 8] = [
 fn check_release_keys(schema: Schema, table: &TableReader<'_>) -> Result<(), ReadError<BadEntry>>
     ensures { Reads (λ nothing. nothing) result (known (release_keys schema) (placed table.now)) }
 {
-    let count = match schema {
-        Schema::One => 7,
-        Schema::Two => 8,
-    };
-    table.check_keys(&KEYS[..count])
+    match schema {
+        Schema::One => table.check_keys(&KEYS[..7]),
+        Schema::Two => table.check_keys(&KEYS),
+    }
 }
 
 // rule: Release of a profile
