@@ -38,7 +38,8 @@ fn find_mismatch<P: Packages + OpenPackages>(
     declared: Declared,
 ) -> Result<Option<Mismatch>, AllocError>
     requires { length block.old ≡ 65536 }
-    ensures { IfOk result (λ differs. IsFound (P.opens packages.now name.now) (P.reads packages.now name.now) declared differs) }
+    ensures { IfOk result (λ differs.
+        IsFound (P.opens packages.now name.now) (P.reads packages.now name.now) declared differs) }
 {
     match packages.open(name) {
         Ok(size) if size != declared.size => Ok(Some(Mismatch::Size {
