@@ -9,12 +9,16 @@ use streams::WriteWhole;
 
 /// Binds an address, `HOST:PORT` with an IPv6 address in brackets, and listens there.
 ///
-/// Fails if the address can't be bound.
+/// Fails if the address can't be bound, or the process may not open two more files: a connection and a package take
+/// one each, and without them nobody would be served.
 pub fn listen<R: Net<Listener = TcpListener, Stream = TcpStream>>(
     rt: &R,
     address: &str,
 ) -> io::Result<TcpListener> {
-    TcpListener::bind(rt, address)
+    let listener = TcpListener::bind(rt, address)?;
+    let _connection = listener.try_clone()?;
+    let _package = listener.try_clone()?;
+    Ok(listener)
 }
 
 // rule: Start of a server

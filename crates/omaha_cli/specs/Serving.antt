@@ -18,11 +18,12 @@ abbrev pub IsUnopened : Option (List ℕ) → Failure → Type 0
 IsUnopened (Some path) named = (named ≡ failure.File path) ⊎ (named ≡ failure.Memory)
 IsUnopened None named = named ≡ failure.Memory
 
--- how the command ends by the end of its server; naming the address takes memory
+-- how the command ends by the end of its server; naming the address or the folder takes memory
 abbrev pub EndsAs : Result (Unit {0}) ServerError → Serve → Result (Unit {0}) Failure → Type 0
 EndsAs (Ok done) serve result = result ≡ Ok tt
 EndsAs (Err server.Net) serve result = (result ≡ Err (failure.Net serve.listen)) ⊎ (result ≡ Err failure.Memory)
 EndsAs (Err server.Log) serve result = (named : Failure) × IsUnopened serve.log named × (result ≡ Err named)
+EndsAs (Err server.Folder) serve result = (result ≡ Err (failure.File serve.packages)) ⊎ (result ≡ Err failure.Memory)
 EndsAs (Err server.Write) serve result = result ≡ Err failure.Write
 EndsAs (Err server.Memory) serve result = result ≡ Err failure.Memory
 

@@ -34,6 +34,7 @@ fn end_of(ended: Result<(), ServerError>, asked: &Serve) -> Result<(), Failure>
         Ok(()) => Ok(()),
         Err(ServerError::Net) => Err(Failure::Net(asked.listen.clone()?)),
         Err(ServerError::Log) => Err(unopened(&asked.log)),
+        Err(ServerError::Folder) => Err(Failure::File(asked.packages.clone()?)),
         Err(ServerError::Write) => Err(Failure::Write),
         Err(ServerError::Memory) => Err(Failure::Memory),
     }
@@ -76,8 +77,8 @@ fn serve_made<R: Host, W: WriteWhole>(
 // rule: Service over HTTP
 /// Serves a profile and its packages, and prints the mirrors' totals at the end.
 ///
-/// Fails, in this order, with the profile's file, its first fault, its first rejected edit, the log, the address,
-/// and the writer; the writer may also fail after the last session.
+/// Fails, in this order, with the profile's file, its first fault, its first rejected edit, the log, the folder of
+/// packages, the address, and the writer; the writer may also fail after the last session.
 pub(crate) fn serve_profile<R: Disk + Host + AllocGlobal, W: WriteWhole>(
     rt: &R,
     asked: &Serve,

@@ -73,6 +73,7 @@ IsReady old new = Appends old.bytes new.bytes ready_line
 abbrev pub Stops : Known → Known → ServerError → Type 0
 Stops old new server.Net = new ≡ old
 Stops old new server.Log = new ≡ old
+Stops old new server.Folder = new ≡ old
 Stops old new server.Write = Breaks old new ready_line
 Stops old new server.Memory = (new ≡ old) ⊎ IsReady old new
 
@@ -80,6 +81,7 @@ Stops old new server.Memory = (new ≡ old) ⊎ IsReady old new
 abbrev pub IsUnlogged : ServerError → Type 0
 IsUnlogged server.Net = ⊤
 IsUnlogged server.Log = ⊥
+IsUnlogged server.Folder = ⊤
 IsUnlogged server.Write = ⊤
 IsUnlogged server.Memory = ⊤
 

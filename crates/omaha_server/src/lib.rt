@@ -19,6 +19,7 @@ mod error;
 mod host;
 mod logging;
 mod mirrors;
+mod packages;
 mod service;
 mod serving;
 mod totals;

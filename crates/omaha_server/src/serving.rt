@@ -8,6 +8,7 @@ ghost use Rattle.omaha_server.specs.Answering.{stock_of};
 
 use crate::error::ServerError;
 use crate::logging::open_log;
+use crate::packages::is_folder;
 use crate::service::Service;
 use crate::totals::{names_of, totals_string};
 use access_logs::AccessLog;
@@ -137,6 +138,9 @@ fn serve_watched<
     ensures serves { Serves (stock_of service) place.now.sessions (W.output out.old) (W.output out.new) result }
     ensures unlogged { IfErr result IsUnlogged }
 {
+    if !is_folder(rt, place.packages.as_str()) {
+        return Err(ServerError::Folder);
+    }
     let names = names_of(rt.alloc(), service.mirrors.as_slice())?;
     let listener = open_place(rt, place, out)?;
     let totals = serve_sessions(rt, service, place, &listener, watch)?;
@@ -165,9 +169,10 @@ fn serve_logged<
 // rule: Run of a server
 /// Serves a service's update checks and its packages, and prints the mirrors' totals at the end.
 ///
-/// Opens the log, if there is to be one, binds the address, prints `ready`, opens books of the mirrors' budgets,
-/// serves connections one after the other until there were so many, and then prints a line for each mirror: its
-/// name and how many bytes it was granted. Fails, in this order, with the log, memory, the address, the output.
+/// Opens the log, if there is to be one, looks for the folder of packages, binds the address, prints `ready`, opens
+/// books of the mirrors' budgets, serves connections one after the other until there were so many, and then prints a
+/// line for each mirror: its name and how many bytes it was granted. Fails, in this order, with the log, the folder,
+/// memory, the address, the output.
 /// Memory may also run out after `ready`; then no total is printed.
 ///
 /// The log gets a line for each reply, as `access_logs` has it. A line that can't be written is lost, and holds
