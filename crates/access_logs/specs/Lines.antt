@@ -50,22 +50,22 @@ IsLine entry line =
     ++ quoted (option_map (λ b. b.now) entry.referrer) ++ 32 ∷ quoted (option_map (λ b. b.now) entry.agent) ++ 10 ∷ [])
 
 -- what is written of a line: the line, after a line feed if the log ends in a part of another
-abbrev pub IsText : Bool → Entry → List ℕ → Type 0
-IsText is_cut entry text =
-    (line : List ℕ) × IsLine entry line × (text ≡ (if is_cut then 10 ∷ line else line))
+abbrev pub IsNextLine : Bool → Entry → List ℕ → Type 0
+IsNextLine is_cut entry bytes =
+    (line : List ℕ) × IsLine entry line × (bytes ≡ (if is_cut then 10 ∷ line else line))
 
 -- the same of some reply
-abbrev pub IsSomeText : Bool → List ℕ → Type 0
-IsSomeText is_cut text = (entry : Entry) × IsText is_cut entry text
+abbrev pub IsSomeLine : Bool → List ℕ → Type 0
+IsSomeLine is_cut bytes = (entry : Entry) × IsNextLine is_cut entry bytes
 
--- a text was written whole; or the writer failed within it, and the log ends in a part of a line
+-- the bytes were written whole; or the writer failed within them, and the log ends in a part of a line
 abbrev pub IsPut : List ℕ → Known → Known → Bool → Type 0
-IsPut text before after false = Appends before.bytes after.bytes text
-IsPut text before after true = Breaks before after text
+IsPut bytes before after false = Appends before.bytes after.bytes bytes
+IsPut bytes before after true = Breaks before after bytes
 
 -- rule: Lost line of the log
 -- one line was written and nothing else, or a part of it; or nothing, as memory ran out
 abbrev pub IsLogged : Bool → Known → Known → Bool → Type 0
 IsLogged was_cut before after is_cut =
-    ((text : List ℕ) × IsSomeText was_cut text × IsPut text before after is_cut)
+    ((bytes : List ℕ) × IsSomeLine was_cut bytes × IsPut bytes before after is_cut)
     ⊎ ((after ≡ before) × (is_cut ≡ was_cut))

@@ -1,8 +1,8 @@
 ghost use Rattle.std.specs.Prelude.{IfOk};
-ghost use Rattle.access_logs.specs.Lines.{IsLogged, IsSomeText};
+ghost use Rattle.access_logs.specs.Lines.{IsLogged, IsSomeLine};
 
 use crate::entry::Entry;
-use crate::lines::{put, text_of};
+use crate::lines::{next_line, put};
 use crate::message::{asker_of, first_line, replied_in};
 use http_desks::Clock;
 use http_wire::Watch;
@@ -64,8 +64,8 @@ fn keep(kept: &mut Vec<u8>, bytes: &[u8], most: usize) {
 
 impl<'a, W: WriteWhole> State<'a, W> {
     // What is written of the reply that is under way.
-    fn text(&self, alloc: Global, seconds: u64) -> Result<Vec<u8>, AllocError>
-        ensures { IfOk result (λ text. IsSomeText self.now.is_cut text.items) }
+    fn line(&self, alloc: Global, seconds: u64) -> Result<Vec<u8>, AllocError>
+        ensures { IfOk result (λ line. IsSomeLine self.now.is_cut line.items) }
     {
         let asker = asker_of(&self.message);
         let replied = replied_in(&self.reply);
@@ -80,7 +80,7 @@ impl<'a, W: WriteWhole> State<'a, W> {
             referrer: asker.referrer,
             agent: asker.agent,
         };
-        text_of(alloc, self.is_cut, &entry)
+        next_line(alloc, self.is_cut, &entry)
     }
 
     // rule: Lost line of the log
@@ -91,10 +91,10 @@ impl<'a, W: WriteWhole> State<'a, W> {
         if self.written == 0 {
             return;
         }
-        let Ok(text) = self.text(alloc, seconds) else {
+        let Ok(line) = self.line(alloc, seconds) else {
             return;
         };
-        self.is_cut = put(self.out, &text);
+        self.is_cut = put(self.out, &line);
     }
 
     // Writes the line of the reply that was under way, if any, and forgets its message.

@@ -42,14 +42,7 @@ fn serve_next<
     R: Listens + time::Clock + AllocGlobal,
     D: Desk,
     Z: Packages + Clock + Watch,
->(
-    rt: &R,
-    listener: &TcpListener,
-    seconds: u64,
-    failures: &mut Failures<L>,
-    desk: &mut D,
-    site: &Z,
-)
+>(rt: &R, listener: &TcpListener, seconds: u64, failures: &mut Failures<L>, desk: &mut D, site: &Z)
     requires limited { 0 < seconds }
     ensures { IsVisited (IsSessionOver (λ stream. R.is_from rt.now listener.now seconds stream)
         (IsSession D.path D.content_type D.steps (Z.tells site.now) (Z.sizes site.now) (Z.reads site.now)))
@@ -127,11 +120,7 @@ fn serve_counted<
 
 // rule: Connections of a listener
 /// Serves the connections of a listener, as `serve_connections` does, and doesn't count failures.
-pub fn serve_listener<
-    R: Listens + time::Clock + AllocGlobal,
-    D: Desk,
-    Z: Packages + Clock + Watch,
->(
+pub fn serve_listener<R: Listens + time::Clock + AllocGlobal, D: Desk, Z: Packages + Clock + Watch>(
     rt: &R,
     listener: &TcpListener,
     seconds: u64,
