@@ -15,7 +15,7 @@ returns-in_err-line g c =
       walked = Ok c.in_ok-walk.walk;
       between = g.W.WriteWhole.output c.walk_app_at.new.out;
       line = Err failure.Memory;
-      walks = subst P c.in_ok-client.ensures c.in_ok-walk.ensures;
+      walks = subst P c.in_ok-client.ensures (rw c.as_str.ensures at c.in_ok-walk.ensures);
       last = refl;
       printed = (p.1 ∙ ap Err p.2, refl);
     })
@@ -29,7 +29,7 @@ returns g c =
       walked = Ok c.in_ok-walk.walk;
       between = g.W.WriteWhole.output c.walk_app_at.new.out;
       line = Ok c.as_bytes.result.now;
-      walks = subst P c.in_ok-client.ensures c.in_ok-walk.ensures;
+      walks = subst P c.in_ok-client.ensures (rw c.as_str.ensures at c.in_ok-walk.ensures);
       last = c.as_bytes.ensures.value ∙ c.in_ok-line.ensures;
       printed = c.print.ensures input;
     })

@@ -11,7 +11,7 @@ pub returns-clause-works : goal.returns-clause-works
 returns-clause-works g c =
     let whole : is_ok c.push.result ≡ true = c.is_err.ensures.negation ∙ ap not c.if-is_err.false in
     let pushed = rw whole at c.push.ensures.items in
-    let (visits, many, served) = c.serve_folder.ensures in
+    let (visits, many, served) = rw c.as_str.ensures at c.serve_folder.ensures in
     let edges = g.S.System.edges c.args.self.now.system.now in
     let place = c.args.self.now.place.now in
     let listener = c.args.self.now.listener.now in
