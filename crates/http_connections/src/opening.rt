@@ -4,22 +4,7 @@ ghost use Rattle.http_connections.specs.Opening.{ready_line};
 ghost use Rattle.streams.specs.Writing.{Breaks};
 
 use std::io;
-use std::net::{Net, TcpListener, TcpStream};
 use streams::WriteWhole;
-
-/// Binds an address, `HOST:PORT` with an IPv6 address in brackets, and listens there.
-///
-/// Fails if the address can't be bound, or the process may not open two more files: a connection and a package take
-/// one each, and without them nobody would be served.
-pub fn listen<R: Net<Listener = TcpListener, Stream = TcpStream>>(
-    rt: &R,
-    address: &str,
-) -> io::Result<TcpListener> {
-    let listener = TcpListener::bind(rt, address)?;
-    let _connection = listener.try_clone()?;
-    let _package = listener.try_clone()?;
-    Ok(listener)
-}
 
 // rule: Start of a server
 /// Prints `ready` and a line feed, which says that the server listens.
