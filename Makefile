@@ -1,7 +1,7 @@
 # make demo          prints requests of examples/ and their replies, by the program built without a
 #                    proof; after make install it also starts the server
 # make test          the gate: the rules' marks, the words to avoid, every proof from nothing, must-fail
-#                    edits, tests and the program
+#                    edits, tests and the program, whose main is run with each exit status
 # make mutants CRATE..  tries the edits that the gate doesn't, of these crates or of all; the prover
 #                    must reject each
 # make commands      runs the commands on the profiles of examples/, and verifies each track's
@@ -31,6 +31,8 @@ demo:
 	@examples/demo.py
 
 test:
+	cmp crates/omaha/src/main.rt crates/omaha_fails/src/main.rt
+	cmp crates/omaha/src/main.rt crates/omaha_usage/src/main.rt
 	tests/rules.py
 	tests/words.py
 	rt ci

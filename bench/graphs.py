@@ -1,7 +1,7 @@
 #!/usr/bin/env python3
 """Times how the graph of a track and its table are made, and how much memory they take.
 
-    bench/graphs.py [--releases N ..] [--turns N] [--runs N] [--lists N] [--floors] [--keep FOLDER]
+    bench/graphs.py [--releases N ..] [--turns N] [--runs N] [--lists N] [--floors] [--publish] [--keep FOLDER]
 
 It copies the crates that a table depends on to a folder, adds a program that makes the graph or the
 table of one track again and again, and proves and builds it by `rt run`, which takes some minutes;
@@ -23,6 +23,10 @@ have floors in a pattern: `none` has one; `one` release has; the floor of each r
 release, the one `before` it, the `8th` or the `64th` before it, or the one `half` way down; `worst` ends as
 many best packages as could be found. In `down` and `above` the target is the lowest release, which only a
 downgrade reaches; no release has a floor, or each has one above itself.
+
+`--publish` counts the allocations, and their bytes, by which a batch makes the next catalogue of 64 such apps, by
+`valgrind`. The batch sets a cohort's share, which changes no list of releases, differentials or package names; or it
+adds a release to one app.
 """
 
 import argparse
@@ -46,9 +50,9 @@ ghost use Rattle.std.specs.Prelude.{◌<◌, length};
 
 use catalogue::{
     AddApp, AddCohort, AddDiff, AddRelease, Batch, Catalogue, Edit, Refused, SetFloor,
-    SetRollback, SetTarget,
+    SetRollback, SetShare, SetTarget,
 };
-use cohorts::Lane;
+use cohorts::{Lane, Pin};
 use par_tables::{TrackTables, tables};
 use payload_graph::{Differentials, Graph};
 use payload_graph::TrackKey;
@@ -230,6 +234,7 @@ fn key() -> TrackKey {
         cohort: 0,
         lane: Lane::Target,
         rollback: true,
+        pin: Pin::Any,
     }
 }
 
@@ -322,6 +327,40 @@ fn catalogue_of(alloc: Global, apps: u64, cohorts: u64, releases: u64, pattern: 
     Catalogue::empty(alloc).applied(&batch)
 }
 
+fn share_set(alloc: Global) -> Result<Edit, AllocError> {
+    let app = id_of(alloc, 0)?;
+    let cohort = cohort_of(alloc, 0)?;
+    Ok(Edit::SetShare(SetShare {
+        app,
+        cohort,
+        share: 500,
+    }))
+}
+
+// One edit: a share, or one more release of the first app.
+fn change_of(alloc: Global, mode: &str, releases: u64) -> Result<Batch, AllocError> {
+    let mut edits = Vec::new(alloc);
+    match mode {
+        "shared" => edits.push(share_set(alloc)?)?,
+        _ => edits.push(added_release(alloc, 0, releases, 1000)?)?,
+    }
+    Ok(Batch::new(edits))
+}
+
+fn changed(alloc: Global, catalogue: &Catalogue, batch: &Batch, turns: u64) -> Result<u64, ReadError<Refused>> {
+    let mut apps = 0;
+    for _turn in 0..turns {
+        apps = catalogue.applied(batch)?.apps().len();
+    }
+    Ok(apps as u64)
+}
+
+fn run_change(alloc: Global, mode: &str, releases: u64, turns: u64) -> Result<u64, ReadError<Refused>> {
+    let catalogue = catalogue_of(alloc, 64, 1, releases, "none")?;
+    let batch = change_of(alloc, mode, releases)?;
+    changed(alloc, &catalogue, &batch, turns)
+}
+
 fn run_all(alloc: Global, releases: u64, turns: u64) -> Result<u64, ReadError<Refused>> {
     let catalogue = catalogue_of(alloc, 64, 32, releases, "none")?;
     Ok(listed(alloc, &catalogue, turns)?)
@@ -341,12 +380,13 @@ fn run_one(alloc: Global, mode: &str, releases: u64, turns: u64, pattern: &str) 
 fn run(alloc: Global, mode: &str, releases: u64, turns: u64, pattern: &str) -> Result<u64, ReadError<Refused>> {
     match mode {
         "listed" => run_all(alloc, releases, turns),
+        "shared" | "added" => run_change(alloc, mode, releases, turns),
         _ => run_one(alloc, mode, releases, turns, pattern),
     }
 }
 
-// Each line of the input: `whole`, `resolved`, `solved`, `kept` or `listed`, the releases, the turns and the pattern of
-// floors.
+// Each line of the input: `whole`, `resolved`, `solved`, `kept`, `listed`, `shared` or `added`, the releases, the turns
+// and the pattern of floors.
 fn main(rt: HostRuntime) -> io::Result<()> {
     let alloc = rt.alloc();
     for line in rt.lines(alloc) {
@@ -435,6 +475,25 @@ def print_floors(program, releases, turns):
         print(f"{pattern:6}  {releases:8}  {each:23,.0f}  {each / none:7.3f}", flush=True)
 
 
+def allocated(program, mode, releases, turns):
+    """The allocations of a run that applies so many batches, and their bytes."""
+    command = ["valgrind", "--leak-check=no", program]
+    ran = subprocess.run(command, input=f"{mode} {releases} {turns}\n".encode(), capture_output=True, check=True)
+    found = re.search(rb"total heap usage: ([\d,]+) allocs, [\d,]+ frees, ([\d,]+) bytes", ran.stderr)
+    if not ran.stdout.strip().isdigit() or not found:
+        sys.exit(f"{' '.join(map(str, command))}: {ran.stdout.decode()}{ran.stderr.decode()}")
+    return [int(number.replace(b",", b"")) for number in found.groups()]
+
+
+def print_publish(program, releases):
+    """Prints the allocations of the next catalogue, for each kind of batch."""
+    print("batch   releases  allocations      bytes", flush=True)
+    for mode in ("shared", "added"):
+        for number in releases:
+            none, some = (allocated(program, mode, number, turns) for turns in (0, 10))
+            print(f"{mode:6}  {number:8}  {(some[0] - none[0]) / 10:11,.0f}  {(some[1] - none[1]) / 10:9,.0f}", flush=True)
+
+
 def measure_lists(program, turns, runs):
     """Milliseconds a list of all tables, its KiB, and the number of its tables."""
     time = per_turn(program, "listed", 128, turns, runs) / 1e3
@@ -449,6 +508,7 @@ def main():
     options.add_argument("--runs", type=int, default=5, help="runs of each [default: 5]")
     options.add_argument("--lists", type=int, default=4, help="lists of all tables of a run [default: 4]")
     options.add_argument("--floors", action="store_true", help="count the instructions of tables with floors instead")
+    options.add_argument("--publish", action="store_true", help="count the allocations of a batch instead")
     options.add_argument("--keep", help="a folder that keeps the program")
     asked = options.parse_args()
     folder = pathlib.Path(asked.keep or tempfile.mkdtemp()).resolve()
@@ -457,6 +517,9 @@ def main():
         if asked.floors:
             for releases in asked.releases:
                 print_floors(program, releases, min(asked.turns, 20))
+            return
+        if asked.publish:
+            print_publish(program, [number for number in asked.releases if number < 512])
             return
         print("releases  payloads  of_track us  from resolved us  table us  solve us  KiB", flush=True)
         for releases in asked.releases:

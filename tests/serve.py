@@ -13,6 +13,7 @@ import json
 import os
 import pathlib
 import re
+import resource
 import shutil
 import socket
 import struct
@@ -341,6 +342,48 @@ def is_unharmed_by_an_unreadable_folder(program):
         expect("exit status", server.end()[2], 0)
 
 
+def run(program, folder, *words, files=None):
+    """What a command printed, by its arguments, and its exit status; it may have so many files open."""
+    limit = (lambda: resource.setrlimit(resource.RLIMIT_NOFILE, (files, files))) if files else None
+    ran = subprocess.run([program, *words], cwd=folder, capture_output=True, timeout=20, preexec_fn=limit)
+    return ran.stdout, ran.stderr, ran.returncode
+
+
+def serve_words(packages):
+    return ["serve", "--profile", "profile.toml", "--packages", packages, "--listen", f"127.0.0.1:{free_port()}", "--sessions", "0"]
+
+
+def looks_for_its_folder(program):
+    with tempfile.TemporaryDirectory() as folder:
+        pathlib.Path(folder, "profile.toml").write_text(PROFILE)
+        pathlib.Path(folder, "empty").mkdir()
+        for packages in ["nowhere", "profile.toml"]:
+            expect("a folder that is none", run(program, folder, *serve_words(packages)), (b"", f"omaha: file {packages}\n".encode(), 1))
+        expect("no folder", run(program, folder, *serve_words("")), (b"", b'omaha: file ""\n', 1))
+        expect("an empty folder", run(program, folder, *serve_words("empty")), (b"ready\nm0 0\n", b"", 0))
+
+
+def says_that_it_may_open_too_few_files(program):
+    with tempfile.TemporaryDirectory() as folder:
+        pathlib.Path(folder, "profile.toml").write_text(PROFILE)
+        for files, status in [(5, 1), (6, 0)]:
+            words = serve_words(folder)
+            output, errors, ended = run(program, folder, *words, files=files)
+            expect(f"status with {files} files", ended, status)
+            if status:
+                expect("output", (output, errors), (b"", f"omaha: net {words[6]}\n".encode()))
+
+
+def waits_for_no_pipe(program):
+    with tempfile.TemporaryDirectory() as folder:
+        os.mkfifo(pathlib.Path(folder, "pipe"))
+        pathlib.Path(folder, "profile.toml").write_text(PROFILE)
+        refused = (b"", b"omaha: file pipe\n", 1)
+        expect("a profile", run(program, folder, "check", "pipe"), refused)
+        expect("a certificate", run(program, folder, "verify", "profile.toml", "pipe"), refused)
+        expect("a package", run(program, folder, "describe", "pipe"), (b"", b"omaha: file pipe: not a regular file\n", 1))
+
+
 LINE = re.compile(r'127\.0\.0\.1 - - \[\d\d/[A-Z][a-z][a-z]/\d{4}:\d\d:\d\d:\d\d \+0000\] ("[^"]*") (\d+) (\d+) ("[^"]*" "[^"]*")')
 
 
@@ -414,6 +457,9 @@ ALONE = [
     offers_no_more_than_the_budget,
     reports_an_address_in_use,
     is_unharmed_by_an_unreadable_folder,
+    looks_for_its_folder,
+    says_that_it_may_open_too_few_files,
+    waits_for_no_pipe,
 ]
 
 

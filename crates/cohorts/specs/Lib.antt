@@ -1,4 +1,5 @@
 pub mod CohortTexts
 pub mod Laws
+pub mod Offers
 pub mod Pins
 pub mod Tracks

@@ -7,8 +7,13 @@ use Rattle.std.specs.Option.{option_map_or, option_or}
 use Rattle.sha2.specs.Sha256.{sha256}
 use Rattle.records.specs.Lookups.{is_cohort}
 use Rattle.records.specs.declared.content.Cohort.{Cohort}
+use Rattle.records.specs.declared.content.Release.{Release}
 use Rattle.omaha_json.specs.declared.request.AppAsk.{AppAsk}
 use Rattle.cohorts.specs.CohortTexts.{parsed}
+use Rattle.cohorts.specs.Offers.{track_target}
+use Rattle.cohorts.specs.Pins.{pin_of}
+use Rattle.cohorts.specs.declared.pin.Pin.{Pin}
+use Rattle.cohorts.specs.declared.pin.Pin.TheVariants as pin
 use Rattle.cohorts.specs.declared.track.Lane.{Lane}
 use Rattle.cohorts.specs.declared.track.Lane.TheVariants.{Target, Held}
 use Rattle.cohorts.specs.declared.track.Track.{Track}
@@ -66,31 +71,30 @@ cohort_at cohorts index = unwrap_or (slice_get cohorts index) no_cohort
 abbrev pub lane_of : Cohort → ℕ → Lane
 lane_of cohort bucket = if nat_lt bucket cohort.share then Target else Held
 
--- rule: Target of a lane
--- the version that a lane is meant to have, if any
-abbrev pub target_of : Cohort → Lane → Option (List ℕ)
-target_of cohort Target = cohort.target
-target_of cohort Held = cohort.held
-
 -- the client sent that it may be downgraded
 abbrev pub asks_rollback : AppAsk → Bool
 asks_rollback ask = option_map_or (λ check. check.rollback) ask.check false
 
+-- the pin of the prefix that the client sent, if any
+abbrev pub pin_asked : AppAsk → Pin
+pin_asked ask = option_map_or (λ check. pin_of check.prefix) ask.check pin.Any
+
 -- rule: Rollback of a track
 -- the track of a bucket in the cohort at an index; the client may be downgraded if the cohort and
 -- the client allow it
-abbrev pub track_in : Cohort → ℕ → ℕ → AppAsk → Track
-track_in cohort index bucket ask =
+abbrev pub track_in : List Release → Cohort → ℕ → ℕ → AppAsk → Track
+track_in releases cohort index bucket ask =
     record {
       cohort = index;
       bucket = bucket;
       lane = lane_of cohort bucket;
       rollback = cohort.rollback && asks_rollback ask;
-      target = target_of cohort (lane_of cohort bucket);
+      pin = pin_asked ask;
+      target = track_target releases cohort (lane_of cohort bucket) (pin_asked ask);
     }
 
--- a client's track in an app of these cohorts
-abbrev pub track_of : List Cohort → AppAsk → List ℕ → Track
-track_of cohorts ask session =
-    track_in (cohort_at cohorts (cohort_of cohorts ask)) (cohort_of cohorts ask)
+-- a client's track in an app of these releases and cohorts
+abbrev pub track_of : List Release → List Cohort → AppAsk → List ℕ → Track
+track_of releases cohorts ask session =
+    track_in releases (cohort_at cohorts (cohort_of cohorts ask)) (cohort_of cohorts ask)
     (bucket_of ask session) ask

@@ -16,12 +16,14 @@
 mod cohort_text;
 pub mod laws;
 mod names;
+mod offer;
 mod pin;
 mod session;
 mod track;
 
 pub use crate::cohort_text::CohortText;
 pub use crate::names::TrackNames;
+pub use crate::offer::{is_offered, track_target};
 pub use crate::pin::Pin;
 pub use crate::session::Session;
-pub use crate::track::{Lane, Track, assign, target_in};
+pub use crate::track::{Lane, Track, assign};

@@ -2,14 +2,16 @@
 
 ghost use Rattle.std.specs.Prelude.{◌≡◌, ◌≤◌, ◌<◌, length, IfSome, option_map, position};
 ghost use Rattle.std.specs.Option.{option_map_or};
-ghost use Rattle.records.specs.Lookups.{cohorts_at};
-ghost use Rattle.cohorts.specs.Tracks.{asks_rollback, cohort_of, hinted_cohort, lane_of, named_cohort, session_bucket, target_of, track_in, track_of};
+ghost use Rattle.records.specs.Lookups.{cohorts_at, releases_at};
+ghost use Rattle.cohorts.specs.Tracks.{asks_rollback, cohort_of, hinted_cohort, lane_of, named_cohort, pin_asked, session_bucket, track_in, track_of};
 ghost use Rattle.cohorts.specs.CohortTexts.{parsed};
 
 use crate::cohort_text::CohortText;
 use crate::laws;
+use crate::offer::track_target;
+use crate::pin::Pin;
 use crate::session::Session;
-use catalogue::{Catalogue, Cohort};
+use catalogue::{Catalogue, Cohort, Release};
 use omaha_json::AppAsk;
 use version::Version;
 
@@ -33,6 +35,8 @@ pub struct Track {
     pub lane: Lane,
     /// Whether the client may be downgraded: the cohort and the client allow it.
     pub rollback: bool,
+    /// Which versions the client's administrator allows.
+    pub pin: Pin,
     /// The version that the client is meant to have, if any.
     pub target: Option<Version>,
 }
@@ -101,17 +105,6 @@ fn choose_lane(cohort: &Cohort, bucket: u16) -> Lane
     }
 }
 
-// rule: Target of a lane
-/// Returns the version that the clients of a cohort's lane are meant to have, if any.
-pub fn target_in(cohort: &Cohort, lane: Lane) -> Option<Version>
-    ensures { result ≡ target_of cohort.now lane }
-{
-    match lane {
-        Lane::Target => cohort.target,
-        Lane::Held => cohort.held,
-    }
-}
-
 fn allows_rollback(ask: &AppAsk) -> bool
     ensures { result ≡ asks_rollback ask.now }
 {
@@ -121,18 +114,29 @@ fn allows_rollback(ask: &AppAsk) -> bool
     }
 }
 
+fn read_pin(ask: &AppAsk) -> Pin
+    ensures { result ≡ pin_asked ask.now }
+{
+    match &ask.check {
+        Some(check) => Pin::parse(check.prefix.as_str()),
+        None => Pin::Any,
+    }
+}
+
 // The track of a bucket in the cohort at an index.
 // rule: Rollback of a track
-fn track_in(cohort: &Cohort, index: usize, bucket: u16, ask: &AppAsk) -> Track
-    ensures { result ≡ track_in cohort.now index bucket ask.now }
+fn track_in(releases: &[Release], cohort: &Cohort, index: usize, bucket: u16, ask: &AppAsk) -> Track
+    ensures { result ≡ track_in releases.now cohort.now index bucket ask.now }
 {
     let lane = choose_lane(cohort, bucket);
+    let pin = read_pin(ask);
     Track {
         cohort: index,
         bucket,
         lane,
         rollback: cohort.rollback && allows_rollback(ask),
-        target: target_in(cohort, lane),
+        pin,
+        target: track_target(releases, cohort, lane, &pin),
     }
 }
 
@@ -143,7 +147,7 @@ impl<'a> Session<'a> {
     /// before did; see `assign`.
     pub fn assign(&mut self, catalogue: &Catalogue, app: usize, ask: &AppAsk) -> Track
         requires { app < length catalogue.now }
-        ensures track { result ≡ track_of (cohorts_at catalogue.now app) ask.now self.old }
+        ensures track { result ≡ track_of (releases_at catalogue.now app) (cohorts_at catalogue.now app) ask.now self.old }
         ensures same { self.new ≡ self.old }
         ensures cohort { result.cohort < length (cohorts_at catalogue.now app) }
         ensures bucket { result.bucket < 1000 }
@@ -153,7 +157,7 @@ impl<'a> Session<'a> {
         let index = find_serving(catalogue, app, ask, named);
         let cohort = &catalogue.cohorts(app)[index];
         let bucket = choose_bucket(named, self);
-        track_in(cohort, index, bucket, ask)
+        track_in(catalogue.releases(app), cohort, index, bucket, ask)
     }
 }
 
@@ -163,14 +167,15 @@ impl<'a> Session<'a> {
 ///   names if the app has it; else the default one.
 /// - Bucket: the cohort text's if that is well formed, else that of the session, which may be
 ///   empty.
-/// - Lane: the target's if the bucket is below the cohort's share, else the held one. The track's
-///   target is the lane's.
+/// - Lane: the target's if the bucket is below the cohort's share, else the held one.
+/// - Pin: that of the prefix that the client sent, which is `Any` for an empty one or for none. The track's target
+///   is the lane's for that pin, and for another one the highest release up to it that the client is offered.
 /// - The client may be downgraded if the cohort's rollback flag is set and the client allows it.
 ///
 /// It allocates nothing. To assign several clients of one session, call `Session::assign`.
 pub fn assign(catalogue: &Catalogue, app: usize, ask: &AppAsk, session: &str) -> Track
     requires { app < length catalogue.now }
-    ensures track { result ≡ track_of (cohorts_at catalogue.now app) ask.now session.now }
+    ensures track { result ≡ track_of (releases_at catalogue.now app) (cohorts_at catalogue.now app) ask.now session.now }
     ensures cohort { result.cohort < length (cohorts_at catalogue.now app) }
     ensures bucket { result.bucket < 1000 }
 {

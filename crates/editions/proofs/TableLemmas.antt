@@ -6,7 +6,7 @@ use Rattle.std.proofs.lemmas.List.Elements.{All-contains}
 use Rattle.catalogue_laws.specs.Histories.{History, LeadsTo}
 use Rattle.records.specs.declared.content.App.{App}
 use Rattle.records.specs.declared.content.Cohort.{Cohort}
-use Rattle.payload_graph.specs.Chains.{lane_target}
+use Rattle.payload_graph.specs.Chains.{cohort_target}
 use Rattle.payload_graph.specs.declared.payload.TrackKey.{TrackKey}
 use Rattle.payload_graph.specs.Net.{Net, net_among, net_in, net_of}
 use Rattle.price_cert.specs.Tables.{Certificate}
@@ -26,10 +26,10 @@ keyed apps key net made = in_apps (slice_get apps key.app) made
 
     in_app :
         (app : App) (cohort : Option Cohort) →
-        option_and_then (λ cohort. option_map (net_of app key cohort) (lane_target app cohort key.lane)) cohort ≡ Some net →
+        option_and_then (λ cohort. option_map (net_of app key cohort) (cohort_target app cohort key)) cohort ≡ Some net →
         net.key ≡ key
     in_app app None made = cc
-    in_app app (Some cohort) made = to app cohort (lane_target app cohort key.lane) made
+    in_app app (Some cohort) made = to app cohort (cohort_target app cohort key) made
 
     in_apps : (app : Option App) → option_and_then (λ app. net_in app key) app ≡ Some net → net.key ≡ key
     in_apps None made = cc
@@ -47,14 +47,14 @@ net_among-found of_tracks apps tables key table are inside named =
 pub net_among-missing :
     TracksHaveTables → (apps : List App) (tables : List Certificate) (key : TrackKey) →
     AreTables apps tables → IsTrackKey apps key → All (HasOtherKey key) tables → net_among apps key ≡ None
-net_among-missing have apps tables key are agreed others = cases (net_among apps key) refl agreed
+net_among-missing have apps tables key are agreed others = cases (net_among apps key) refl agreed.rollback
   where
     cases :
         (net : Option Net) → net_among apps key ≡ net → IfSome net (λ n. n.rollback ≡ key.rollback) →
         net_among apps key ≡ None
-    cases None made agreed = made
-    cases (Some net) made agreed =
-        let found = have apps tables key net are made agreed in
+    cases None made same = made
+    cases (Some net) made same =
+        let found = have apps tables key net are made same agreed.pin in
         let other = All-contains (HasOtherKey key) tables found.1 others (found.0, found.2, found.3) in
         absurd (other (ap (λ (n : Net). n.key) found.4 ∙ keyed apps key net made))
 

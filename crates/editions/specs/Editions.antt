@@ -6,6 +6,7 @@ use Rattle.catalogue_laws.specs.Histories.{History, LeadsTo}
 use Rattle.records.specs.declared.content.App.{App}
 use Rattle.catalogue.specs.declared.edit.Edit.{Edit}
 use Rattle.catalogue.specs.declared.fault.Refused.{Refused}
+use Rattle.cohorts.specs.declared.pin.Pin.TheVariants as pin
 use Rattle.payload_graph.specs.declared.payload.TrackKey.{TrackKey}
 use Rattle.payload_graph.specs.Net.{net_among}
 use Rattle.price_cert.specs.Tables.{Certificate}
@@ -56,6 +57,8 @@ content_or_none (Err refused) = []
 abbrev pub content_of : History → List App
 content_of history = content_or_none (run history [])
 
--- a key allows a downgrade only if its cohort does, if its track has a target
-abbrev pub IsTrackKey : List App → TrackKey → Type 0
-IsTrackKey apps key = IfSome (net_among apps key) (λ net. net.rollback ≡ key.rollback)
+-- a key whose table an edition has: its clients have no pin, and it allows a downgrade only if its cohort does, if
+-- its track has a target
+pub record IsTrackKey (apps : List App) (key : TrackKey) : Type 0 where
+  pub pin : key.pin ≡ pin.Any
+  pub rollback : IfSome (net_among apps key) (λ net. net.rollback ≡ key.rollback)

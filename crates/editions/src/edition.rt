@@ -1,4 +1,4 @@
-ghost use Rattle.std.specs.Prelude.{◌≡◌, ◌≤◌, [], ◌∷◌, ◌++◌, IfOk, length, map, option_map};
+ghost use Rattle.std.specs.Prelude.{◌≡◌, ◌≤◌, [], ◌∷◌, ◌++◌, IfOk, IfSome, length, map, option_map};
 ghost use Rattle.std.specs.Arc.{arc_value};
 ghost use Rattle.catalogue_laws.specs.Histories.{LeadsTo};
 ghost use Rattle.par_tables.specs.Tables.{AreTables};
@@ -87,7 +87,7 @@ impl Edition {
         &self.catalogue
     }
 
-    /// Borrows the certified tables of all tracks with a target, in their order.
+    /// Borrows the certified tables of all tracks with a target, of clients without a pin, in their order.
     pub fn tables(&self) -> &[Certified]
         ensures { AreTables (content_of self.now) result.now }
     {
@@ -97,10 +97,11 @@ impl Edition {
     // rule: Tables of an edition
     /// Finds the certified table of a track, `None` if the track has no target.
     ///
-    /// The key allows a downgrade only if its cohort does.
+    /// The key's clients have no pin, and it allows a downgrade only if its cohort does.
     pub fn table(&self, key: &TrackKey) -> Option<&Certified>
         requires { IsTrackKey (content_of self.now) key.now }
-        ensures { option_map (λ table. table.now.net) result ≡ net_among (content_of self.now) key.now }
+        ensures table { option_map (λ table. table.now.net) result ≡ net_among (content_of self.now) key.now }
+        ensures key { IfSome result (λ table. table.now.net.key ≡ key.now) }
     {
         par_tables::laws::tracks();
         match self.tables.find(key) {

@@ -14,26 +14,26 @@ Remedy: `omaha once --help` says in which order the edits of a profile count.
         "file",
         "file F
 Found in: a path of the command line.
-The file can't be read, or has more than 64 MiB; `omaha describe` says what is wrong with it. Of `--log F`: the file
-can't be opened for writing.
-Usual cause: A misspelled path, missing permission, or a folder.
-Remedy: Try `head F`; of a log, `touch F`.
+The file can't be read, is no regular file, or has more than 64 MiB; `omaha describe` says what is wrong with it. Of
+`--log F`: the file can't be opened for writing. Of `--packages F`: there is no such folder.
+Usual cause: A misspelled path, missing permission, a folder, or a pipe.
+Remedy: Try `head F`; of a log, `touch F`; of packages, `ls F`.
 ",
     ),
     (
         "net",
         "net ADDR
 Found in: an address of the command line.
-The server can't listen on the address.
+The server can't listen on the address, or may not open two more files, for a connection and a package.
 Usual cause: No address and port, a port in use, or one below 1024 without the right to it.
-Remedy: Try another port, or `ss -ltn` to see who has it.
+Remedy: Try another port, or `ss -ltn` to see who has it; see that `ulimit -n` is above 8.
 ",
     ),
     (
         "packages",
         "packages N
 Found in: a folder of packages.
-N declared packages differ from their files, or have none; a line of the output names each.
+N declared packages differ from their files, or have none that can be read; a line of the output names each.
 Usual cause: A package that was not copied, was built anew, or has a wrong line in the profile.
 Remedy: Copy the package, or write into the profile what `omaha describe FILE` prints.
 ",

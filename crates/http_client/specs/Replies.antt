@@ -56,7 +56,7 @@ ReplyRead old new (Ok body) = (bytes : List ℕ) × (rest : List ℕ) × Consume
 ReplyRead old new (Err (fault.Head why)) = (bytes : List ℕ) × Consumes old new bytes × StartFound bytes (Err why)
 ReplyRead old new (Err fault.Ended) = (bytes : List ℕ) × Consumes old new bytes × IsPart bytes × IsAtEnd new
 ReplyRead old new (Err fault.Long) = (bytes : List ℕ) × (size : ℕ) × (rest : List ℕ) × Consumes old new bytes
-    × Announces bytes size rest × (16777216 < size)
+    × Announces bytes size rest × (1048576 < size)
 ReplyRead old new (Err fault.Memory) = ⊤
 ReplyRead old new (Err fault.Read) = ⊤
 ReplyRead old new (Err other) = ⊥

@@ -10,7 +10,7 @@ use http_wire::{Sink, Source, send};
 use std::alloc::Global;
 
 /// The most bytes that the body of a post's reply may have.
-pub const MAX_REPLY: u64 = 16_777_216;
+pub const MAX_REPLY: u64 = 1_048_576;
 
 // Reads until the body has that size.
 fn read_rest<S: Source>(

@@ -6,6 +6,7 @@ use Rattle.http_desks.specs.Uses.{IsUse}
 use Rattle.http_sessions.specs.Sessions.{Serves, SessionEnds, wrote}
 use Rattle.http_sessions.specs.declared.ends.Fault.{Fault}
 use Rattle.http_sessions.specs.declared.ends.Served.{Served}
+use Rattle.std.specs.declared.net.tcp.TcpStream.{TcpStream}
 
 -- the session of a connection, between the states of the desk before and after it
 abbrev pub IsSession :
@@ -15,6 +16,12 @@ IsSession path kind steps tells sizes reads before result behind =
     (left : Option (List ℕ)) × (after : Option (List ℕ)) × (old : Option (List ℕ)) × (new : Option (List ℕ))
     × Serves (IsUse (path before) tells sizes reads) steps (kind before) 0
     (SessionEnds after 0 result) (wrote result) [] left after old new before behind
+
+-- a session over a connection of which something is known
+abbrev pub IsSessionOver :
+    {D : Type 0} → (TcpStream → Type 0) → (D → Result Served Fault → D → Type 0) → D → Result Served Fault → D → Type 0
+IsSessionOver connects sessions before result behind =
+    (stream : TcpStream) × connects stream × sessions before result behind
 
 -- a connection that failed before its session, or what its session came to
 pub data Visit : Type 0 where

@@ -4,18 +4,7 @@ ghost use Rattle.http_connections.specs.Opening.{ready_line};
 ghost use Rattle.streams.specs.Writing.{Breaks};
 
 use std::io;
-use std::net::{Net, TcpListener, TcpStream};
 use streams::WriteWhole;
-
-/// Binds an address, `HOST:PORT` with an IPv6 address in brackets, and listens there.
-///
-/// Fails if the address can't be bound.
-pub fn listen<R: Net<Listener = TcpListener, Stream = TcpStream>>(
-    rt: &R,
-    address: &str,
-) -> io::Result<TcpListener> {
-    TcpListener::bind(rt, address)
-}
 
 // rule: Start of a server
 /// Prints `ready` and a line feed, which says that the server listens.

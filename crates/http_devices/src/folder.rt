@@ -1,8 +1,10 @@
-ghost use Rattle.std.specs.Prelude.{◌≡◌, ◌++◌, ◌∷◌, true, IfSome, OnOk, OnSome, string_bytes};
+ghost use Rattle.std.specs.Prelude.{◌≡◌, ◌++◌, ◌∷◌, true, IfOk, IfSome, OnOk, string_bytes};
 ghost use Rattle.http_devices.specs.Files.{ReadsAt};
 ghost use Rattle.http_devices.specs.Names.{is_file_name};
 
 use crate::name::file_name;
+use crate::open_error::OpenError;
+use crate::opening::OpenPackages;
 use crate::regular::RegularFiles;
 use http_desks::Packages;
 use http_wire::Failed;
@@ -20,8 +22,8 @@ struct Opened<F: Drop> {
 
 /// The packages of a folder, each a file of the package's name.
 ///
-/// `size` opens the file, and reads are from the file that it opened last: a file that is replaced later
-/// is not mixed with it. A symbolic link, a folder and what is no regular file are no package, and a name
+/// `open` and `size` open the file, and reads are from the file that was opened last: a file that is replaced
+/// later is not mixed with it. A symbolic link, a folder and what is no regular file are no package, and a name
 /// that could leave the folder opens nothing.
 #[derive(Drop)]
 pub struct Folder<'a, S: RegularFiles<F>, F: Drop> {
@@ -56,18 +58,23 @@ fn set_path(path: &mut String, folder: &str, name: &str) -> Result<(), AllocErro
 }
 
 impl<F: Drop> Opened<F> {
-    // Opens the file of a name, and returns its size, if it is a regular file.
-    fn open<S: RegularFiles<F>>(&mut self, files: &S, folder: &str, name: &str) -> Option<u64>
-        ensures name { OnSome result (string_bytes self.new.name ≡ name.now) }
-        ensures path { OnSome result (string_bytes self.new.path ≡ folder.now ++ 47 ∷ name.now) }
+    // Opens the file of a name, which is a regular one, and returns its size.
+    fn open<S: RegularFiles<F>>(
+        &mut self,
+        files: &S,
+        folder: &str,
+        name: &str,
+    ) -> Result<u64, OpenError>
+        ensures name { OnOk result (string_bytes self.new.name ≡ name.now) }
+        ensures path { OnOk result (string_bytes self.new.path ≡ folder.now ++ 47 ∷ name.now) }
     {
         self.file = None;
         self.name.clear();
-        set_path(&mut self.path, folder, name).ok()?;
+        set_path(&mut self.path, folder, name)?;
+        self.name.push_str(name)?;
         let (file, size) = files.open_regular(self.path.as_str())?;
-        self.name.push_str(name).ok()?;
         self.file = Some(file);
-        Some(size)
+        Ok(size)
     }
 }
 
@@ -86,6 +93,19 @@ fn read_from<F: Read + Seek>(file: &mut F, at: u64, into: &mut [u8]) -> Result<(
     }
 }
 
+impl<'a, S: RegularFiles<F>, F: Drop> OpenPackages for Folder<'a, S, F> {
+    // a size is that of a file of the folder
+    ghost opens = { λ _ name opened. IfOk opened (λ _. is_file_name name ≡ true) };
+
+    fn open(&self, name: &[u8]) -> Result<u64, OpenError> {
+        let name = file_name(name).ok_or(OpenError::Missing)?;
+        match self.opened.try_borrow_mut() {
+            Ok(mut opened) => opened.open(self.files, self.path, name),
+            Err(_) => Err(OpenError::Unreadable),
+        }
+    }
+}
+
 impl<'a, S: RegularFiles<F>, F: Read + Seek + Drop> Packages for Folder<'a, S, F> {
     // a size is that of a file of the folder
     ghost sizes = { λ _ name size. IfSome size (λ _. is_file_name name ≡ true) };
@@ -94,9 +114,7 @@ impl<'a, S: RegularFiles<F>, F: Read + Seek + Drop> Packages for Folder<'a, S, F
     ghost reads = { λ _ name _ _ bytes. IfSome bytes (λ _. is_file_name name ≡ true) };
 
     fn size(&self, name: &[u8]) -> Option<u64> {
-        let name = file_name(name)?;
-        let mut opened = self.opened.try_borrow_mut().ok()?;
-        opened.open(self.files, self.path, name)
+        self.open(name).ok()
     }
 
     fn read_at(&self, name: &[u8], at: u64, into: &mut [u8]) -> Result<(), Failed> {

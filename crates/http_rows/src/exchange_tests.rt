@@ -116,7 +116,7 @@ HTTP/1.1 200 OK~Content-Length: 5~Content-Length: 5~~hello|failed
 HTTP/1.1 200 OK~Content-Length: 5, 5~~hello|failed
 HTTP/1.1 200 OK~Content-Length: +5~~hello|failed
 HTTP/1.1 200 OK~Content-Length: 18446744073709551616~~hello|failed
-HTTP/1.1 200 OK~Content-Length: 16777217~~hello|failed
+HTTP/1.1 200 OK~Content-Length: 1048577~~hello|failed
 HTTP/1.1 200 OK~Transfer-Encoding: chunked~~5~hello~0~~|failed
 HTTP/1.1 200 OK~Part: ################~Content-Length: 5~~hello|hello
 HTTP/1.1 200 OK~Part: #################~Content-Length: 5~~hello|failed

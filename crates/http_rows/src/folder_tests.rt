@@ -1,6 +1,6 @@
 use crate::lines::columns;
 use http_desks::Packages;
-use http_devices::Folder;
+use http_devices::{Folder, OpenError, OpenPackages};
 use std::alloc::Global;
 use std::fs::File;
 use std::rt::Files;
@@ -13,12 +13,14 @@ fn path_in(alloc: Global, folder: &str, name: &str) -> Option<&'static str> {
     str::from_utf8(path.into_bytes().leak()).ok()
 }
 
-// The package, a hidden file and an empty one, a link to the package, and a folder.
+// The package, a hidden file and an empty one, a link to the package, a link to itself, and a folder.
 fn fill(rt: &HostRuntime, folder: &str) -> Option<()> {
     fs::create_dir_all(rt, path_in(rt.alloc(), folder, "inner")?).ok()?;
     fs::write(rt, path_in(rt.alloc(), folder, "a.bin")?, "0123456789").ok()?;
     fs::write(rt, path_in(rt.alloc(), folder, ".a.bin")?, "0123456789").ok()?;
     fs::write(rt, path_in(rt.alloc(), folder, "empty")?, "").ok()?;
+    rt.symlink("loop", path_in(rt.alloc(), folder, "loop")?)
+        .ok()?;
     rt.symlink("a.bin", path_in(rt.alloc(), folder, "link")?)
         .ok()
 }
@@ -40,7 +42,26 @@ fn make_folder(rt: &HostRuntime, end: &str) -> Option<&'static str> {
     Some(folder)
 }
 
-// Whether a package of a folder has that size, or there is `none`, and three bytes at an offset, or they can't be read.
+// What a row calls the reason that a file can't be opened for.
+fn name_of(reason: OpenError) -> &'static str {
+    match reason {
+        OpenError::Missing => "missing",
+        OpenError::NotRegular => "irregular",
+        OpenError::Unreadable => "unreadable",
+        OpenError::Memory => "memory",
+    }
+}
+
+// Whether a package of a folder has that size, or can't be opened for that reason.
+fn has_size(folder: &Folder<'_, HostRuntime, File>, name: &str, wanted: &str) -> bool {
+    let size = folder.size(name.as_bytes());
+    match folder.open(name.as_bytes()) {
+        Ok(found) => wanted.parse() == Ok(found) && size == Some(found),
+        Err(reason) => wanted == name_of(reason) && size.is_none(),
+    }
+}
+
+// Whether that is so, and it has three bytes at an offset, or they can't be read.
 fn has(
     folder: &Folder<'_, HostRuntime, File>,
     name: &str,
@@ -48,11 +69,7 @@ fn has(
     size: &str,
     wanted: &str,
 ) -> bool {
-    let is_size = match folder.size(name.as_bytes()) {
-        Some(found) => size.parse() == Ok(found),
-        None => size == "none",
-    };
-    is_size && has_bytes(folder, name, at, wanted)
+    has_size(folder, name, size) && has_bytes(folder, name, at, wanted)
 }
 
 fn has_bytes(folder: &Folder<'_, HostRuntime, File>, name: &str, at: u64, wanted: &str) -> bool {
@@ -63,21 +80,27 @@ fn has_bytes(folder: &Folder<'_, HostRuntime, File>, name: &str, at: u64, wanted
     }
 }
 
-// A row is a name, an offset, the package's size and three bytes from there.
+// A row is a name, an offset, the package's size or why it can't be opened, and three bytes from there.
 const ROWS: &str = "\
 a.bin|0|10|012
 a.bin|7|10|789
 a.bin|8|10|failed
 a.bin|18446744073709551615|10|failed
 empty|0|0|failed
-.a.bin|0|none|failed
-inner|0|none|failed
-link|0|none|failed
-missing|0|none|failed
-inner/../a.bin|0|none|failed
-./a.bin|0|none|failed
-.|0|none|failed
-|0|none|failed";
+.a.bin|0|missing|failed
+inner|0|irregular|failed
+link|0|irregular|failed
+loop|0|irregular|failed
+missing|0|missing|failed
+inner/../a.bin|0|missing|failed
+./a.bin|0|missing|failed
+.|0|missing|failed
+|0|missing|failed";
+
+// The same in a folder that is a file, and in one that is a link to itself.
+const IN_A_FILE: &str = "x|0|missing|failed";
+
+const IN_A_LOOP: &str = "x|0|unreadable|failed";
 
 // The first row that the packages of a folder don't have; empty if there is none.
 fn wrong_row<'a>(rt: &HostRuntime, path: &str, rows: &'a str) -> &'a str {
@@ -92,13 +115,20 @@ fn wrong_row<'a>(rt: &HostRuntime, path: &str, rows: &'a str) -> &'a str {
 }
 
 // rule: Name of a file
+// rule: Opening a package
 // rule: Read at an offset
 #[test]
 fn opens_the_files_of_its_folder(rt: HostRuntime) -> Result<(), Fail> {
     let path = make_folder(&rt, "http_rows").ok_or("no folder")?;
+    let file = path_in(rt.alloc(), path, "a.bin").ok_or("no path")?;
+    let looped = path_in(rt.alloc(), path, "loop").ok_or("no path")?;
     let wrong = wrong_row(&rt, path, ROWS);
+    let wrong_in_file = wrong_row(&rt, file, IN_A_FILE);
+    let wrong_in_loop = wrong_row(&rt, looped, IN_A_LOOP);
     fs::remove_dir_all(&rt, path)?;
     assert!(rt; wrong.is_empty(), "{wrong}");
+    assert!(rt; wrong_in_file.is_empty(), "{wrong_in_file}");
+    assert!(rt; wrong_in_loop.is_empty(), "{wrong_in_loop}");
     Ok(())
 }
 

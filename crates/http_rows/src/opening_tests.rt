@@ -1,11 +1,11 @@
 use crate::server::listen;
-use http_connections::print_ready;
+use http_connections::{Listens, print_ready};
 use std::test::Fail;
 
 // Whether an address can be listened on, and what is printed then.
 fn prints(rt: &HostRuntime, address: &str, wanted: &str) -> bool {
     let mut out = Vec::new(rt.alloc());
-    match http_connections::listen(rt, address) {
+    match rt.listen(address) {
         Ok(_listener) => print_ready(&mut out).is_ok() && out.as_slice() == wanted.as_bytes(),
         Err(_) => wanted.is_empty(),
     }

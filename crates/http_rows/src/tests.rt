@@ -20,13 +20,17 @@ fn show(alloc: Global, log: &AccessLog<'_, Stopped, Paper>, script: &str) -> Opt
     Some(())
 }
 
-// Whether the log of a script has these lines.
-fn logs(alloc: Global, script: &str, lines: &str, is_full: bool) -> bool {
-    let bytes = Vec::new(alloc);
-    let log = AccessLog::new(alloc, &Stopped, Paper { bytes, is_full });
+// Whether the log of a script has these lines, over a disk with room for so many bytes until so many writes failed.
+fn logs(alloc: Global, script: &str, lines: &str, room: usize, fails: usize) -> bool {
+    let mut paper = Paper {
+        bytes: Vec::new(alloc),
+        room,
+        fails,
+    };
+    let log = AccessLog::new(alloc, &Stopped, &mut paper);
     let shown = show(alloc, &log, script);
-    let written = log.into_writer();
-    shown.is_some() && written.bytes.as_slice() == lines.as_bytes()
+    drop(log);
+    shown.is_some() && paper.bytes.as_slice() == lines.as_bytes()
 }
 
 // Each row: a script, and the lines of its log.
@@ -79,17 +83,30 @@ const SCRIPTS: [(&str, &str); 5] = [
     ),
 ];
 
-// A full disk loses lines alone.
+// Two messages and their replies.
 const LOST: &str =
     "+\n>GET /a HTTP/1.1~~\n<HTTP/1.1 404 Not Found~~\n+\n>GET /b HTTP/1.1~~\n<HTTP/1.1 404 Not Found~~\n.\n";
+
+// A part of the line of the first, and the line of the second.
+const AFTER_A_PART: &str = concat!(
+    "- - - [2\n",
+    "- - - [24/Nov/2026:09:30:05 +0000] \"GET /b HTTP/1.1\" 404 0 \"-\" \"-\"\n",
+);
 
 // rule: Line of the log
 #[test]
 fn each_reply_has_a_line(rt: HostRuntime) {
     for (script, lines) in SCRIPTS {
-        assert!(rt; logs(rt.alloc(), script, lines, false), "{lines}");
+        assert!(rt; logs(rt.alloc(), script, lines, 0, 0), "{lines}");
     }
-    assert!(rt; logs(rt.alloc(), LOST, "", true));
+}
+
+// rule: Lost line of the log
+#[test]
+fn a_full_disk_joins_no_lines(rt: HostRuntime) {
+    assert!(rt; logs(rt.alloc(), LOST, "", 0, 2));
+    assert!(rt; logs(rt.alloc(), LOST, "- - - [2", 8, 2));
+    assert!(rt; logs(rt.alloc(), LOST, AFTER_A_PART, 8, 1));
 }
 
 // Shows a log a message and a reply of 100,000 bytes each.
@@ -105,13 +122,14 @@ fn show_long(log: &AccessLog<'_, Stopped, Paper>) {
 
 #[test]
 fn a_long_message_has_its_first_line(rt: HostRuntime) {
-    let paper = Paper {
+    let mut paper = Paper {
         bytes: Vec::new(rt.alloc()),
-        is_full: false,
+        room: 0,
+        fails: 0,
     };
-    let log = AccessLog::new(rt.alloc(), &Stopped, paper);
+    let log = AccessLog::new(rt.alloc(), &Stopped, &mut paper);
     show_long(&log);
-    let written = log.into_writer();
+    drop(log);
     let wanted = b"- - - [24/Nov/2026:09:30:05 +0000] \"POST /a HTTP/1.1\" - 0 \"-\" \"-\"\n";
-    assert!(rt; written.bytes.as_slice() == wanted.as_slice());
+    assert!(rt; paper.bytes.as_slice() == wanted.as_slice());
 }

@@ -16,20 +16,28 @@ impl Clock for Stopped {
     }
 }
 
-/// A file, which is perhaps on a full disk.
+/// A file on a disk that has room for so many bytes. After so many writes that failed it has room again.
 #[derive(Drop)]
 pub(crate) struct Paper {
     pub(crate) bytes: Vec<u8>,
-    pub(crate) is_full: bool,
+    pub(crate) room: usize,
+    pub(crate) fails: usize,
 }
 
 impl Write for Paper {
     fn write(&mut self, bytes: &[u8]) -> io::Result<usize> {
-        if self.is_full {
+        if self.room == 0 && self.fails > 0 {
+            self.fails -= 1;
             return Err(io::Error::from(ErrorKind::StorageFull));
         }
-        self.bytes.extend_from_slice(bytes)?;
-        Ok(bytes.len())
+        let count = if self.room == 0 {
+            bytes.len()
+        } else {
+            bytes.len().min(self.room)
+        };
+        self.bytes.extend_from_slice(&bytes[..count])?;
+        self.room = self.room.saturating_sub(count);
+        Ok(count)
     }
 
     fn flush(&mut self) -> io::Result<()> {

@@ -5,7 +5,8 @@ ghost use Rattle.omaha_arguments.specs.Errors.{IsOfKind};
 
 use clap::Error;
 use clap::error::ErrorKind;
-use std::alloc::Global;
+use std::alloc::{AllocError, Global};
+use streams::Shown;
 use values::Text;
 
 /// Why the arguments ask for no command.
@@ -19,17 +20,36 @@ pub enum ArgumentError {
     Memory,
 }
 
-// What an error of `clap` says.
+// Writes the lines of a message, each without control characters.
+fn shown_lines(alloc: Global, message: &str) -> Result<String, AllocError> {
+    let mut shown = String::new(alloc);
+    for line in message.lines() {
+        if !line.is_empty() {
+            let line = Shown { string: line };
+            write!(shown, "{line}")?;
+        }
+        shown.push_str("\n")?;
+    }
+    Ok(shown)
+}
+
+// The message of an error of `clap`.
+fn message_of(alloc: Global, error: &Error) -> Result<Text, AllocError> {
+    let message = format!(in alloc; "{error}")?;
+    let shown = shown_lines(alloc, message.as_str())?;
+    Ok(Text::new(shown))
+}
+
+// What an error of `clap` says; its message may repeat an argument.
 pub(crate) fn argument_error(alloc: Global, error: &Error) -> ArgumentError
     ensures { IsOfKind (kind_of error.now) result }
 {
     if error.kind() == ErrorKind::OutOfMemory {
         return ArgumentError::Memory;
     }
-    let Ok(text) = format!(in alloc; "{error}") else {
+    let Ok(text) = message_of(alloc, error) else {
         return ArgumentError::Memory;
     };
-    let text = Text::new(text);
     match error.kind() {
         ErrorKind::DisplayHelp => ArgumentError::Shown(text),
         ErrorKind::DisplayVersion => ArgumentError::Shown(text),

@@ -5,8 +5,7 @@ use Rattle.omaha_arguments.specs.Commands.{faults_of}
 use Rattle.omaha_arguments.specs.Errors.{IsWhy}
 use Rattle.omaha_arguments.specs.declared.error.ArgumentError.{ArgumentError}
 use Rattle.omaha_arguments.specs.declared.error.ArgumentError.TheVariants as argument
-use Rattle.package_files.specs.Storages.{Storage}
-use Rattle.omaha_cli.specs.Once.{Files}
+use Rattle.omaha_cli.specs.Worlds.{World}
 use Rattle.omaha_cli.specs.Running.{Ends, EndsBy, code_of, status_of}
 use Rattle.omaha_cli.specs.declared.running.Ending.{Ending}
 use Rattle.omaha_cli.specs.declared.running.Ending.TheVariants as ending
@@ -14,23 +13,23 @@ use Rattle.omaha_cli.specs.declared.running.Status.{Status}
 use Rattle.omaha_cli.specs.declared.running.Status.TheVariants as status
 
 pub Ends-without_command :
-    (files : Files) (storage : Storage) (words : List (List ℕ)) (input before after : Known) (error : ArgumentError) (ended : Ending) →
+    (world : World) (words : List (List ℕ)) (input before after : Known) (error : ArgumentError) (ended : Ending) →
     IsWhy (faults_of words) error →
     EndsBy error before after ended →
-    Ends files storage words (record { input = input; output = before }) (record { input = input; output = after }) ended
-Ends-without_command files storage words input before after (argument.Shown text) ending.Shown why shows = (why, (text, shows), refl)
-Ends-without_command files storage words input before after (argument.Shown text) (ending.Failed refusal) why shows =
+    Ends world words (record { input = input; output = before }) (record { input = input; output = after }) ended
+Ends-without_command world words input before after (argument.Shown text) ending.Shown why shows = (why, (text, shows), refl)
+Ends-without_command world words input before after (argument.Shown text) (ending.Failed refusal) why shows =
     inr (inl (why, shows.0, (text, shows.1), refl))
-Ends-without_command files storage words input before after (argument.Shown text) ending.Replied why shows = absurd shows
-Ends-without_command files storage words input before after (argument.Shown text) (ending.Mistaken other) why shows = absurd shows
-Ends-without_command files storage words input before after (argument.Invalid text) (ending.Mistaken other) why is = (why, cc is.1)
-Ends-without_command files storage words input before after (argument.Invalid text) ending.Replied why is = absurd (cc is.0)
-Ends-without_command files storage words input before after (argument.Invalid text) ending.Shown why is = absurd (cc is.0)
-Ends-without_command files storage words input before after (argument.Invalid text) (ending.Failed refusal) why is = absurd (cc is.0)
-Ends-without_command files storage words input before after argument.Memory (ending.Failed refusal) why is = inr (inr (cc is.0, cc is.1))
-Ends-without_command files storage words input before after argument.Memory ending.Replied why is = absurd (cc is.0)
-Ends-without_command files storage words input before after argument.Memory ending.Shown why is = absurd (cc is.0)
-Ends-without_command files storage words input before after argument.Memory (ending.Mistaken other) why is = absurd (cc is.0)
+Ends-without_command world words input before after (argument.Shown text) ending.Replied why shows = absurd shows
+Ends-without_command world words input before after (argument.Shown text) (ending.Mistaken other) why shows = absurd shows
+Ends-without_command world words input before after (argument.Invalid text) (ending.Mistaken other) why is = (why, cc is.1)
+Ends-without_command world words input before after (argument.Invalid text) ending.Replied why is = absurd (cc is.0)
+Ends-without_command world words input before after (argument.Invalid text) ending.Shown why is = absurd (cc is.0)
+Ends-without_command world words input before after (argument.Invalid text) (ending.Failed refusal) why is = absurd (cc is.0)
+Ends-without_command world words input before after argument.Memory (ending.Failed refusal) why is = inr (inr (cc is.0, cc is.1))
+Ends-without_command world words input before after argument.Memory ending.Replied why is = absurd (cc is.0)
+Ends-without_command world words input before after argument.Memory ending.Shown why is = absurd (cc is.0)
+Ends-without_command world words input before after argument.Memory (ending.Mistaken other) why is = absurd (cc is.0)
 
 -- the status of a usage error is that of an ending by invalid arguments
 pub Usage-two : (ended : Ending) (returned : Status) (code : ℕ) → code ≡ code_of returned → returned ≡ status_of ended → code ≡ 2 → status_of ended ≡ status.Usage

@@ -37,7 +37,7 @@ IsReportedOn service findings before after result =
 abbrev pub IsCompared : Storage → List ℕ → Service → Known → Known → Result (Unit {0}) Failure → Type 0
 IsCompared storage folder service before after result =
     ((findings : List Finding)
-    × AreFindings (storage.sizes folder) (storage.reads folder) (packages_of (content_of service.edition)) findings
+    × AreFindings (storage.opens folder) (storage.reads folder) (packages_of (content_of service.edition)) findings
     × IsReportedOn service findings before after result)
     ⊎ ((result ≡ Err failure.Memory) × (after ≡ before))
 

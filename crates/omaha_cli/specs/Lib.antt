@@ -10,3 +10,4 @@ pub mod Running
 pub mod Serving
 pub mod Streams
 pub mod Walking
+pub mod Worlds

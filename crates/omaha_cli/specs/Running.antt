@@ -7,11 +7,10 @@ use Rattle.omaha_arguments.specs.Commands.{command_of, faults_of}
 use Rattle.omaha_arguments.specs.Errors.{AsksToShow, HasMistake}
 use Rattle.omaha_arguments.specs.declared.error.ArgumentError.{ArgumentError}
 use Rattle.omaha_arguments.specs.declared.error.ArgumentError.TheVariants as argument
-use Rattle.package_files.specs.Storages.{Storage}
-use Rattle.omaha_cli.specs.Doing.{Does}
+use Rattle.omaha_cli.specs.Doing.{Does, IsSilentCommand}
 use Rattle.omaha_cli.specs.Failures.{failure_string}
-use Rattle.omaha_cli.specs.Once.{Files}
 use Rattle.omaha_cli.specs.Streams.{Streams}
+use Rattle.omaha_cli.specs.Worlds.{World}
 use Rattle.omaha_cli.specs.declared.failure.Failure.{Failure}
 use Rattle.omaha_cli.specs.declared.failure.Failure.TheVariants as failure
 use Rattle.omaha_cli.specs.declared.running.Ending.{Ending}
@@ -49,16 +48,16 @@ EndsBy (argument.Invalid text) before after ended = (ended ≡ ending.Mistaken t
 EndsBy argument.Memory before after ended = (ended ≡ ending.Failed failure.Memory) × (after ≡ before)
 
 -- How a run ends, by its arguments. A command does what its own relation says.
-abbrev pub Ends : Files → Storage → List (List ℕ) → Streams → Streams → Ending → Type 0
-Ends files storage words old new ending.Replied =
-    (faults_of words ≡ []) × Does files storage (command_of words) old new (Ok tt)
-Ends files storage words old new ending.Shown =
+abbrev pub Ends : World → List (List ℕ) → Streams → Streams → Ending → Type 0
+Ends world words old new ending.Replied =
+    (faults_of words ≡ []) × Does world (command_of words) old new (Ok tt)
+Ends world words old new ending.Shown =
     AsksToShow (faults_of words)
     × ((text : List ℕ) × Appends old.output.bytes new.output.bytes text)
     × (new.input ≡ old.input)
-Ends files storage words old new (ending.Mistaken text) = HasMistake (faults_of words) × (new ≡ old)
-Ends files storage words old new (ending.Failed refusal) =
-    ((faults_of words ≡ []) × Does files storage (command_of words) old new (Err refusal))
+Ends world words old new (ending.Mistaken text) = HasMistake (faults_of words) × (new ≡ old)
+Ends world words old new (ending.Failed refusal) =
+    ((faults_of words ≡ []) × Does world (command_of words) old new (Err refusal))
     ⊎ (AsksToShow (faults_of words) × (refusal ≡ failure.Write)
     × ((text : List ℕ) × Breaks old.output new.output text)
     × (new.input ≡ old.input))
@@ -80,12 +79,19 @@ IsReported ending.Shown before after = after ≡ before
 IsReported (ending.Failed refusal) before after = IsPrinted refusal before after
 IsReported (ending.Mistaken text) before after = IsWritten before after text
 
+-- a command, if the arguments ask for one, logs nothing to the standard error
+abbrev pub IsSilentRun : List (List ℕ) → Type 0
+IsSilentRun words = faults_of words ≡ [] → IsSilentCommand (command_of words)
+
 -- rule: Status of the program
--- a whole run: it ends in one of these ways, reports that, and returns its status
-pub record Runs (files : Files) (storage : Storage) (words : List (List ℕ)) (old new : Streams) (before after : Known) (code : ℕ) : Type 0 where
+-- a whole run: it ends in one of these ways, reports that after what was logged to the standard error, and returns its
+-- status
+pub record Runs (world : World) (words : List (List ℕ)) (old new : Streams) (before after : Known) (code : ℕ) : Type 0 where
   pub ended : Ending
-  pub ends : Ends files storage words old new ended
-  pub reported : IsReported ended before after
+  pub ends : Ends world words old new ended
+  pub between : Known
+  pub logged : IsSilentRun words → between ≡ before
+  pub reported : IsReported ended between after
   pub status : code ≡ code_of (status_of ended)
 
 -- what is printed of arguments that can't be read, by the exit status

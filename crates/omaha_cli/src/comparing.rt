@@ -25,7 +25,7 @@ fn findings_in<R: Folders>(
     folder: &str,
     service: &Service,
 ) -> Result<Items<Finding>, AllocError>
-    ensures { IfOk result (λ findings. AreFindings ((R.storage rt.now).sizes folder.now)
+    ensures { IfOk result (λ findings. AreFindings ((R.storage rt.now).opens folder.now)
         ((R.storage rt.now).reads folder.now) (packages_of (content_of service.now.edition)) findings) }
 {
     rt.compare_in(alloc, folder, service.edition.catalogue().apps())

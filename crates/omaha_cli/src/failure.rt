@@ -19,7 +19,7 @@ use values::{ReadError, Text};
 #[derive(Debug, Drop)]
 pub enum Failure {
     /// The profile's file, of that path, could not be read, or has over 64 MiB; or the log's, of that path, could
-    /// not be opened. The path prints without control characters.
+    /// not be opened; or there is no folder of packages of that path. The path prints without control characters.
     File(Text),
     /// The file at that path can't be described, for that reason. The path prints without control characters.
     Undescribed(Text, DescribeError),

@@ -32,5 +32,5 @@ pub use crate::running::{Ending, Status, run};
 pub use crate::unreadable::report_unreadable;
 pub use omaha_arguments::{Command, Comparison, Once, Question, Report, Serve, Walk};
 pub use omaha_client::Connector;
-pub use omaha_server::{Host, Place, ServerError, Service, answer, builtin_service};
+pub use omaha_server::{Host, Place, ServerError, Service, System, answer, builtin_service};
 pub use package_files::Folders;

@@ -2,8 +2,8 @@
 
 ghost use Rattle.std.specs.Prelude.{◌≡◌, map, string_bytes};
 ghost use Rattle.omaha_arguments.specs.WalkArguments.{IsAskable};
-ghost use Rattle.omaha_cli.specs.Doing.{Does};
-ghost use Rattle.omaha_cli.specs.Running.{Ends, EndsBy, IsMistaken, IsReported, IsPrinted, Runs, Shows, code_of, status_of};
+ghost use Rattle.omaha_cli.specs.Doing.{Does, IsSilentCommand};
+ghost use Rattle.omaha_cli.specs.Running.{Ends, EndsBy, IsMistaken, IsReported, IsPrinted, IsSilentRun, Runs, Shows, code_of, status_of};
 
 use crate::comparing::compare_on;
 use crate::describing::describe_files;
@@ -96,14 +96,15 @@ fn end_without_command<W: WriteWhole>(error: ArgumentError, writer: &mut W) -> E
 }
 
 // Does what a command asks for.
-fn obey<R: Disk + Folders + Host + Connector + AllocGlobal + Wait, I: ReadWhole, W: WriteWhole>(
-    rt: &R,
-    command: &Command,
-    reader: &mut I,
-    writer: &mut W,
-) -> Result<(), Failure>
+fn obey<
+    R: Disk + Folders + Host + Connector + AllocGlobal + Wait,
+    I: ReadWhole,
+    W: WriteWhole,
+    F: WriteWhole,
+>(rt: &R, command: &Command, reader: &mut I, writer: &mut W, errors: &mut F) -> Result<(), Failure>
     requires { IsAskable command.now }
-    ensures { Does (R.file_at rt.now) (R.storage rt.now) command.now
+    ensures silent { IsSilentCommand command.now → errors.new ≡ errors.old }
+    ensures does { Does (record { files = R.file_at rt.now; storage = R.storage rt.now; edges = R.edges rt.now; replies = R.replies rt.now }) command.now
         (record { input = I.input reader.old; output = W.output writer.old })
         (record { input = I.input reader.new; output = W.output writer.new }) result }
 {
@@ -113,7 +114,7 @@ fn obey<R: Disk + Folders + Host + Connector + AllocGlobal + Wait, I: ReadWhole,
         Command::Compare(asked) => compare_on(rt, asked, writer),
         Command::Describe(paths) => describe_files(rt.alloc(), rt, paths.as_slice(), writer),
         Command::Explain(code) => explain_code(rt.alloc(), code, writer),
-        Command::Serve(asked) => serve_profile(rt, asked, writer),
+        Command::Serve(asked) => serve_profile(rt, asked, writer, errors),
         Command::Walk(asked) => walk_on(rt.alloc(), rt, asked, writer),
     }
 }
@@ -123,14 +124,16 @@ fn carry_out<
     R: Disk + Folders + Host + Connector + AllocGlobal + Wait,
     I: ReadWhole,
     W: WriteWhole,
->(rt: &R, arguments: &[String], reader: &mut I, writer: &mut W) -> Ending
-    ensures ends { Ends (R.file_at rt.now) (R.storage rt.now) (map string_bytes arguments.now)
+    F: WriteWhole,
+>(rt: &R, arguments: &[String], reader: &mut I, writer: &mut W, errors: &mut F) -> Ending
+    ensures silent { IsSilentRun (map string_bytes arguments.now) → errors.new ≡ errors.old }
+    ensures ends { Ends (record { files = R.file_at rt.now; storage = R.storage rt.now; edges = R.edges rt.now; replies = R.replies rt.now }) (map string_bytes arguments.now)
         (record { input = I.input reader.old; output = W.output writer.old })
         (record { input = I.input reader.new; output = W.output writer.new }) result }
     ensures untouched { IsMistaken result → (reader.new ≡ reader.old) × (writer.new ≡ writer.old) }
 {
     match read_arguments(rt.alloc(), arguments) {
-        Ok(command) => match obey(rt, &command, reader, writer) {
+        Ok(command) => match obey(rt, &command, reader, writer, errors) {
             Ok(()) => Ending::Replied,
             Err(failure) => Ending::Failed(failure),
         },
@@ -161,26 +164,28 @@ fn report<F: WriteWhole>(alloc: Global, ending: &Ending, errors: &mut F)
 }
 
 // rule: Status of the program
+// rule: Edges of the program
 /// Runs the program with the arguments after its name, and returns its exit status.
 ///
 /// Without arguments, or with `once` and its options, it does what `respond` does; with `check`, `certify` or
 /// `verify` what `report_on` does; with `check F --packages DIR` it compares packages with files, with `describe`
 /// it describes files; with `serve` it serves until its last session; with `walk` it walks along a server's
 /// offers. It returns 0 if the command did that, or the help or the version was printed; 1 if the command failed,
-/// after one line on `errors`; and 2 if the arguments are invalid, after `clap`'s message on `errors`.
+/// after one line on `errors`; and 2 if the arguments are invalid, after `clap`'s message on `errors`. With `--log -` a
+/// server also logs its replies there.
 pub fn run<
     R: Disk + Folders + Host + Connector + AllocGlobal + Wait,
     I: ReadWhole,
     W: WriteWhole,
     F: WriteWhole,
 >(rt: &R, arguments: &[String], reader: &mut I, writer: &mut W, errors: &mut F) -> u8
-    ensures run { Runs (R.file_at rt.now) (R.storage rt.now) (map string_bytes arguments.now)
+    ensures run { Runs (record { files = R.file_at rt.now; storage = R.storage rt.now; edges = R.edges rt.now; replies = R.replies rt.now }) (map string_bytes arguments.now)
         (record { input = I.input reader.old; output = W.output writer.old })
         (record { input = I.input reader.new; output = W.output writer.new })
         (F.output errors.old) (F.output errors.new) result }
     ensures untouched { result ≡ 2 → (reader.new ≡ reader.old) × (writer.new ≡ writer.old) }
 {
-    let ending = carry_out(rt, arguments, reader, writer);
+    let ending = carry_out(rt, arguments, reader, writer, errors);
     report(rt.alloc(), &ending, errors);
     ending.status().code()
 }

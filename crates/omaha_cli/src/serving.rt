@@ -1,8 +1,9 @@
 // The command `serve`.
 
 ghost use Rattle.std.specs.Prelude.{◌≡◌, IfOk};
-ghost use Rattle.omaha_cli.specs.Serving.{EndsAs, IsHosted, IsUnopened, ServesOn};
+ghost use Rattle.omaha_cli.specs.Serving.{EndsAs, IsHosted, IsPlaceOf, IsUnopened, ServesOn};
 ghost use Rattle.omaha_server.specs.Answering.{stock_of};
+ghost use Rattle.omaha_server.specs.Serving.{IsSilent};
 ghost use Rattle.streams.specs.Streams.{Known};
 
 use crate::failure::Failure;
@@ -34,6 +35,7 @@ fn end_of(ended: Result<(), ServerError>, asked: &Serve) -> Result<(), Failure>
         Ok(()) => Ok(()),
         Err(ServerError::Net) => Err(Failure::Net(asked.listen.clone()?)),
         Err(ServerError::Log) => Err(unopened(&asked.log)),
+        Err(ServerError::Folder) => Err(Failure::File(asked.packages.clone()?)),
         Err(ServerError::Write) => Err(Failure::Write),
         Err(ServerError::Memory) => Err(Failure::Memory),
     }
@@ -41,8 +43,7 @@ fn end_of(ended: Result<(), ServerError>, asked: &Serve) -> Result<(), Failure>
 
 // Where and for how long to serve.
 fn place_of(asked: &Serve) -> Result<Place, AllocError>
-    ensures sessions { IfOk result (λ place. place.sessions ≡ asked.now.sessions) }
-    ensures log { IfOk result (λ place. place.log ≡ asked.now.log) }
+    ensures { IfOk result (λ place. IsPlaceOf asked.now place) }
 {
     let log = match &asked.log {
         Some(path) => Some(path.clone()?),
@@ -58,37 +59,42 @@ fn place_of(asked: &Serve) -> Result<Place, AllocError>
 }
 
 // Serves a service.
-fn serve_made<R: Host, W: WriteWhole>(
+fn serve_made<R: Host, W: WriteWhole, F: WriteWhole>(
     rt: &R,
     service: Service,
     asked: &Serve,
     writer: &mut W,
+    errors: &mut F,
 ) -> Result<(), Failure>
-    ensures { IsHosted (stock_of service) asked.now (W.output writer.old) (W.output writer.new) result }
+    ensures hosted { IsHosted (R.edges rt.now) (stock_of service) asked.now (W.output writer.old) (W.output writer.new) result }
+    ensures silent { IsSilent asked.now.log → errors.new ≡ errors.old }
 {
     let Ok(place) = place_of(asked) else {
         return Err(Failure::Memory);
     };
-    let ended = rt.serve_service(service, &place, writer);
+    let ended = rt.serve_service(service, &place, writer, errors);
     end_of(ended, asked)
 }
 
 // rule: Service over HTTP
 /// Serves a profile and its packages, and prints the mirrors' totals at the end.
 ///
-/// Fails, in this order, with the profile's file, its first fault, its first rejected edit, the log, the address,
-/// and the writer; the writer may also fail after the last session.
-pub(crate) fn serve_profile<R: Disk + Host + AllocGlobal, W: WriteWhole>(
+/// Fails, in this order, with the profile's file, its first fault, its first rejected edit, the log, the folder of
+/// packages, the address, and the writer; the writer may also fail after the last session. Replies are logged on
+/// `errors` if the log is `-`; otherwise it is left as it is.
+pub(crate) fn serve_profile<R: Disk + Host + AllocGlobal, W: WriteWhole, F: WriteWhole>(
     rt: &R,
     asked: &Serve,
     writer: &mut W,
+    errors: &mut F,
 ) -> Result<(), Failure>
-    ensures { (input : Known) → ServesOn (R.file_at rt.now) asked.now
+    ensures silent { IsSilent asked.now.log → errors.new ≡ errors.old }
+    ensures serves { (input : Known) → ServesOn (R.file_at rt.now) (R.edges rt.now) asked.now
         (record { input = input; output = W.output writer.old })
         (record { input = input; output = W.output writer.new }) result }
 {
     match open_profile(rt, &asked.profile) {
-        Ok(service) => serve_made(rt, service, asked, writer),
+        Ok(service) => serve_made(rt, service, asked, writer, errors),
         Err(failure) => Err(failure),
     }
 }

@@ -50,7 +50,7 @@ pub(crate) fn walk_on<R: Connector, W: WriteWhole>(
     writer: &mut W,
 ) -> Result<(), Failure>
     requires { IsAppid asked.now.app }
-    ensures { (input : Known) → WalksOn asked.now
+    ensures { (input : Known) → WalksOn (R.replies rt.now) asked.now
         (record { input = input; output = W.output writer.old })
         (record { input = input; output = W.output writer.new }) result }
 {

@@ -66,6 +66,8 @@ const PROFILES: &str = "1_omaha:_file_nowhere.toml~ | once --profile nowhere.tom
 1_omaha:_F4_BadMirror_0~ | once --profile unslashed.toml
 1_omaha:_edit_6:_C11_UnknownRelease~ | once --profile unreleased.toml
 1_omaha:_file_/dev/zero~ | once --profile /dev/zero
+1_omaha:_file_fifo~ | once --profile fifo
+1_omaha:_file_\"\"~ | once --profile ^
 1_omaha:_file_a%0Ab%1B.toml~ | once --profile a~b\u{1b}.toml
 1_omaha:_file_a%7F~ | once --profile a\u{7f}
 1_omaha:_file_%C2%80%C2%9F~ | once --profile \u{80}\u{9f}
@@ -73,16 +75,24 @@ const PROFILES: &str = "1_omaha:_file_nowhere.toml~ | once --profile nowhere.tom
 1_omaha:_file_a%20\u{a0}\u{e9}.toml~ | once --profile a%20\u{a0}\u{e9}.toml
 1_omaha:_file_nowhere.toml~ | serve --profile nowhere.toml --packages p --listen 127.0.0.1:0
 1_omaha:_F1_NotToml~ | serve --profile broken.toml --packages p --listen 127.0.0.1:0
+1_omaha:_F1_NotToml~ | serve --profile broken.toml --packages nowhere --listen 127.0.0.1:0
+1_omaha:_file_nowhere~ | serve --profile staged.toml --packages nowhere --listen 127.0.0.1:0
+1_omaha:_file_staged.toml~ | serve --profile staged.toml --packages staged.toml --listen 127.0.0.1:0
+1_omaha:_file_p/log~ | serve --profile staged.toml --packages nowhere --listen 127.0.0.1:0 --log p/log
 1_omaha:_net_127.0.0.1:0~ | serve --profile staged.toml --packages p --listen 127.0.0.1:0
 1_omaha:_net_no%0Aaddress~ | serve --profile staged.toml --packages p --listen no~address --sessions 1
 1_omaha:_file_nowhere.toml~ | check nowhere.toml --packages p
 1_omaha:_F1_NotToml~ | check broken.toml --packages p
 1_omaha:_memory~ | check large.toml --packages p
 1_omaha:_file_a.bin:_missing~ | describe a.bin
+1_omaha:_file_broken:_unreadable~ | describe broken
+1_omaha:_file_fifo:_not_a_regular_file~ | describe fifo
+1_omaha:_file_empty.toml:_size_0,_allowed_1_to_1099511627776~ | describe empty.toml
+1_omaha:_memory~ | describe large.toml
 1_omaha:_file_a%0Ab/c.bin:_missing~ | describe a~b/c.bin
 1_omaha:_file_a/..:_no_package_name~ | describe a/..
 1_omaha:_file_/:_no_package_name~ | describe /
-1_omaha:_file_^:_no_package_name~ | describe ^
+1_omaha:_file_\"\":_no_package_name~ | describe ^
 1_omaha:_file_a/.b:_no_package_name~ | describe a/.b a.bin
 1_omaha:_U1_Link~ | walk --to 127.0.0.1:9 --app mini --version ^";
 
@@ -151,6 +161,8 @@ const MISTAKES: &str =
 2_error:_invalid_value_'0018446744073709551616'_for_'--moment_<N>' | once --moment 0018446744073709551616
 2_error:_unexpected_argument_'--version'_found~ | once --version
 2_error:_unrecognized_subcommand_'publish'~ | publish
+2_error:_unrecognized_subcommand_'a%C2%9Bb'~ | a\u{9b}b
+2_error:_unexpected_argument_'%1B[31m'_found~ | once \u{1b}[31m
 2_error:_the_following_required_arguments_were_not_provided:~ | serve --profile staged.toml
 2_error:_K_is_a_decimal_number | serve --profile a --packages b --listen c --sessions +5
 2_error:_K_is_a_decimal_number | serve --profile a --packages b --listen c --timeout 0

@@ -64,6 +64,9 @@ const FAILURES: &str = "1_omaha:_file_nowhere.toml~ | check nowhere.toml
 1_omaha:_no_track~ | certify chained.toml demo stable target yes
 1_omaha:_no_track~ | certify chained.toml demo beta held yes
 1_omaha:_file_nowhere.prices~ | verify chained.toml nowhere.prices
+1_omaha:_file_fifo~ | verify chained.toml fifo
+1_omaha:_file_fifo~ | verify fifo nowhere.prices
+1_omaha:_file_fifo~ | check fifo
 1_omaha:_edit_12:_C11_UnknownRelease~ | verify unknown.toml nowhere.prices
 1_omaha:_wrong_2.0_C3~ | verify chained.toml too-low.prices
 1_omaha:_wrong_2.0_C2~ | verify chained.toml unpriced.prices

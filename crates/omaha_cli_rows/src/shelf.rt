@@ -10,8 +10,8 @@ use std::sync::Wait;
 use std::time::{Clock, Duration};
 
 /// The files that a run finds, each a path and what it holds; the path of one that can be opened,
-/// but not read; and that of one that is too large for memory. `/dev/zero` has no end. Locks are waited for
-/// as `rt` does. There is no network and no clock.
+/// but not read; and that of one that is too large for memory. `/dev/zero` has no end, `p` is a folder, and `fifo` is
+/// no regular file. Locks are waited for as `rt` does. There is no network and no clock.
 #[derive(Drop)]
 pub(crate) struct Shelf<R> {
     pub(crate) rt: R,
@@ -86,6 +86,7 @@ impl<R> Files for Shelf<R> {
     type Dir = Page;
 
     fn open_file(&self, _how: &OpenOptions, path: &str) -> io::Result<Page> {
+        let path = path.strip_prefix("./").unwrap_or(path);
         if path == self.broken {
             return Ok(Page {
                 left: b"".as_slice(),
@@ -112,6 +113,13 @@ impl<R> Files for Shelf<R> {
                 });
             }
         }
+        if path == "fifo" {
+            return Ok(Page {
+                left: b"".as_slice(),
+                is_broken: false,
+                is_endless: false,
+            });
+        }
         Err(io::Error::from(ErrorKind::NotFound))
     }
 
@@ -119,12 +127,31 @@ impl<R> Files for Shelf<R> {
         unsupported()
     }
 
-    fn metadata(&self, _path: &str) -> io::Result<Metadata> {
-        unsupported()
+    fn metadata(&self, path: &str) -> io::Result<Metadata> {
+        if path == "p" || path == "fifo" {
+            return Ok(Metadata::of_dir());
+        }
+        if path == self.broken || path == "/dev/zero" {
+            return Ok(Metadata::of_file(0));
+        }
+        if path == self.large {
+            return Err(io::Error::from(ErrorKind::OutOfMemory));
+        }
+        for (name, text) in self.files {
+            if path == *name {
+                return Ok(Metadata::of_file(text.len() as u64));
+            }
+        }
+        Err(io::Error::from(ErrorKind::NotFound))
     }
 
-    fn symlink_metadata(&self, _path: &str) -> io::Result<Metadata> {
-        unsupported()
+    // The same of a file of the folder `.`, where the one that can't be read may not be seen.
+    fn symlink_metadata(&self, path: &str) -> io::Result<Metadata> {
+        let path = path.strip_prefix("./").unwrap_or(path);
+        if path == self.broken {
+            return Err(io::Error::from(ErrorKind::PermissionDenied));
+        }
+        self.metadata(path)
     }
 
     fn copy(&self, _from: &str, _to: &str) -> io::Result<u64> {
@@ -183,7 +210,7 @@ impl Seek for Page {
 
 impl OpenFile for Page {
     fn metadata(&self) -> io::Result<Metadata> {
-        unsupported()
+        Ok(Metadata::of_file(self.left.len() as u64))
     }
 
     fn set_len(&self, _size: u64) -> io::Result<()> {

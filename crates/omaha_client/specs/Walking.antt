@@ -43,10 +43,11 @@ pub record IsWalk (client after : Installed) (old new : List Post) (asked opened
   pub printed : Prints after new commits before out result
 
 -- rule: Walk over connections
--- such a walk, over a link of which nothing else is known; it has some bytes left of the download that was opened last
-pub record IsWalkOver (client after : Installed) (before out : Known) (result : Result Walk (ReadError Fault)) : Type 0 where
+-- such a walk, over a link whose posts are those of some server; it has some bytes left of the download that was opened last
+pub record IsWalkOver (replies : List Post → Type 0) (client after : Installed) (before out : Known) (result : Result Walk (ReadError Fault)) : Type 0 where
   pub old : List Post
   pub new : List Post
+  pub replied : replies new
   pub asked : List (List ℕ)
   pub opened : List (List ℕ)
   pub received : List ℕ

@@ -15,6 +15,12 @@ const SECONDS: u64 = 30;
 
 /// What can reach a server: a runtime with a network, or a test's stand-in for one.
 pub trait Connector {
+    ghost use Rattle.std.specs.Prelude.{ℕ, List};
+    ghost use Rattle.update_client.specs.Walks.{Post};
+
+    // the posts were made to the server at an address, each with the reply that came back
+    ghost replies: { Self → List ℕ → List Post → Type 0 };
+
     // rule: Walk over connections
     /// Walks a client along the offers of the server at an address, as `walk_app` does.
     ///
@@ -27,10 +33,14 @@ pub trait Connector {
         client: &mut Client,
         out: &mut W,
     ) -> Result<Walk, ReadError<Fault>>
-        ensures { IsWalkOver client.old client.new (W.output out.old) (W.output out.new) result };
+        ensures { IsWalkOver (replies self.now address.now) client.old client.new (W.output out.old) (W.output out.new) result };
 }
 
 impl<R: Net<Listener = TcpListener, Stream = TcpStream>> Connector for R {
+    ghost use Rattle.std.specs.Prelude.{⊤};
+
+    ghost replies = { λ _ _ _. ⊤ };
+
     fn walk_app_at<W: WriteWhole>(
         &self,
         alloc: Global,

@@ -8,6 +8,8 @@
 #[cfg(test)]
 mod client;
 #[cfg(test)]
+mod edge_tests;
+#[cfg(test)]
 mod log_tests;
 #[cfg(test)]
 mod message_tests;

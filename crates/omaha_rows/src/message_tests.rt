@@ -13,7 +13,7 @@ const BODY: &str = concat!(
 );
 
 // What the reply begins with, but for its length: the differential to the second release.
-const OFFER: &str = concat!(
+pub(crate) const OFFER: &str = concat!(
     ")]}'\n",
     r#"{"response":{"app":[{"appid":"mini","cohort":"stable:0","cohortname":"stable","status":"ok","#,
     r#""updatecheck":{"manifest":{"packages":{"package":[{"#,
@@ -24,12 +24,16 @@ const OFFER: &str = concat!(
     r#""status":"ok","urls":{"url":[{"codebase":"http://"#,
 );
 
-// The message of an update check.
-fn ask<R: AllocGlobal>(rt: &R) -> Option<String> {
-    let length = BODY.len();
-    format!(in rt.alloc();
+/// The message of an update check, with so many spaces at the end of its body.
+pub(crate) fn ask<R: AllocGlobal>(rt: &R, spaces: usize) -> Option<String> {
+    let length = BODY.len().saturating_add(spaces);
+    let mut message = format!(in rt.alloc();
         "POST /service/update2/json HTTP/1.1~Content-Length: {length}~~{BODY}"
-    ).ok()
+    ).ok()?;
+    for _ in 0..spaces {
+        message.push_str(" ").ok()?;
+    }
+    Some(message)
 }
 
 // The replies to a whole update check, and to one without its last byte.
@@ -37,11 +41,37 @@ fn ask_twice<R: Net<Listener = TcpListener, Stream = TcpStream> + AllocGlobal>(
     rt: &R,
     site: &Site,
 ) -> Option<(String, String)> {
-    let message = ask(rt)?;
+    let message = ask(rt, 0)?;
     let message = message.as_str();
     let whole = exchange(rt, site.host.as_str(), message)?;
     let cut = exchange(rt, site.host.as_str(), message.strip_suffix("}")?)?;
     Some((whole, cut))
+}
+
+// The reply to an update check with so many spaces at its end.
+fn ask_long<R: Net<Listener = TcpListener, Stream = TcpStream> + AllocGlobal>(
+    rt: &R,
+    site: &Site,
+    spaces: usize,
+) -> Option<String> {
+    let message = ask(rt, spaces)?;
+    exchange(rt, site.host.as_str(), message.as_str())
+}
+
+#[test]
+fn replies_to_a_large_update_check(rt: HostRuntime) -> Result<(), Fail> {
+    let site = make_site(&rt, "large_ask")?;
+    let spaces = 262144 - BODY.len();
+    let (served, reply) = join(
+        &rt,
+        || serve(&rt, &site, "1"),
+        || ask_long(&rt, &site, spaces),
+    );
+    fs::remove_dir_all(&rt, site.folder.as_str())?;
+    let reply = reply.ok_or("no exchange")?;
+    assert!(rt; reply.as_str().contains(OFFER), "{reply}");
+    assert!(rt; served.is_some());
+    Ok(())
 }
 
 #[test]

@@ -134,10 +134,10 @@ pub(crate) fn run_program<
     run_within(rt, words, usize::MAX)
 }
 
-// Serves so many sessions of a site, with more arguments.
-fn serve_with<
+/// Serves a site with more arguments.
+pub(crate) fn serve_with<
     R: Net<Listener = TcpListener, Stream = TcpStream> + Clock + Files + Wait + AllocGlobal,
->(rt: &R, site: &Site, sessions: &str, more: &[&str]) -> Option<String> {
+>(rt: &R, site: &Site, more: &[&str]) -> Option<String> {
     let mut words = Vec::new(rt.alloc());
     let first = [
         "serve",
@@ -147,10 +147,6 @@ fn serve_with<
         site.folder.as_str(),
         "--listen",
         site.host.as_str(),
-        "--sessions",
-        sessions,
-        "--timeout",
-        "20",
     ];
     words.extend_from_slice(&first).ok()?;
     words.extend_from_slice(more).ok()?;
@@ -161,12 +157,16 @@ fn serve_with<
 pub(crate) fn serve<
     R: Net<Listener = TcpListener, Stream = TcpStream> + Clock + Files + Wait + AllocGlobal,
 >(rt: &R, site: &Site, sessions: &str) -> Option<String> {
-    serve_with(rt, site, sessions, &[])
+    serve_with(rt, site, &["--sessions", sessions, "--timeout", "20"])
 }
 
 /// The same with a log.
 pub(crate) fn serve_logged<
     R: Net<Listener = TcpListener, Stream = TcpStream> + Clock + Files + Wait + AllocGlobal,
 >(rt: &R, site: &Site, sessions: &str, log: &str) -> Option<String> {
-    serve_with(rt, site, sessions, &["--log", log])
+    serve_with(
+        rt,
+        site,
+        &["--sessions", sessions, "--timeout", "20", "--log", log],
+    )
 }

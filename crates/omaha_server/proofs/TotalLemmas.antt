@@ -1,5 +1,5 @@
 -- The lines of totals, one after the other.
-use Rattle.std.proofs.Common.{◌≡◌, ◌<◌, ◌≤◌, ◌+◌, ◌++◌, ◌∙◌, ℕ, List, [], ◌∷◌, drop, flat_map, get_or, length, min, refl, subst, suc, sym, zero, zero-add, arith, ap, Option}
+use Rattle.std.proofs.Common.{◌≡◌, ◌<◌, ◌≤◌, ◌+◌, ◌++◌, ◌∙◌, ℕ, List, [], ◌∷◌, drop, flat_map, get_or, length, min, refl, subst, suc, sym, zero, zero-add, arith, ap}
 use Rattle.std.proofs.lemmas.List.{append-nil, append_assoc, drop_all, map-append}
 use Rattle.std.proofs.lemmas.Slice.Zip.{length-zip}
 use Rattle.std.specs.List.{zip}
@@ -8,7 +8,10 @@ use Rattle.mirror_ledger.specs.Named.{totals_of}
 use Rattle.records.specs.declared.content.App.{App}
 use Rattle.records.specs.declared.mirror.Mirror.{Mirror}
 use Rattle.mirror_ledger.specs.Tills.{AreTotalsOf, granted_by}
+use Rattle.std.specs.declared.net.tcp.TcpListener.{TcpListener}
+use Rattle.omaha_server.specs.Edges.{Edges}
 use Rattle.omaha_server.specs.Serving.{AreServed, AreTotals}
+use Rattle.omaha_server.specs.declared.place.Place.{Place}
 use Rattle.omaha_server.specs.Totals.{names_of, total_line, totals_string}
 
 pub names_of-last : (mirrors : List Mirror) (mirror : Mirror) → names_of (mirrors ++ mirror ∷ []) ≡ names_of mirrors ++ mirror.name ∷ []
@@ -49,12 +52,12 @@ only_worker (asks ∷ more ∷ workers) one = absurd (omega (arith, one))
 
 -- the totals of one worker, whose sessions were served
 pub AreTotals-of :
-    (content : List App) (mirrors : List Mirror) (limit : Option ℕ) (workers : List (List Ask)) (totals : List ℕ) →
+    (edges : Edges) (place : Place) (listener : TcpListener) (content : List App) (mirrors : List Mirror) (workers : List (List Ask)) (totals : List ℕ) →
     length workers ≡ 1 →
-    ((asks : List Ask) → workers ≡ asks ∷ [] → AreServed (record { content = content; mirrors = mirrors }) limit asks) →
+    ((asks : List Ask) → workers ≡ asks ∷ [] → AreServed edges place listener (record { content = content; mirrors = mirrors }) asks) →
     AreTotalsOf mirrors workers totals →
-    AreTotals (record { content = content; mirrors = mirrors }) limit totals
-AreTotals-of content mirrors limit workers totals one served summed =
+    AreTotals edges place listener (record { content = content; mirrors = mirrors }) totals
+AreTotals-of edges place listener content mirrors workers totals one served summed =
     let (asks, same) = only_worker workers one in
     let sums = subst (λ (w : List (List Ask)). totals ≡ totals_of mirrors (granted_by w 0) (granted_by w 1) (granted_by w 2) (granted_by w 3)) same summed.sums in
     record { asks = asks; served = served asks same; granted = simp zero-add at sums; within = summed.within }

@@ -1,5 +1,6 @@
 pub mod Answering
 pub mod Builtin
+pub mod Edges
 pub mod Services
 pub mod Serving
 pub mod Totals

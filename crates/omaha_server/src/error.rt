@@ -9,6 +9,8 @@ pub enum ServerError {
     Net,
     /// The log could not be opened.
     Log,
+    /// The folder of packages is no folder, or can't be seen.
+    Folder,
     /// The output could not be written.
     Write,
     /// Memory ran out.

@@ -7,7 +7,8 @@
 //!
 //! `serve` opens books of the mirrors' budgets, listens, serves connections one after the other, and prints
 //! each mirror's total at the end. Read `specs/Serving.antt`. If a log is asked for, `access_logs` writes a
-//! line for each reply.
+//! line for each reply. What it asks of the system is a `System`, whose relations name addresses, seconds, folders
+//! and logs: read `specs/Edges.antt`.
 //!
 //! It starts no thread, publishes nothing, and knows no command line.
 
@@ -17,15 +18,18 @@ mod answering;
 mod builtin;
 mod error;
 mod host;
-mod logging;
 mod mirrors;
+mod place;
 mod service;
 mod serving;
+mod system;
 mod totals;
 
 pub use crate::answering::answer;
 pub use crate::error::ServerError;
 pub use crate::host::Host;
 pub use crate::mirrors::Mirrors;
+pub use crate::place::Place;
 pub use crate::service::{Service, builtin_service, make_service};
-pub use crate::serving::{Place, serve};
+pub use crate::serving::serve;
+pub use crate::system::System;

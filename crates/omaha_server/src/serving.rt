@@ -1,50 +1,34 @@
 // A service over HTTP, one connection after the other.
 
-ghost use Rattle.std.specs.Prelude.{◌≡◌, ◌<◌, ◌∷◌, [], List, IfOk, IfErr, OnOk};
+ghost use Rattle.std.specs.Prelude.{◌≡◌, ◌∷◌, [], List, IfOk, IfErr};
 ghost use Rattle.editions.specs.Editions.{content_of};
 ghost use Rattle.mirror_ledger.specs.Asks.{Ask};
-ghost use Rattle.omaha_server.specs.Serving.{AreServed, AreTotals, IsLogged, IsReady, IsUnlogged, Serves, Stops};
+ghost use Rattle.omaha_server.specs.Edges.{is_dash};
+ghost use Rattle.omaha_server.specs.Serving.{AreServed, AreTotals, IsLogged, IsOpened, IsReady, IsSilent, IsUnlogged, Serves, Stops};
 ghost use Rattle.omaha_server.specs.Answering.{stock_of};
 
 use crate::error::ServerError;
-use crate::logging::open_log;
+use crate::place::Place;
 use crate::service::Service;
+use crate::system::System;
 use crate::totals::{names_of, totals_string};
 use access_logs::AccessLog;
 use editions::Edition;
-use http_connections::{listen, print_ready, serve_listener};
-use http_desks::Site;
-use http_devices::{Folder, SystemClock};
+use http_connections::print_ready;
+use http_devices::SystemClock;
 use http_wire::{Unwatched, Watch};
 use mirror_ledger::{Till, Work, work_with_tills};
 use std::alloc::AllocError;
-use std::net::{Net, TcpListener, TcpStream};
-use std::rt::Files;
+use std::net::TcpListener;
 use std::sync::Wait;
 use std::time::Clock;
 use streams::WriteWhole;
 use update_desk::Single;
-use values::Text;
-
-/// Where a service is served, and for how long.
-#[derive(Drop)]
-pub struct Place {
-    /// The address and the port to listen on.
-    pub address: Text,
-    /// The path of the folder of packages.
-    pub packages: Text,
-    /// After how many sessions the server ends, or `None` for no end.
-    pub sessions: Option<u64>,
-    /// The path of the log of replies, or `None` for no log.
-    pub log: Option<Text>,
-    /// How many seconds each read and each write of a connection may take, at least one.
-    pub seconds: u64,
-    ghost limited: { 0 < seconds },
-}
 
 // The sessions of a listener, by the till of one worker.
 #[derive(Drop)]
-struct Sessions<'a, V> {
+struct Sessions<'a, S, V> {
+    system: &'a S,
     edition: &'a Edition,
     place: &'a Place,
     listener: &'a TcpListener,
@@ -52,33 +36,28 @@ struct Sessions<'a, V> {
 }
 
 // rule: Sessions of a server
-impl<R: Clock + Files + Wait + AllocGlobal, V: Watch> Work<R> for Sessions<'_, V> {
+impl<R: Wait + AllocGlobal, S: System, V: Watch> Work<R> for Sessions<'_, S, V> {
     type End = ();
 
     ghost comes_to = { λ old _ mirrors workers _. (asks : List Ask) → workers ≡ asks ∷ []
-        → AreServed (record { content = content_of old.edition.now; mirrors = mirrors }) old.place.now.sessions asks };
+        → AreServed (S.edges old.system.now) old.place.now old.listener.now
+        (record { content = content_of old.edition.now; mirrors = mirrors }) asks };
 
     fn work<T: Till + Send + Drop>(&mut self, rt: &R, tills: &mut Vec<T>) {
         let Some(till) = tills.pop() else {
             return;
-        };
-        let packages = Folder::new(rt.alloc(), rt, self.place.packages.as_str());
-        let site = Site {
-            packages: &packages,
-            clock: &SystemClock::new(rt),
-            watch: self.watch,
         };
         let mut desk = Single {
             rt,
             edition: self.edition,
             till,
         };
-        serve_listener(
-            rt,
+        self.system.serve_folder(
+            self.place.packages.as_str(),
             self.listener,
             self.place.seconds,
             &mut desk,
-            &site,
+            self.watch,
             self.place.sessions,
         );
         let Single { till, .. } = desk;
@@ -89,17 +68,18 @@ impl<R: Clock + Files + Wait + AllocGlobal, V: Watch> Work<R> for Sessions<'_, V
 }
 
 // Serves a service at a listener, over books of its mirrors' budgets, and returns the totals.
-fn serve_sessions<R: Clock + Files + Wait + AllocGlobal, V: Watch>(
+fn serve_sessions<R: System + Wait + AllocGlobal, V: Watch>(
     rt: &R,
     service: Service,
     place: &Place,
     listener: &TcpListener,
     watch: &V,
 ) -> Result<Vec<u64>, AllocError>
-    ensures { IfOk result (λ totals. AreTotals (stock_of service) place.now.sessions totals.items) }
+    ensures { IfOk result (λ totals. AreTotals (R.edges rt.now) place.now listener.now (stock_of service) totals.items) }
 {
     let Service { edition, mirrors } = service;
     let mut job = Sessions {
+        system: rt,
         edition: &edition,
         place,
         listener,
@@ -110,15 +90,17 @@ fn serve_sessions<R: Clock + Files + Wait + AllocGlobal, V: Watch>(
 }
 
 // Binds the address of a place, and prints `ready`.
-fn open_place<R: Net<Listener = TcpListener, Stream = TcpStream>, W: WriteWhole>(
+fn open_place<R: System, W: WriteWhole>(
     rt: &R,
     place: &Place,
     out: &mut W,
 ) -> Result<TcpListener, ServerError>
-    ensures ready { OnOk result (IsReady (W.output out.old) (W.output out.new)) }
-    ensures err { IfErr result (λ error. IsUnlogged error × Stops (W.output out.old) (W.output out.new) error) }
+    ensures bound { IfOk result (λ listener. (R.edges rt.now).listens place.now.address listener) }
+    ensures ready { IfOk result (λ _. IsReady (W.output out.old) (W.output out.new)) }
+    ensures err { IfErr result (λ error. IsUnlogged error
+        × Stops (R.edges rt.now) place.now (W.output out.old) (W.output out.new) error) }
 {
-    let Ok(listener) = listen(rt, place.address.as_str()) else {
+    let Ok(listener) = rt.bind_address(place.address.as_str()) else {
         return Err(ServerError::Net);
     };
     match print_ready(out) {
@@ -129,14 +111,19 @@ fn open_place<R: Net<Listener = TcpListener, Stream = TcpStream>, W: WriteWhole>
 
 // rule: Run of a server
 // Serves a service, and shows a watch its connections.
-fn serve_watched<
-    R: Net<Listener = TcpListener, Stream = TcpStream> + Clock + Files + Wait + AllocGlobal,
-    W: WriteWhole,
-    V: Watch,
->(rt: &R, service: Service, place: &Place, out: &mut W, watch: &V) -> Result<(), ServerError>
-    ensures serves { Serves (stock_of service) place.now.sessions (W.output out.old) (W.output out.new) result }
+fn serve_watched<R: System + Wait + AllocGlobal, W: WriteWhole, V: Watch>(
+    rt: &R,
+    service: Service,
+    place: &Place,
+    out: &mut W,
+    watch: &V,
+) -> Result<(), ServerError>
+    ensures serves { Serves (R.edges rt.now) place.now (stock_of service) (W.output out.old) (W.output out.new) result }
     ensures unlogged { IfErr result IsUnlogged }
 {
+    if !rt.has_folder(place.packages.as_str()) {
+        return Err(ServerError::Folder);
+    }
     let names = names_of(rt.alloc(), service.mirrors.as_slice())?;
     let listener = open_place(rt, place, out)?;
     let totals = serve_sessions(rt, service, place, &listener, watch)?;
@@ -148,39 +135,79 @@ fn serve_watched<
 }
 
 // Serves a service, and logs its replies to the file at a path.
-fn serve_logged<
-    R: Net<Listener = TcpListener, Stream = TcpStream> + Clock + Files + Wait + AllocGlobal,
-    W: WriteWhole,
->(rt: &R, service: Service, place: &Place, out: &mut W, path: &str) -> Result<(), ServerError>
-    ensures { Serves (stock_of service) place.now.sessions (W.output out.old) (W.output out.new) result }
+fn serve_logged<R: System + Clock + Wait + AllocGlobal, W: WriteWhole>(
+    rt: &R,
+    service: Service,
+    place: &Place,
+    out: &mut W,
+    path: &str,
+) -> Result<(), ServerError>
+    ensures serves { Serves (R.edges rt.now) place.now (stock_of service) (W.output out.old) (W.output out.new) result }
+    ensures opened { IsOpened (R.edges rt.now) path.now result }
 {
-    let Ok(file) = open_log(rt, path) else {
+    let Ok(mut file) = rt.open_log(path) else {
         return Err(ServerError::Log);
     };
     let clock = SystemClock::new(rt);
-    let log = AccessLog::new(rt.alloc(), &clock, file);
+    let log = AccessLog::new(rt.alloc(), &clock, &mut file);
     serve_watched(rt, service, place, out, &log)
 }
 
+// Serves a service, and logs its replies to a writer.
+fn serve_shown<R: System + Clock + Wait + AllocGlobal, W: WriteWhole, F: WriteWhole>(
+    rt: &R,
+    service: Service,
+    place: &Place,
+    out: &mut W,
+    errors: &mut F,
+) -> Result<(), ServerError>
+    ensures serves { Serves (R.edges rt.now) place.now (stock_of service) (W.output out.old) (W.output out.new) result }
+    ensures unlogged { IfErr result IsUnlogged }
+{
+    let clock = SystemClock::new(rt);
+    let log = AccessLog::new(rt.alloc(), &clock, errors);
+    serve_watched(rt, service, place, out, &log)
+}
+
+// Whether a path means the standard error.
+fn is_dash(path: &str) -> bool
+    ensures { result ≡ is_dash path.now }
+{
+    path == "-"
+}
+
 // rule: Run of a server
+// rule: Edges of a server
 /// Serves a service's update checks and its packages, and prints the mirrors' totals at the end.
 ///
-/// Opens the log, if there is to be one, binds the address, prints `ready`, opens books of the mirrors' budgets,
-/// serves connections one after the other until there were so many, and then prints a line for each mirror: its
-/// name and how many bytes it was granted. Fails, in this order, with the log, memory, the address, the output.
+/// Opens the log, if there is to be one, looks for the folder of packages, binds the address, prints `ready`, opens
+/// books of the mirrors' budgets, serves connections one after the other until there were so many, and then prints a
+/// line for each mirror: its name and how many bytes it was granted. Fails, in this order, with the log, the folder,
+/// memory, the address, the output.
 /// Memory may also run out after `ready`; then no total is printed.
 ///
-/// The log gets a line for each reply, as `access_logs` has it. A line that can't be written is lost, and holds
-/// up no reply.
-pub fn serve<
-    R: Net<Listener = TcpListener, Stream = TcpStream> + Clock + Files + Wait + AllocGlobal,
-    W: WriteWhole,
->(rt: &R, service: Service, place: &Place, out: &mut W) -> Result<(), ServerError>
-    ensures serves { Serves (stock_of service) place.now.sessions (W.output out.old) (W.output out.new) result }
-    ensures logged { IsLogged place.now.log result }
+/// The log gets a line for each reply, as `access_logs` has it: at the end of its file, or on `errors`, which is
+/// otherwise left as it is. A line that can't be written is lost, and holds up no reply.
+pub fn serve<R: System + Clock + Wait + AllocGlobal, W: WriteWhole, F: WriteWhole>(
+    rt: &R,
+    service: Service,
+    place: &Place,
+    out: &mut W,
+    errors: &mut F,
+) -> Result<(), ServerError>
+    ensures serves { Serves (R.edges rt.now) place.now (stock_of service) (W.output out.old) (W.output out.new) result }
+    ensures logged { IsLogged (R.edges rt.now) place.now.log result }
+    ensures silent { IsSilent place.now.log → errors.new ≡ errors.old }
 {
     match &place.log {
         None => serve_watched(rt, service, place, out, &Unwatched),
-        Some(path) => serve_logged(rt, service, place, out, path.as_str()),
+        Some(path) => {
+            let path = path.as_str();
+            if is_dash(path) {
+                serve_shown(rt, service, place, out, errors)
+            } else {
+                serve_logged(rt, service, place, out, path)
+            }
+        }
     }
 }

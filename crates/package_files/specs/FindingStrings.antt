@@ -9,6 +9,7 @@ use Rattle.package_files.specs.declared.finding.Mismatch.TheVariants as mismatch
 -- what differs
 abbrev pub mismatch_string : Mismatch → List ℕ
 mismatch_string mismatch.Missing = codes "missing"
+mismatch_string mismatch.NotRegular = codes "not a regular file"
 mismatch_string (mismatch.Size size declared) = codes "size " ++ decimal size ++ codes ", declared " ++ decimal declared
 mismatch_string mismatch.Hash = codes "sha256 differs"
 mismatch_string mismatch.Unreadable = codes "unreadable"

@@ -22,5 +22,5 @@ name_of path = unwrap_or (path_file_name path) []
 -- the file of the path's name in its folder is described, or not for that reason
 abbrev pub IsDescribed : Storage → List ℕ → Result (List ℕ) DescribeError → Type 0
 IsDescribed storage path described =
-    Describes (storage.sizes (folder_of path) (name_of path)) (storage.reads (folder_of path) (name_of path))
+    Describes (storage.opens (folder_of path) (name_of path)) (storage.reads (folder_of path) (name_of path))
     (name_of path) described

@@ -1,9 +1,9 @@
 -- What is known of files in folders; this project's profile.
 use Rattle.std.specs.Prelude.{ℕ, List}
 use Rattle.http_desks.specs.Downloads.{Reads}
-use Rattle.package_files.specs.Findings.{Sizes}
+use Rattle.http_devices.specs.Opening.{Opens}
 
--- what the size of a file may be, and what may be read of it, by the path of its folder and its name
+-- what opening a file may give, and what may be read of it, by the path of its folder and its name
 pub record Storage : Type 1 where
-  pub sizes : List ℕ → List ℕ → Sizes
+  pub opens : List ℕ → List ℕ → Opens
   pub reads : List ℕ → List ℕ → Reads

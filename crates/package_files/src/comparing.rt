@@ -2,44 +2,60 @@
 
 ghost use Rattle.std.specs.Prelude.{◌≡◌, ◌∷◌, [], IfOk, OnOk, length, map};
 ghost use Rattle.records.specs.Lookups.{diff_package, full_package, packages_in, packages_of};
-ghost use Rattle.package_files.specs.Findings.{Adds, AreFindings, IsFound};
+ghost use Rattle.package_files.specs.Findings.{Adds, AreBytes, AreFindings, IsFound};
 
 use crate::finding::{Finding, Mismatch};
 use crate::hashing::hash_package;
 use http_desks::{BLOCK, Packages};
+use http_devices::{OpenError, OpenPackages};
 use records::{App, Declared, Diff, Release};
 use std::alloc::{AllocError, Global};
 use values::{Items, Text};
 
-// rule: File of a package
-// How the file of a declared package differs, if it does.
-fn find_mismatch<P: Packages>(
+// How the bytes of a file of the declared size differ, if they do.
+fn compare_bytes<P: Packages>(
     packages: &P,
     block: &mut [u8],
     name: &[u8],
     declared: Declared,
 ) -> Option<Mismatch>
     requires { length block.old ≡ 65536 }
-    ensures { IsFound (P.sizes packages.now name.now) (P.reads packages.now name.now) declared result }
+    ensures { AreBytes (P.reads packages.now name.now) declared result }
 {
-    let Some(size) = packages.size(name) else {
-        return Some(Mismatch::Missing);
-    };
-    if size != declared.size {
-        return Some(Mismatch::Size {
-            size,
-            declared: declared.size,
-        });
-    }
-    match hash_package(packages, block, name, size) {
+    match hash_package(packages, block, name, declared.size) {
         None => Some(Mismatch::Unreadable),
         Some(hash) if hash == declared.hash => None,
         Some(_) => Some(Mismatch::Hash),
     }
 }
 
+// rule: File of a package
+// How the file of a declared package differs, if it does.
+fn find_mismatch<P: Packages + OpenPackages>(
+    packages: &P,
+    block: &mut [u8],
+    name: &[u8],
+    declared: Declared,
+) -> Result<Option<Mismatch>, AllocError>
+    requires { length block.old ≡ 65536 }
+    ensures { IfOk result (λ differs.
+        IsFound (P.opens packages.now name.now) (P.reads packages.now name.now) declared differs) }
+{
+    match packages.open(name) {
+        Ok(size) if size != declared.size => Ok(Some(Mismatch::Size {
+            size,
+            declared: declared.size,
+        })),
+        Ok(_) => Ok(compare_bytes(packages, block, name, declared)),
+        Err(OpenError::Missing) => Ok(Some(Mismatch::Missing)),
+        Err(OpenError::NotRegular) => Ok(Some(Mismatch::NotRegular)),
+        Err(OpenError::Unreadable) => Ok(Some(Mismatch::Unreadable)),
+        Err(OpenError::Memory) => Err(AllocError),
+    }
+}
+
 // Adds the finding of a package, if there is one.
-fn compare_package<P: Packages>(
+fn compare_package<P: Packages + OpenPackages>(
     alloc: Global,
     packages: &P,
     block: &mut [u8],
@@ -48,19 +64,20 @@ fn compare_package<P: Packages>(
     findings: &mut Items<Finding>,
 ) -> Result<(), AllocError>
     requires { length block.old ≡ 65536 }
-    ensures { OnOk result (Adds (P.sizes packages.now) (P.reads packages.now)
+    ensures { OnOk result (Adds (P.opens packages.now) (P.reads packages.now)
         ((name.now, declared) ∷ []) findings.old findings.new) }
 {
     match find_mismatch(packages, block, name.as_bytes(), declared) {
-        None => Ok(()),
-        Some(mismatch) => {
+        Err(refused) => Err(refused),
+        Ok(None) => Ok(()),
+        Ok(Some(mismatch)) => {
             let name = Text::copy_of(alloc, name)?;
             findings.push(Finding { name, mismatch })
         }
     }
 }
 
-fn compare_releases<P: Packages>(
+fn compare_releases<P: Packages + OpenPackages>(
     alloc: Global,
     packages: &P,
     block: &mut [u8],
@@ -68,7 +85,7 @@ fn compare_releases<P: Packages>(
     findings: &mut Items<Finding>,
 ) -> Result<(), AllocError>
     requires { length block.old ≡ 65536 }
-    ensures { OnOk result (Adds (P.sizes packages.now) (P.reads packages.now)
+    ensures { OnOk result (Adds (P.opens packages.now) (P.reads packages.now)
         (map full_package releases.now) findings.old findings.new) }
 {
     for release in releases {
@@ -88,7 +105,7 @@ fn compare_releases<P: Packages>(
     Ok(())
 }
 
-fn compare_diffs<P: Packages>(
+fn compare_diffs<P: Packages + OpenPackages>(
     alloc: Global,
     packages: &P,
     block: &mut [u8],
@@ -96,7 +113,7 @@ fn compare_diffs<P: Packages>(
     findings: &mut Items<Finding>,
 ) -> Result<(), AllocError>
     requires { length block.old ≡ 65536 }
-    ensures { OnOk result (Adds (P.sizes packages.now) (P.reads packages.now)
+    ensures { OnOk result (Adds (P.opens packages.now) (P.reads packages.now)
         (map diff_package diffs.now) findings.old findings.new) }
 {
     for diff in diffs {
@@ -116,7 +133,7 @@ fn compare_diffs<P: Packages>(
     Ok(())
 }
 
-fn compare_app<P: Packages>(
+fn compare_app<P: Packages + OpenPackages>(
     alloc: Global,
     packages: &P,
     block: &mut [u8],
@@ -124,7 +141,7 @@ fn compare_app<P: Packages>(
     findings: &mut Items<Finding>,
 ) -> Result<(), AllocError>
     requires { length block.old ≡ 65536 }
-    ensures { OnOk result (Adds (P.sizes packages.now) (P.reads packages.now)
+    ensures { OnOk result (Adds (P.opens packages.now) (P.reads packages.now)
         (packages_in app.now) findings.old findings.new) }
 {
     compare_releases(alloc, packages, block, app.releases.as_slice(), findings)?;
@@ -132,7 +149,7 @@ fn compare_app<P: Packages>(
     Ok(())
 }
 
-fn compare_apps<P: Packages>(
+fn compare_apps<P: Packages + OpenPackages>(
     alloc: Global,
     packages: &P,
     block: &mut [u8],
@@ -140,7 +157,7 @@ fn compare_apps<P: Packages>(
     findings: &mut Items<Finding>,
 ) -> Result<(), AllocError>
     requires { length block.old ≡ 65536 }
-    ensures { OnOk result (Adds (P.sizes packages.now) (P.reads packages.now)
+    ensures { OnOk result (Adds (P.opens packages.now) (P.reads packages.now)
         (packages_of apps.now) findings.old findings.new) }
 {
     for app in apps {
@@ -155,12 +172,12 @@ fn compare_apps<P: Packages>(
 /// Returns a finding for each file that differs, in the order of the apps; in an app the full packages come
 /// before the differentials. No finding means that all files agree. At most 65536 bytes of a package are
 /// held. Out of memory is the only error.
-pub fn compare<P: Packages>(
+pub fn compare<P: Packages + OpenPackages>(
     alloc: Global,
     apps: &[App],
     packages: &P,
 ) -> Result<Items<Finding>, AllocError>
-    ensures { IfOk result (λ findings. AreFindings (P.sizes packages.now) (P.reads packages.now)
+    ensures { IfOk result (λ findings. AreFindings (P.opens packages.now) (P.reads packages.now)
         (packages_of apps.now) findings) }
 {
     let mut block = vec![in alloc; 0; BLOCK as usize]?;

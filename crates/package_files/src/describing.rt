@@ -2,11 +2,12 @@
 
 ghost use Rattle.std.specs.Prelude.{◌≡◌, Err, IfErr, IfOk, Ok, Some, string_bytes};
 ghost use Rattle.hex.specs.Hex.{encode_lower};
-ghost use Rattle.package_files.specs.Descriptions.{Describes, description_string};
+ghost use Rattle.package_files.specs.Descriptions.{Describes, IsSized, IsUnopened, description_string};
 
 use crate::hashing::hash_package;
 use http_desks::{BLOCK, Packages};
-use records::form::is_package_name;
+use http_devices::{OpenError, OpenPackages};
+use records::form::{is_package_name, is_size};
 use std::alloc::{AllocError, Global};
 use std::error::Error;
 use std::fmt;
@@ -18,7 +19,11 @@ pub enum DescribeError {
     Name,
     /// There is no such file.
     Missing,
-    /// The file couldn't be read to its end.
+    /// It is a symbolic link, a folder or another kind of file.
+    NotRegular,
+    /// The file has so many bytes, which no profile may have.
+    Size(u64),
+    /// The file couldn't be opened, or not read to its end.
     Unreadable,
     /// Memory ran out.
     Memory,
@@ -34,6 +39,8 @@ impl fmt::Display for DescribeError {
         match self {
             DescribeError::Name => f.write_str("no package name"),
             DescribeError::Missing => f.write_str("missing"),
+            DescribeError::NotRegular => f.write_str("not a regular file"),
+            DescribeError::Size(size) => write!(f, "size {size}, allowed 1 to 1099511627776"),
             DescribeError::Unreadable => f.write_str("unreadable"),
             DescribeError::Memory => f.write_str("memory"),
         }
@@ -88,28 +95,45 @@ fn write_lines(alloc: Global, name: &str, size: u64, hash: [u8; 32]) -> Result<S
     format!(in alloc; "{description}")
 }
 
+// Opens the file of a name, and returns its size, which a profile may have.
+fn open_sized<P: OpenPackages>(packages: &P, name: &[u8]) -> Result<u64, DescribeError>
+    ensures ok { IfOk result (λ size. IsSized (P.opens packages.now name.now) size) }
+    ensures err { IfErr result (IsUnopened (P.opens packages.now name.now)) }
+{
+    match packages.open(name) {
+        Ok(size) if is_size(size) => Ok(size),
+        Ok(size) => Err(DescribeError::Size(size)),
+        Err(OpenError::Missing) => Err(DescribeError::Missing),
+        Err(OpenError::NotRegular) => Err(DescribeError::NotRegular),
+        Err(OpenError::Unreadable) => Err(DescribeError::Unreadable),
+        Err(OpenError::Memory) => Err(DescribeError::Memory),
+    }
+}
+
 // rule: Description of a file
 /// Writes the three lines that a profile has of a file: `name`, `size` and `sha256`.
 ///
-/// Fails with `Name` if the name is no package's name, with `Missing` if there is no such file, with
-/// `Unreadable` if it couldn't be read to its end, and with `Memory` if an allocation fails. At most 65536
-/// bytes of the file are held.
-pub fn describe<P: Packages>(
+/// Fails with `Name` if the name is no package's name; then with `Missing`, `NotRegular` or `Unreadable` if there is
+/// no such file, it is no regular one, or it can't be opened; then with `Size` unless it has 1 to 2^40 bytes, before
+/// any is read; then with `Unreadable` if it can't be read to its end. Fails with `Memory` if an allocation fails. At
+/// most 65536 bytes of the file are held.
+pub fn describe<P: Packages + OpenPackages>(
     alloc: Global,
     packages: &P,
     name: &str,
 ) -> Result<String, DescribeError>
-    ensures ok { IfOk result (λ text. Describes (P.sizes packages.now name.now)
+    ensures ok { IfOk result (λ text. Describes (P.opens packages.now name.now)
         (P.reads packages.now name.now) name.now (Ok (string_bytes text))) }
-    ensures err { IfErr result (λ error. Describes (P.sizes packages.now name.now)
+    ensures err { IfErr result (λ error. Describes (P.opens packages.now name.now)
         (P.reads packages.now name.now) name.now (Err error)) }
 {
     if !is_package_name(name) {
         return Err(DescribeError::Name);
     }
     let bytes = name.as_bytes();
-    let Some(size) = packages.size(bytes) else {
-        return Err(DescribeError::Missing);
+    let size = match open_sized(packages, bytes) {
+        Ok(size) => size,
+        Err(error) => return Err(error),
     };
     let mut block = vec![in alloc; 0; BLOCK as usize]?;
     let Some(hash) = hash_package(packages, &mut block, bytes, size) else {

@@ -10,6 +10,8 @@ use values::Text;
 pub enum Mismatch {
     /// There is no such file.
     Missing,
+    /// It is a symbolic link, a folder or another kind of file.
+    NotRegular,
     /// The file has another size.
     Size {
         /// How many bytes the file has.
@@ -19,7 +21,7 @@ pub enum Mismatch {
     },
     /// The file has the declared size, and another SHA-256.
     Hash,
-    /// The file has the declared size, and couldn't be read to its end.
+    /// The file couldn't be opened, or has the declared size and couldn't be read to its end.
     Unreadable,
 }
 
@@ -30,6 +32,7 @@ impl fmt::Display for Mismatch {
     fn fmt<W: fmt::Write>(&self, f: &mut fmt::Formatter<W>) -> fmt::Result {
         match *self {
             Mismatch::Missing => f.write_str("missing"),
+            Mismatch::NotRegular => f.write_str("not a regular file"),
             Mismatch::Size { size, declared } => write!(f, "size {size}, declared {declared}"),
             Mismatch::Hash => f.write_str("sha256 differs"),
             Mismatch::Unreadable => f.write_str("unreadable"),

@@ -23,9 +23,9 @@ pub trait Folders {
 
     /// Describes the file of a name in a folder, as `package_files::describe` does.
     fn describe_in(&self, alloc: Global, folder: &str, name: &str) -> Result<String, DescribeError>
-        ensures ok { IfOk result (λ text. Describes ((storage self.now).sizes folder.now name.now)
+        ensures ok { IfOk result (λ text. Describes ((storage self.now).opens folder.now name.now)
             ((storage self.now).reads folder.now name.now) name.now (Ok (string_bytes text))) }
-        ensures err { IfErr result (λ error. Describes ((storage self.now).sizes folder.now name.now)
+        ensures err { IfErr result (λ error. Describes ((storage self.now).opens folder.now name.now)
             ((storage self.now).reads folder.now name.now) name.now (Err error)) };
 
     /// Compares each declared package with its file in a folder, as `package_files::compare` does.
@@ -35,17 +35,17 @@ pub trait Folders {
         folder: &str,
         apps: &[App],
     ) -> Result<Items<Finding>, AllocError>
-        ensures { IfOk result (λ findings. AreFindings ((storage self.now).sizes folder.now)
+        ensures { IfOk result (λ findings. AreFindings ((storage self.now).opens folder.now)
             ((storage self.now).reads folder.now) (packages_of apps.now) findings) };
 }
 
 impl<R: Files> Folders for R {
-    ghost use Rattle.std.specs.Prelude.{◌≡◌, IfSome, true};
+    ghost use Rattle.std.specs.Prelude.{◌≡◌, IfOk, IfSome, true};
     ghost use Rattle.http_devices.specs.Names.{is_file_name};
 
     // a size and bytes are those of a file of the folder
     ghost storage = { λ _. record {
-      sizes = λ _ name size. IfSome size (λ _. is_file_name name ≡ true);
+      opens = λ _ name opened. IfOk opened (λ _. is_file_name name ≡ true);
       reads = λ _ name _ _ bytes. IfSome bytes (λ _. is_file_name name ≡ true);
     } };
 

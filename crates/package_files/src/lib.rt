@@ -1,8 +1,8 @@
 //! The files of a catalogue's packages, compared with what the catalogue declares.
 //!
-//! `compare` returns a finding for each declared package whose file is missing, has another size or another
-//! SHA-256, or couldn't be read. `describe` writes what a profile says of a file: its name, its size and
-//! its SHA-256. Both read any `Packages` in blocks of 65536 bytes. Read `specs/Hashing.antt`,
+//! `compare` returns a finding for each declared package whose file is missing, is no regular one, has another
+//! size or another SHA-256, or couldn't be read. `describe` writes what a profile says of a file: its name, its size
+//! and its SHA-256. Both open any `OpenPackages`, and read them in blocks of 65536 bytes. Read `specs/Hashing.antt`,
 //! `specs/Findings.antt` and `specs/Descriptions.antt`.
 //!
 //! `Folders` opens folders of packages. `describe_path` describes a file that is named by its path, and

@@ -4,6 +4,7 @@ use Rattle.std.specs.List.{All}
 use Rattle.std.proofs.lemmas.List.{length-append}
 use Rattle.std.proofs.lemmas.List.Elements.{All-append, All-cons, All-nil}
 use Rattle.records.specs.declared.content.Cohort.{Cohort}
+use Rattle.cohorts.specs.declared.pin.Pin.TheVariants as pin
 use Rattle.cohorts.specs.declared.track.Lane.{Lane}
 use Rattle.cohorts.specs.declared.track.Lane.TheVariants.{Target, Held}
 use Rattle.payload_graph.specs.declared.payload.TrackKey.{TrackKey}
@@ -15,11 +16,11 @@ pub record IsOfCohort (app cohort : ℕ) (key : TrackKey) : Type 0 where
   pub own_cohort : key.cohort ≡ cohort
 
 abbrev others : ℕ → ℕ → Lane → Bool → List TrackKey
-others app index lane rolls = cond rolls (record { app = app; cohort = index; lane = lane; rollback = true } ∷ []) []
+others app index lane rolls = cond rolls (record { app = app; cohort = index; lane = lane; rollback = true; pin = pin.Any } ∷ []) []
 
 All-others : (app index : ℕ) (lane : Lane) (rolls : Bool) → All (IsOfCohort app index) (others app index lane rolls)
 All-others app index lane true =
-    All-cons (IsOfCohort app index) (record { app = app; cohort = index; lane = lane; rollback = true }) []
+    All-cons (IsOfCohort app index) (record { app = app; cohort = index; lane = lane; rollback = true; pin = pin.Any }) []
     (record { own_app = refl; own_cohort = refl }) (All-nil (IsOfCohort app index))
 All-others app index lane false = All-nil (IsOfCohort app index)
 
@@ -29,7 +30,7 @@ length-others app index lane false = omega arith
 
 All-lane_keys : (app index : ℕ) (cohort : Cohort) (lane : Lane) → All (IsOfCohort app index) (lane_keys app index cohort lane)
 All-lane_keys app index cohort lane =
-    All-cons (IsOfCohort app index) (record { app = app; cohort = index; lane = lane; rollback = false }) (others app index lane cohort.rollback)
+    All-cons (IsOfCohort app index) (record { app = app; cohort = index; lane = lane; rollback = false; pin = pin.Any }) (others app index lane cohort.rollback)
     (record { own_app = refl; own_cohort = refl }) (All-others app index lane cohort.rollback)
 
 pub All-cohort_keys : (app index : ℕ) (cohort : Cohort) → All (IsOfCohort app index) (cohort_keys app index cohort)

@@ -9,7 +9,7 @@ use Rattle.std.proofs.lemmas.List.Elements.{All-append, All-cons, All-head, All-
 use Rattle.std.proofs.lemmas.Option.{get_or_from_slice_get, slice_get-get_or, slice_get_within}
 use Rattle.records.specs.declared.content.App.{App}
 use Rattle.records.specs.declared.content.Cohort.{Cohort}
-use Rattle.payload_graph.specs.Chains.{lane_target}
+use Rattle.payload_graph.specs.Chains.{cohort_target}
 use Rattle.payload_graph.specs.declared.payload.TrackKey.{TrackKey}
 use Rattle.payload_graph.specs.Net.{Net, net_among, net_in, net_of}
 use Rattle.par_tables.proofs.KeyLemmas.{IsOfCohort}
@@ -26,9 +26,9 @@ net_among-key apps key net there = in_apps (slice_get apps key.app) there
         let same : net_of app key cohort target ≡ net = cc in
         sym (ap (λ (n : Net). n.key) same)
 
-    in_cohorts : (app : App) (found : Option Cohort) → option_and_then (λ cohort. option_map (net_of app key cohort) (lane_target app cohort key.lane)) found ≡ Some net → net.key ≡ key
+    in_cohorts : (app : App) (found : Option Cohort) → option_and_then (λ cohort. option_map (net_of app key cohort) (cohort_target app cohort key)) found ≡ Some net → net.key ≡ key
     in_cohorts app None there = cc
-    in_cohorts app (Some cohort) there = in_target app cohort (lane_target app cohort key.lane) there
+    in_cohorts app (Some cohort) there = in_target app cohort (cohort_target app cohort key) there
 
     in_apps : (found : Option App) → option_and_then (λ app. net_in app key) found ≡ Some net → net.key ≡ key
     in_apps None there = cc

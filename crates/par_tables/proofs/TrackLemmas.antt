@@ -8,9 +8,11 @@ use Rattle.std.proofs.lemmas.List.Elements.{All-append, All-cons, All-nil, Conta
 use Rattle.std.proofs.lemmas.Option.{get_or_from_slice_get, slice_get-get_or, slice_get_within}
 use Rattle.records.specs.declared.content.App.{App}
 use Rattle.records.specs.declared.content.Cohort.{Cohort}
+use Rattle.cohorts.specs.declared.pin.Pin.{Pin}
+use Rattle.cohorts.specs.declared.pin.Pin.TheVariants as pin
 use Rattle.cohorts.specs.declared.track.Lane.{Lane}
 use Rattle.cohorts.specs.declared.track.Lane.TheVariants.{Target, Held}
-use Rattle.payload_graph.specs.Chains.{lane_target}
+use Rattle.payload_graph.specs.Chains.{cohort_target}
 use Rattle.payload_graph.specs.declared.payload.TrackKey.{TrackKey}
 use Rattle.payload_graph.specs.Net.{Net, net_among, net_in, net_of}
 use Rattle.price_cert.specs.Tables.{Certificate}
@@ -83,7 +85,7 @@ Contains-joined_from {A} {B} f index (suc place) (first ∷ xs) x y there inside
 -- a key of a cohort that allows what the key does is among the cohort's
 Contains-lane_keys :
     (app index : ℕ) (cohort : Cohort) (lane : Lane) (rolls : Bool) → (cohort.rollback && rolls) ≡ rolls →
-    Contains (lane_keys app index cohort lane) (record { app = app; cohort = index; lane = lane; rollback = rolls })
+    Contains (lane_keys app index cohort lane) (record { app = app; cohort = index; lane = lane; rollback = rolls; pin = pin.Any })
 Contains-lane_keys app index cohort lane false allowed = (0, omega arith, refl)
 Contains-lane_keys app index cohort lane true allowed =
     let rolls = (and_parts cohort.rollback true allowed).0 in
@@ -91,23 +93,23 @@ Contains-lane_keys app index cohort lane true allowed =
     (subst (λ b. Contains (cond b (key true ∷ []) []) (key true)) (sym rolls) (0, omega arith, refl))
   where
     key : Bool → TrackKey
-    key rollback = record { app = app; cohort = index; lane = lane; rollback = rollback }
+    key rollback = record { app = app; cohort = index; lane = lane; rollback = rollback; pin = pin.Any }
 
 Contains-cohort_keys :
     (app index : ℕ) (cohort : Cohort) (lane : Lane) (rolls : Bool) → (cohort.rollback && rolls) ≡ rolls →
-    Contains (cohort_keys app index cohort) (record { app = app; cohort = index; lane = lane; rollback = rolls })
+    Contains (cohort_keys app index cohort) (record { app = app; cohort = index; lane = lane; rollback = rolls; pin = pin.Any })
 Contains-cohort_keys app index cohort Target rolls allowed =
-    Contains-append_left (lane_keys app index cohort Target) (lane_keys app index cohort Held) (record { app = app; cohort = index; lane = Target; rollback = rolls })
+    Contains-append_left (lane_keys app index cohort Target) (lane_keys app index cohort Held) (record { app = app; cohort = index; lane = Target; rollback = rolls; pin = pin.Any })
     (Contains-lane_keys app index cohort Target rolls allowed)
 Contains-cohort_keys app index cohort Held rolls allowed =
-    Contains-append_right (lane_keys app index cohort Target) (lane_keys app index cohort Held) (record { app = app; cohort = index; lane = Held; rollback = rolls })
+    Contains-append_right (lane_keys app index cohort Target) (lane_keys app index cohort Held) (record { app = app; cohort = index; lane = Held; rollback = rolls; pin = pin.Any })
     (Contains-lane_keys app index cohort Held rolls allowed)
 
 -- a track with a target is among the keys
 Contains-keys_of :
     (apps : List App) (key : TrackKey) (net : Net) →
-    net_among apps key ≡ Some net → net.rollback ≡ key.rollback → Contains (keys_of apps) key
-Contains-keys_of apps key net there allowed = in_apps (slice_get apps key.app) refl there
+    net_among apps key ≡ Some net → net.rollback ≡ key.rollback → key.pin ≡ pin.Any → Contains (keys_of apps) key
+Contains-keys_of apps key net there allowed free = in_apps (slice_get apps key.app) refl there
   where
     in_target : (app : App) (cohort : Cohort) (found : Option ℕ) → option_map (net_of app key cohort) found ≡ Some net → (cohort.rollback && key.rollback) ≡ key.rollback
     in_target app cohort None there = cc
@@ -117,14 +119,15 @@ Contains-keys_of apps key net there allowed = in_apps (slice_get apps key.app) r
 
     in_cohorts :
         (app : App) (found : Option Cohort) → slice_get app.cohorts key.cohort ≡ found →
-        option_and_then (λ cohort. option_map (net_of app key cohort) (lane_target app cohort key.lane)) found ≡ Some net →
+        option_and_then (λ cohort. option_map (net_of app key cohort) (cohort_target app cohort key)) found ≡ Some net →
         Contains (app_keys key.app app) key
     in_cohorts app None is there = cc
     in_cohorts app (Some cohort) is there =
         let count : 0 + key.cohort ≡ key.cohort = omega arith in
         Contains-joined_from (cohort_keys key.app) 0 key.cohort app.cohorts cohort key is
         (subst (λ n. Contains (cohort_keys key.app n cohort) key) (sym count)
-        (Contains-cohort_keys key.app key.cohort cohort key.lane key.rollback (in_target app cohort (lane_target app cohort key.lane) there)))
+        (subst (λ (p : Pin). Contains (cohort_keys key.app key.cohort cohort) (record { app = key.app; cohort = key.cohort; lane = key.lane; rollback = key.rollback; pin = p })) (sym free)
+        (Contains-cohort_keys key.app key.cohort cohort key.lane key.rollback (in_target app cohort (cohort_target app cohort key) there))))
 
     in_apps :
         (found : Option App) → slice_get apps key.app ≡ found →
@@ -136,8 +139,8 @@ Contains-keys_of apps key net there allowed = in_apps (slice_get apps key.app) r
         (subst (λ n. Contains (app_keys n app) key) (sym count) (in_cohorts app (slice_get app.cohorts key.cohort) refl there))
 
 pub tracks_have_tables : TracksHaveTables
-tracks_have_tables apps tables key net are there allowed =
-    let inside = subst (λ (nets : List Net). Contains nets net) (sym are.nets) (Contains-nets_of apps (keys_of apps) key net there (Contains-keys_of apps key net there allowed)) in
+tracks_have_tables apps tables key net are there allowed free =
+    let inside = subst (λ (nets : List Net). Contains nets net) (sym are.nets) (Contains-nets_of apps (keys_of apps) key net there (Contains-keys_of apps key net there allowed free)) in
     table_at inside
   where
     table_at : Contains (map net_of_table tables) net → Any (λ (table : Certificate). table.net ≡ net) tables

@@ -1,6 +1,7 @@
 -- The tables of a catalogue: one for each track that has a target.
 use Rattle.std.specs.Prelude.{◌≡◌, List, ◌++◌, All, Any, Some, filter_map, map}
 use Rattle.records.specs.declared.content.App.{App}
+use Rattle.cohorts.specs.declared.pin.Pin.TheVariants as pin
 use Rattle.payload_graph.specs.declared.payload.TrackKey.{TrackKey}
 use Rattle.payload_graph.specs.Net.{Net, net_among}
 use Rattle.price_cert.specs.Laws.{IsGraph}
@@ -38,13 +39,15 @@ TablesAreOfTracks =
     (apps : List App) (tables : List Certificate) →
     AreTables apps tables → All (λ (table : Certificate). net_among apps table.net.key ≡ Some table.net) tables
 
--- each track with a target has a table; one that allows a downgrade only if its cohort does
+-- each track of clients without a pin that has a target has a table; one that allows a downgrade only if its
+-- cohort does
 abbrev pub TracksHaveTables : Type 0
 TracksHaveTables =
     (apps : List App) (tables : List Certificate) (key : TrackKey) (net : Net) →
     AreTables apps tables →
     net_among apps key ≡ Some net →
     net.rollback ≡ key.rollback →
+    key.pin ≡ pin.Any →
     Any (λ (table : Certificate). table.net ≡ net) tables
 
 -- a content has one list of tables

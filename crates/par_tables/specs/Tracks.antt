@@ -3,6 +3,7 @@
 use Rattle.std.specs.Prelude.{ℕ, ◌+◌, true, false, if◌then◌else◌, List, [], ◌∷◌, ◌++◌}
 use Rattle.records.specs.declared.content.App.{App}
 use Rattle.records.specs.declared.content.Cohort.{Cohort}
+use Rattle.cohorts.specs.declared.pin.Pin.TheVariants as pin
 use Rattle.cohorts.specs.declared.track.Lane.{Lane}
 use Rattle.cohorts.specs.declared.track.Lane.TheVariants.{Target, Held}
 use Rattle.payload_graph.specs.declared.payload.TrackKey.{TrackKey}
@@ -12,11 +13,12 @@ abbrev pub joined_from : {A B : Type 0} → (ℕ → A → List B) → ℕ → L
 joined_from f index [] = []
 joined_from f index (item ∷ items) = f index item ++ joined_from f (index + 1) items
 
--- the keys of a lane: of the clients that allow no downgrade, and of the others if the cohort allows one
+-- the keys of a lane: of the clients that allow no downgrade, and of the others if the cohort allows one; none of
+-- them has a pin
 abbrev pub lane_keys : ℕ → ℕ → Cohort → Lane → List TrackKey
 lane_keys app index cohort lane =
-    record { app = app; cohort = index; lane = lane; rollback = false }
-    ∷ (if cohort.rollback then record { app = app; cohort = index; lane = lane; rollback = true } ∷ [] else [])
+    record { app = app; cohort = index; lane = lane; rollback = false; pin = pin.Any }
+    ∷ (if cohort.rollback then record { app = app; cohort = index; lane = lane; rollback = true; pin = pin.Any } ∷ [] else [])
 
 -- the keys of a cohort: of its target, then of its held target
 abbrev pub cohort_keys : ℕ → ℕ → Cohort → List TrackKey

@@ -4,7 +4,7 @@ ghost use Rattle.std.specs.Prelude.{◌≡◌, ◌++◌, IfOk, OnOk};
 ghost use Rattle.par_tables.specs.Tracks.{cohort_keys, lane_keys};
 
 use catalogue::Cohort;
-use cohorts::Lane;
+use cohorts::{Lane, Pin};
 use payload_graph::TrackKey;
 use std::alloc::{AllocError, Global};
 
@@ -22,6 +22,7 @@ fn push_lane(
         cohort: index,
         lane,
         rollback: false,
+        pin: Pin::Any,
     })?;
     if cohort.rollback {
         keys.push(TrackKey {
@@ -29,13 +30,14 @@ fn push_lane(
             cohort: index,
             lane,
             rollback: true,
+            pin: Pin::Any,
         })?;
     }
     Ok(())
 }
 
 // rule: Order of tracks
-/// The keys of the tracks of a cohort at an index of an app, with a target or without.
+/// The keys of the tracks of a cohort at an index of an app, with a target or without; their clients have no pin.
 pub(crate) fn cohort_keys(
     alloc: Global,
     app: usize,

@@ -108,8 +108,8 @@ impl TrackTables {
 // rule: Tables of a catalogue
 /// Makes the certified tables of the tracks of a catalogue that have a target, in order.
 ///
-/// Apps come in their order, and in each one its cohorts. A cohort has the table of its target, then
-/// that of its held target, each for clients that allow no downgrade and, if the cohort does, for
+/// Their clients have no pin. Apps come in their order, and in each one its cohorts. A cohort has the table of its
+/// target, then that of its held target, each for clients that allow no downgrade and, if the cohort does, for
 /// those that do.
 pub fn tables(alloc: Global, catalogue: &Catalogue) -> Result<TrackTables, AllocError>
     ensures { IfOk result (λ tables. AreTables catalogue.now tables) }

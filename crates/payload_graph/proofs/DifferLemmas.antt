@@ -14,7 +14,8 @@ use Rattle.records.specs.declared.content.Cohort.{Cohort}
 use Rattle.records.specs.declared.content.Diff.{Diff}
 use Rattle.records.specs.declared.content.Release.{Release}
 use Rattle.payload_graph.specs.Chains.{index_of}
-use Rattle.payload_graph.specs.Permitted.{is_offered, is_offered_at, leads_up, permits_differ}
+use Rattle.cohorts.specs.Offers.{is_offered}
+use Rattle.payload_graph.specs.Permitted.{is_offered_at, leads_up, permits_differ}
 use Rattle.payload_graph.specs.declared.payload.TrackKey.{TrackKey}
 use Rattle.payload_graph.proofs.DoorLemmas.{get_or-doors_of}
 use Rattle.payload_graph.proofs.FloorLemmas.{and-swap, place_of-le}
@@ -87,15 +88,15 @@ module _ (irreflexive : BelowIsIrreflexive) (transitive : BelowIsTransitive) (ap
       good_at : (k : ℕ) (d : Diff) → k < length app.diffs → is_valid_diff app.releases (get_or app.diffs k d) ≡ true
       good_at k d within = list_all-get_or (is_valid_diff app.releases) app.diffs k d are.good within
 
-  module _ (cohort : Cohort) (target : ℕ) (aimed : target < length app.releases) where
+  module _ (cohort : Cohort) (key : TrackKey) (target : ℕ) (aimed : target < length app.releases) where
     abbrev doors : List Door
-    doors = doors_of cohort app.releases
+    doors = doors_of cohort key.pin app.releases
 
     -- a differential is reached if it is permitted
     reached-at :
         (diff : Diff) → is_valid_diff app.releases diff ≡ true →
         is_reached target doors (edge_of app.releases diff)
-        ≡ permits_differ app.releases cohort (version_of_index app.releases target) diff
+        ≡ permits_differ app.releases cohort key.pin (version_of_index app.releases target) diff
     reached-at diff good =
         let up = LeadsUp-good app.releases diff good in
         let d = released_one app.releases diff.from up.starts in
@@ -107,50 +108,50 @@ module _ (irreflexive : BelowIsIrreflexive) (transitive : BelowIsTransitive) (ap
         -- what the rule says of it
         by_rule :
             (diff : Diff) (d : Release) → IsIndex app.releases diff.from d → IsIndex app.releases diff.to d →
-            permits_differ app.releases cohort (version_of_index app.releases target) diff
-            ≡ (is_offered_at cohort (get_or app.releases (index_of app.releases diff.from) d).version (get_or app.releases (index_of app.releases diff.to) d)
+            permits_differ app.releases cohort key.pin (version_of_index app.releases target) diff
+            ≡ (is_offered_at cohort key.pin (get_or app.releases (index_of app.releases diff.from) d).version (get_or app.releases (index_of app.releases diff.to) d)
             && leads_up app.releases (get_or app.releases target d).version (get_or app.releases (index_of app.releases diff.from) d).version (get_or app.releases (index_of app.releases diff.to) d).version)
         by_rule diff d origin end =
             let there = get_or app.releases (index_of app.releases diff.to) d in
-            ap (λ found. option_map_or (λ (to : Release). is_offered_at cohort diff.from to && leads_up app.releases (version_of_index app.releases target) diff.from to.version) found false) (find-index_of app.releases diff.to d end)
-            ∙ ap (λ found. is_offered_at cohort diff.from there && leads_up app.releases (option_map_or (λ (r : Release). r.version) found []) diff.from there.version) (slice_get-get_or app.releases target d aimed)
-            ∙ ap (λ from. is_offered_at cohort from there && leads_up app.releases (get_or app.releases target d).version from there.version) (sym origin.there)
+            ap (λ found. option_map_or (λ (to : Release). is_offered_at cohort key.pin diff.from to && leads_up app.releases (version_of_index app.releases target) diff.from to.version) found false) (find-index_of app.releases diff.to d end)
+            ∙ ap (λ found. is_offered_at cohort key.pin diff.from there && leads_up app.releases (option_map_or (λ (r : Release). r.version) found []) diff.from there.version) (slice_get-get_or app.releases target d aimed)
+            ∙ ap (λ from. is_offered_at cohort key.pin from there && leads_up app.releases (get_or app.releases target d).version from there.version) (sym origin.there)
 
         -- what its indexes say of it
         by_index :
             (diff : Diff) (d : Release) → IsIndex app.releases diff.from d → IsIndex app.releases diff.to d →
             index_of app.releases diff.from < index_of app.releases diff.to →
             is_reached target doors (edge_of app.releases diff)
-            ≡ (is_offered_at cohort (get_or app.releases (index_of app.releases diff.from) d).version (get_or app.releases (index_of app.releases diff.to) d)
+            ≡ (is_offered_at cohort key.pin (get_or app.releases (index_of app.releases diff.from) d).version (get_or app.releases (index_of app.releases diff.to) d)
             && leads_up app.releases (get_or app.releases target d).version (get_or app.releases (index_of app.releases diff.from) d).version (get_or app.releases (index_of app.releases diff.to) d).version)
         by_index diff d origin end less =
             let low = origin.within in
             let high = end.within in
-            let offered = ap (opens (index_of app.releases diff.from)) (get_or-doors_of cohort app.releases (index_of app.releases diff.to) no_door d high)
-            ∙ and-swap (leb (place_of (get_or app.releases (index_of app.releases diff.to) d).floor app.releases) (index_of app.releases diff.from)) (is_offered cohort (get_or app.releases (index_of app.releases diff.to) d))
-            ∙ ap (λ b. is_offered cohort (get_or app.releases (index_of app.releases diff.to) d) && b) (place_of-le transitive app.releases d (get_or app.releases (index_of app.releases diff.to) d).floor (index_of app.releases diff.from) are.rises low) in
+            let offered = ap (opens (index_of app.releases diff.from)) (get_or-doors_of cohort key.pin app.releases (index_of app.releases diff.to) no_door d high)
+            ∙ and-swap (leb (place_of (get_or app.releases (index_of app.releases diff.to) d).floor app.releases) (index_of app.releases diff.from)) (is_offered cohort key.pin (get_or app.releases (index_of app.releases diff.to) d))
+            ∙ ap (λ b. is_offered cohort key.pin (get_or app.releases (index_of app.releases diff.to) d) && b) (place_of-le transitive app.releases d (get_or app.releases (index_of app.releases diff.to) d).floor (index_of app.releases diff.from) are.rises low) in
             elim (cases_lt target (index_of app.releases diff.from)) [
               | inl past ↦
                   and_left _ _ (lt-leb (index_of app.releases diff.from) target past)
-                  ∙ sym (and_right _ _ (leads_up-past irreflexive transitive cohort app.releases d are.rises target (index_of app.releases diff.from) aimed (index_of app.releases diff.to) past low high))
+                  ∙ sym (and_right _ _ (leads_up-past irreflexive transitive cohort key.pin app.releases d are.rises target (index_of app.releases diff.from) aimed (index_of app.releases diff.to) past low high))
               | inr below ↦
                   ap (λ b. b && (ltb (index_of app.releases diff.to) (reach_of target doors (index_of app.releases diff.from)) && opens (index_of app.releases diff.from) (get_or doors (index_of app.releases diff.to) no_door))) (le-leb (index_of app.releases diff.from) target below)
                   ∙ (elim (cases_lt (index_of app.releases diff.to) (reach_of target doors (index_of app.releases diff.from))) [
                     | inl reached ↦
                         ap (λ b. b && opens (index_of app.releases diff.from) (get_or doors (index_of app.releases diff.to) no_door)) (lt-ltb (index_of app.releases diff.to) (reach_of target doors (index_of app.releases diff.from)) reached)
                         ∙ offered
-                        ∙ sym (and-true (is_offered_at cohort (get_or app.releases (index_of app.releases diff.from) d).version (get_or app.releases (index_of app.releases diff.to) d)))
-                        ∙ ap (λ b. is_offered_at cohort (get_or app.releases (index_of app.releases diff.from) d).version (get_or app.releases (index_of app.releases diff.to) d) && b) (sym (leads_up-inside irreflexive transitive cohort app.releases d are.rises target (index_of app.releases diff.from) aimed (index_of app.releases diff.to) below less reached))
+                        ∙ sym (and-true (is_offered_at cohort key.pin (get_or app.releases (index_of app.releases diff.from) d).version (get_or app.releases (index_of app.releases diff.to) d)))
+                        ∙ ap (λ b. is_offered_at cohort key.pin (get_or app.releases (index_of app.releases diff.from) d).version (get_or app.releases (index_of app.releases diff.to) d) && b) (sym (leads_up-inside irreflexive transitive cohort key.pin app.releases d are.rises target (index_of app.releases diff.from) aimed (index_of app.releases diff.to) below less reached))
                     | inr behind ↦
                         and_left _ _ (le-ltb (index_of app.releases diff.to) (reach_of target doors (index_of app.releases diff.from)) behind)
-                        ∙ sym (and_right _ _ (leads_up-above irreflexive transitive cohort app.releases d are.rises target (index_of app.releases diff.from) aimed (index_of app.releases diff.to) below behind high))
+                        ∙ sym (and_right _ _ (leads_up-above irreflexive transitive cohort key.pin app.releases d are.rises target (index_of app.releases diff.from) aimed (index_of app.releases diff.to) below behind high))
                   ])
             ]
 
-    pub reached_are_permitted : filter (is_reached target doors) (resolved_of app) ≡ differs_of app cohort target
+    pub reached_are_permitted : filter (is_reached target doors) (resolved_of app) ≡ differs_of app cohort key.pin target
     reached_are_permitted =
-        filter-map_agree (is_valid_diff app.releases) (edge_of app.releases) (is_reached target doors) (permits_differ app.releases cohort (version_of_index app.releases target)) reached-at app.diffs are.good
+        filter-map_agree (is_valid_diff app.releases) (edge_of app.releases) (is_reached target doors) (permits_differ app.releases cohort key.pin (version_of_index app.releases target)) reached-at app.diffs are.good
 
     -- the graph of the releases and resolved differentials is the track's
-    pub net_from-app : (key : TrackKey) → net_from key cohort app.releases target (resolved_of app) ≡ net_of app key cohort target
-    net_from-app key = ap (λ (differs : List Edge). net_with app key cohort target differs) reached_are_permitted
+    pub net_from-app : net_from key cohort app.releases target (resolved_of app) ≡ net_of app key cohort target
+    net_from-app = ap (λ (differs : List Edge). net_with app key cohort target differs) reached_are_permitted

@@ -9,7 +9,8 @@ use Rattle.records.specs.Lookups.{place_of}
 use Rattle.records.specs.declared.content.App.{App}
 use Rattle.records.specs.declared.content.Cohort.{Cohort}
 use Rattle.records.specs.declared.content.Release.{Release}
-use Rattle.payload_graph.specs.Permitted.{is_offered, is_offered_at, leads_down, leads_up, permits, permits_full, rolls_back}
+use Rattle.cohorts.specs.Offers.{is_offered}
+use Rattle.payload_graph.specs.Permitted.{is_offered_at, leads_down, leads_up, permits, permits_full, rolls_back}
 use Rattle.payload_graph.specs.declared.payload.Payload.TheVariants.{Full}
 use Rattle.payload_graph.specs.declared.payload.TrackKey.{TrackKey}
 use Rattle.payload_graph.specs.declared.place.Place.TheVariants.{At}
@@ -43,7 +44,7 @@ down_line offered up rolls down not_up both holds =
 
 module _ (irreflexive : BelowIsIrreflexive) (transitive : BelowIsTransitive) (app : App) (key : TrackKey) (cohort : Cohort) (target from : ℕ) (d : Release) (differs : List Edge) (track : IsTrack app key cohort target d) (there : from < length app.releases) where
   abbrev doors : List Door
-  doors = doors_of cohort app.releases
+  doors = doors_of cohort key.pin app.releases
 
   abbrev release : ℕ → Release
   release index = get_or app.releases index d
@@ -70,27 +71,27 @@ module _ (irreflexive : BelowIsIrreflexive) (transitive : BelowIsTransitive) (ap
   permits-at :
       (to : ℕ) → to < length app.releases →
       permits app key (At from) (Full to)
-      ≡ (is_offered_at cohort (release from).version (release to) && (up to || (rolls_back cohort key && down to)))
+      ≡ (is_offered_at cohort key.pin (release from).version (release to) && (up to || (rolls_back cohort key && down to)))
   permits-at to within =
       rw (track.cohort_there, track.targeted, slice_get-get_or app.releases to d within, slice_get-get_or app.releases from d there)
-      (ap (λ (r : Release). permits_full app.releases cohort (rolls_back cohort key) r.version (release from).version (release to)) (sym at_target))
+      (ap (λ (r : Release). permits_full app.releases cohort key r.version (release from).version (release to)) (sym at_target))
 
   -- a door is permitted by the two lines
   door-at :
       (k : ℕ) → k < length doors →
       is_permitted (get_or doors k no_door)
-      ≡ (is_offered_at cohort (release from).version (release k) && (up k || (rolls_back cohort key && down k)))
+      ≡ (is_offered_at cohort key.pin (release from).version (release k) && (up k || (rolls_back cohort key && down k)))
   door-at k within =
-      let sized = length-doors_of cohort app.releases in
+      let sized = length-doors_of cohort key.pin app.releases in
       let fits : k < length app.releases = omega arith in
-      ap is_permitted (get_or-doors_of cohort app.releases k no_door d fits) ∙ permits-at k fits
+      ap is_permitted (get_or-doors_of cohort key.pin app.releases k no_door d fits) ∙ permits-at k fits
 
-  offered-at : (k : ℕ) → k < length doors → is_offered_at cohort (release from).version (release k) ≡ is_door_open (get_or doors k no_door)
+  offered-at : (k : ℕ) → k < length doors → is_offered_at cohort key.pin (release from).version (release k) ≡ is_door_open (get_or doors k no_door)
   offered-at k within =
-      let sized = length-doors_of cohort app.releases in
-      ap (λ b. is_offered cohort (release k) && b) (sym (place_of-le transitive app.releases d (release k).floor from track.ascending there))
-      ∙ and-swap (is_offered cohort (release k)) (leb (place_of (release k).floor app.releases) from)
-      ∙ sym (ap is_door_open (get_or-doors_of cohort app.releases k no_door d (omega arith)))
+      let sized = length-doors_of cohort key.pin app.releases in
+      ap (λ b. is_offered cohort key.pin (release k) && b) (sym (place_of-le transitive app.releases d (release k).floor from track.ascending there))
+      ∙ and-swap (is_offered cohort key.pin (release k)) (leb (place_of (release k).floor app.releases) from)
+      ∙ sym (ap is_door_open (get_or-doors_of cohort key.pin app.releases k no_door d (omega arith)))
 
   -- a door below the target isn't led down to
   not_down : (k : ℕ) → from ≤ target → down k ≡ false
@@ -102,23 +103,23 @@ module _ (irreflexive : BelowIsIrreflexive) (transitive : BelowIsTransitive) (ap
   filter-up low =
       filter-between is_permitted is_door_open no_door doors (from + 1) (reach_of target doors from) (record {
         below = λ k within less.
-            let sized = length-doors_of cohort app.releases in
+            let sized = length-doors_of cohort key.pin app.releases in
             door-at k within
-            ∙ no_line (is_offered_at cohort (release from).version (release k)) (up k) (rolls_back cohort key) (down k) (leads_up-below irreflexive transitive cohort app.releases d track.ascending target from aimed k (omega arith) there) (and_right (rolls_back cohort key) (down k) (not_down k low));
+            ∙ no_line (is_offered_at cohort key.pin (release from).version (release k)) (up k) (rolls_back cohort key) (down k) (leads_up-below irreflexive transitive cohort key.pin app.releases d track.ascending target from aimed k (omega arith) there) (and_right (rolls_back cohort key) (down k) (not_down k low));
         above = λ k within more.
-            let sized = length-doors_of cohort app.releases in
+            let sized = length-doors_of cohort key.pin app.releases in
             door-at k within
-            ∙ no_line (is_offered_at cohort (release from).version (release k)) (up k) (rolls_back cohort key) (down k) (leads_up-above irreflexive transitive cohort app.releases d track.ascending target from aimed k low more (omega arith)) (and_right (rolls_back cohort key) (down k) (not_down k low));
+            ∙ no_line (is_offered_at cohort key.pin (release from).version (release k)) (up k) (rolls_back cohort key) (down k) (leads_up-above irreflexive transitive cohort key.pin app.releases d track.ascending target from aimed k low more (omega arith)) (and_right (rolls_back cohort key) (down k) (not_down k low));
         inside = λ k within less more.
             door-at k within
-            ∙ up_line (is_offered_at cohort (release from).version (release k)) (up k) (rolls_back cohort key && down k) (leads_up-inside irreflexive transitive cohort app.releases d track.ascending target from aimed k low (omega arith) more)
+            ∙ up_line (is_offered_at cohort key.pin (release from).version (release k)) (up k) (rolls_back cohort key && down k) (leads_up-inside irreflexive transitive cohort key.pin app.releases d track.ascending target from aimed k low (omega arith) more)
             ∙ offered-at k within;
       })
 
   not_up : (k : ℕ) → target < from → k < length doors → up k ≡ false
   not_up k past within =
-      let sized = length-doors_of cohort app.releases in
-      leads_up-past irreflexive transitive cohort app.releases d track.ascending target from aimed k past there (omega arith)
+      let sized = length-doors_of cohort key.pin app.releases in
+      leads_up-past irreflexive transitive cohort key.pin app.releases d track.ascending target from aimed k past there (omega arith)
 
   filter-down :
       target < from → rolls_back cohort key ≡ true →
@@ -127,12 +128,12 @@ module _ (irreflexive : BelowIsIrreflexive) (transitive : BelowIsTransitive) (ap
       filter-between is_permitted is_door_open no_door doors 0 from (record {
         below = λ k within less. absurd (omega arith);
         above = λ k within more.
-            let sized = length-doors_of cohort app.releases in
+            let sized = length-doors_of cohort key.pin app.releases in
             door-at k within
-            ∙ no_line (is_offered_at cohort (release from).version (release k)) (up k) (rolls_back cohort key) (down k) (not_up k past within) (and_right (rolls_back cohort key) (down k) (and_right (is_below (release target).version (release from).version) (is_below (release k).version (release from).version) (not_below_at irreflexive transitive app.releases d k from track.ascending more (omega arith))));
+            ∙ no_line (is_offered_at cohort key.pin (release from).version (release k)) (up k) (rolls_back cohort key) (down k) (not_up k past within) (and_right (rolls_back cohort key) (down k) (and_right (is_below (release target).version (release from).version) (is_below (release k).version (release from).version) (not_below_at irreflexive transitive app.releases d k from track.ascending more (omega arith))));
         inside = λ k within less more.
             door-at k within
-            ∙ down_line (is_offered_at cohort (release from).version (release k)) (up k) (rolls_back cohort key) (down k) (not_up k past within) rolls (and_from _ _ (below_at app.releases d target from track.ascending past there) (below_at app.releases d k from track.ascending more there))
+            ∙ down_line (is_offered_at cohort key.pin (release from).version (release k)) (up k) (rolls_back cohort key) (down k) (not_up k past within) rolls (and_from _ _ (below_at app.releases d target from track.ascending past there) (below_at app.releases d k from track.ascending more there))
             ∙ offered-at k within;
       })
 
@@ -143,7 +144,7 @@ module _ (irreflexive : BelowIsIrreflexive) (transitive : BelowIsTransitive) (ap
       filter-between is_permitted is_door_open no_door doors 0 0 (record {
         below = λ k within less. absurd (omega arith);
         above = λ k within more.
-            door-at k within ∙ no_line (is_offered_at cohort (release from).version (release k)) (up k) (rolls_back cohort key) (down k) (not_up k past within) (and_left (rolls_back cohort key) (down k) rolls);
+            door-at k within ∙ no_line (is_offered_at cohort key.pin (release from).version (release k)) (up k) (rolls_back cohort key) (down k) (not_up k past within) (and_left (rolls_back cohort key) (down k) rolls);
         inside = λ k within less more. absurd (omega arith);
       })
 
@@ -154,7 +155,7 @@ module _ (irreflexive : BelowIsIrreflexive) (transitive : BelowIsTransitive) (ap
   filter-window = elim (cases_lt target from) [
     | inl past ↦ above (rolls_back cohort key) refl past
     | inr low ↦
-        let sized = length-doors_of cohort app.releases in
+        let sized = length-doors_of cohort key.pin app.releases in
         let aim : target < length app.releases = aimed in
         ap (filter is_door_open) (window-below net from low (omega arith)) ∙ sym (filter-up low)
   ]

@@ -9,8 +9,8 @@ mod IncomingLemmas
 mod IndexLemmas
 mod LeavingLemmas
 mod LoopLemmas
-mod MarkLemmas
 mod NearerLemmas
+mod OpeningLemmas
 mod OrderLemmas
 mod OriginLemmas
 mod PermittedLemmas

@@ -58,7 +58,7 @@ filter-enumerate {A} {B} p q f n (x ∷ xs) agrees =
 module _ (irreflexive : BelowIsIrreflexive) (transitive : BelowIsTransitive) (app : App) (key : TrackKey) (cohort : Cohort) (target from : ℕ) (release : Release) (valid : IsValidApp app) (track : IsTrack app key cohort target release) (there : from < length app.releases) where
   -- the differential is permitted by the rule
   abbrev passes : Diff → Bool
-  passes diff = permits_differ app.releases cohort (version_of_index app.releases target) diff
+  passes diff = permits_differ app.releases cohort key.pin (version_of_index app.releases target) diff
 
   -- it starts at the release
   starts-at :
@@ -98,11 +98,11 @@ module _ (irreflexive : BelowIsIrreflexive) (transitive : BelowIsTransitive) (ap
       let good = list_all-get_or (is_valid_diff app.releases) app.diffs k d valid.diffs_valid within in
       let aimed = ap (λ found. option_map_or (λ (r : Release). r.version) found []) track.release_there in
       rw (track.cohort_there, track.targeted, slice_get-get_or app.diffs k d within)
-      (ap (λ version. starts_at app.releases (At from) (get_or app.diffs k d) && permits_differ app.releases cohort version (get_or app.diffs k d)) (sym aimed)
+      (ap (λ version. starts_at app.releases (At from) (get_or app.diffs k d) && permits_differ app.releases cohort key.pin version (get_or app.diffs k d)) (sym aimed)
       ∙ ap (λ b. b && passes (get_or app.diffs k d)) (starts-at (get_or app.diffs k d) good))
 
   leaving_are_permitted :
-      filter (leaves from) (differs_of app cohort target)
+      filter (leaves from) (differs_of app cohort key.pin target)
       ≡ map (λ (numbered : ℕ × Diff). edge_of app.releases numbered.1) (filter (λ (numbered : ℕ × Diff). permits app key (At from) (Differ numbered.0)) (enumerate_from 0 app.diffs))
   leaving_are_permitted =
       filter-map_agree (λ (diff : Diff). true) (edge_of app.releases) (leaves from) (λ diff. leaves from (edge_of app.releases diff)) (λ diff good. refl) (filter passes app.diffs) (list_all-always (filter passes app.diffs))

@@ -12,8 +12,8 @@ use Rattle.records.specs.Validity.{IsValid, IsValidApp, is_valid_audience, is_va
 use Rattle.records.specs.declared.content.App.{App}
 use Rattle.records.specs.declared.content.Cohort.{Cohort}
 use Rattle.records.specs.declared.content.Release.{Release}
-use Rattle.cohorts.specs.Tracks.{target_of}
-use Rattle.payload_graph.specs.Chains.{lane_target}
+use Rattle.cohorts.specs.Offers.{track_target}
+use Rattle.payload_graph.specs.Chains.{cohort_target}
 use Rattle.payload_graph.specs.declared.payload.TrackKey.{TrackKey}
 use Rattle.payload_graph.proofs.DifferLemmas.{net_from-app}
 use Rattle.payload_graph.proofs.OrderLemmas.{list_all-get_or}
@@ -52,8 +52,8 @@ AreBounded-app apps index app valid there =
 -- a target is a release
 target-within :
     (app : App) (cohort : Cohort) (key : TrackKey) (target : ℕ) →
-    lane_target app cohort key.lane ≡ Some target → target < length app.releases
-target-within app cohort key target found = cases (target_of cohort key.lane) found
+    cohort_target app cohort key ≡ Some target → target < length app.releases
+target-within app cohort key target found = cases (track_target app.releases cohort key.lane key.pin) found
   where
     cases : (sought : Option (List ℕ)) → option_and_then (λ version. position (is_release version) app.releases) sought ≡ Some target → target < length app.releases
     cases None found = cc
@@ -70,19 +70,19 @@ pub net_in_app-own :
 net_in_app-own irreflexive transitive app key are = cases (slice_get app.cohorts key.cohort)
   where
     own :
-        (cohort : Cohort) (found : Option ℕ) → lane_target app cohort key.lane ≡ found →
+        (cohort : Cohort) (found : Option ℕ) → cohort_target app cohort key ≡ found →
         option_map (λ target. net_from key cohort app.releases target (resolved_of app)) found
         ≡ option_map (net_of app key cohort) found
     own cohort None found = refl
     own cohort (Some target) found =
-        ap (λ (net : Net). Some net) (net_from-app irreflexive transitive app are cohort target (target-within app cohort key target found) key)
+        ap (λ (net : Net). Some net) (net_from-app irreflexive transitive app are cohort key target (target-within app cohort key target found))
 
     cases :
         (found : Option Cohort) →
         option_and_then (λ cohort. net_in_cohort app key cohort (resolved_of app)) found
-        ≡ option_and_then (λ cohort. option_map (net_of app key cohort) (lane_target app cohort key.lane)) found
+        ≡ option_and_then (λ cohort. option_map (net_of app key cohort) (cohort_target app cohort key)) found
     cases None = refl
-    cases (Some cohort) = own cohort (lane_target app cohort key.lane) refl
+    cases (Some cohort) = own cohort (cohort_target app cohort key) refl
 
 -- an app that is read at an index is there
 pub app-there :

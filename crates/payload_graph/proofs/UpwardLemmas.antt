@@ -8,6 +8,7 @@ use Rattle.values.specs.Ordered.{ascend}
 use Rattle.records.specs.Validity.{is_release_below}
 use Rattle.records.specs.declared.content.Cohort.{Cohort}
 use Rattle.records.specs.declared.content.Release.{Release}
+use Rattle.cohorts.specs.declared.pin.Pin.{Pin}
 use Rattle.payload_graph.specs.Permitted.{is_stone_between, jumps_stone, leads_up}
 use Rattle.payload_graph.proofs.DoorLemmas.{get_or-doors_of, length-doors_of}
 use Rattle.payload_graph.proofs.OrderLemmas.{below_at, not_below_at}
@@ -21,9 +22,9 @@ pub and-true : (b : Bool) → (b && true) ≡ b
 and-true true = refl
 and-true false = refl
 
-module _ (irreflexive : BelowIsIrreflexive) (transitive : BelowIsTransitive) (cohort : Cohort) (releases : List Release) (d : Release) (rises : ascend is_release_below releases ≡ true) where
+module _ (irreflexive : BelowIsIrreflexive) (transitive : BelowIsTransitive) (cohort : Cohort) (pin : Pin) (releases : List Release) (d : Release) (rises : ascend is_release_below releases ≡ true) where
   abbrev doors : List Door
-  doors = doors_of cohort releases
+  doors = doors_of cohort pin releases
 
   abbrev version_of : ℕ → List ℕ
   version_of index = (get_or releases index d).version
@@ -39,10 +40,10 @@ module _ (irreflexive : BelowIsIrreflexive) (transitive : BelowIsTransitive) (co
       (from to : ℕ) → from < to → to < length releases →
       jumps_stone releases (version_of from) (version_of to) ≡ list_any is_stone (between (from + 1) to doors)
   jumps_stone-at from to less within =
-      list_any-between (is_stone_between (version_of from) (version_of to)) is_stone d no_door releases doors (from + 1) to agree (sym (length-doors_of cohort releases))
+      list_any-between (is_stone_between (version_of from) (version_of to)) is_stone d no_door releases doors (from + 1) to agree (sym (length-doors_of cohort pin releases))
     where
       stone_at : (k : ℕ) → k < length releases → (get_or releases k d).stone ≡ is_stone (get_or doors k no_door)
-      stone_at k there = sym (ap (λ (door : Door). door.stone) (get_or-doors_of cohort releases k no_door d there))
+      stone_at k there = sym (ap (λ (door : Door). door.stone) (get_or-doors_of cohort pin releases k no_door d there))
 
       agree : AgreeBetween (is_stone_between (version_of from) (version_of to)) is_stone d no_door (from + 1) to releases doors
       agree = record {
@@ -91,7 +92,7 @@ module _ (irreflexive : BelowIsIrreflexive) (transitive : BelowIsTransitive) (co
         (to : ℕ) → from ≤ target → from < to → to < reach_of target doors from →
         leads_up releases (version_of target) (version_of from) (version_of to) ≡ true
     leads_up-inside to low higher reached =
-        let sized = length-doors_of cohort releases in
+        let sized = length-doors_of cohort pin releases in
         let bounds = reach_of-bounds target doors from low (omega arith) in
         let stones = no_stone_before (between (from + 1) (target + 1) doors) (to - (from + 1)) (omega arith) in
         let jumps = jumps_stone-at from to higher (omega arith) ∙ between-part to higher (omega arith) ∙ stones in
@@ -106,7 +107,7 @@ module _ (irreflexive : BelowIsIrreflexive) (transitive : BelowIsTransitive) (co
       | inl higher ↦
           and_right _ _ (and_left _ _ (not_from_true _ (below target to higher there)))
       | inr lower ↦
-          let sized = length-doors_of cohort releases in
+          let sized = length-doors_of cohort pin releases in
           let size = length-between doors (from + 1) (target + 1) (omega arith) in
           let stones = stone_before (between (from + 1) (target + 1) doors) (to - (from + 1)) (omega arith) (omega arith) in
           let jumps = jumps_stone-at from to (omega arith) there ∙ between-part to (omega arith) (omega arith) ∙ stones in

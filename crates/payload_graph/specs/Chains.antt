@@ -6,8 +6,7 @@ use Rattle.records.specs.Lookups.{is_release}
 use Rattle.records.specs.declared.content.App.{App}
 use Rattle.records.specs.declared.content.Cohort.{Cohort}
 use Rattle.records.specs.declared.content.Release.{Release}
-use Rattle.cohorts.specs.Tracks.{target_of}
-use Rattle.cohorts.specs.declared.track.Lane.{Lane}
+use Rattle.cohorts.specs.Offers.{track_target}
 use Rattle.payload_graph.specs.Permitted.{permits}
 use Rattle.payload_graph.specs.declared.payload.Payload.{Payload}
 use Rattle.payload_graph.specs.declared.payload.Payload.TheVariants.{Full, Differ}
@@ -31,15 +30,16 @@ abbrev pub bytes_of : App → Payload → ℕ
 bytes_of app (Full release) = option_map_or (λ there. there.size) (slice_get app.releases release) 0
 bytes_of app (Differ index) = option_map_or (λ there. there.size) (slice_get app.diffs index) 0
 
--- the index of the release that the clients of a cohort's lane are meant to have, if any
-abbrev pub lane_target : App → Cohort → Lane → Option ℕ
-lane_target app cohort lane =
-    option_and_then (λ version. position (is_release version) app.releases) (target_of cohort lane)
+-- the index of the release that the clients of a key are meant to have in their cohort, if any
+abbrev pub cohort_target : App → Cohort → TrackKey → Option ℕ
+cohort_target app cohort key =
+    option_and_then (λ version. position (is_release version) app.releases)
+    (track_target app.releases cohort key.lane key.pin)
 
 -- the index of the release that a track's clients are meant to have, if any
 abbrev pub target_index : App → TrackKey → Option ℕ
 target_index app key =
-    option_and_then (λ cohort. lane_target app cohort key.lane) (slice_get app.cohorts key.cohort)
+    option_and_then (λ cohort. cohort_target app cohort key) (slice_get app.cohorts key.cohort)
 
 -- the place is the track's target
 abbrev pub IsAtTarget : App → TrackKey → Place → Type 0

@@ -5,6 +5,7 @@ use Rattle.records.specs.declared.content.App.{App}
 use Rattle.records.specs.declared.content.Cohort.{Cohort}
 use Rattle.records.specs.declared.content.Diff.{Diff}
 use Rattle.records.specs.declared.content.Release.{Release}
+use Rattle.cohorts.specs.declared.pin.Pin.TheVariants as pin
 use Rattle.cohorts.specs.declared.track.Lane.{Lane}
 use Rattle.cohorts.specs.declared.track.Lane.TheVariants as lane
 use Rattle.payload_graph.specs.Chains.{IsChain, sum_of}
@@ -86,7 +87,11 @@ floored second fourth withdrawn =
 
 -- the key of a cohort's track in the only app
 abbrev pub key_of : ℕ → Lane → Bool → TrackKey
-key_of cohort lane rollback = record { app = 0; cohort = cohort; lane = lane; rollback = rollback }
+key_of cohort lane rollback = record { app = 0; cohort = cohort; lane = lane; rollback = rollback; pin = pin.Any }
+
+-- the same key for clients whose pin allows the versions that begin with a number
+abbrev pub pinned_to : ℕ → TrackKey → TrackKey
+pinned_to number key = record key { pin = pin.Prefix (major number) 1 }
 
 -- all payloads of an app: the full ones, then the differentials
 abbrev pub payloads_of : App → List Payload
@@ -104,7 +109,9 @@ permitted_of app key =
     map (λ release. permitted_from app key (At release)) (range_with_len 0 (length app.releases))
 
 -- the payloads from the releases of `demo`: 8 on the default track, 4 on the held one, and 7 in the
--- cohort that rolls back, of which 3 lead down; with the floor 3.0 at 4.0 there are 6 on the default track
+-- cohort that rolls back, of which 3 lead down; with the floor 3.0 at 4.0 there are 6 on the default track. A pin
+-- leaves those to releases that it matches: pinned to 4 all lead to 4.0 at once, and pinned to 3 none leave 1.0,
+-- since no way leads past the stone 2.0
 pub record ExampleIsWorked : Type 0 where
   pub target :
       permitted_of demo (key_of 0 lane.Target false)
@@ -131,5 +138,18 @@ pub record ExampleIsWorked : Type 0 where
       permitted_from (floored 0 3 false) (key_of 0 lane.Target false) (Outside (2 ∷ 5 ∷ replicate 14 0)) ≡ Full 2 ∷ []
   pub outside_at_floor :
       permitted_from (floored 0 3 false) (key_of 0 lane.Target false) (Outside (major 3)) ≡ Full 3 ∷ []
+  pub pinned :
+      permitted_of demo (pinned_to 4 (key_of 0 lane.Target false))
+      ≡ [] ∷ (Full 3 ∷ Differ 3 ∷ []) ∷ (Full 3 ∷ Differ 4 ∷ []) ∷ [] ∷ []
+  pub pinned_below_target :
+      permitted_of demo (pinned_to 3 (key_of 0 lane.Target false))
+      ≡ [] ∷ (Full 2 ∷ Differ 2 ∷ []) ∷ [] ∷ [] ∷ []
+  pub pinned_rollback :
+      permitted_of demo (pinned_to 2 (key_of 1 lane.Target true))
+      ≡ (Full 1 ∷ Differ 0 ∷ []) ∷ [] ∷ (Full 1 ∷ []) ∷ (Full 1 ∷ []) ∷ []
+  pub pinned_above_target :
+      permitted_of demo (pinned_to 4 (key_of 1 lane.Target true)) ≡ [] ∷ [] ∷ [] ∷ [] ∷ []
+  pub pinned_to_withdrawn :
+      permitted_of (floored 0 0 true) (pinned_to 3 (key_of 0 lane.Target false)) ≡ [] ∷ [] ∷ [] ∷ [] ∷ []
   pub chain : IsChain demo (key_of 0 lane.Target false) (At 0) (Differ 0 ∷ Differ 2 ∷ Differ 4 ∷ [])
   pub sum : sum_of demo (Differ 0 ∷ Differ 2 ∷ Differ 4 ∷ []) ≡ 750

@@ -8,7 +8,7 @@ use Rattle.records.specs.declared.content.App.{App}
 use Rattle.records.specs.declared.content.Cohort.{Cohort}
 use Rattle.records.specs.declared.content.Diff.{Diff}
 use Rattle.records.specs.declared.content.Release.{Release}
-use Rattle.cohorts.specs.Tracks.{target_of}
+use Rattle.cohorts.specs.Offers.{track_target}
 use Rattle.payload_graph.specs.Permitted.{permits}
 use Rattle.payload_graph.specs.declared.payload.Payload.TheVariants.{Full, Differ}
 use Rattle.payload_graph.specs.declared.payload.TrackKey.{TrackKey}
@@ -23,7 +23,7 @@ pub record IsTrack (app : App) (key : TrackKey) (cohort : Cohort) (target : ℕ)
   pub ascending : ascend is_release_below app.releases ≡ true
   pub cohort_there : slice_get app.cohorts key.cohort ≡ Some cohort
   pub release_there : slice_get app.releases target ≡ Some release
-  pub targeted : target_of cohort key.lane ≡ Some release.version
+  pub targeted : track_target app.releases cohort key.lane key.pin ≡ Some release.version
 
 -- the full packages from a release, by its window, are those of all releases that are permitted, each
 -- once, in order
@@ -33,7 +33,7 @@ FullsArePermitted =
     IsTrack app key cohort target release →
     from < length app.releases →
     fulls from (window (net_with app key cohort target differs) from)
-    ≡ map (full from) (filter (λ (door : Door). permits app key (At from) (Full door.to)) (doors_of cohort app.releases))
+    ≡ map (full from) (filter (λ (door : Door). permits app key (At from) (Full door.to)) (doors_of cohort key.pin app.releases))
 
 -- the differentials from a release are those of all that are permitted, each once, in order
 abbrev pub DiffersArePermitted : Type 0
@@ -42,7 +42,7 @@ DiffersArePermitted =
     IsValidApp app →
     IsTrack app key cohort target release →
     from < length app.releases →
-    filter (leaves from) (differs_of app cohort target)
+    filter (leaves from) (differs_of app cohort key.pin target)
     ≡ map (λ (numbered : ℕ × Diff). edge_of app.releases numbered.1)
     (filter (λ (numbered : ℕ × Diff). permits app key (At from) (Differ numbered.0)) (enumerate_from 0 app.diffs))
 

@@ -9,8 +9,10 @@ use Rattle.records.specs.declared.content.App.{App}
 use Rattle.records.specs.declared.content.Cohort.{Cohort}
 use Rattle.records.specs.declared.content.Diff.{Diff}
 use Rattle.records.specs.declared.content.Release.{Release}
-use Rattle.payload_graph.specs.Chains.{index_of, lane_target}
-use Rattle.payload_graph.specs.Permitted.{is_offered, permits_differ, rolls_back}
+use Rattle.cohorts.specs.Offers.{is_offered}
+use Rattle.cohorts.specs.declared.pin.Pin.{Pin}
+use Rattle.payload_graph.specs.Chains.{cohort_target, index_of}
+use Rattle.payload_graph.specs.Permitted.{permits_differ, rolls_back}
 use Rattle.payload_graph.specs.declared.payload.TrackKey.{TrackKey}
 use Rattle.payload_graph.specs.declared.door.Door.{Door}
 use Rattle.payload_graph.specs.declared.edge.Edge.{Edge}
@@ -25,22 +27,22 @@ pub record Net : Type 0 where
   pub doors : List Door
   pub differs : List Edge
 
--- a release as a destination of the cohort's clients; its floor becomes the index of the lowest release
+-- a release as a destination of the cohort's clients of a pin; its floor becomes the index of the lowest release
 -- that meets it, or the number of releases if none does
-abbrev pub door_of : Cohort → List Release → ℕ → Release → Door
-door_of cohort releases to release =
+abbrev pub door_of : Cohort → Pin → List Release → ℕ → Release → Door
+door_of cohort pin releases to release =
     record {
       to = to;
       bytes = release.size;
-      offered = is_offered cohort release;
+      offered = is_offered cohort pin release;
       stone = release.stone;
       floor = place_of release.floor releases;
     }
 
 -- all releases as destinations, each with its index
-abbrev pub doors_of : Cohort → List Release → List Door
-doors_of cohort releases =
-    map (λ (numbered : ℕ × Release). door_of cohort releases numbered.0 numbered.1) (enumerate_from 0 releases)
+abbrev pub doors_of : Cohort → Pin → List Release → List Door
+doors_of cohort pin releases =
+    map (λ (numbered : ℕ × Release). door_of cohort pin releases numbered.0 numbered.1) (enumerate_from 0 releases)
 
 -- the full package that leads from a release through a door
 abbrev pub full : ℕ → Door → Edge
@@ -117,10 +119,10 @@ abbrev pub version_of_index : List Release → ℕ → List ℕ
 version_of_index releases index = option_map_or (λ there. there.version) (slice_get releases index) []
 
 -- the permitted differentials of an app, in their order
-abbrev pub differs_of : App → Cohort → ℕ → List Edge
-differs_of app cohort target =
+abbrev pub differs_of : App → Cohort → Pin → ℕ → List Edge
+differs_of app cohort pin target =
     map (edge_of app.releases)
-    (filter (permits_differ app.releases cohort (version_of_index app.releases target)) app.diffs)
+    (filter (permits_differ app.releases cohort pin (version_of_index app.releases target)) app.diffs)
 
 -- the graph of a cohort's track, with the differentials given
 abbrev pub net_with : App → TrackKey → Cohort → ℕ → List Edge → Net
@@ -129,19 +131,19 @@ net_with app key cohort target differs =
       key = key;
       target = target;
       rollback = rolls_back cohort key;
-      doors = doors_of cohort app.releases;
+      doors = doors_of cohort key.pin app.releases;
       differs = differs;
     }
 
 -- rule: Graph of a track
 -- the graph of a cohort's track to a target
 abbrev pub net_of : App → TrackKey → Cohort → ℕ → Net
-net_of app key cohort target = net_with app key cohort target (differs_of app cohort target)
+net_of app key cohort target = net_with app key cohort target (differs_of app cohort key.pin target)
 
 -- the graph of a track of an app, none if the track has no target
 abbrev pub net_in : App → TrackKey → Option Net
 net_in app key =
-    option_and_then (λ cohort. option_map (net_of app key cohort) (lane_target app cohort key.lane))
+    option_and_then (λ cohort. option_map (net_of app key cohort) (cohort_target app cohort key))
     (slice_get app.cohorts key.cohort)
 
 -- the graph of a track of a content, none if the track has no target

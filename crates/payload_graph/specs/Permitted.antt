@@ -1,16 +1,16 @@
 -- Which payloads a client may be offered on a track; this project's profile. Each test is one line of
 -- the rule. Releases are those of the app, by ascending version.
-use Rattle.std.specs.Prelude.{ℕ, ◌&&◌, ◌||◌, not, Bool, true, false, List, find, slice_get, Option}
+use Rattle.std.specs.Prelude.{ℕ, ◌&&◌, ◌||◌, not, Bool, false, List, find, slice_get, Option}
 use Rattle.std.specs.List.{list_any}
 use Rattle.std.specs.Option.{option_map_or}
-use Rattle.std.specs.Str.{bytes_eq}
 use Rattle.version.specs.Versions.{is_below}
 use Rattle.records.specs.Lookups.{is_release}
 use Rattle.records.specs.declared.content.App.{App}
 use Rattle.records.specs.declared.content.Cohort.{Cohort}
 use Rattle.records.specs.declared.content.Diff.{Diff}
 use Rattle.records.specs.declared.content.Release.{Release}
-use Rattle.cohorts.specs.Tracks.{target_of}
+use Rattle.cohorts.specs.Offers.{is_offered, track_target}
+use Rattle.cohorts.specs.declared.pin.Pin.{Pin}
 use Rattle.payload_graph.specs.Places.{version_at}
 use Rattle.payload_graph.specs.declared.payload.Payload.{Payload}
 use Rattle.payload_graph.specs.declared.payload.Payload.TheVariants.{Full, Differ}
@@ -18,25 +18,14 @@ use Rattle.payload_graph.specs.declared.payload.TrackKey.{TrackKey}
 use Rattle.payload_graph.specs.declared.place.Place.{Place}
 use Rattle.payload_graph.specs.declared.place.Place.TheVariants.{At, Outside}
 
--- rule: Audience
--- the release is open to the cohort: its audience names it, or there is none
-abbrev pub is_open_to : Cohort → Release → Bool
-is_open_to cohort release =
-    option_map_or (λ names. list_any (bytes_eq cohort.name) names) release.audience true
-
--- rule: Offered release
--- the release is offered to the cohort's clients
-abbrev pub is_offered : Cohort → Release → Bool
-is_offered cohort release = not release.withdrawn && is_open_to cohort release
-
 -- rule: Floor
 -- a client's version meets a release's floor: it isn't below it
 abbrev pub meets_floor : List ℕ → Release → Bool
 meets_floor from release = not (is_below from release.floor)
 
--- the release is offered to those of the cohort's clients that are at a version
-abbrev pub is_offered_at : Cohort → List ℕ → Release → Bool
-is_offered_at cohort from release = is_offered cohort release && meets_floor from release
+-- the release is offered to those of the cohort's clients of a pin that are at a version
+abbrev pub is_offered_at : Cohort → Pin → List ℕ → Release → Bool
+is_offered_at cohort pin from release = is_offered cohort pin release && meets_floor from release
 
 -- a stone strictly between two versions; being withdrawn or closed makes no difference
 abbrev pub is_stone_between : List ℕ → List ℕ → Release → Bool
@@ -65,10 +54,10 @@ abbrev pub rolls_back : Cohort → TrackKey → Bool
 rolls_back cohort key = cohort.rollback && key.rollback
 
 -- a full package of a release is permitted from a version
-abbrev pub permits_full : List Release → Cohort → Bool → List ℕ → List ℕ → Release → Bool
-permits_full releases cohort rollback target from to =
-    is_offered_at cohort from to
-    && (leads_up releases target from to.version || (rollback && leads_down target from to.version))
+abbrev pub permits_full : List Release → Cohort → TrackKey → List ℕ → List ℕ → Release → Bool
+permits_full releases cohort key target from to =
+    is_offered_at cohort key.pin from to
+    && (leads_up releases target from to.version || (rolls_back cohort key && leads_down target from to.version))
 
 -- the differential starts at the place itself
 abbrev pub starts_at : List Release → Place → Diff → Bool
@@ -81,27 +70,27 @@ abbrev pub end_of : List Release → Diff → Option Release
 end_of releases diff = find (is_release diff.to) releases
 
 -- a differential is permitted from the release that it starts at; it never leads down
-abbrev pub permits_differ : List Release → Cohort → List ℕ → Diff → Bool
-permits_differ releases cohort target diff =
-    option_map_or (λ to. is_offered_at cohort diff.from to && leads_up releases target diff.from to.version)
+abbrev pub permits_differ : List Release → Cohort → Pin → List ℕ → Diff → Bool
+permits_differ releases cohort pin target diff =
+    option_map_or (λ to. is_offered_at cohort pin diff.from to && leads_up releases target diff.from to.version)
     (end_of releases diff) false
 
 -- a payload is permitted from a place: false if there is no such place, release or differential
-abbrev pub permits_from : App → Cohort → Bool → List ℕ → Place → Payload → Bool
-permits_from app cohort rollback target place (Full release) =
+abbrev pub permits_from : App → Cohort → TrackKey → List ℕ → Place → Payload → Bool
+permits_from app cohort key target place (Full release) =
     option_map_or
-    (λ to. option_map_or (λ from. permits_full app.releases cohort rollback target from to) (version_at app.releases place) false)
+    (λ to. option_map_or (λ from. permits_full app.releases cohort key target from to) (version_at app.releases place) false)
     (slice_get app.releases release) false
-permits_from app cohort rollback target place (Differ index) =
+permits_from app cohort key target place (Differ index) =
     option_map_or
-    (λ diff. starts_at app.releases place diff && permits_differ app.releases cohort target diff)
+    (λ diff. starts_at app.releases place diff && permits_differ app.releases cohort key.pin target diff)
     (slice_get app.diffs index) false
 
--- a payload is permitted in a cohort; a lane without a target permits nothing
+-- a payload is permitted in a cohort; a track without a target permits nothing
 abbrev pub permits_in : App → Cohort → TrackKey → Place → Payload → Bool
 permits_in app cohort key place payload =
-    option_map_or (λ target. permits_from app cohort (rolls_back cohort key) target place payload)
-    (target_of cohort key.lane) false
+    option_map_or (λ target. permits_from app cohort key target place payload)
+    (track_target app.releases cohort key.lane key.pin) false
 
 -- rule: Permitted on a track
 -- a payload of an app is permitted on a track from a place; a cohort that isn't there permits nothing

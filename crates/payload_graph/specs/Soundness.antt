@@ -1,17 +1,17 @@
--- What a graph keeps beside what contracts see of it: how far each window reaches, and which releases are
--- floors.
-use Rattle.std.specs.Prelude.{◌≡◌, ℕ, ◌+◌, ◌<◌, ◌≤◌, ◌==◌, ◌&&◌, ◌⊎◌, All, Bool, if◌then◌else◌, false, true, List, [], drop, length, nat_le, nat_lt, slice_get, slice_index, slice_index_or, slice_set, take, Option, option_and_then, option_map}
+-- What a graph keeps beside what contracts see of it: how far each window reaches, and which full packages open at
+-- the floors of lower releases.
+use Rattle.std.specs.Prelude.{◌≡◌, ℕ, ◌+◌, ◌<◌, ◌≤◌, ◌==◌, ◌&&◌, ◌⊎◌, All, Bool, if◌then◌else◌, false, true, List, [], drop, length, nat_le, nat_lt, slice_get, slice_index, slice_index_or, take, Option, None, Some, option_and_then, option_map}
 use Rattle.std.specs.List.Sorted.{IsNonDecreasingBy}
-use Rattle.std.specs.List.{filter, list_any}
+use Rattle.std.specs.List.{filter}
 use Rattle.records.specs.Forms.{is_size}
 use Rattle.records.specs.Limits.{max_releases}
 use Rattle.records.specs.declared.content.Cohort.{Cohort}
 use Rattle.records.specs.declared.content.Release.{Release}
 use Rattle.records.specs.declared.content.App.{App}
-use Rattle.payload_graph.specs.Chains.{lane_target}
+use Rattle.payload_graph.specs.Chains.{cohort_target}
 use Rattle.payload_graph.specs.Permitted.{rolls_back}
 use Rattle.payload_graph.specs.declared.payload.TrackKey.{TrackKey}
-use Rattle.payload_graph.specs.Net.{Net, between, doors_of, opens, to_stone}
+use Rattle.payload_graph.specs.Net.{Net, between, doors_of, full, fulls, leaves, opens, to_stone}
 use Rattle.payload_graph.specs.declared.door.Door.{Door}
 use Rattle.payload_graph.specs.declared.edge.Edge.{Edge}
 
@@ -55,18 +55,18 @@ is_reached target doors edge =
 abbrev pub is_floor_of : ℕ → Door → Bool
 is_floor_of index door = nat_lt door.to index && index == door.floor
 
--- it is that of some door
-abbrev pub is_floor : List Door → ℕ → Bool
-is_floor doors index = list_any (is_floor_of index) doors
+-- the full packages that open at a release through doors that are below it: they leave it, and no release below it
+abbrev pub openings : List Door → ℕ → List Edge
+openings doors index = fulls index (filter (is_floor_of index) doors)
 
--- a mark for each index up to the number of doors, set if the index is a floor
-pub record AreFloors (doors : List Door) (marks : List Bool) : Type 0 where
-  pub sized : length marks ≡ length doors + 1
-  pub right : (index : ℕ) → index ≤ length doors → slice_index_or marks index false ≡ is_floor doors index
+-- the full package of a door from its floor, if the door is offered and below that
+abbrev pub late_edge : Door → Option Edge
+late_edge door = if door.offered && nat_lt door.to door.floor then Some (full door.floor door) else None
 
--- the marks after a door: its floor is marked if it is above the door itself
-abbrev pub marked : Door → List Bool → List Bool
-marked door marks = if nat_lt door.to door.floor then slice_set marks door.floor true else marks
+-- all of them, by ascending floor
+pub record AreOpenings (doors : List Door) (edges : List Edge) : Type 0 where
+  pub sorted : IsNonDecreasingBy (λ (edge : Edge). edge.from) edges
+  pub right : (index : ℕ) → filter (leaves index) edges ≡ openings doors index
 
 -- the releases below another one whose windows reach it, none if it is above the target
 abbrev pub origins_below : ℕ → List Door → ℕ → List Door
@@ -99,11 +99,11 @@ pub record IsBounded (net : Net) : Type 0 where
   pub differs_sized : All (λ (edge : Edge). is_size edge.bytes ≡ true) net.differs
 
 -- what holds of every graph, its reaches and its marks
-pub record IsSound (net : Net) (reaches : List ℕ) (floors : List Bool) : Type 0 where
+pub record IsSound (net : Net) (reaches : List ℕ) (late : List Edge) : Type 0 where
   pub within : net.target < length net.doors
   pub numbered : AreNumbered net.doors
   pub reached : AreReaches net.target net.doors reaches
-  pub floored : AreFloors net.doors floors
+  pub opened : AreOpenings net.doors late
   pub sorted : IsNonDecreasingBy (λ (edge : Edge). edge.from) net.differs
   pub nearing : All (IsNearing net.target) net.differs
   pub bounded : IsBounded net
@@ -115,15 +115,15 @@ net_from key cohort releases target resolved =
       key = key;
       target = target;
       rollback = rolls_back cohort key;
-      doors = doors_of cohort releases;
-      differs = filter (is_reached target (doors_of cohort releases)) resolved;
+      doors = doors_of cohort key.pin releases;
+      differs = filter (is_reached target (doors_of cohort key.pin releases)) resolved;
     }
 
--- the graph of a cohort's lane with the resolved differentials given, none if it has no target
+-- the graph of a key in its cohort with the resolved differentials given, none if it has no target
 abbrev pub net_in_cohort : App → TrackKey → Cohort → List Edge → Option Net
 net_in_cohort app key cohort resolved =
     option_map (λ target. net_from key cohort app.releases target resolved)
-    (lane_target app cohort key.lane)
+    (cohort_target app cohort key)
 
 -- the same of a track of an app
 abbrev pub net_in_app : App → TrackKey → List Edge → Option Net

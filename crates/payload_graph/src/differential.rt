@@ -88,7 +88,7 @@ pub(crate) fn reached_in(
     requires resolved { AreResolved (length doors.now) resolved.now }
     ensures { IfOk result (λ edges. edges.items ≡ filter (is_reached target doors.now) resolved.now) }
 {
-    let mut edges = Vec::new(alloc);
+    let mut edges = Vec::with_capacity(alloc, resolved.len())?;
     for edge in resolved {
         if is_reached(edge, doors, reaches, target) {
             edges.push(*edge)?;

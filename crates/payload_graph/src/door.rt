@@ -6,20 +6,20 @@ ghost use Rattle.records.specs.Lookups.{place_of};
 ghost use Rattle.records.specs.Validity.{is_release_below};
 ghost use Rattle.payload_graph.specs.Net.{door_of, doors_of, opens};
 
-use crate::permitted::is_offered;
 use catalogue::{Cohort, Release};
+use cohorts::{Pin, is_offered};
 use records::lookup;
 use std::alloc::{AllocError, Global};
 use version::Version;
 
-/// A release as a destination of a cohort's clients.
+/// A release as a destination of a track's clients.
 #[derive(Clone, Copy, Debug, PartialEq, Eq)]
 pub struct Door {
     /// The release's index, by ascending version.
     pub to: usize,
     /// The bytes of its full package.
     pub bytes: u64,
-    /// Whether it is offered to the cohort.
+    /// Whether it is offered to the clients.
     pub offered: bool,
     /// Whether it is a stone, which no payload jumps.
     pub stone: bool,
@@ -50,31 +50,32 @@ fn floor_of(releases: &[Release], version: &Version) -> usize
     }
 }
 
-fn door_of(cohort: &Cohort, releases: &[Release], to: usize, release: &Release) -> Door
+fn door_of(cohort: &Cohort, pin: &Pin, releases: &[Release], to: usize, release: &Release) -> Door
     requires { ascend is_release_below releases.now ≡ true }
-    ensures { result ≡ door_of cohort.now releases.now to release.now }
+    ensures { result ≡ door_of cohort.now pin.now releases.now to release.now }
 {
     Door {
         to,
         bytes: release.size,
-        offered: is_offered(cohort, release),
+        offered: is_offered(cohort, pin, release),
         stone: release.stone,
         floor: floor_of(releases, &release.floor),
     }
 }
 
-/// The releases of an app as destinations of a cohort's clients, in order.
+/// The releases of an app as destinations of a cohort's clients of a pin, in order.
 pub(crate) fn doors_of(
     alloc: Global,
     cohort: &Cohort,
+    pin: &Pin,
     releases: &[Release],
 ) -> Result<Vec<Door>, AllocError>
     requires { ascend is_release_below releases.now ≡ true }
-    ensures { IfOk result (λ doors. doors.items ≡ doors_of cohort.now releases.now) }
+    ensures { IfOk result (λ doors. doors.items ≡ doors_of cohort.now pin.now releases.now) }
 {
     releases
         .iter()
         .enumerate()
-        .map(|(to, release)| door_of(cohort, releases, to, release))
+        .map(|(to, release)| door_of(cohort, pin, releases, to, release))
         .collect(alloc)
 }

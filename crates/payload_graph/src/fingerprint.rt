@@ -29,7 +29,8 @@ fn parse_fingerprint(fp: &str) -> Option<[u8; 32]>
     Some(hash)
 }
 
-// Finds the index of the release of a hash. The release of the client's version is looked at first: mostly it is the one.
+// Finds the index of the release of a hash. The release of the client's version is looked at first: mostly that is
+// the one.
 fn find_hash(catalogue: &Catalogue, app: usize, hash: &[u8; 32], version: &Version) -> Option<usize>
     requires { app < length catalogue.now }
     ensures { result ≡ position (has_hash hash.now) (releases_at catalogue.now app) }

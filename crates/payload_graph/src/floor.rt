@@ -1,38 +1,35 @@
-//! Which indexes are floors of doors below them.
+//! The full packages that open above their own release, by the floor where they do.
 
-ghost use Rattle.std.specs.Prelude.{◌≡◌, ◌+◌, ◌<◌, ◌≤◌, All, false, IfOk, length, replicate};
-ghost use Rattle.payload_graph.specs.Soundness.{marked, AreFloors};
-ghost use Rattle.payload_graph.specs.declared.door.Door.{Door};
+ghost use Rattle.std.specs.Prelude.{◌≡◌, IfOk, filter_map};
+ghost use Rattle.payload_graph.specs.Soundness.{late_edge, AreOpenings};
 
 use crate::door::Door;
+use crate::edge::Edge;
+use crate::edges::full;
 use std::alloc::{AllocError, Global};
 
-// Marks a door's floor, unless the door itself is at or above it.
-fn mark(marks: &mut [bool], door: &Door)
-    requires { door.now.floor < length marks.old }
-    ensures { marks.new ≡ marked door.now marks.old }
+// The full package of a door from its floor, if that is above the door itself.
+fn late_edge(door: &Door) -> Option<Edge>
+    ensures { result ≡ late_edge door.now }
 {
-    if door.to < door.floor {
-        marks[door.floor] = true;
+    if door.offered && door.to < door.floor {
+        Some(full(door.floor, door))
+    } else {
+        None
     }
 }
 
-fn mark_all(marks: &mut [bool], doors: &[Door])
-    requires within { All (λ (door : Door). door.floor ≤ length doors.now) doors.now }
-    requires fresh { marks.old ≡ replicate (length doors.now + 1) false }
-    ensures { AreFloors doors.now marks.new }
+fn late_edges(alloc: Global, doors: &[Door]) -> Result<Vec<Edge>, AllocError>
+    ensures { IfOk result (λ edges. edges.items ≡ filter_map late_edge doors.now) }
 {
-    for door in doors {
-        mark(marks, door);
-    }
+    doors.iter().filter_map(late_edge).collect(alloc)
 }
 
-/// Marks the indexes that are floors of lower doors.
-pub(crate) fn floors_of(alloc: Global, doors: &[Door]) -> Result<Vec<bool>, AllocError>
-    requires { All (λ (door : Door). door.floor ≤ length doors.now) doors.now }
-    ensures { IfOk result (λ marks. AreFloors doors.now marks.items) }
+/// The full packages from the floors of those doors that are below their floor, by ascending floor.
+pub(crate) fn openings_of(alloc: Global, doors: &[Door]) -> Result<Vec<Edge>, AllocError>
+    ensures { IfOk result (λ edges. AreOpenings doors.now edges.items) }
 {
-    let mut marks = vec![in alloc; false; doors.len() + 1]?;
-    mark_all(marks.as_mut_slice(), doors);
-    Ok(marks)
+    let mut edges = late_edges(alloc, doors)?;
+    edges.sort_by_key(|edge| edge.from)?;
+    Ok(edges)
 }

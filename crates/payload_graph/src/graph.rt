@@ -2,7 +2,7 @@ ghost use Rattle.std.specs.Prelude.{◌≡◌, ◌<◌, ◌≤◌, All, true, If
 ghost use Rattle.std.specs.List.{filter};
 ghost use Rattle.payload_graph.specs.Edges.{edges_into_left, edges_left};
 ghost use Rattle.payload_graph.specs.Net.{edges_from, edges_into, leaves, window};
-ghost use Rattle.payload_graph.specs.Soundness.{is_floor, net_from, AreBounded, AreNumbered, AreResolved, IsBounded, IsNearing, LeadsNearer};
+ghost use Rattle.payload_graph.specs.Soundness.{net_from, openings, AreBounded, AreNumbered, AreResolved, IsBounded, IsNearing, LeadsNearer};
 ghost use Rattle.payload_graph.specs.declared.edge.Edge.{Edge};
 ghost use Rattle.values.specs.Ordered.{ascend};
 ghost use Rattle.records.specs.Validity.{is_release_below};
@@ -11,7 +11,7 @@ use crate::differential::{leaving, reached_in};
 use crate::door::{Door, doors_of};
 use crate::edge::Edge;
 use crate::edges::{Edges, Fulls};
-use crate::floor::floors_of;
+use crate::floor::openings_of;
 use crate::incoming::EdgesInto;
 use crate::origin::{origins_above, origins_below};
 use crate::payload::TrackKey;
@@ -23,7 +23,7 @@ use std::marker::Model;
 
 /// The permitted payloads of a track, which contracts see as a `Net`.
 ///
-/// It keeps a door, a number and a mark for each release, and its differentials.
+/// It keeps a door and a number for each release, its differentials, and the full packages that open late.
 #[derive(Drop)]
 pub struct Graph {
     key: TrackKey,
@@ -31,7 +31,7 @@ pub struct Graph {
     rollback: bool,
     doors: Vec<Door>,
     reaches: Vec<usize>,
-    floors: Vec<bool>,
+    late: Vec<Edge>,
     differs: Vec<Edge>,
 }
 
@@ -56,7 +56,7 @@ impl Model for Graph {
       rollback = g.rollback;
       doors = g.doors.items;
       differs = g.differs.items;
-    }) g.reaches.items g.floors.items };
+    }) g.reaches.items g.late.items };
 }
 
 impl Graph {
@@ -75,7 +75,7 @@ impl Graph {
         requires resolved { AreResolved (length releases.now) resolved.now }
         ensures { IfOk result (λ graph. graph ≡ net_from key.now cohort.now releases.now target resolved.now) }
     {
-        let doors = doors_of(alloc, cohort, releases)?;
+        let doors = doors_of(alloc, cohort, &key.pin, releases)?;
         let reaches = reaches_of(alloc, doors.as_slice(), target)?;
         let differs = reached_in(
             alloc,
@@ -84,14 +84,14 @@ impl Graph {
             reaches.as_slice(),
             target,
         )?;
-        let floors = floors_of(alloc, doors.as_slice())?;
+        let late = openings_of(alloc, doors.as_slice())?;
         Ok(Graph {
             key: *key,
             target,
             rollback: rolls_back(cohort, key),
             doors,
             reaches,
-            floors,
+            late,
             differs,
         })
     }
@@ -185,14 +185,16 @@ impl Graph {
         self.doors.as_slice()
     }
 
-    /// Whether an index, up to the number of releases, is the floor of a door below it.
+    /// Borrows the full packages that open at an index, up to the number of releases: clients there may take them to
+    /// lower releases, and those below it may not.
     ///
-    /// If it isn't, the same lower doors open from there as from the release before it.
-    pub fn is_floor(&self, index: usize) -> bool
+    /// They are of the doors below the index that have it as their floor, by ascending destination. All other doors
+    /// below it open from it exactly if they open from the release before it.
+    pub fn openings(&self, index: usize) -> &[Edge]
         requires { index ≤ length self.now.doors }
-        ensures { result ≡ is_floor self.now.doors index }
+        ensures { result.now ≡ openings self.now.doors index }
     {
-        self.floors[index]
+        leaving(self.late.as_slice(), index)
     }
 
     /// Borrows all differentials, by ascending origin.

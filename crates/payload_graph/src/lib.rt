@@ -10,8 +10,9 @@
 //! A `Graph` is seen as a `Net`: its key, its target, and the payloads by the release that they leave.
 //! `edges_from` gives those of a release as `Edge`s, and `edges_into` those that lead to one. Full
 //! packages are not listed: each release has a window of others, a slice of `Door`s, and its clients may
-//! pass those that are offered and whose floor isn't above it. Read `specs/Net.antt` for the graph, and
-//! `laws` for what holds of all graphs: a window's full packages are the permitted ones, and each payload
+//! pass those that are offered to them and whose floor isn't above it. A pin closes the doors of all releases
+//! that it doesn't match, and may lower the target. Read `specs/Net.antt` for the graph,
+//! and `laws` for what holds of all graphs: a window's full packages are the permitted ones, and each payload
 //! leads nearer the target, so that there is no cycle.
 //!
 //! It knows no prices, and doesn't choose among payloads: crates above do.
@@ -40,6 +41,6 @@ pub use crate::edges::{Edges, Fulls};
 pub use crate::graph::Graph;
 pub use crate::incoming::EdgesInto;
 pub use crate::payload::{Payload, TrackKey};
-pub use crate::permitted::{is_offered, is_offered_at, permits, rolls_back};
+pub use crate::permitted::{is_offered_at, permits, rolls_back};
 pub use crate::place::{Place, place_of};
 pub use crate::track::Differentials;

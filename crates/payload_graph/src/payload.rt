@@ -1,6 +1,6 @@
 //! Payloads, and the keys of tracks.
 
-use cohorts::Lane;
+use cohorts::{Lane, Pin};
 
 /// A package that leads a client from its place to a release.
 #[derive(Clone, Copy, Debug, PartialEq, Eq)]
@@ -22,4 +22,6 @@ pub struct TrackKey {
     pub lane: Lane,
     /// Whether the clients allow a downgrade; it takes the cohort's mark as well.
     pub rollback: bool,
+    /// Which versions the clients' administrator allows.
+    pub pin: Pin,
 }

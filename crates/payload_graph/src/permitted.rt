@@ -3,40 +3,13 @@
 ghost use Rattle.std.specs.Prelude.{◌≡◌};
 ghost use Rattle.std.specs.List.{list_any};
 ghost use Rattle.std.specs.Option.{option_copied};
-ghost use Rattle.std.specs.Str.{bytes_eq};
-ghost use Rattle.payload_graph.specs.Permitted.{end_of, is_offered, is_offered_at, is_open_to, is_stone_between, jumps_stone, leads_down, leads_up, meets_floor, permits, permits_among, permits_differ, permits_from, permits_full, permits_in, rolls_back, starts_at};
+ghost use Rattle.payload_graph.specs.Permitted.{end_of, is_offered_at, is_stone_between, jumps_stone, leads_down, leads_up, meets_floor, permits, permits_among, permits_differ, permits_from, permits_full, permits_in, rolls_back, starts_at};
 
 use crate::payload::{Payload, TrackKey};
 use crate::place::{Place, version_at};
 use catalogue::{App, Catalogue, Cohort, Diff, Release};
-use values::Text;
+use cohorts::{Pin, is_offered, track_target};
 use version::Version;
-
-fn is_among(name: &str, names: &[Text]) -> bool
-    ensures { result ≡ list_any (bytes_eq name.now) names.now }
-{
-    names.iter().any(|other| name == other.as_str())
-}
-
-// rule: Audience
-fn is_open_to(cohort: &Cohort, release: &Release) -> bool
-    ensures { result ≡ is_open_to cohort.now release.now }
-{
-    match &release.audience {
-        Some(names) => is_among(cohort.name.as_str(), names.as_slice()),
-        None => true,
-    }
-}
-
-// rule: Offered release
-/// Whether a release is offered to the clients of a cohort of its app.
-///
-/// It isn't if it is withdrawn, or if it has an audience that does not name the cohort.
-pub fn is_offered(cohort: &Cohort, release: &Release) -> bool
-    ensures { result ≡ is_offered cohort.now release.now }
-{
-    !release.withdrawn && is_open_to(cohort, release)
-}
 
 // rule: Floor
 fn meets_floor(from: &Version, release: &Release) -> bool
@@ -45,13 +18,13 @@ fn meets_floor(from: &Version, release: &Release) -> bool
     !from.is_below(&release.floor)
 }
 
-/// Whether a release is offered to the clients of a cohort that are at a version.
+/// Whether a release is offered to those clients of a cohort and a pin that are at a version.
 ///
-/// It is if it is offered to the cohort, and the version isn't below the release's floor.
-pub fn is_offered_at(cohort: &Cohort, from: &Version, release: &Release) -> bool
-    ensures { result ≡ is_offered_at cohort.now from.now release.now }
+/// It is if it is offered to the cohort's clients of the pin, and the version isn't below the release's floor.
+pub fn is_offered_at(cohort: &Cohort, pin: &Pin, from: &Version, release: &Release) -> bool
+    ensures { result ≡ is_offered_at cohort.now pin.now from.now release.now }
 {
-    is_offered(cohort, release) && meets_floor(from, release)
+    is_offered(cohort, pin, release) && meets_floor(from, release)
 }
 
 fn is_stone_between(lower: &Version, upper: &Version, release: &Release) -> bool
@@ -94,16 +67,16 @@ pub fn rolls_back(cohort: &Cohort, key: &TrackKey) -> bool
 fn permits_full(
     releases: &[Release],
     cohort: &Cohort,
-    rollback: bool,
+    key: &TrackKey,
     target: &Version,
     from: &Version,
     to: &Release,
 ) -> bool
-    ensures { result ≡ permits_full releases.now cohort.now rollback target.now from.now to.now }
+    ensures { result ≡ permits_full releases.now cohort.now key.now target.now from.now to.now }
 {
-    is_offered_at(cohort, from, to)
+    is_offered_at(cohort, &key.pin, from, to)
         && (leads_up(releases, target, from, &to.version)
-            || (rollback && leads_down(target, from, &to.version)))
+            || (rolls_back(cohort, key) && leads_down(target, from, &to.version)))
 }
 
 fn starts_at(releases: &[Release], place: &Place, diff: &Diff) -> bool
@@ -126,12 +99,20 @@ fn find_end<'a>(releases: &'a [Release], diff: &Diff) -> Option<&'a Release>
         .find(|release| diff.to.is_equal(&release.version))
 }
 
-fn permits_differ(releases: &[Release], cohort: &Cohort, target: &Version, diff: &Diff) -> bool
-    ensures { result ≡ permits_differ releases.now cohort.now target.now diff.now }
+fn permits_differ(
+    releases: &[Release],
+    cohort: &Cohort,
+    pin: &Pin,
+    target: &Version,
+    diff: &Diff,
+) -> bool
+    ensures { result ≡ permits_differ releases.now cohort.now pin.now target.now diff.now }
 {
     match find_end(releases, diff) {
-        Some(to) => is_offered_at(cohort, &diff.from, to)
-            && leads_up(releases, target, &diff.from, &to.version),
+        Some(to) => {
+            is_offered_at(cohort, pin, &diff.from, to)
+                && leads_up(releases, target, &diff.from, &to.version)
+        }
         None => false,
     }
 }
@@ -139,22 +120,23 @@ fn permits_differ(releases: &[Release], cohort: &Cohort, target: &Version, diff:
 fn permits_from(
     app: &App,
     cohort: &Cohort,
-    rollback: bool,
+    key: &TrackKey,
     target: &Version,
     place: &Place,
     payload: &Payload,
 ) -> bool
-    ensures { result ≡ permits_from app.now cohort.now rollback target.now place.now payload.now }
+    ensures { result ≡ permits_from app.now cohort.now key.now target.now place.now payload.now }
 {
     let releases = app.releases.as_slice();
     match payload {
         Payload::Full(release) => match (releases.get(*release), version_at(releases, place)) {
-            (Some(to), Some(from)) => permits_full(releases, cohort, rollback, target, &from, to),
+            (Some(to), Some(from)) => permits_full(releases, cohort, key, target, &from, to),
             _ => false,
         },
         Payload::Differ(index) => match app.diffs.as_slice().get(*index) {
             Some(diff) => {
-                starts_at(releases, place, diff) && permits_differ(releases, cohort, target, diff)
+                starts_at(releases, place, diff)
+                    && permits_differ(releases, cohort, &key.pin, target, diff)
             }
             None => false,
         },
@@ -164,15 +146,8 @@ fn permits_from(
 fn permits_in(app: &App, cohort: &Cohort, key: &TrackKey, place: &Place, payload: &Payload) -> bool
     ensures { result ≡ permits_in app.now cohort.now key.now place.now payload.now }
 {
-    match cohorts::target_in(cohort, key.lane) {
-        Some(target) => permits_from(
-            app,
-            cohort,
-            rolls_back(cohort, key),
-            &target,
-            place,
-            payload,
-        ),
+    match track_target(app.releases.as_slice(), cohort, key.lane, &key.pin) {
+        Some(target) => permits_from(app, cohort, key, &target, place, payload),
         None => false,
     }
 }
@@ -189,12 +164,12 @@ fn permits_in_app(app: &App, key: &TrackKey, place: &Place, payload: &Payload) -
 // rule: Permitted on a track
 /// Whether a payload may be offered to the clients of a track at a place.
 ///
-/// The track has a target, the release that the payload leads to is offered to the track's cohort,
-/// and either the payload leads up, not above the target, with no stone strictly between; or it is a
-/// full package that leads down from above the target, and the cohort and the key allow that. A
-/// differential starts at the place itself. An index that is out of range is no error: nothing is
-/// permitted. It tests every release for a stone; to go through all payloads of a track, make its
-/// graph.
+/// The track has a target, the release that the payload leads to is offered to the track's clients,
+/// the place's version meets its floor, and either the payload leads up, not above the target, with no
+/// stone strictly between; or it is a full package that leads down from above the target, and the cohort
+/// and the key allow that. A differential starts at the place itself. An index that is out of range is no
+/// error: nothing is permitted. It tests every release for a stone; to go through all payloads of a track,
+/// make its graph.
 pub fn permits(catalogue: &Catalogue, key: &TrackKey, place: &Place, payload: &Payload) -> bool
     ensures { result ≡ permits_among catalogue.now key.now place.now payload.now }
 {

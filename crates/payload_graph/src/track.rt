@@ -3,7 +3,7 @@
 ghost use Rattle.std.specs.Prelude.{◌≡◌, ◌<◌, true, IfOk, IfSome, length};
 ghost use Rattle.values.specs.Ordered.{ascend};
 ghost use Rattle.records.specs.Validity.{is_release_below};
-ghost use Rattle.payload_graph.specs.Chains.{lane_target};
+ghost use Rattle.payload_graph.specs.Chains.{cohort_target};
 ghost use Rattle.payload_graph.specs.Net.{net_among, resolved_at};
 ghost use Rattle.payload_graph.specs.Soundness.{net_in_cohort, net_in_app, AreBounded, AreResolved};
 
@@ -12,7 +12,7 @@ use crate::edge::Edge;
 use crate::graph::Graph;
 use crate::payload::TrackKey;
 use catalogue::{App, Catalogue, Cohort};
-use cohorts::{Lane, target_in};
+use cohorts::track_target;
 use std::alloc::{AllocError, Global};
 use std::marker::Model;
 
@@ -52,11 +52,12 @@ impl Differentials {
     }
 }
 
-fn find_target(app: &App, cohort: &Cohort, lane: Lane) -> Option<usize>
-    ensures target { result ≡ lane_target app.now cohort.now lane }
+fn find_target(app: &App, cohort: &Cohort, key: &TrackKey) -> Option<usize>
+    ensures target { result ≡ cohort_target app.now cohort.now key.now }
     ensures within { IfSome result (λ target. target < length app.now.releases) }
 {
-    let version = target_in(cohort, lane)?;
+    let releases = app.releases.as_slice();
+    let version = track_target(releases, cohort, key.lane, &key.pin)?;
     app.find_release(&version)
 }
 
@@ -72,7 +73,7 @@ fn graph_in_cohort(
     requires resolved { AreResolved (length app.now.releases) resolved.now }
     ensures { IfOk result (λ graph. graph ≡ net_in_cohort app.now key.now cohort.now resolved.now) }
 {
-    let Some(target) = find_target(app, cohort, key.lane) else {
+    let Some(target) = find_target(app, cohort, key) else {
         return Ok(None);
     };
     let releases = app.releases.as_slice();

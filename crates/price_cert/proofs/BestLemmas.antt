@@ -39,7 +39,7 @@ list_any-agree {A} p q (x ∷ xs) agree =
     ap (λ b. b || list_any p xs) (All-head (λ (y : A). p y ≡ q y) x xs agree)
     ∙ ap (λ b. q x || b) (list_any-agree p q xs (All-tail (λ (y : A). p y ≡ q y) x xs agree))
 
-list_any-map : {A B : Type 0} (p : B → Bool) (f : A → B) (xs : List A) → list_any p (map f xs) ≡ list_any (λ x. p (f x)) xs
+pub list_any-map : {A B : Type 0} (p : B → Bool) (f : A → B) (xs : List A) → list_any p (map f xs) ≡ list_any (λ x. p (f x)) xs
 list_any-map p f [] = refl
 list_any-map p f (x ∷ xs) = ap (λ b. p (f x) || b) (list_any-map p f xs)
 
@@ -170,7 +170,7 @@ list_any-kept {A} p q r (x ∷ xs) kept some =
     cases false first c passes false second some rest own = rest some
 
 -- full packages through the same doors from another release
-IsBest-map :
+pub IsBest-map :
     (rows : List Row) (doors : List Door) (from other : ℕ) (row : Row) →
     IsBest rows (map (full from) doors) row → IsBest rows (map (full other) doors) row
 IsBest-map rows doors from other row best = record { behind = behinds row best.behind; names = named row best.names }

@@ -2,6 +2,7 @@ mod BestLemmas
 mod BetterLemmas
 mod InductionLemmas
 mod LeastLemmas
+mod OpeningLemmas
 mod PassLemmas
 mod RuleLemmas
 mod SmallLemmas

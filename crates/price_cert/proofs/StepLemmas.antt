@@ -1,20 +1,20 @@
 -- The best full packages of neighbours' windows, and one differential more.
 use Rattle.std.proofs.Common.{◌≡◌, ℕ, ◌+◌, ◌<◌, ◌≤◌, ◌&&◌, inl, inr, Bool, true, false, cond, eqb, leb, ltb, List, [], ◌∷◌, ◌++◌, get_or, length, take, slice_get, Option, None, Some, refl, sym, ap, ◌∙◌, subst, arith}
-use Rattle.std.specs.List.{All, filter, list_any}
+use Rattle.std.specs.List.{All, filter}
 use Rattle.std.specs.Option.{option_map_or}
-use Rattle.std.proofs.lemmas.Bool.{and_from, and_parts, cases_lt, eq-eqb, eqb-true, false≢true, le-leb, leb-true, lt-leb, lt-ltb, or_parts}
-use Rattle.std.proofs.lemmas.List.Elements.{All-cons, All-from_get_or, All-head, All-nil, All-tail}
+use Rattle.std.proofs.lemmas.Bool.{and_from, and_parts, cases_lt, eq-eqb, eqb-true, false≢true, le-leb, leb-true, lt-leb, lt-ltb}
+use Rattle.std.proofs.lemmas.List.Elements.{All-head, All-tail}
 use Rattle.std.proofs.lemmas.Option.{get_or_from_slice_get}
-use Rattle.std.proofs.lemmas.List.{append_assoc, get_or-take, length-take-le, take_more}
+use Rattle.std.proofs.lemmas.List.{append_assoc, take_more}
 use Rattle.records.specs.Forms.{is_size}
 use Rattle.payload_graph.specs.Laws.{WindowsGrowDown, WindowsHoldDoors}
 use Rattle.payload_graph.specs.Net.{Net, fulls, opens, window}
-use Rattle.payload_graph.specs.Soundness.{AreNumbered, is_floor, is_floor_of, no_door}
+use Rattle.payload_graph.specs.Soundness.{AreNumbered, is_floor_of, no_door}
 use Rattle.payload_graph.specs.declared.door.Door.{Door}
 use Rattle.payload_graph.specs.declared.edge.Edge.{Edge}
 use Rattle.price_cert.specs.declared.row.Row.{Row}
 use Rattle.price_cert.specs.declared.row.Row.TheVariants.{Nothing}
-use Rattle.price_cert.proofs.BestLemmas.{IsBest-back, IsBest-door_back, IsBest-door_front, IsBest-fewer, IsBest-from, IsBest-nothing}
+use Rattle.price_cert.proofs.BestLemmas.{IsBest-back, IsBest-door_back, IsBest-door_front, IsBest-fewer, IsBest-nothing}
 use Rattle.price_cert.specs.Best.{IsBest, beyond, improved, is_still_open, lower, taken}
 
 -- a window below the target is a door before the rest of it
@@ -80,7 +80,7 @@ filter-agree {A} p q (x ∷ xs) agree =
     ∙ ap (λ (ys : List A). cond (q x) (x ∷ ys) ys) (filter-agree p q xs (All-tail (λ (y : A). p y ≡ q y) x xs agree))
 
 -- a lower door whose floor isn't the next release opens from both or from neither
-opens-both :
+pub opens-both :
     (from : ℕ) (door : Door) → door.to ≤ from → is_floor_of (from + 1) door ≡ false →
     opens from door ≡ opens (from + 1) door
 opens-both from door lower none = ap (λ b. b && door.offered) (elim (cases_lt from door.floor) [
@@ -91,31 +91,6 @@ opens-both from door lower none = ap (λ b. b && door.offered) (elim (cases_lt f
   ]
   | inr low ↦ le-leb door.floor from low ∙ sym (le-leb door.floor (from + 1) (omega arith))
 ])
-
--- no item passes, so each one fails
-each-fails : {A : Type 0} (p : A → Bool) (xs : List A) → list_any p xs ≡ false → All (λ x. p x ≡ false) xs
-each-fails p [] none = All-nil (λ x. p x ≡ false)
-each-fails p (x ∷ xs) none =
-    let parts = or_parts (p x) (list_any p xs) none in
-    All-cons (λ y. p y ≡ false) x xs parts.0 (each-fails p xs parts.1)
-
--- the best full package to the releases below one is also the next one's, if that is no floor
-pub IsBest-before :
-    (net : Net) (rows : List Row) (from : ℕ) (row : Row) → AreNumbered net.doors →
-    from < length net.doors → is_floor net.doors (from + 1) ≡ false →
-    IsBest rows (fulls from (take from net.doors)) row → IsBest rows (fulls (from + 1) (take from net.doors)) row
-IsBest-before net rows from row numbered there none known =
-    IsBest-from rows (take from net.doors) from (from + 1) row
-    (filter-agree (opens from) (opens (from + 1)) (take from net.doors)
-    (All-from_get_or (λ (door : Door). opens from door ≡ opens (from + 1) door) (take from net.doors) no_door (λ k within.
-    let size = length-take-le from net.doors (omega arith) in
-    let at = get_or-take from net.doors k no_door (omega arith) in
-    let fits : k < length net.doors = omega arith in
-    let own = numbered k fits in
-    subst (λ (door : Door). opens from door ≡ opens (from + 1) door) (sym at)
-    (opens-both from (get_or net.doors k no_door) (omega arith)
-    (each-fails (is_floor_of (from + 1)) net.doors none k no_door fits)))))
-    known
 
 -- on a track that rolls back, the doors below a release are all the lower ones
 pub IsBest-take :
@@ -129,21 +104,6 @@ pub IsBest-lower :
     IsBest rows (fulls from (take from net.doors)) row → IsBest rows (fulls from (lower net from)) row
 IsBest-lower net rows from row rolls known =
     subst (λ (ds : List Door). IsBest rows (fulls from ds) row) (sym (ap (λ b. cond b (take from net.doors) []) rolls)) known
-
--- the doors below a release, and the door of that release
-pub IsBest-above :
-    (net : Net) (rows : List Row) (from : ℕ) (doors : List Door) (rest result : Row) →
-    from < length net.doors → doors ≡ net.doors → net.rollback ≡ true →
-    result ≡ taken rows rest (from + 1) (get_or doors from no_door) →
-    IsBest rows (fulls (from + 1) (take from net.doors)) rest →
-    IsBest rows (fulls (from + 1) (lower net (from + 1))) result
-IsBest-above net rows from doors rest result there same rolls is known =
-    subst (λ (row : Row). IsBest rows (fulls (from + 1) (lower net (from + 1))) row) (sym (is ∙ ap (λ (ds : List Door). taken rows rest (from + 1) (get_or ds from no_door)) same))
-    (subst (λ (ds : List Door). IsBest rows (fulls (from + 1) ds) (taken rows rest (from + 1) (get_or net.doors from no_door))) (sym grown)
-    (IsBest-door_back rows (take from net.doors) (get_or net.doors from no_door) (from + 1) rest known))
-  where
-    grown : lower net (from + 1) ≡ take from net.doors ++ get_or net.doors from no_door ∷ []
-    grown = ap (λ b. cond b (take (from + 1) net.doors) []) rolls ∙ take_more net.doors from no_door there
 
 -- without a rollback there are none
 pub IsBest-level :

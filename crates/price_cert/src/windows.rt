@@ -2,13 +2,16 @@
 //!
 //! The full packages that leave a release go through its window, and the windows of neighbours differ by
 //! one door: so whoever goes along the releases, and keeps the best full package of the window, takes a
-//! step for each release and each differential. Only at a floor the open doors of a window can change:
-//! if one is at stake, the window is gone through.
+//! step for each release and each differential. Only at a floor the open doors of a window can change. Down
+//! to the target, doors close: if the best one does, the window is gone through. Above the target, doors
+//! open: those that do are looked at.
 
-ghost use Rattle.std.specs.Prelude.{◌≡◌, ◌+◌, ◌<◌, All, true, length, take};
+ghost use Rattle.std.specs.Prelude.{◌≡◌, ◌+◌, ◌<◌, ◌≤◌, ◌++◌, List, All, true, length};
 ghost use Rattle.payload_graph.specs.Net.{edges_from, fulls, window};
 ghost use Rattle.records.specs.Forms.{is_size};
+ghost use Rattle.payload_graph.specs.Soundness.{openings};
 ghost use Rattle.payload_graph.specs.declared.door.Door.{Door};
+ghost use Rattle.payload_graph.specs.declared.edge.Edge.{Edge};
 ghost use Rattle.price_cert.specs.Best.{beyond, lower, ArePricesSmall, IsBest};
 
 use crate::best::{Nearest, improved, is_still_open, nearer, nearest_row, taken};
@@ -81,25 +84,25 @@ pub fn best_below(graph: &Graph, rows: &[Row], from: usize, best: Row) -> Row
     taken(rows, rest, from, &graph.doors()[from + 1])
 }
 
-// The best full package of the next release to the releases below one, by that of this one. Lower doors may
-// open from the next release on; only if it is marked as a floor they are gone through.
-fn best_before(graph: &Graph, rows: &[Row], from: usize, best: Row) -> Row
-    requires there { from < length graph.now.doors }
+// The better one of a best payload and the full packages that open at an index.
+fn best_opened(graph: &Graph, rows: &[Row], index: usize, best: Row) -> Row
+    requires there { index ≤ length graph.now.doors }
     requires small { ArePricesSmall rows.now }
-    requires best { IsBest rows.now (fulls from (take from graph.now.doors)) best }
-    ensures { IsBest rows.now (fulls (from + 1) (take from graph.now.doors)) result }
+    ensures { (edges : List Edge) → IsBest rows.now edges best → IsBest rows.now (edges ++ openings graph.now.doors index) result }
 {
-    let doors = graph.doors();
-    if graph.is_floor(from + 1) {
-        best_through(rows, from + 1, &doors[..from])
-    } else {
-        best
+    let _bounded = graph.doors();
+    let openings = graph.openings(index);
+    let mut row = best;
+    for edge in openings {
+        row = improved(rows, row, edge);
     }
+    row
 }
 
 /// Names the best full package to the releases up to one, by that to the releases below it.
 ///
-/// There are such packages only on a track that leads down from above its target.
+/// There are such packages only on a track that leads down from above its target. Beside the one that was the best,
+/// only the one to the last release and those that open above it are looked at.
 pub fn best_above(graph: &Graph, rows: &[Row], from: usize, best: Row) -> Row
     requires there { from < length graph.now.doors }
     requires small { ArePricesSmall rows.now }
@@ -110,8 +113,8 @@ pub fn best_above(graph: &Graph, rows: &[Row], from: usize, best: Row) -> Row
         return best;
     }
     let doors = graph.doors();
-    let rest = best_before(graph, rows, from, best);
-    taken(rows, rest, from + 1, &doors[from])
+    let next = taken(rows, best, from + 1, &doors[from]);
+    best_opened(graph, rows, from + 1, next)
 }
 
 /// Names the best full package to the releases up to the target, for those above it.

@@ -6,7 +6,7 @@ use Rattle.std.proofs.lemmas.List.{length-map}
 use Rattle.std.proofs.lemmas.List.FromFn.{length-enumerate_from}
 use Rattle.records.specs.declared.content.App.{App}
 use Rattle.records.specs.declared.content.Cohort.{Cohort}
-use Rattle.payload_graph.specs.Chains.{lane_target}
+use Rattle.payload_graph.specs.Chains.{cohort_target}
 use Rattle.payload_graph.specs.declared.payload.TrackKey.{TrackKey}
 use Rattle.payload_graph.specs.Net.{Net, net_among, net_in, net_of}
 use Rattle.price_certificates.specs.Strings.{track_at}
@@ -33,12 +33,12 @@ length-doors-track apps key net app cohort there made = by_app (slice_get apps k
     by_cohort :
         (a : App) (found : Option Cohort) →
         option_map {U = App × Cohort} (λ (c : Cohort). (a, c)) found ≡ Some (app, cohort) →
-        option_and_then (λ c. option_map (net_of a key c) (lane_target a c key.lane)) found ≡ Some net →
+        option_and_then (λ c. option_map (net_of a key c) (cohort_target a c key)) found ≡ Some net →
         length net.doors ≡ length app.releases
     by_cohort a None there made = cc
     by_cohort a (Some c) there made =
         let same : a ≡ app = ap (λ (read : Option (App × Cohort)). (unwrap_or read (app, cohort)).0) there in
-        length-doors a key c net (lane_target a c key.lane) made ∙ ap (λ (own : App). length own.releases) same
+        length-doors a key c net (cohort_target a c key) made ∙ ap (λ (own : App). length own.releases) same
 
     by_app :
         (found : Option App) →

@@ -13,8 +13,8 @@ use Rattle.records.specs.Validity.{IsValid, IsValidApp, is_valid_cohort, is_vali
 use Rattle.records.specs.declared.content.App.{App}
 use Rattle.records.specs.declared.content.Cohort.{Cohort}
 use Rattle.records.specs.declared.content.Release.{Release}
-use Rattle.cohorts.specs.Tracks.{target_of}
-use Rattle.payload_graph.specs.Chains.{lane_target}
+use Rattle.cohorts.specs.Offers.{track_target}
+use Rattle.payload_graph.specs.Chains.{cohort_target}
 use Rattle.payload_graph.specs.declared.payload.TrackKey.{TrackKey}
 use Rattle.payload_graph.specs.Net.{Net, net_among, net_in, net_of}
 use Rattle.price_cert.specs.declared.row.Row.{Row}
@@ -34,7 +34,7 @@ record HasTrack (apps : List App) (net : Net) : Type 0 where
   app_there : slice_get apps net.key.app ≡ Some app
   cohort : Cohort
   cohort_there : slice_get app.cohorts net.key.cohort ≡ Some cohort
-  is_target : lane_target app cohort net.key.lane ≡ Some net.target
+  is_target : cohort_target app cohort net.key ≡ Some net.target
   release : Release
   release_there : slice_get app.releases net.target ≡ Some release
 
@@ -52,8 +52,8 @@ HasTrack-net apps net made = by_app (slice_get apps net.key.app) refl made
     by_version :
         (app : App) → slice_get apps net.key.app ≡ Some app →
         (cohort : Cohort) → slice_get app.cohorts net.key.cohort ≡ Some cohort →
-        (target : ℕ) → lane_target app cohort net.key.lane ≡ Some target → target ≡ net.target →
-        (version : Option (List ℕ)) → target_of cohort net.key.lane ≡ version →
+        (target : ℕ) → cohort_target app cohort net.key ≡ Some target → target ≡ net.target →
+        (version : Option (List ℕ)) → track_target app.releases cohort net.key.lane net.key.pin ≡ version →
         option_and_then (λ v. position (is_release v) app.releases) version ≡ Some target → HasTrack apps net
     by_version app app_is cohort cohort_is target target_is same None is found = cc
     by_version app app_is cohort cohort_is target target_is same (Some version) is found =
@@ -71,21 +71,21 @@ HasTrack-net apps net made = by_app (slice_get apps net.key.app) refl made
     by_target :
         (app : App) → slice_get apps net.key.app ≡ Some app →
         (cohort : Cohort) → slice_get app.cohorts net.key.cohort ≡ Some cohort →
-        (target : Option ℕ) → lane_target app cohort net.key.lane ≡ target →
+        (target : Option ℕ) → cohort_target app cohort net.key ≡ target →
         option_map (net_of app net.key cohort) target ≡ Some net → HasTrack apps net
     by_target app app_is cohort cohort_is None is made = cc
     by_target app app_is cohort cohort_is (Some target) is made =
         let own : net_of app net.key cohort target ≡ net = cc in
         by_version app app_is cohort cohort_is target is (ap (λ (n : Net). n.target) own)
-        (target_of cohort net.key.lane) refl is
+        (track_target app.releases cohort net.key.lane net.key.pin) refl is
 
     by_cohort :
         (app : App) → slice_get apps net.key.app ≡ Some app →
         (cohort : Option Cohort) → slice_get app.cohorts net.key.cohort ≡ cohort →
-        option_and_then (λ c. option_map (net_of app net.key c) (lane_target app c net.key.lane)) cohort ≡ Some net →
+        option_and_then (λ c. option_map (net_of app net.key c) (cohort_target app c net.key)) cohort ≡ Some net →
         HasTrack apps net
     by_cohort app app_is None is made = cc
-    by_cohort app app_is (Some cohort) is made = by_target app app_is cohort is (lane_target app cohort net.key.lane)
+    by_cohort app app_is (Some cohort) is made = by_target app app_is cohort is (cohort_target app cohort net.key)
         refl made
 
     by_app :
@@ -152,7 +152,7 @@ module _ (irreflexive : BelowIsIrreflexive) where
       (λ (a : App). option_map {U = App × Cohort} (λ (c : Cohort). (a, c)) (slice_get a.cohorts net.key.cohort))
       o) track.app_there
       ∙ ap (λ (o : Option Cohort). option_map {U = App × Cohort} (λ (c : Cohort). (app, c)) o) track.cohort_there in
-      let aimed : target_at app cohort net.key.lane ≡ Some target =
+      let aimed : target_at app cohort net.key ≡ Some target =
       ap (λ (o : Option ℕ). option_and_then (λ index. slice_get app.releases index) o) track.is_target ∙
       track.release_there in
       let count = length-doors-track apps net.key net app cohort there made in
@@ -160,10 +160,10 @@ module _ (irreflexive : BelowIsIrreflexive) where
       let written : string_among apps prices ≡ Some text =
       ap (λ (k : TrackKey). option_and_then
       (λ (t : App × Cohort). option_map (λ (release : Release). string_of t.0 t.1 k release rows)
-      (target_at t.0 t.1 k.lane)) (track_at apps k)) keyed
+      (target_at t.0 t.1 k)) (track_at apps k)) keyed
       ∙ ap (λ (o : Option (App × Cohort)). option_and_then
       (λ (t : App × Cohort). option_map (λ (release : Release). string_of t.0 t.1 net.key release rows)
-      (target_at t.0 t.1 net.key.lane)) o) there
+      (target_at t.0 t.1 net.key)) o) there
       ∙ ap (λ (o : Option Release). option_map (λ (release : Release). string_of app cohort net.key release rows) o)
       aimed in
       let each = subst (λ (n : ℕ). AllByRecursion (IsStatable n) rows) count statable.each in

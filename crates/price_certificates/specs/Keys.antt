@@ -3,6 +3,7 @@ use Rattle.std.specs.Prelude.{◌≡◌, ℕ, Bool, if◌then◌else◌, codes, 
 use Rattle.std.specs.Str.{bytes_eq}
 use Rattle.records.specs.Lookups.{cohorts_at, is_cohort}
 use Rattle.records.specs.declared.content.App.{App}
+use Rattle.cohorts.specs.declared.pin.Pin.TheVariants as pin
 use Rattle.cohorts.specs.declared.track.Lane.{Lane}
 use Rattle.cohorts.specs.declared.track.Lane.TheVariants as lane
 use Rattle.payload_graph.specs.declared.payload.TrackKey.{TrackKey}
@@ -56,12 +57,13 @@ cohort_of apps app text =
 abbrev pub lane_named : List ℕ → Lane
 lane_named word = if bytes_eq word (codes "held") then lane.Held else lane.Target
 
--- the key of an app and a cohort by the lines of the lane and of the downgrade
+-- the key of an app and a cohort by the lines of the lane and of the downgrade; a certificate is of clients
+-- without a pin
 abbrev pub key_of : ℕ → ℕ → List ℕ → Result TrackKey Fault
 key_of app cohort text =
     with_value (value_of heading.Lane 4 text) (λ lane rest.
     with_value (value_of heading.Rollback 5 rest) (λ rollback after.
-    Ok (record { app = app; cohort = cohort; lane = lane_named lane; rollback = bytes_eq rollback (codes "yes") })))
+    Ok (record { app = app; cohort = cohort; lane = lane_named lane; rollback = bytes_eq rollback (codes "yes"); pin = pin.Any })))
 
 -- rule: Key of a certificate
 -- the key that the first five lines name in a content, or the first of them that is wrong

@@ -5,8 +5,7 @@ use Rattle.std.specs.Option.{option_map_or}
 use Rattle.records.specs.declared.content.App.{App}
 use Rattle.records.specs.declared.content.Cohort.{Cohort}
 use Rattle.records.specs.declared.content.Release.{Release}
-use Rattle.cohorts.specs.declared.track.Lane.{Lane}
-use Rattle.payload_graph.specs.Chains.{lane_target}
+use Rattle.payload_graph.specs.Chains.{cohort_target}
 use Rattle.payload_graph.specs.declared.payload.TrackKey.{TrackKey}
 use Rattle.payload_graph.specs.declared.edge.Kind.{Kind}
 use Rattle.payload_graph.specs.declared.edge.Kind.TheVariants as kind
@@ -65,14 +64,14 @@ track_at apps key =
     option_map (λ (cohort : Cohort). (app, cohort)) (slice_get app.cohorts key.cohort))
     (slice_get apps key.app)
 
--- the release that the clients of a lane are meant to have
-abbrev pub target_at : App → Cohort → Lane → Option Release
-target_at app cohort lane = option_and_then (λ index. slice_get app.releases index) (lane_target app cohort lane)
+-- the release that the clients of a key are meant to have
+abbrev pub target_at : App → Cohort → TrackKey → Option Release
+target_at app cohort key = option_and_then (λ index. slice_get app.releases index) (cohort_target app cohort key)
 
 -- the bytes of a table of a content, none if its track has no target
 abbrev pub string_among : List App → Prices → Option (List ℕ)
 string_among apps prices =
     option_and_then (λ (track : App × Cohort).
     option_map (λ (target : Release). string_of track.0 track.1 prices.key target prices.rows)
-    (target_at track.0 track.1 prices.key.lane))
+    (target_at track.0 track.1 prices.key))
     (track_at apps prices.key)

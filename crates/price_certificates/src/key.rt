@@ -1,13 +1,14 @@
 //! How the key of a certificate is read.
 
 ghost use Rattle.std.specs.Prelude.{◌≡◌, ◌<◌, length, IfOk, IfSome, position};
+ghost use Rattle.cohorts.specs.declared.pin.Pin.TheVariants as pin;
 ghost use Rattle.price_certificates.specs.Keys.{app_of, cohort_of, is_named, key_of, key_of_string, lane_named, value_of, IsRead};
 
 use crate::fault::Fault;
 use crate::heading::{Heading, value_in};
 use crate::lines::split_line;
 use catalogue::Catalogue;
-use cohorts::Lane;
+use cohorts::{Lane, Pin};
 use payload_graph::TrackKey;
 
 fn value_of(heading: Heading, n: usize, text: &[u8]) -> Result<(&str, &[u8]), Fault>
@@ -70,7 +71,8 @@ fn lane_named(word: &str) -> Lane
 }
 
 fn key_of(app: usize, cohort: usize, text: &[u8]) -> Result<TrackKey, Fault>
-    ensures { IsRead (λ key. key) result (key_of app cohort text.now) }
+    ensures key { IsRead (λ key. key) result (key_of app cohort text.now) }
+    ensures pin { IfOk result (λ key. key.pin ≡ pin.Any) }
 {
     let (lane, rest) = value_of(Heading::Lane, 4, text)?;
     let (rollback, _rest) = value_of(Heading::Rollback, 5, rest)?;
@@ -79,17 +81,19 @@ fn key_of(app: usize, cohort: usize, text: &[u8]) -> Result<TrackKey, Fault>
         cohort,
         lane: lane_named(lane),
         rollback: rollback == "yes",
+        pin: Pin::Any,
     })
 }
 
 // rule: Key of a certificate
 /// Reads the key of the track that a certificate names, from its first five lines.
 ///
-/// What is after them is not looked at. Otherwise it returns the first wrong line: P1 `BadLine` if it is not
-/// well formed or is missing, P2 `NotOfThisGraph` if it names an app that the catalogue does not have in
-/// this spelling, or a cohort that the app does not have. It takes no memory.
+/// The key is of clients without a pin. What is after those lines is not looked at. Otherwise it returns the first
+/// wrong line: P1 `BadLine` if it is not well formed or is missing, P2 `NotOfThisGraph` if it names an app that the
+/// catalogue does not have in this spelling, or a cohort that the app does not have. It takes no memory.
 pub fn read_key(catalogue: &Catalogue, text: &[u8]) -> Result<TrackKey, Fault>
-    ensures { IsRead (λ key. key) result (key_of_string catalogue.now text.now) }
+    ensures key { IsRead (λ key. key) result (key_of_string catalogue.now text.now) }
+    ensures pin { IfOk result (λ key. key.pin ≡ pin.Any) }
 {
     let (app, rest) = app_of(catalogue, text)?;
     let (cohort, rest) = cohort_of(catalogue, app, rest)?;

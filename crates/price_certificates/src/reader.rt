@@ -3,6 +3,7 @@
 ghost use Rattle.std.specs.Prelude.{◌≡◌, ◌≤◌, length, IfOk, Some};
 ghost use Rattle.values.specs.Reading.{Reads};
 ghost use Rattle.payload_graph.specs.Net.{net_among};
+ghost use Rattle.cohorts.specs.declared.pin.Pin.TheVariants as pin;
 ghost use Rattle.price_certificates.specs.Headings.{headings};
 ghost use Rattle.price_certificates.specs.Reading.{prices_of_string, read_headings, read_rows, read_body};
 
@@ -86,7 +87,7 @@ fn read_body(
 }
 
 // rule: Table of a certificate
-/// Reads a table of a graph, which is that of its key's track in the catalogue.
+/// Reads a table of a graph, which is that of its key's track in the catalogue; its clients have no pin.
 ///
 /// The lines are those that `write_prices` writes of such a table. Otherwise it returns the first wrong
 /// line: P1 `BadLine` if it is not well formed, is missing or is after the last one, else P2
@@ -98,7 +99,8 @@ pub fn read_prices(
     graph: &Graph,
     text: &[u8],
 ) -> Result<Prices, ReadError<Fault>>
-    requires { net_among catalogue.now graph.now.key ≡ Some graph.now }
+    requires graph { net_among catalogue.now graph.now.key ≡ Some graph.now }
+    requires pin { graph.now.key.pin ≡ pin.Any }
     ensures reads { Reads (λ prices. prices) result (prices_of_string catalogue.now graph.now text.now) }
     ensures key { IfOk result (λ prices. prices.key ≡ graph.now.key) }
     ensures sized { IfOk result (λ prices. length prices.rows ≡ length graph.now.doors) }

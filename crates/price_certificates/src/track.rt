@@ -4,7 +4,7 @@ ghost use Rattle.std.specs.Prelude.{◌≡◌, ◌≤◌, length, IfSome, option
 ghost use Rattle.price_certificates.specs.Strings.{target_at, track_at};
 
 use catalogue::{App, Catalogue, Cohort, Release};
-use cohorts::{Lane, target_in};
+use cohorts::track_target;
 use payload_graph::TrackKey;
 
 /// The app and the cohort of a key, if they are there.
@@ -25,11 +25,11 @@ pub(crate) fn find_track<'a>(
     }
 }
 
-/// The release that the clients of a lane are meant to have, if any.
-pub(crate) fn find_target<'a>(app: &'a App, cohort: &Cohort, lane: Lane) -> Option<&'a Release>
-    ensures { option_map (λ release. release.now) result ≡ target_at app.now cohort.now lane }
+/// The release that the clients of a key are meant to have, if any.
+pub(crate) fn find_target<'a>(app: &'a App, cohort: &Cohort, key: &TrackKey) -> Option<&'a Release>
+    ensures { option_map (λ release. release.now) result ≡ target_at app.now cohort.now key.now }
 {
-    match target_in(cohort, lane) {
+    match track_target(app.releases.as_slice(), cohort, key.lane, &key.pin) {
         None => None,
         Some(version) => match app.find_release(&version) {
             None => None,

@@ -1,6 +1,7 @@
 //! How a certificate is written.
 
 ghost use Rattle.std.specs.Prelude.{◌≡◌, ◌<◌, ◌++◌, length, IfOk, OnOk, IsSome, Some};
+ghost use Rattle.cohorts.specs.declared.pin.Pin.TheVariants as pin;
 ghost use Rattle.price_certificates.specs.Headings.{headings};
 ghost use Rattle.price_certificates.specs.Strings.{ended, entry_string, headings_string, kind_word, row_line, rows_from, spelled_at, string_among, string_of};
 
@@ -114,7 +115,7 @@ fn write_body(
 }
 
 // rule: Bytes of a certificate
-/// Writes a table of a track that has a target.
+/// Writes a table of a track that has a target, and whose clients have no pin.
 ///
 /// Releases are named by the versions that they were added with. What is written is read back if the
 /// table has a row for each release, prices below 2^50 and destinations that are releases. Out of memory is
@@ -124,13 +125,14 @@ pub fn write_prices(
     catalogue: &Catalogue,
     prices: &Prices,
 ) -> Result<Vec<u8>, AllocError>
-    requires { IsSome (string_among catalogue.now prices.now) }
+    requires there { IsSome (string_among catalogue.now prices.now) }
+    requires pin { prices.now.key.pin ≡ pin.Any }
     ensures { IfOk result (λ text. string_among catalogue.now prices.now ≡ Some text.items) }
 {
     let Some((app, cohort)) = find_track(catalogue, &prices.key) else {
         unreachable!()
     };
-    let Some(target) = find_target(app, cohort, prices.key.lane) else {
+    let Some(target) = find_target(app, cohort, &prices.key) else {
         unreachable!()
     };
     write_body(

@@ -11,6 +11,7 @@ use crate::outcomes::{push_key, push_outcome, push_written};
 use crate::rule::push_ruled;
 use crate::words::{are, fields, push_from, push_into, push_quote, push_table};
 use catalogue::Catalogue;
+use cohorts::Pin;
 use par_tables::{TrackTables, tables};
 use payload_graph::{Differentials, Graph, Place, TrackKey};
 use quotes::quote_from;
@@ -55,6 +56,24 @@ fn push_solved(
     }
 }
 
+// Puts what a certificate is to the graph of a track at the end; none is of clients with a pin.
+fn push_certificate(
+    alloc: Global,
+    words: &mut String,
+    catalogue: &Catalogue,
+    graph: &Graph,
+    asked: &str,
+    certificate: &str,
+) -> Option<()>
+    requires { net_among catalogue.now graph.now.key ≡ Some graph.now }
+{
+    match graph.key().pin {
+        Pin::Any if asked == "reads" => push_outcome(alloc, words, catalogue, graph, certificate),
+        Pin::Any => push_written(alloc, words, catalogue, graph, certificate),
+        _ => None,
+    }
+}
+
 // Puts what is asked of a track that may have a graph at the end.
 fn push_of_graph(
     alloc: Global,
@@ -70,8 +89,7 @@ fn push_of_graph(
     match asked {
         "from" => push_from(words, graph).ok(),
         "into" => push_into(words, graph).ok(),
-        "reads" => push_outcome(alloc, words, catalogue, graph, more),
-        "rewrites" => push_written(alloc, words, catalogue, graph, more),
+        "reads" | "rewrites" => push_certificate(alloc, words, catalogue, graph, asked, more),
         _ => push_solved(alloc, words, catalogue, key, graph, more),
     }
 }

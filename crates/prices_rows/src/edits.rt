@@ -4,7 +4,7 @@ ghost use Rattle.std.specs.Prelude.{◌≡◌, IfSome, Some};
 ghost use Rattle.payload_graph.specs.Net.{net_among};
 
 use catalogue::{Batch, Catalogue};
-use cohorts::Lane;
+use cohorts::{Lane, Pin};
 use payload_graph::{Graph, TrackKey};
 use profile_toml::read_script;
 use std::alloc::{AllocError, Global};
@@ -87,8 +87,10 @@ pub(crate) fn graph_of(
     }
 }
 
-/// A key from its words: `stable target no`, the last one is whether the client allows a downgrade.
+/// A key from its words: `stable target no`, of which the last one is whether the client allows a downgrade. With the
+/// words `pin 4.` after them it is of clients that send the prefix `4.`.
 pub(crate) fn key_of(words: &str) -> TrackKey {
+    let (words, prefix) = words.split_once(" pin ").unwrap_or((words, ""));
     let cohort = if words.starts_with("stable") {
         0
     } else if words.starts_with("beta") {
@@ -106,6 +108,7 @@ pub(crate) fn key_of(words: &str) -> TrackKey {
         cohort,
         lane,
         rollback: words.ends_with("yes"),
+        pin: Pin::parse(prefix),
     }
 }
 

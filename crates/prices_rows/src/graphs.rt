@@ -4,7 +4,7 @@ use crate::asks::{agree, wrong_row};
 use crate::edits::DEMO;
 use std::alloc::Global;
 
-// Stones that are withdrawn, closed, at both ends, and none; one flag of a downgrade, and both.
+// Stones that are withdrawn, closed, at both ends, and none; one flag of a downgrade, and both; pins.
 const FROM: &str =
     r#"stable target no||from|| 0>1f1200 0>1d300 1>2f1500 1>3f1600 1>2d200 1>3d500 2>3f1600 2>3d250
 stable held no||from|| 0>1f1200 0>1d300 1>2f1500 1>2d200
@@ -22,7 +22,10 @@ stable target no|{ do = "set_stone", app = "demo", version = "2.0", on = false }
 stable target no|{ do = "set_audience", app = "demo", version = "3.0", cohorts = ["beta"] }|from|| 0>1f1200 0>1d300 1>3f1600 1>3d500 2>3f1600 2>3d250
 stable target no|{ do = "set_withdrawn", app = "demo", version = "4.0", on = true }|from|| 0>1f1200 0>1d300 1>2f1500 1>2d200
 beta target yes|{ do = "set_withdrawn", app = "demo", version = "2.0", on = true }|from|| 1>2f1500 1>2d200 3>0f1000 3>2f1500
-beta target yes|{ do = "set_target", app = "demo", cohort = "beta", target = "1.0" }|from|| 1>0f1000 2>0f1000 2>1f1200 3>0f1000 3>1f1200 3>2f1500"#;
+beta target yes|{ do = "set_target", app = "demo", cohort = "beta", target = "1.0" }|from|| 1>0f1000 2>0f1000 2>1f1200 3>0f1000 3>1f1200 3>2f1500
+stable target no pin 4||from|| 1>3f1600 1>3d500 2>3f1600 2>3d250
+stable target no pin 3||from|| 1>2f1500 1>2d200
+beta target yes pin 2||from|| 0>1f1200 0>1d300 2>1f1200 3>1f1200"#;
 
 // rule: Audience
 // rule: Offered release
@@ -36,8 +39,8 @@ fn lists_the_payloads_from_each_release(rt: HostRuntime) {
     assert!(rt; wrong.is_empty(), "{wrong}");
 }
 
-const INTO: &str =
-    r#"stable target no||into|| 0>1f1200 0>1d300 1>2f1500 1>2d200 1>3f1600 2>3f1600 1>3d500 2>3d250
+const INTO: &str = r#"stable target no pin 4||into|| 1>3f1600 2>3f1600 1>3d500 2>3d250
+stable target no||into|| 0>1f1200 0>1d300 1>2f1500 1>2d200 1>3f1600 2>3f1600 1>3d500 2>3d250
 beta target yes||into|| 3>0f1000 0>1f1200 3>1f1200 0>1d300 1>2f1500 3>2f1500 1>2d200
 beta target yes|{ do = "set_target", app = "demo", cohort = "beta", target = "1.0" }|into|| 1>0f1000 2>0f1000 3>0f1000 2>1f1200 3>1f1200 3>2f1500
 beta target no|{ do = "set_target", app = "demo", cohort = "beta", target = "1.0" }|into||
@@ -66,7 +69,9 @@ const CHANGES: &str = r#"
 const KEYS: &str = "stable target no
 stable held yes
 beta target yes
-beta held yes";
+beta held yes
+stable target no pin 3
+beta target yes pin 2";
 
 // The first of the changes after which a graph has other payloads than the rule permits; `none` if there is none.
 fn wrong_change(alloc: Global) -> &'static str {

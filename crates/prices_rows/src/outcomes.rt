@@ -2,6 +2,7 @@
 
 ghost use Rattle.std.specs.Prelude.{◌≡◌, length, Some};
 ghost use Rattle.payload_graph.specs.Net.{net_among};
+ghost use Rattle.cohorts.specs.declared.pin.Pin.TheVariants as pin;
 
 use crate::certificates::certificate_of;
 use crate::edits::keep;
@@ -57,7 +58,8 @@ pub(crate) fn push_outcome(
     graph: &Graph,
     certificate: &str,
 ) -> Option<()>
-    requires { net_among catalogue.now graph.now.key ≡ Some graph.now }
+    requires graph { net_among catalogue.now graph.now.key ≡ Some graph.now }
+    requires pin { graph.now.key.pin ≡ pin.Any }
 {
     let bytes = certificate_of(alloc, certificate)?;
     match read_prices(alloc, catalogue, graph, bytes) {
@@ -78,7 +80,8 @@ pub(crate) fn push_written(
     graph: &Graph,
     certificate: &str,
 ) -> Option<()>
-    requires { net_among catalogue.now graph.now.key ≡ Some graph.now }
+    requires graph { net_among catalogue.now graph.now.key ≡ Some graph.now }
+    requires pin { graph.now.key.pin ≡ pin.Any }
 {
     let bytes = certificate_of(alloc, certificate)?;
     let prices = match read_prices(alloc, catalogue, graph, bytes) {

@@ -5,7 +5,7 @@ ghost use Rattle.std.specs.Prelude.{◌<◌, length};
 use crate::edits::catalogue_of;
 use crate::words::fields;
 use catalogue::Catalogue;
-use cohorts::Lane;
+use cohorts::{Lane, Pin};
 use payload_graph::{Payload, Place, TrackKey, permits, place_of};
 use std::alloc::Global;
 
@@ -58,6 +58,7 @@ fn is_placed(alloc: Global, row: &str) -> Option<bool> {
         cohort: 0,
         lane: Lane::Target,
         rollback: down == "yes",
+        pin: Pin::Any,
     };
     let is_at = matches!(place, Place::At(_));
     Some(is_at == (side == "at") && are_permitted(catalogue, &key, &place, letters))

@@ -1,8 +1,8 @@
 // What the rule permits on a track, each payload asked for, and the table of it by a plain slow program.
 
 use crate::words::{push_payload, push_price};
-use catalogue::{App, Catalogue};
-use cohorts::target_in;
+use catalogue::{App, Catalogue, Cohort};
+use cohorts::{Lane, Pin, is_offered};
 use payload_graph::{Edge, Kind, Payload, Place, TrackKey, permits};
 use std::alloc::{AllocError, Global};
 
@@ -144,9 +144,29 @@ fn push_slowly(
     push_rows(words, sums, edges, target)
 }
 
+// The highest release that is offered to the clients of a pin, up to one of them.
+fn highest_up_to(app: &App, cohort: &Cohort, pin: &Pin, target: usize) -> Option<usize> {
+    let mut highest = None;
+    for (index, release) in app.releases.as_slice().iter().enumerate() {
+        if index <= target && is_offered(cohort, pin, release) {
+            highest = Some(index);
+        }
+    }
+    highest
+}
+
 fn target_of(app: &App, key: &TrackKey) -> Option<usize> {
     let cohort = app.cohorts.as_slice().get(key.cohort)?;
-    app.find_release(&target_in(cohort, key.lane)?)
+    let version = match key.lane {
+        Lane::Target => cohort.target?,
+        Lane::Held => cohort.held?,
+    };
+    let target = app.find_release(&version)?;
+    if key.pin == Pin::Any {
+        Some(target)
+    } else {
+        highest_up_to(app, cohort, &key.pin, target)
+    }
 }
 
 // The payloads that the rule permits: full packages, then differentials.

@@ -1,7 +1,7 @@
 // Tables of prices, worked by hand, and against a plain slow program.
 
 use crate::asks::{agree, wrong_row};
-use crate::chances::script_of;
+use crate::chances::{key_of_seed, script_of};
 use crate::edits::{DEMO, TIED, largest};
 use std::alloc::Global;
 use std::test::Fail;
@@ -59,6 +59,35 @@ beta target yes|{ do = "set_floor", app = "demo", version = "3.0", floor = "5.0"
 #[test]
 fn clients_below_a_floor_take_another_way(rt: HostRuntime) {
     let wrong = wrong_row(rt.alloc(), DEMO, FLOORS);
+    assert!(rt; wrong.is_empty(), "{wrong}");
+}
+
+// Prefixes that match one release or several, the target's, lower ones, and none; with a stone that isn't matched, and
+// without it; with a release that is withdrawn or closed, and with a floor.
+const PINS: &str = r#"stable target no pin 4||table|| none 500d3 250d3 end
+stable target no pin 4$||table|| none 500d3 250d3 end
+stable target no pin 3||table|| none 200d2 end none
+stable target no pin 2||table|| 300d1 end none none
+stable target no pin 1||table|| end none none none
+stable target no pin 4.1||table|| no track
+stable held no pin 4||table|| no track
+stable held no pin 3||table|| none 200d2 end none
+stable target no pin 3|{ do = "set_stone", app = "demo", version = "2.0", on = false }|table|| 100d2 200d2 end none
+stable target no pin 4|{ do = "set_withdrawn", app = "demo", version = "4.0", on = true }|table|| no track
+stable target no pin 3|{ do = "set_withdrawn", app = "demo", version = "4.0", on = true }|table|| none 200d2 end none
+stable target no pin 3|{ do = "set_audience", app = "demo", version = "3.0", cohorts = ["beta"] }|table|| no track
+stable target no pin 4|{ do = "set_floor", app = "demo", version = "4.0", floor = "3.0" }|table|| none none 250d3 end
+stable target no pin 3|{ do = "add_release", app = "demo", version = "3.5", name = "demo-3.5.bin", size = 7, sha256 = "5555555555555555555555555555555555555555555555555555555555555555" }|table|| none 7f3 7f3 end none
+stable target no pin 3.0|{ do = "add_release", app = "demo", version = "3.5", name = "demo-3.5.bin", size = 7, sha256 = "5555555555555555555555555555555555555555555555555555555555555555" }|table|| none 200d2 end none none
+beta target yes pin 2||table|| 300d1 end 1200f1 1200f1
+beta target no pin 2||table|| 300d1 end none none
+beta target yes pin 1||table|| end 1000f0 1000f0 1000f0
+beta target yes pin 4||table|| no track"#;
+
+// rule: Target of a track
+#[test]
+fn pin_moves_the_target_and_closes_other_releases(rt: HostRuntime) {
+    let wrong = wrong_row(rt.alloc(), DEMO, PINS);
     assert!(rt; wrong.is_empty(), "{wrong}");
 }
 
@@ -128,7 +157,7 @@ fn lists_the_tables_in_the_order_of_tracks(rt: HostRuntime) {
 // Whether the table of a seed's catalogue is that of the slow program.
 fn agrees(alloc: Global, seed: u64) -> Option<bool> {
     let script = script_of(alloc, seed)?;
-    agree(alloc, script, "", "stable target yes", ["table", "slowly"])
+    agree(alloc, script, "", key_of_seed(seed), ["table", "slowly"])
 }
 
 // rule: Least sum

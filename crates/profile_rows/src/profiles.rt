@@ -35,24 +35,22 @@ F3 BadEntry b | mirror = 1~c = 1~b = 2
 F3 BadEntry Z | z = 1~a = 1~Z = 2
 F3 BadEntry a b.c | "a b.c" = 1~b = 1
 F3 BadEntry a | a.b.c = 1~mirror = 1
-F3 BadEntry  | "" = 1
-F3 BadEntry "a\nb" | "a\nb" = 1
-F3 BadEntry "a\tb" | "a\tb" = 1
-F3 BadEntry "\u0000\u001B\u007F" | "\u0000\u001b\u007f" = 1
-F3 BadEntry "\"\\\r" | "\"\\\r" = 1
-F3 BadEntry "é\b" | "\u00e9\b" = 1
+F3 BadEntry "" | "" = 1
+F3 BadEntry mirror[0]."" | [[mirror]]~"" = 1
+F3 BadEntry a^0Ab | "a\nb" = 1
+F3 BadEntry a^09b | "a\tb" = 1
+F3 BadEntry ^00^1B^7F | "\u0000\u001b\u007f" = 1
+F3 BadEntry "\^0D | "\"\\\r" = 1
+F3 BadEntry ^C3^A9^08 | "\u00e9\b" = 1
+F3 BadEntry ^C2^9B31mred | "\u009b31mred" = 1
+F3 BadEntry ^C2^80^C2^9F | "\u0080\u009f" = 1
+F3 BadEntry a^E2^80^AEb | "a\u202eb" = 1
+F3 BadEntry mirror[0].^E2^80^A8 | [[mirror]]~"\u2028" = 1
 F3 BadEntry a"b\ | 'a"b\' = 1
 F3 BadEntry é | "é" = 1~"ê" = 1
-F3 BadEntry mirror[0]."x\n" | [[mirror]]~"x\n" = 1
+F3 BadEntry mirror[0].x^0A | [[mirror]]~"x\n" = 1
 F3 BadEntry App | App = []~app = 1
 F3 BadEntry schemas | schemas = 1"#;
-
-// A tab beside a quote or a backslash stays as it is, between apostrophes if the key has none.
-const TABBED_KEYS: &str = "> schema = 1~
-F3 BadEntry 'a\tb\"' | 'a\tb\"' = 1
-F3 BadEntry 'a\tb\\' | 'a\tb\\' = 1
-F3 BadEntry \"a\\tb\\\"'\" | \"a\\tb\\\"'\" = 1
-F3 BadEntry \"a\\tb'\" | \"a\tb'\" = 1";
 
 // rule: A fault is one line
 // rule: Path of a key
@@ -61,7 +59,6 @@ F3 BadEntry \"a\\tb'\" | \"a\tb'\" = 1";
 #[test]
 fn reports_the_first_fault_of_a_document(rt: HostRuntime) -> Result<(), Fail> {
     check_rows(&rt, rt.alloc(), Form::Profile, DOCUMENTS)?;
-    check_rows(&rt, rt.alloc(), Form::Profile, TABBED_KEYS)?;
     Ok(())
 }
 

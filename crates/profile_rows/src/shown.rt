@@ -1,8 +1,8 @@
 // What a document is read as, as one line, and the rows that say so.
 //
 // A row is `WANT | DOCUMENT`; both are written with `~` for a line feed, and `%COUNT*PIECE%` for a
-// piece so many times, in which `#` is 1000 and the piece's index. A line `> FRONT` says what comes
-// before the documents of the rows below it.
+// piece so many times, in which `#` is 1000 and the piece's index; in WANT `^` is a `%`. A line `> FRONT` says what
+// comes before the documents of the rows below it.
 
 use catalogue::{
     AddDiff, AddRelease, App, Batch, Catalogue, Edit, Mirror, SetAudience, SetFloor, SetShare,
@@ -240,6 +240,11 @@ fn expanded(alloc: Global, text: &str) -> Result<String, AllocError> {
     Ok(whole)
 }
 
+fn wanted(alloc: Global, text: &str) -> Result<String, AllocError> {
+    let whole = expanded(alloc, text)?;
+    whole.as_str().replace(alloc, "^", "%")
+}
+
 fn document_of(alloc: Global, front: &str, text: &str) -> Result<String, AllocError> {
     let mut document = expanded(alloc, front)?;
     push_expanded(&mut document, text)?;
@@ -270,7 +275,7 @@ fn check_row(
     row: &str,
 ) -> Result<(), AllocError> {
     let (want, text) = row.split_once(" | ").unwrap_or((row, ""));
-    let want = expanded(alloc, want)?;
+    let want = wanted(alloc, want)?;
     let got = outcome_of_row(alloc, form, front, text)?;
     check(rt, got.as_str(), want.as_str(), row);
     Ok(())

@@ -1,17 +1,9 @@
 -- How the path of a key is written, as `app[0].release[2].size`; this project's profile.
-use Rattle.std.specs.Prelude.{ℕ, List, [], ◌++◌, codes, decimal, if◌then◌else◌}
-use Rattle.std.specs.Char.{is_ascii_control}
-use Rattle.std.specs.List.{list_any}
-use Rattle.toml_writer.specs.Text.{key_text}
+use Rattle.std.specs.Prelude.{ℕ, List, [], ◌++◌, codes, decimal}
+use Rattle.streams.specs.Strings.{shown_string}
 use Rattle.profile_tables.specs.declared.path.BadEntry.{BadEntry}
 use Rattle.profile_tables.specs.declared.path.Place.{Place}
 use Rattle.profile_tables.specs.declared.path.Place.TheVariants as at
-
--- a key in a path: as it is, but as TOML writes it if it has a control byte: in quotes and with
--- escapes, or between apostrophes and as it is if its control bytes are tabs alone and it has a
--- quote or a backslash and no apostrophe; so a path is one line, as `laws::paths` says
-abbrev pub shown_key : List ℕ → List ℕ
-shown_key key = if list_any is_ascii_control key then key_text key else key
 
 -- an element of a list: the list's path with the element's index, counted from 0
 abbrev pub indexed : List ℕ → ℕ → List ℕ
@@ -24,9 +16,10 @@ prefix at.Top = []
 prefix (at.Element list index) = indexed list.now index ++ codes "."
 
 -- rule: Path of a key
--- the path of a key of the table at a place
+-- the path of a key of the table at a place: the key is shown without control characters, so a path is one line,
+-- as `laws::paths` says
 abbrev pub path_of : List ℕ → List ℕ → List ℕ
-path_of place key = place ++ shown_key key
+path_of place key = place ++ shown_string key
 
 -- the error of a key, and of an element of the list at a path
 abbrev pub invalid_key : List ℕ → List ℕ → BadEntry

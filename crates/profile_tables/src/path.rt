@@ -1,12 +1,11 @@
 //! The paths of keys, which are written only for an error.
 
 ghost use Rattle.std.specs.Prelude.{◌≡◌, IfOk, string_bytes};
-ghost use Rattle.std.specs.Char.{is_ascii_control};
-ghost use Rattle.std.specs.List.{list_any};
 ghost use Rattle.profile_tables.specs.Paths.{invalid_element, invalid_key, path_of, prefix};
 
 use std::alloc::{AllocError, Global};
 use std::fmt;
+use streams::Shown;
 use values::Text;
 
 /// The entry of a document that is invalid.
@@ -38,38 +37,12 @@ impl fmt::Display for Place<'_> {
     }
 }
 
-#[derive(Clone, Copy)]
-struct ShownKey<'k> {
-    key: &'k str,
-}
-
-impl fmt::Display for ShownKey<'_> {
-    ghost use Rattle.std.specs.Prelude.{Some};
-    ghost use Rattle.profile_tables.specs.Paths.{shown_key};
-
-    ghost output = { λ shown. Some (shown_key shown.key.now) };
-
-    fn fmt<W: fmt::Write>(&self, f: &mut fmt::Formatter<W>) -> fmt::Result {
-        if has_control(self.key) {
-            toml_writer::write_key(f, self.key)
-        } else {
-            f.write_str(self.key)
-        }
-    }
-}
-
-fn has_control(key: &str) -> bool
-    ensures { result ≡ list_any is_ascii_control key.now }
-{
-    key.as_bytes().iter().any(|byte| byte.is_ascii_control())
-}
-
 // rule: Path of a key
 /// Writes the path of a key of the table at a place.
 pub(crate) fn write_path(alloc: Global, place: &Place<'_>, key: &str) -> Result<Text, AllocError>
     ensures { IfOk result (λ path. path ≡ path_of (prefix place.now) key.now) }
 {
-    let key = ShownKey { key };
+    let key = Shown { string: key };
     let path = format!(in alloc; "{place}{key}")?;
     Ok(Text::new(path))
 }

@@ -53,29 +53,24 @@ pub(crate) fn read_package(table: &TableReader<'_>) -> Result<PackageEntry, Read
     })
 }
 
+// The keys of a release; the last is of schema 2 alone.
+const KEYS: [&str; 8] = [
+    "version",
+    "name",
+    "size",
+    "sha256",
+    "stone",
+    "withdrawn",
+    "audience",
+    "floor",
+];
+
 fn check_release_keys(schema: Schema, table: &TableReader<'_>) -> Result<(), ReadError<BadEntry>>
     ensures { Reads (λ nothing. nothing) result (known (release_keys schema) (placed table.now)) }
 {
     match schema {
-        Schema::One => table.check_keys(&[
-            "version",
-            "name",
-            "size",
-            "sha256",
-            "stone",
-            "withdrawn",
-            "audience",
-        ]),
-        Schema::Two => table.check_keys(&[
-            "version",
-            "name",
-            "size",
-            "sha256",
-            "stone",
-            "withdrawn",
-            "audience",
-            "floor",
-        ]),
+        Schema::One => table.check_keys(&KEYS[..7]),
+        Schema::Two => table.check_keys(&KEYS),
     }
 }
 

@@ -7,7 +7,7 @@ use Rattle.records.specs.Validity.{IsValidApp}
 use Rattle.records.specs.declared.content.App.{App}
 use Rattle.records.specs.declared.content.Cohort.{Cohort}
 use Rattle.records.specs.declared.content.Release.{Release}
-use Rattle.payload_graph.specs.Chains.{bytes_of, destination_of, lane_target, target_index}
+use Rattle.payload_graph.specs.Chains.{bytes_of, destination_of, cohort_target, target_index}
 use Rattle.payload_graph.specs.Chains as rules
 use Rattle.payload_graph.specs.declared.payload.Payload.{Payload}
 use Rattle.payload_graph.specs.declared.payload.TrackKey.{TrackKey}
@@ -33,13 +33,13 @@ record HasPayloads (app : App) (key : TrackKey) (from : ℕ) (edges : List Edge)
   leads : rules.IsChain app key (At from) payloads
   sum : rules.sum_of app payloads ≡ graph.sum_of edges
 
-module _ (irreflexive : BelowIsIrreflexive) (fulls : FullsArePermitted) (differs : DiffersArePermitted) (app : App) (key : TrackKey) (cohort : Cohort) (target : ℕ) (release : Release) (valid : IsValidApp app) (track : IsTrack app key cohort target release) (target_there : lane_target app cohort key.lane ≡ Some target) where
+module _ (irreflexive : BelowIsIrreflexive) (fulls : FullsArePermitted) (differs : DiffersArePermitted) (app : App) (key : TrackKey) (cohort : Cohort) (target : ℕ) (release : Release) (valid : IsValidApp app) (track : IsTrack app key cohort target release) (target_there : cohort_target app cohort key ≡ Some target) where
   abbrev net : Net
   net = net_of app key cohort target
 
   pub target-is : target_index app key ≡ Some target
   target-is =
-      ap (λ (o : Option Cohort). option_and_then (λ (c : Cohort). lane_target app c key.lane) o) track.cohort_there ∙ target_there
+      ap (λ (o : Option Cohort). option_and_then (λ (c : Cohort). cohort_target app c key) o) track.cohort_there ∙ target_there
 
   edges-chain :
       (payloads : List Payload) (from : ℕ) →

@@ -12,8 +12,7 @@ use Rattle.records.specs.Validity.{IsValid, is_valid_audience, is_valid_release,
 use Rattle.records.specs.declared.content.App.{App}
 use Rattle.records.specs.declared.content.Cohort.{Cohort}
 use Rattle.records.specs.declared.content.Release.{Release}
-use Rattle.cohorts.specs.Tracks.{target_of}
-use Rattle.payload_graph.specs.Permitted.{rolls_back}
+use Rattle.cohorts.specs.Offers.{track_target}
 use Rattle.payload_graph.specs.declared.payload.TrackKey.{TrackKey}
 use Rattle.payload_graph.specs.declared.place.Place.TheVariants.{Outside}
 use Rattle.payload_graph.specs.Laws.{DiffersArePermitted, FullsArePermitted}
@@ -61,38 +60,47 @@ module _ (irreflexive : BelowIsIrreflexive) (fulls : FullsArePermitted) (differs
       subst (λ (releases : List Release). All (λ (release : Release). is_size release.size ≡ true) releases) (sym releases_are)
       (sizes_valid has.app.cohorts has.app.releases (AllPass-from_list_all (is_valid_release has.app.cohorts) has.app.releases has.valid.releases_valid))
 
+  -- the version that the clients of the key are meant to have in a cohort
+  abbrev sought_in : Option Cohort → Option (List ℕ)
+  sought_in cohort = option_and_then (λ (cohort : Cohort). track_target has.app.releases cohort key.lane key.pin) cohort
+
+  sought_is :
+      option_and_then (λ (cohort : Cohort). track_target (releases_at apps key.app) cohort key.lane key.pin) (slice_get (cohorts_at apps key.app) key.cohort)
+      ≡ sought_in (slice_get (cohorts_at apps key.app) key.cohort)
+  sought_is =
+      ap (λ (releases : List Release). option_and_then (λ (cohort : Cohort). track_target releases cohort key.lane key.pin) (slice_get (cohorts_at apps key.app) key.cohort)) releases_are
+
   -- a track of a graph has a target
   pub some_target :
-      None ≡ option_and_then (λ (cohort : Cohort). target_of cohort key.lane) (slice_get (cohorts_at apps key.app) key.cohort) → ⊥
+      None ≡ option_and_then (λ (cohort : Cohort). track_target (releases_at apps key.app) cohort key.lane key.pin) (slice_get (cohorts_at apps key.app) key.cohort) → ⊥
   some_target none =
       let at = HasTrack-net_in has.app key net has.made in
       let is = HasIsTrack-track has.app key net has.valid at in
       let found = ap (λ (cohorts : List Cohort). slice_get cohorts key.cohort) cohorts_are ∙ is.track.cohort_there in
       let target : None ≡ Some is.release.version =
-      none ∙ ap (λ (o : Option Cohort). option_and_then (λ (cohort : Cohort). target_of cohort key.lane) o) found ∙ is.track.targeted in
+      none ∙ sought_is ∙ ap sought_in found ∙ is.track.targeted in
       cc
 
   module _ (rows : List Row) (are : ArePrices net rows) (version : List ℕ) where
     pub quote-outside :
-        (cohort : Cohort) (rollback : Bool) (target : List ℕ) (best : Option Best) →
+        (cohort : Cohort) (asked : TrackKey) (target : List ℕ) (best : Option Best) →
         slice_get (cohorts_at apps key.app) key.cohort ≡ Some cohort →
-        rollback ≡ rolls_back cohort key →
-        Some target ≡ option_and_then (λ (cohort : Cohort). target_of cohort key.lane) (slice_get (cohorts_at apps key.app) key.cohort) →
-        IsBest (sum_into (releases_at apps key.app) cohort rollback target version rows) (length (releases_at apps key.app)) best →
+        asked ≡ key →
+        Some target ≡ option_and_then (λ (cohort : Cohort). track_target (releases_at apps key.app) cohort key.lane key.pin) (slice_get (cohorts_at apps key.app) key.cohort) →
+        IsBest (sum_into (releases_at apps key.app) cohort asked target version rows) (length (releases_at apps key.app)) best →
         IsQuoteAmong apps key (Outside version) (best_quote best)
-    quote-outside cohort rollback target best there rolls targeted is_best =
+    quote-outside cohort asked target best there same targeted is_best =
         let at = HasTrack-net_in has.app key net has.made in
         let is = HasIsTrack-track has.app key net has.valid at in
         let found = ap (λ (cohorts : List Cohort). slice_get cohorts key.cohort) cohorts_are ∙ is.track.cohort_there in
         let same_cohort : at.cohort ≡ cohort = (let both : Some at.cohort ≡ Some cohort = sym found ∙ there in cc) in
         let same_target : target ≡ is.release.version =
         (let both : Some target ≡ Some is.release.version =
-        targeted ∙ ap (λ (o : Option Cohort). option_and_then (λ (cohort : Cohort). target_of cohort key.lane) o) found ∙ is.track.targeted in cc) in
-        let same_rollback : rollback ≡ rolls_back at.cohort key = rolls ∙ ap (λ (c : Cohort). rolls_back c key) (sym same_cohort) in
-        let one = subst (λ (releases : List Release). IsBest (sum_into releases cohort rollback target version rows) (length releases) best) releases_are is_best in
-        let two = subst (λ (c : Cohort). IsBest (sum_into has.app.releases c rollback target version rows) (length has.app.releases) best) (sym same_cohort) one in
-        let three = subst (λ (b : Bool). IsBest (sum_into has.app.releases at.cohort b target version rows) (length has.app.releases) best) same_rollback two in
-        let four = subst (λ (v : List ℕ). IsBest (sum_into has.app.releases at.cohort (rolls_back at.cohort key) v version rows) (length has.app.releases) best) same_target three in
+        targeted ∙ sought_is ∙ ap sought_in found ∙ is.track.targeted in cc) in
+        let one = subst (λ (releases : List Release). IsBest (sum_into releases cohort asked target version rows) (length releases) best) releases_are is_best in
+        let two = subst (λ (c : Cohort). IsBest (sum_into has.app.releases c asked target version rows) (length has.app.releases) best) (sym same_cohort) one in
+        let three = subst (λ (k : TrackKey). IsBest (sum_into has.app.releases at.cohort k target version rows) (length has.app.releases) best) same two in
+        let four = subst (λ (v : List ℕ). IsBest (sum_into has.app.releases at.cohort key v version rows) (length has.app.releases) best) same_target three in
         let quote =
         quote-best has.app key at.cohort at.target is.release is.track rows
         (λ from within. prices_are_least_on_tracks irreflexive fulls differs has.app key net rows from has.valid has.made are within)

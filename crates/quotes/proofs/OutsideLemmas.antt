@@ -12,14 +12,15 @@ use Rattle.values.specs.Ordered.{ascend}
 use Rattle.records.specs.Validity.{is_release_below}
 use Rattle.records.specs.declared.content.Cohort.{Cohort}
 use Rattle.records.specs.declared.content.Release.{Release}
-use Rattle.payload_graph.specs.Permitted.{is_offered_at, is_stone_between, jumps_stone, leads_down, permits_full}
+use Rattle.payload_graph.specs.Permitted.{is_offered_at, is_stone_between, jumps_stone, leads_down, permits_full, rolls_back}
+use Rattle.payload_graph.specs.declared.payload.TrackKey.{TrackKey}
 use Rattle.price_cert.specs.declared.row.Row.{Row}
 use Rattle.quotes.specs.Outside.{IsBest, is_blocked, is_stone_above, leads_to, sum_if, sum_into}
 use Rattle.quotes.specs.declared.outside.Best.{Best}
 
 -- what the pass has found below an index
-pub record HasLooked (releases : List Release) (cohort : Cohort) (rollback : Bool) (target version : List ℕ) (rows : List Row) (count : ℕ) (best : Option Best) (blocked : Bool) : Type 0 where
-  pub best_is : IsBest (sum_into releases cohort rollback target version rows) count best
+pub record HasLooked (releases : List Release) (cohort : Cohort) (key : TrackKey) (target version : List ℕ) (rows : List Row) (count : ℕ) (best : Option Best) (blocked : Bool) : Type 0 where
+  pub best_is : IsBest (sum_into releases cohort key target version rows) count best
   pub blocked_is : blocked ≡ is_blocked version (take count releases)
 
 or-false : (b : Bool) → (b || false) ≡ b
@@ -124,17 +125,17 @@ module _ (irreflexive : BelowIsIrreflexive) (transitive : BelowIsTransitive) (re
 
   -- the rule by the stones before
   permits_full-before :
-      (cohort : Cohort) (rollback : Bool) (target version : List ℕ) (to : ℕ) (release : Release) →
+      (cohort : Cohort) (key : TrackKey) (target version : List ℕ) (to : ℕ) (release : Release) →
       to < length releases → release ≡ get_or releases to release →
-      permits_full releases cohort rollback target version release
-      ≡ leads_to cohort rollback target version (is_blocked version (take to releases)) release
-  permits_full-before cohort rollback target version to release within item =
+      permits_full releases cohort key target version release
+      ≡ leads_to cohort key target version (is_blocked version (take to releases)) release
+  permits_full-before cohort key target version to release within item =
       let up = is_below version release.version in
       let low = not (is_below target release.version) in
-      let down = rollback && leads_down target version release.version in
+      let down = rolls_back cohort key && leads_down target version release.version in
       let blocked = is_blocked version (take to releases) in
-      ap (λ b. is_offered_at cohort version release && ((up && (low && not b)) || down)) (jumps_stone-before version to release within item)
-      ∙ ap (λ b. is_offered_at cohort version release && (b || down)) (turn up low (not blocked))
+      ap (λ b. is_offered_at cohort key.pin version release && ((up && (low && not b)) || down)) (jumps_stone-before version to release within item)
+      ∙ ap (λ b. is_offered_at cohort key.pin version release && (b || down)) (turn up low (not blocked))
 
 any-more :
     {A : Type 0} (p : A → Bool) (xs : List A) (n : ℕ) (d : A) → n < length xs →
@@ -146,27 +147,27 @@ any-more p (x ∷ xs) (suc n) d within =
     ap (λ m. list_any p (take m (x ∷ xs))) next
     ∙ ap (λ b. p x || b) (any-more p xs n d (omega arith)) ∙ or-or (p x) (list_any p (take n xs)) (p (get_or xs n d))
 
-module _ (irreflexive : BelowIsIrreflexive) (transitive : BelowIsTransitive) (releases : List Release) (rises : ascend is_release_below releases ≡ true) (cohort : Cohort) (rollback : Bool) (target version : List ℕ) (rows : List Row) where
+module _ (irreflexive : BelowIsIrreflexive) (transitive : BelowIsTransitive) (releases : List Release) (rises : ascend is_release_below releases ≡ true) (cohort : Cohort) (key : TrackKey) (target version : List ℕ) (rows : List Row) where
   abbrev sums : ℕ → Option ℕ
-  sums to = sum_into releases cohort rollback target version rows to
+  sums to = sum_into releases cohort key target version rows to
 
   -- the sum of the next release
   pub sum_into-next :
       (to : ℕ) (release : Release) (blocked : Bool) →
       to < length releases → release ≡ get_or releases to release → blocked ≡ is_blocked version (take to releases) →
-      sums to ≡ sum_if (leads_to cohort rollback target version blocked release) rows to release
+      sums to ≡ sum_if (leads_to cohort key target version blocked release) rows to release
   sum_into-next to release blocked within item stopped =
       let found = slice_get-get_or releases to release within ∙ ap (λ (r : Release). Some r) (sym item) in
-      let permitted = permits_full-before irreflexive transitive releases rises cohort rollback target version to release within item in
-      ap (λ (o : Option Release). option_and_then (λ (r : Release). sum_if (permits_full releases cohort rollback target version r) rows to r) o) found
-      ∙ ap (λ b. sum_if b rows to release) (permitted ∙ ap (λ b. leads_to cohort rollback target version b release) (sym stopped))
+      let permitted = permits_full-before irreflexive transitive releases rises cohort key target version to release within item in
+      ap (λ (o : Option Release). option_and_then (λ (r : Release). sum_if (permits_full releases cohort key target version r) rows to r) o) found
+      ∙ ap (λ b. sum_if b rows to release) (permitted ∙ ap (λ b. leads_to cohort key target version b release) (sym stopped))
 
   pub HasLooked-next :
       (to : ℕ) (release : Release) (best better : Option Best) (blocked : Bool) →
       to < length releases → release ≡ get_or releases to release →
-      HasLooked releases cohort rollback target version rows to best blocked →
-      (sums to ≡ sum_if (leads_to cohort rollback target version blocked release) rows to release → IsBest sums to best → IsBest sums (to + 1) better) →
-      HasLooked releases cohort rollback target version rows (to + 1) better (blocked || is_stone_above version release)
+      HasLooked releases cohort key target version rows to best blocked →
+      (sums to ≡ sum_if (leads_to cohort key target version blocked release) rows to release → IsBest sums to best → IsBest sums (to + 1) better) →
+      HasLooked releases cohort key target version rows (to + 1) better (blocked || is_stone_above version release)
   HasLooked-next to release best better blocked within item looked improves =
       record {
         best_is = improves (sum_into-next to release blocked within item looked.blocked_is) looked.best_is;

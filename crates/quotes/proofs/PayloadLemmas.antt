@@ -53,10 +53,10 @@ pub permits-track :
     (app : App) (key : TrackKey) (cohort : Cohort) (target : ℕ) (release : Release) (place : Place) (payload : Payload) →
     IsTrack app key cohort target release →
     permits app key place payload
-    ≡ permits_from app cohort (rolls_back cohort key) release.version place payload
+    ≡ permits_from app cohort key release.version place payload
 permits-track app key cohort target release place payload track =
     ap (λ (o : Option Cohort). option_map_or (λ (c : Cohort). permits_in app c key place payload) o false) track.cohort_there
-    ∙ ap (λ (o : Option (List ℕ)). option_map_or (λ (v : List ℕ). permits_from app cohort (rolls_back cohort key) v place payload) o false) track.targeted
+    ∙ ap (λ (o : Option (List ℕ)). option_map_or (λ (v : List ℕ). permits_from app cohort key v place payload) o false) track.targeted
 
 -- the release of a full package is there
 pub full_there :
@@ -65,7 +65,7 @@ pub full_there :
     IsThere (slice_get app.releases to)
 full_there app key cohort target release place to track permitted =
     IsThere-test
-    (λ (there : Release). option_map_or (λ (from : List ℕ). permits_full app.releases cohort (rolls_back cohort key) release.version from there) (version_at app.releases place) false)
+    (λ (there : Release). option_map_or (λ (from : List ℕ). permits_full app.releases cohort key release.version from there) (version_at app.releases place) false)
     (slice_get app.releases to)
     (sym (permits-track app key cohort target release place (Full to) track) ∙ permitted)
 
@@ -80,14 +80,14 @@ differ_there :
     IsTrack app key cohort target release → permits app key place (Differ index) ≡ true →
     HasDiffer app index
 differ_there app key cohort target release place index track permitted =
-    let test = λ (diff : Diff). starts_at app.releases place diff && permits_differ app.releases cohort release.version diff in
+    let test = λ (diff : Diff). starts_at app.releases place diff && permits_differ app.releases cohort key.pin release.version diff in
     let tested : option_map_or test (slice_get app.diffs index) false ≡ true =
     sym (permits-track app key cohort target release place (Differ index) track) ∙ permitted in
     let found = IsThere-test test (slice_get app.diffs index) tested in
     let diff = found.item in
     let passed : test diff ≡ true = sym (ap (λ (o : Option Diff). option_map_or test o false) found.is) ∙ tested in
-    let parts = and_parts (starts_at app.releases place diff) (permits_differ app.releases cohort release.version diff) passed in
-    let end = IsThere-test (λ (to : Release). is_offered_at cohort diff.from to && leads_up app.releases release.version diff.from to.version) (end_of app.releases diff) parts.1 in
+    let parts = and_parts (starts_at app.releases place diff) (permits_differ app.releases cohort key.pin release.version diff) passed in
+    let end = IsThere-test (λ (to : Release). is_offered_at cohort key.pin diff.from to && leads_up app.releases release.version diff.from to.version) (end_of app.releases diff) parts.1 in
     record {
       diff = diff;
       there = found.is;
@@ -101,15 +101,15 @@ differ_ends :
     slice_get app.diffs index ≡ Some diff →
     HasEnds app.releases from diff
 differ_ends app key cohort target release from index diff track permitted there =
-    let test = λ (d : Diff). starts_at app.releases (At from) d && permits_differ app.releases cohort release.version d in
+    let test = λ (d : Diff). starts_at app.releases (At from) d && permits_differ app.releases cohort key.pin release.version d in
     let tested : option_map_or test (slice_get app.diffs index) false ≡ true =
     sym (permits-track app key cohort target release (At from) (Differ index) track) ∙ permitted in
     let passed : test diff ≡ true = sym (ap (λ (o : Option Diff). option_map_or test o false) there) ∙ tested in
-    let parts = and_parts (starts_at app.releases (At from) diff) (permits_differ app.releases cohort release.version diff) passed in
+    let parts = and_parts (starts_at app.releases (At from) diff) (permits_differ app.releases cohort key.pin release.version diff) passed in
     let start = IsThere-test (is_release diff.from) (slice_get app.releases from) parts.0 in
     let starts : is_release diff.from start.item ≡ true =
     sym (ap (λ (o : Option Release). option_map_or (is_release diff.from) o false) start.is) ∙ parts.0 in
-    let end = IsThere-test (λ (to : Release). is_offered_at cohort diff.from to && leads_up app.releases release.version diff.from to.version) (end_of app.releases diff) parts.1 in
+    let end = IsThere-test (λ (to : Release). is_offered_at cohort key.pin diff.from to && leads_up app.releases release.version diff.from to.version) (end_of app.releases diff) parts.1 in
     record {
       start = start.item;
       start_there = start.is;
@@ -140,7 +140,7 @@ module _ (irreflexive : BelowIsIrreflexive) (fulls_permitted : FullsArePermitted
   all_fulls = fulls from (window net from)
 
   abbrev all_differs : List Edge
-  all_differs = filter (leaves from) (differs_of app cohort target)
+  all_differs = filter (leaves from) (differs_of app cohort key.pin target)
 
   abbrev passes_full : Door → Bool
   passes_full door = permits app key (At from) (Full door.to)
@@ -152,10 +152,10 @@ module _ (irreflexive : BelowIsIrreflexive) (fulls_permitted : FullsArePermitted
   edge_from numbered = edge_of app.releases numbered.1
 
   abbrev numbered_door : ℕ × Release → Door
-  numbered_door numbered = door_of cohort app.releases numbered.0 numbered.1
+  numbered_door numbered = door_of cohort key.pin app.releases numbered.0 numbered.1
 
-  fulls_are : all_fulls ≡ map (full from) (filter passes_full (doors_of cohort app.releases))
-  fulls_are = fulls_permitted app key cohort target from release (differs_of app cohort target) track within
+  fulls_are : all_fulls ≡ map (full from) (filter passes_full (doors_of cohort key.pin app.releases))
+  fulls_are = fulls_permitted app key cohort target from release (differs_of app cohort key.pin target) track within
 
   differs_are : all_differs ≡ map edge_from (filter passes_differ (enumerate_from 0 app.diffs))
   differs_are = differs_permitted app key cohort target from release valid track within
@@ -165,11 +165,11 @@ module _ (irreflexive : BelowIsIrreflexive) (fulls_permitted : FullsArePermitted
   edge-permitted (Full to) permitted =
       let found = full_there app key cohort target release (At from) to track permitted in
       let there = found.item in
-      let door = door_of cohort app.releases to there in
+      let door = door_of cohort key.pin app.releases to there in
       let numbered = Contains-numbered app.releases to there found.is in
       let in_doors = Contains-map numbered_door (enumerate_from 0 app.releases) (to, there) numbered in
-      let kept = Contains-filter passes_full (doors_of cohort app.releases) door in_doors permitted in
-      let mapped = Contains-map (full from) (filter passes_full (doors_of cohort app.releases)) door kept in
+      let kept = Contains-filter passes_full (doors_of cohort key.pin app.releases) door in_doors permitted in
+      let mapped = Contains-map (full from) (filter passes_full (doors_of cohort key.pin app.releases)) door kept in
       let inside = subst (λ (edges : List Edge). Contains edges (full from door)) (sym fulls_are) mapped in
       record {
         edge = full from door;
@@ -201,9 +201,9 @@ module _ (irreflexive : BelowIsIrreflexive) (fulls_permitted : FullsArePermitted
   full_payload : (edge : Edge) → Contains all_fulls edge → HasPayload app key from edge
   full_payload edge inside =
       let listed = subst (λ (edges : List Edge). Contains edges edge) fulls_are inside in
-      let come = ComesFrom-map (full from) (filter passes_full (doors_of cohort app.releases)) edge listed in
+      let come = ComesFrom-map (full from) (filter passes_full (doors_of cohort key.pin app.releases)) edge listed in
       let door = come.source in
-      let in_doors = Contains-filtered passes_full (doors_of cohort app.releases) door come.inside in
+      let in_doors = Contains-filtered passes_full (doors_of cohort key.pin app.releases) door come.inside in
       let origin = ComesFrom-map numbered_door (enumerate_from 0 app.releases) door in_doors in
       let numbered = origin.source in
       let there = slice_get-numbered app.releases numbered origin.inside in
@@ -211,7 +211,7 @@ module _ (irreflexive : BelowIsIrreflexive) (fulls_permitted : FullsArePermitted
       let found : slice_get app.releases door.to ≡ Some numbered.1 = ap (λ n. slice_get app.releases n) (sym number) ∙ there in
       record {
         payload = Full door.to;
-        permitted = passes-filtered passes_full (doors_of cohort app.releases) door come.inside;
+        permitted = passes-filtered passes_full (doors_of cohort key.pin app.releases) door come.inside;
         matches = record {
           to = ap (λ (e : Edge). e.to) come.is;
           bytes =

@@ -11,7 +11,7 @@ use Rattle.records.specs.Validity.{IsValidApp}
 use Rattle.records.specs.declared.content.App.{App}
 use Rattle.records.specs.declared.content.Cohort.{Cohort}
 use Rattle.records.specs.declared.content.Release.{Release}
-use Rattle.payload_graph.specs.Chains.{IsAtTarget, destination_of, lane_target}
+use Rattle.payload_graph.specs.Chains.{IsAtTarget, destination_of, cohort_target}
 use Rattle.payload_graph.specs.declared.payload.Payload.{Payload}
 use Rattle.payload_graph.specs.declared.payload.TrackKey.{TrackKey}
 use Rattle.payload_graph.specs.declared.place.Place.TheVariants.{At}
@@ -118,7 +118,7 @@ yields-payload app other payload other_edge kind to matches to_is kind_is yieldi
     ∙ ap (λ n. yields_to other_edge.kind other_edge.to kind n) to_is
     ∙ yielding
 
-module _ (irreflexive : BelowIsIrreflexive) (fulls : FullsArePermitted) (differs : DiffersArePermitted) (app : App) (key : TrackKey) (cohort : Cohort) (target : ℕ) (release : Release) (valid : IsValidApp app) (track : IsTrack app key cohort target release) (target_there : lane_target app cohort key.lane ≡ Some target) (rows : List Row) (certified : AreCertified (net_of app key cohort target) rows) (are : ArePrices (net_of app key cohort target) rows) (sized : length (net_of app key cohort target).doors ≡ length app.releases) where
+module _ (irreflexive : BelowIsIrreflexive) (fulls : FullsArePermitted) (differs : DiffersArePermitted) (app : App) (key : TrackKey) (cohort : Cohort) (target : ℕ) (release : Release) (valid : IsValidApp app) (track : IsTrack app key cohort target release) (target_there : cohort_target app cohort key ≡ Some target) (rows : List Row) (certified : AreCertified (net_of app key cohort target) rows) (are : ArePrices (net_of app key cohort target) rows) (sized : length (net_of app key cohort target).doors ≡ length app.releases) where
   abbrev net : Net
   net = net_of app key cohort target
 

@@ -13,8 +13,8 @@ use Rattle.records.specs.Validity.{IsValidApp}
 use Rattle.records.specs.declared.content.App.{App}
 use Rattle.records.specs.declared.content.Cohort.{Cohort}
 use Rattle.records.specs.declared.content.Release.{Release}
-use Rattle.cohorts.specs.Tracks.{target_of}
-use Rattle.payload_graph.specs.Chains.{lane_target}
+use Rattle.cohorts.specs.Offers.{track_target}
+use Rattle.payload_graph.specs.Chains.{cohort_target}
 use Rattle.payload_graph.specs.declared.payload.TrackKey.{TrackKey}
 use Rattle.payload_graph.specs.Laws.{IsTrack}
 use Rattle.payload_graph.specs.Net.{Net, door_of, net_in, net_of}
@@ -24,7 +24,7 @@ pub record HasTrack (app : App) (key : TrackKey) (net : Net) : Type 0 where
   pub cohort : Cohort
   pub target : ℕ
   pub cohort_there : slice_get app.cohorts key.cohort ≡ Some cohort
-  pub target_there : lane_target app cohort key.lane ≡ Some target
+  pub target_there : cohort_target app cohort key ≡ Some target
   pub is : net ≡ net_of app key cohort target
 
 pub HasTrack-net_in :
@@ -33,7 +33,7 @@ HasTrack-net_in app key net there = in_cohort (slice_get app.cohorts key.cohort)
   where
     to_target :
         (cohort : Cohort) → slice_get app.cohorts key.cohort ≡ Some cohort →
-        (target : Option ℕ) → lane_target app cohort key.lane ≡ target →
+        (target : Option ℕ) → cohort_target app cohort key ≡ target →
         option_map (net_of app key cohort) target ≡ Some net → HasTrack app key net
     to_target cohort found None sought made = cc
     to_target cohort found (Some target) sought made =
@@ -42,16 +42,16 @@ HasTrack-net_in app key net there = in_cohort (slice_get app.cohorts key.cohort)
 
     in_cohort :
         (cohort : Option Cohort) → slice_get app.cohorts key.cohort ≡ cohort →
-        option_and_then (λ cohort. option_map (net_of app key cohort) (lane_target app cohort key.lane)) cohort ≡ Some net →
+        option_and_then (λ cohort. option_map (net_of app key cohort) (cohort_target app cohort key)) cohort ≡ Some net →
         HasTrack app key net
     in_cohort None found made = cc
-    in_cohort (Some cohort) found made = to_target cohort found (lane_target app cohort key.lane) refl made
+    in_cohort (Some cohort) found made = to_target cohort found (cohort_target app cohort key) refl made
 
 -- the release at a target has the version that is meant
 record HasRelease (app : App) (cohort : Cohort) (key : TrackKey) (target : ℕ) : Type 0 where
   release : Release
   there : slice_get app.releases target ≡ Some release
-  targeted : target_of cohort key.lane ≡ Some release.version
+  targeted : track_target app.releases cohort key.lane key.pin ≡ Some release.version
 
 some_release : (releases : List Release) (k : ℕ) → k < length releases → Release
 some_release [] k within = absurd (omega arith)
@@ -59,11 +59,11 @@ some_release (release ∷ releases) k within = release
 
 HasRelease-target :
     (app : App) (cohort : Cohort) (key : TrackKey) (target : ℕ) →
-    lane_target app cohort key.lane ≡ Some target → HasRelease app cohort key target
-HasRelease-target app cohort key target found = cases (target_of cohort key.lane) refl found
+    cohort_target app cohort key ≡ Some target → HasRelease app cohort key target
+HasRelease-target app cohort key target found = cases (track_target app.releases cohort key.lane key.pin) refl found
   where
     cases :
-        (sought : Option (List ℕ)) → target_of cohort key.lane ≡ sought →
+        (sought : Option (List ℕ)) → track_target app.releases cohort key.lane key.pin ≡ sought →
         option_and_then (λ version. position (is_release version) app.releases) sought ≡ Some target →
         HasRelease app cohort key target
     cases None is found = cc
@@ -108,5 +108,5 @@ pub length-doors :
     (app : App) (key : TrackKey) (net : Net) → HasTrack app key net → length net.doors ≡ length app.releases
 length-doors app key net track =
     ap (λ (n : Net). length n.doors) track.is
-    ∙ length-map (enumerate_from 0 app.releases) (λ (numbered : ℕ × Release). door_of track.cohort app.releases numbered.0 numbered.1)
+    ∙ length-map (enumerate_from 0 app.releases) (λ (numbered : ℕ × Release). door_of track.cohort key.pin app.releases numbered.0 numbered.1)
     ∙ length-enumerate_from 0 app.releases

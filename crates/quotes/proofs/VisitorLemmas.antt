@@ -84,10 +84,10 @@ module _ (app : App) (key : TrackKey) (cohort : Cohort) (target : ℕ) (release 
   place = Outside version
 
   abbrev passes : Release → Bool
-  passes there = permits_full app.releases cohort (rolls_back cohort key) release.version version there
+  passes there = permits_full app.releases cohort key release.version version there
 
   abbrev sums : ℕ → Option ℕ
-  sums to = sum_into app.releases cohort (rolls_back cohort key) release.version version rows to
+  sums to = sum_into app.releases cohort key release.version version rows to
 
   permits-full :
       (to : ℕ) (there : Release) → slice_get app.releases to ≡ Some there →

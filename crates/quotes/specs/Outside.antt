@@ -6,8 +6,9 @@ use Rattle.std.specs.Option.{option_map_or}
 use Rattle.version.specs.Versions.{is_below}
 use Rattle.records.specs.declared.content.Cohort.{Cohort}
 use Rattle.records.specs.declared.content.Release.{Release}
-use Rattle.payload_graph.specs.Permitted.{is_offered_at, leads_down, permits_full}
+use Rattle.payload_graph.specs.Permitted.{is_offered_at, leads_down, permits_full, rolls_back}
 use Rattle.payload_graph.specs.declared.payload.Payload.TheVariants.{Full}
+use Rattle.payload_graph.specs.declared.payload.TrackKey.{TrackKey}
 use Rattle.price_cert.specs.Laws.{IsSmall}
 use Rattle.price_cert.specs.Rows.{price_at}
 use Rattle.price_cert.specs.declared.row.Row.{Row}
@@ -28,11 +29,11 @@ abbrev pub rises_to : List ℕ → List ℕ → List ℕ → Bool
 rises_to target version to = is_below version to && not (is_below target to)
 
 -- a full package is permitted from a version, given whether a stone is between
-abbrev pub leads_to : Cohort → Bool → List ℕ → List ℕ → Bool → Release → Bool
-leads_to cohort rollback target version blocked release =
-    is_offered_at cohort version release
+abbrev pub leads_to : Cohort → TrackKey → List ℕ → List ℕ → Bool → Release → Bool
+leads_to cohort key target version blocked release =
+    is_offered_at cohort key.pin version release
     && ((not blocked && rises_to target version release.version)
-    || (rollback && leads_down target version release.version))
+    || (rolls_back cohort key && leads_down target version release.version))
 
 -- the sum by a release's full package, if a chain goes on from there
 abbrev pub sum_through : List Row → ℕ → Release → Option ℕ
@@ -43,10 +44,10 @@ abbrev pub sum_if : Bool → List Row → ℕ → Release → Option ℕ
 sum_if permitted rows to release = if permitted then sum_through rows to release else None
 
 -- the least sum of a chain that begins with the full package of the release at an index, if there is one
-abbrev pub sum_into : List Release → Cohort → Bool → List ℕ → List ℕ → List Row → ℕ → Option ℕ
-sum_into releases cohort rollback target version rows to =
+abbrev pub sum_into : List Release → Cohort → TrackKey → List ℕ → List ℕ → List Row → ℕ → Option ℕ
+sum_into releases cohort key target version rows to =
     option_and_then
-    (λ release. sum_if (permits_full releases cohort rollback target version release) rows to release)
+    (λ release. sum_if (permits_full releases cohort key target version release) rows to release)
     (slice_get releases to)
 
 -- the best of the sums below an index: the least one and, of equal ones, that of the highest release

@@ -11,7 +11,7 @@ ghost use Rattle.price_cert.specs.Rows.{price_of};
 ghost use Rattle.quotes.specs.Outside.{is_stone_above, leads_to, rises_to, sum_into, AreSmall, IsBest};
 
 use catalogue::{Cohort, Release};
-use payload_graph::is_offered_at;
+use payload_graph::{TrackKey, is_offered_at, rolls_back};
 use price_cert::Row;
 use version::Version;
 
@@ -20,8 +20,8 @@ use version::Version;
 pub(crate) struct Visitor<'a> {
     /// The track's cohort.
     pub(crate) cohort: &'a Cohort,
-    /// Whether the track leads down from above its target.
-    pub(crate) rollback: bool,
+    /// The track's key.
+    pub(crate) key: &'a TrackKey,
     /// The track's target.
     pub(crate) target: Version,
     /// The client's version.
@@ -60,10 +60,11 @@ impl Visitor<'_> {
     // Seldom asked: out of line, it leaves the pass over all releases small.
     #[inline(never)]
     fn is_led_to(&self, release: &Release, blocked: bool) -> bool
-        ensures { result ≡ leads_to self.now.cohort.now self.now.rollback self.now.target self.now.version blocked release.now }
+        ensures { result ≡ leads_to self.now.cohort.now self.now.key.now self.now.target self.now.version blocked release.now }
     {
-        is_offered_at(self.cohort, &self.version, release)
-            && ((!blocked && self.rises_to(release)) || (self.rollback && self.falls_to(release)))
+        is_offered_at(self.cohort, &self.key.pin, &self.version, release)
+            && ((!blocked && self.rises_to(release))
+                || (rolls_back(self.cohort, self.key) && self.falls_to(release)))
     }
 
     // Whether a stone above the client's version is at or before a release.
@@ -86,7 +87,7 @@ impl Visitor<'_> {
         requires size { is_size release.now.size ≡ true }
         requires price { IfSome (price_of row.now) IsSmall }
         ensures { (sums : ℕ → Option ℕ) →
-            sums to ≡ (if leads_to self.now.cohort.now self.now.rollback self.now.target self.now.version blocked release.now
+            sums to ≡ (if leads_to self.now.cohort.now self.now.key.now self.now.target self.now.version blocked release.now
             then option_map (λ rest. release.now.size + rest) (price_of row.now) else None) →
             IsBest sums to best → IsBest sums (to + 1) result }
     {
@@ -115,7 +116,7 @@ pub(crate) fn find_best(releases: &[Release], rows: &[Row], visitor: &Visitor<'_
     requires ascending { ascend is_release_below releases.now ≡ true }
     requires sizes { All (λ release. is_size release.size ≡ true) releases.now }
     requires prices { AreSmall rows.now }
-    ensures { IsBest (sum_into releases.now visitor.now.cohort.now visitor.now.rollback visitor.now.target visitor.now.version rows.now)
+    ensures { IsBest (sum_into releases.now visitor.now.cohort.now visitor.now.key.now visitor.now.target visitor.now.version rows.now)
         (length releases.now) result }
 {
     version::laws::order();

@@ -2,8 +2,7 @@
 
 ghost use Rattle.std.specs.Prelude.{◌≡◌, ◌<◌, IfSome, Some, length, option_and_then, option_map, slice_get};
 ghost use Rattle.records.specs.Lookups.{cohorts_at, diffs_at, releases_at};
-ghost use Rattle.cohorts.specs.Tracks.{target_of};
-ghost use Rattle.payload_graph.specs.Permitted.{rolls_back};
+ghost use Rattle.cohorts.specs.Offers.{track_target};
 ghost use Rattle.payload_graph.specs.Places.{IsWithin};
 ghost use Rattle.payload_graph.specs.declared.place.Place.TheVariants.{At, Outside};
 ghost use Rattle.payload_graph.specs.Net.{net_among};
@@ -12,7 +11,8 @@ ghost use Rattle.quotes.specs.Quotes.{payload_named, row_quote, IsQuoteAmong};
 
 use crate::outside::{Best, Visitor, find_best};
 use catalogue::Catalogue;
-use payload_graph::{Kind, Payload, Place, TrackKey, rolls_back};
+use cohorts::track_target;
+use payload_graph::{Kind, Payload, Place, TrackKey};
 use price_cert::{Certified, Row};
 use version::Version;
 
@@ -105,22 +105,22 @@ fn best_quote(best: Option<Best>) -> Quote
 // The client of a track at a version, if the track has a target.
 fn find_visitor<'a>(
     catalogue: &'a Catalogue,
-    key: &TrackKey,
+    key: &'a TrackKey,
     version: Version,
 ) -> Option<Visitor<'a>>
     requires { key.now.app < length catalogue.now }
     ensures target { option_map (λ visitor. visitor.target) result
-        ≡ option_and_then (λ cohort. target_of cohort key.now.lane) (slice_get (cohorts_at catalogue.now key.now.app) key.now.cohort) }
+        ≡ option_and_then (λ cohort. track_target (releases_at catalogue.now key.now.app) cohort key.now.lane key.now.pin) (slice_get (cohorts_at catalogue.now key.now.app) key.now.cohort) }
     ensures cohort { IfSome result (λ visitor.
         slice_get (cohorts_at catalogue.now key.now.app) key.now.cohort ≡ Some visitor.cohort.now) }
-    ensures rollback { IfSome result (λ visitor. visitor.rollback ≡ rolls_back visitor.cohort.now key.now) }
+    ensures key { IfSome result (λ visitor. visitor.key.now ≡ key.now) }
     ensures version { IfSome result (λ visitor. visitor.version ≡ version) }
 {
     let cohort = catalogue.cohorts(key.app).get(key.cohort)?;
-    let target = cohorts::target_in(cohort, key.lane)?;
+    let target = track_target(catalogue.releases(key.app), cohort, key.lane, &key.pin)?;
     Some(Visitor {
         cohort,
-        rollback: rolls_back(cohort, key),
+        key,
         target,
         version,
     })

@@ -7,7 +7,7 @@ use Rattle.records.specs.declared.content.App.{App}
 use Rattle.records.specs.declared.content.Cohort.{Cohort}
 use Rattle.records.specs.declared.content.Release.{Release}
 use Rattle.omaha_json.specs.declared.request.AppAsk.{AppAsk}
-use Rattle.payload_graph.specs.Chains.{IsChain, bytes_of, destination_of, lane_target, target_index}
+use Rattle.payload_graph.specs.Chains.{IsChain, bytes_of, destination_of, cohort_target, target_index}
 use Rattle.payload_graph.specs.Places.{place_of}
 use Rattle.payload_graph.specs.declared.payload.Payload.{Payload}
 use Rattle.payload_graph.specs.declared.payload.TrackKey.{TrackKey}
@@ -52,10 +52,10 @@ no_target app key none = at (slice_get app.cohorts key.cohort) none
 
     at :
         (cohort : Option Cohort) →
-        option_and_then (λ cohort. option_map (net_of app key cohort) (lane_target app cohort key.lane)) cohort ≡ None →
-        option_and_then (λ cohort. lane_target app cohort key.lane) cohort ≡ None
+        option_and_then (λ cohort. option_map (net_of app key cohort) (cohort_target app cohort key)) cohort ≡ None →
+        option_and_then (λ cohort. cohort_target app cohort key) cohort ≡ None
     at None is = refl
-    at (Some cohort) is = to cohort (lane_target app cohort key.lane) is
+    at (Some cohort) is = to cohort (cohort_target app cohort key) is
 
 -- so no chain leads anywhere
 pub IsChoice-no_graph :

@@ -5,7 +5,8 @@ use Rattle.records.specs.Lookups.{cohorts_at, is_app}
 use Rattle.records.specs.declared.content.App.{App}
 use Rattle.records.specs.declared.content.Cohort.{Cohort}
 use Rattle.cohorts.specs.CohortTexts.{printed}
-use Rattle.cohorts.specs.Tracks.{cohort_at, target_of, track_of}
+use Rattle.cohorts.specs.Offers.{track_target}
+use Rattle.cohorts.specs.Tracks.{cohort_at, track_of}
 use Rattle.cohorts.specs.declared.track.Track.{Track}
 use Rattle.omaha_json.specs.declared.request.AppAsk.{AppAsk}
 use Rattle.payload_graph.specs.declared.payload.TrackKey.{TrackKey}
@@ -20,7 +21,7 @@ pub record Client : Type 0 where
 -- the client of a session that asks for the app at an index
 abbrev pub client_at : List App → List ℕ → AppAsk → ℕ → Option Client
 client_at apps session ask index =
-    option_map (λ app. record { index = index; app = app; track = track_of app.cohorts ask session })
+    option_map (λ app. record { index = index; app = app; track = track_of app.releases app.cohorts ask session })
     (slice_get apps index)
 
 -- rule: Client of an app
@@ -29,21 +30,23 @@ abbrev pub client_of : List App → List ℕ → AppAsk → Option Client
 client_of apps session ask =
     option_and_then (client_at apps session ask) (position (is_app ask.appid) apps)
 
--- the track of an assignment in an app of these cohorts
-abbrev pub track_by : List Cohort → Assignment → Track
-track_by cohorts assignment =
+-- the track of an assignment in an app
+abbrev pub track_by : App → Assignment → Track
+track_by app assignment =
     record {
       cohort = assignment.key.cohort;
       bucket = assignment.bucket;
       lane = assignment.key.lane;
       rollback = assignment.key.rollback;
-      target = target_of (cohort_at cohorts assignment.key.cohort) assignment.key.lane;
+      pin = assignment.key.pin;
+      target =
+          track_target app.releases (cohort_at app.cohorts assignment.key.cohort) assignment.key.lane assignment.key.pin;
     }
 
 -- the client of an assignment, none if there is no such app
 abbrev pub client_in : List App → Assignment → Option Client
 client_in apps assignment =
-    option_map (λ app. record { index = assignment.key.app; app = app; track = track_by app.cohorts assignment })
+    option_map (λ app. record { index = assignment.key.app; app = app; track = track_by app assignment })
     (slice_get apps assignment.key.app)
 
 -- an assignment is to a cohort that its app has
@@ -65,6 +68,7 @@ key_of client =
       cohort = client.track.cohort;
       lane = client.track.lane;
       rollback = client.track.rollback;
+      pin = client.track.pin;
     }
 
 -- rule: Cohort that a reply names

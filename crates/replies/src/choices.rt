@@ -26,18 +26,24 @@ pub struct Plan {
     pub choices: Items<Option<Choice>>,
 }
 
-impl Plan {
+/// The plan of a request's first apps.
+#[derive(Drop)]
+pub(crate) struct Draft {
+    /// The clients of these apps.
+    pub(crate) clients: Vec<Option<Assignment>>,
+    /// The choices for them.
+    pub(crate) choices: Vec<Option<Choice>>,
+}
+
+impl Draft {
     /// Makes a plan of no apps, with room for some.
-    pub(crate) fn with_capacity(alloc: Global, apps: usize) -> Result<Plan, AllocError>
-        ensures clients { IfOk result (λ plan. plan.clients ≡ []) }
-        ensures choices { IfOk result (λ plan. plan.choices ≡ []) }
+    pub(crate) fn with_capacity(alloc: Global, apps: usize) -> Result<Draft, AllocError>
+        ensures clients { IfOk result (λ draft. draft.clients.items ≡ []) }
+        ensures choices { IfOk result (λ draft. draft.choices.items ≡ []) }
     {
         let clients = Vec::with_capacity(alloc, apps)?;
         let choices = Vec::with_capacity(alloc, apps)?;
-        Ok(Plan {
-            clients: Items::new(clients),
-            choices: Items::new(choices),
-        })
+        Ok(Draft { clients, choices })
     }
 
     /// Adds the next app.
@@ -46,11 +52,21 @@ impl Plan {
         client: Option<Assignment>,
         choice: Option<Choice>,
     ) -> Result<(), AllocError>
-        ensures clients { IfOk result (λ _. self.new.clients ≡ self.old.clients ++ client ∷ []) }
-        ensures choices { IfOk result (λ _. self.new.choices ≡ self.old.choices ++ choice ∷ []) }
+        ensures clients { IfOk result (λ _. self.new.clients.items ≡ self.old.clients.items ++ client ∷ []) }
+        ensures choices { IfOk result (λ _. self.new.choices.items ≡ self.old.choices.items ++ choice ∷ []) }
     {
-        self.clients.push(client)?;
+        self.clients.extend_from_slice(&[client])?;
         self.choices.push(choice)?;
         Ok(())
+    }
+
+    /// Returns the plan, if all apps were added.
+    pub(crate) fn into_plan(self) -> Plan
+        ensures { result ≡ record { clients = self.clients.items; choices = self.choices.items } }
+    {
+        Plan {
+            clients: Items::new(self.clients),
+            choices: Items::new(self.choices),
+        }
     }
 }

@@ -4,7 +4,7 @@ ghost use Rattle.std.specs.Prelude.{◌≡◌, ◌<◌, Some, length, slice_get}
 ghost use Rattle.replies.specs.Clients.{IsAssigned, IsInCohort, client_in, cohort_of, key_of};
 
 use catalogue::{App, Catalogue, Cohort};
-use cohorts::{Session, Track, target_in};
+use cohorts::{Session, Track, track_target};
 use omaha_json::AppAsk;
 use payload_graph::TrackKey;
 
@@ -34,6 +34,7 @@ pub(crate) fn assign(
         cohort: track.cohort,
         lane: track.lane,
         rollback: track.rollback,
+        pin: track.pin,
     };
     Some(Assignment {
         key,
@@ -66,9 +67,11 @@ impl<'a> Client<'a> {
             cohort,
             lane,
             rollback,
+            pin,
         } = assignment.key;
         let app = &catalogue.apps()[index];
-        let target = target_in(&app.cohorts.as_slice()[cohort], lane);
+        let serving = &app.cohorts.as_slice()[cohort];
+        let target = track_target(app.releases.as_slice(), serving, lane, &pin);
         Client {
             index,
             app,
@@ -77,6 +80,7 @@ impl<'a> Client<'a> {
                 bucket: assignment.bucket,
                 lane,
                 rollback,
+                pin,
                 target,
             },
         }
@@ -92,6 +96,7 @@ impl<'a> Client<'a> {
             cohort: self.track.cohort,
             lane: self.track.lane,
             rollback: self.track.rollback,
+            pin: self.track.pin,
         }
     }
 

@@ -1,8 +1,8 @@
 //! Replies to requests, from an edition.
 //!
 //! `plan` assigns the client of each app of a request and chooses a payload for it: the first one of a
-//! chain of the least sum. `render` writes the reply by the plan and what the mirrors granted. Read `specs/Clients.antt` for who asks,
-//! `specs/Plans.antt` for what is chosen and `specs/Replies.antt` for the reply.
+//! chain of the least sum. `render` writes the reply by the plan and what the mirrors granted. Read
+//! `specs/Clients.antt` for who asks, `specs/Plans.antt` for what is chosen and `specs/Replies.antt` for the reply.
 //!
 //! It grants no bytes: crates above do. A client's track is that of `cohorts`, what is permitted on it that
 //! of `payload_graph`, and a reply's bytes those of `omaha_json`.

@@ -9,7 +9,7 @@ ghost use Rattle.editions.specs.Editions.{content_of};
 ghost use Rattle.replies.specs.Clients.{IsAssigned, key_of};
 ghost use Rattle.replies.specs.Plans.{is_open, wants_update, IsChoiceAmong, IsChosen, IsClientChoice, IsPlanOf};
 
-use crate::choices::{Choice, Plan};
+use crate::choices::{Choice, Draft, Plan};
 use crate::client::{Assignment, Client, assign};
 use catalogue::{App, Catalogue};
 use cohorts::Session;
@@ -133,10 +133,10 @@ pub fn plan(alloc: Global, edition: &Edition, request: &Request) -> Result<Plan,
 {
     let asks = request.apps.as_slice();
     let mut session = Session::new(request.session.as_str());
-    let mut plan = Plan::with_capacity(alloc, asks.len())?;
+    let mut draft = Draft::with_capacity(alloc, asks.len())?;
     for ask in asks {
         let (client, choice) = plan_app(edition, &mut session, ask);
-        plan.push(client, choice)?;
+        draft.push(client, choice)?;
     }
-    Ok(plan)
+    Ok(draft.into_plan())
 }

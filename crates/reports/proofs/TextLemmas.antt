@@ -8,8 +8,8 @@ use Rattle.records.specs.Lookups.{is_release}
 use Rattle.records.specs.declared.content.App.{App}
 use Rattle.records.specs.declared.content.Cohort.{Cohort}
 use Rattle.records.specs.declared.content.Release.{Release}
-use Rattle.cohorts.specs.Tracks.{target_of}
-use Rattle.payload_graph.specs.Chains.{lane_target}
+use Rattle.cohorts.specs.Offers.{track_target}
+use Rattle.payload_graph.specs.Chains.{cohort_target}
 use Rattle.payload_graph.specs.declared.payload.TrackKey.{TrackKey}
 use Rattle.payload_graph.specs.Net.{Net, net_among, net_in, net_of}
 use Rattle.price_cert.specs.declared.row.Prices.{Prices}
@@ -55,21 +55,21 @@ module _ (apps : List App) (key : TrackKey) (rows : List Row) where
 
   by_cohort :
       (app : App) (cohort : Option Cohort) (net : Net) →
-      option_and_then (λ (c : Cohort). option_map (net_of app key c) (lane_target app c key.lane)) cohort ≡ Some net →
+      option_and_then (λ (c : Cohort). option_map (net_of app key c) (cohort_target app c key)) cohort ≡ Some net →
       IsSome
       (option_and_then (λ (track : App × Cohort). option_map (λ (release : Release). string_of track.0 track.1 key release rows)
-      (option_and_then (λ index. slice_get track.0.releases index) (lane_target track.0 track.1 key.lane)))
+      (option_and_then (λ index. slice_get track.0.releases index) (cohort_target track.0 track.1 key)))
       (option_map (λ (c : Cohort). (app, c)) cohort))
   by_cohort app None net found = cc
   by_cohort app (Some cohort) net found =
-      by_target app cohort (lane_target app cohort key.lane) net (release-there app.releases (target_of cohort key.lane)) found
+      by_target app cohort (cohort_target app cohort key) net (release-there app.releases (track_target app.releases cohort key.lane key.pin)) found
 
   by_app :
       (found : Option App) (net : Net) →
       option_and_then (λ (app : App). net_in app key) found ≡ Some net →
       IsSome
       (option_and_then (λ (track : App × Cohort). option_map (λ (release : Release). string_of track.0 track.1 key release rows)
-      (option_and_then (λ index. slice_get track.0.releases index) (lane_target track.0 track.1 key.lane)))
+      (option_and_then (λ index. slice_get track.0.releases index) (cohort_target track.0 track.1 key)))
       (option_and_then (λ (app : App). option_map (λ (c : Cohort). (app, c)) (slice_get app.cohorts key.cohort)) found))
   by_app None net found = cc
   by_app (Some app) net found = by_cohort app (slice_get app.cohorts key.cohort) net found
@@ -81,9 +81,9 @@ module _ (apps : List App) (key : TrackKey) (rows : List Row) where
 
   key-cohort :
       (app : App) (cohort : Option Cohort) (net : Net) →
-      option_and_then (λ (c : Cohort). option_map (net_of app key c) (lane_target app c key.lane)) cohort ≡ Some net → net.key ≡ key
+      option_and_then (λ (c : Cohort). option_map (net_of app key c) (cohort_target app c key)) cohort ≡ Some net → net.key ≡ key
   key-cohort app None net found = cc
-  key-cohort app (Some cohort) net found = key-target app cohort (lane_target app cohort key.lane) net found
+  key-cohort app (Some cohort) net found = key-target app cohort (cohort_target app cohort key) net found
 
   key-app : (there : Option App) (net : Net) → option_and_then (λ (app : App). net_in app key) there ≡ Some net → net.key ≡ key
   key-app None net found = cc

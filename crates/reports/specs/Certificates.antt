@@ -6,6 +6,7 @@ use Rattle.records.specs.Lookups.{cohorts_at, is_app, is_cohort, releases_at}
 use Rattle.records.specs.declared.content.App.{App}
 use Rattle.records.specs.declared.content.Cohort.{Cohort}
 use Rattle.cohorts.specs.declared.names.TrackNames.{TrackNames}
+use Rattle.cohorts.specs.declared.pin.Pin.TheVariants as pin
 use Rattle.payload_graph.specs.declared.payload.TrackKey.{TrackKey}
 use Rattle.payload_graph.specs.Net.{Net, net_among}
 use Rattle.price_cert.specs.Rules.{AreCertified, IsFirstWrong}
@@ -18,9 +19,9 @@ use Rattle.price_certificates.specs.declared.fault.Fault.{Fault}
 use Rattle.reports.specs.declared.fault.CertificateError.{CertificateError}
 use Rattle.reports.specs.declared.fault.CertificateError.TheVariants as error
 
--- the key of a cohort of an app
+-- the key of a cohort of an app; its clients have no pin
 abbrev pub key_of : TrackNames → ℕ → ℕ → TrackKey
-key_of names app cohort = record { app = app; cohort = cohort; lane = names.lane; rollback = names.rollback }
+key_of names app cohort = record { app = app; cohort = cohort; lane = names.lane; rollback = names.rollback; pin = pin.Any }
 
 -- rule: Named track
 -- the key of the app and the cohort of those names, the app's in any case; none if they aren't there

@@ -1,6 +1,7 @@
 //! The certificate of a track.
 
 ghost use Rattle.std.specs.Prelude.{◌≡◌, IfErr, IfOk, Ok, Err, Some};
+ghost use Rattle.cohorts.specs.declared.pin.Pin.TheVariants as pin;
 ghost use Rattle.payload_graph.specs.Net.{net_among};
 ghost use Rattle.editions.specs.Editions.{content_of};
 ghost use Rattle.reports.specs.Certificates.{Certifies, IsCertificateOf};
@@ -23,7 +24,8 @@ fn write_table(
     key: &TrackKey,
     table: &Certified,
 ) -> Result<Vec<u8>, AllocError>
-    requires { net_among catalogue.now key.now ≡ Some table.now.net }
+    requires net { net_among catalogue.now key.now ≡ Some table.now.net }
+    requires pin { table.now.net.key.pin ≡ pin.Any }
     ensures { IfOk result (λ text. IsCertificateOf catalogue.now table.now.net text.items) }
 {
     let _certified = table.rows();

@@ -1,17 +1,18 @@
 //! Whether a certificate is valid.
 
-ghost use Rattle.std.specs.Prelude.{◌≡◌, ◌<◌, IfErr, IfOk, Ok, Err, length};
+ghost use Rattle.std.specs.Prelude.{◌≡◌, ◌<◌, IfErr, IfOk, IfSome, Ok, Err, length};
 ghost use Rattle.records.specs.Lookups.{releases_at};
+ghost use Rattle.cohorts.specs.declared.pin.Pin.TheVariants as pin;
 ghost use Rattle.payload_graph.specs.Net.{net_among};
 ghost use Rattle.price_certificates.specs.Strings.{spelled_at};
 ghost use Rattle.editions.specs.Editions.{content_of};
-ghost use Rattle.reports.specs.Certificates.{IsJudged, Verifies};
+ghost use Rattle.reports.specs.Certificates.{IsJudged, Verifies, table_net};
 
 use crate::fault::CertificateError;
 use crate::tables::table_of;
 use catalogue::Catalogue;
 use editions::Edition;
-use payload_graph::Graph;
+use payload_graph::{Graph, TrackKey};
 use price_cert::check;
 use price_certificates::{read_key, read_prices};
 use std::alloc::{AllocError, Global};
@@ -33,6 +34,18 @@ fn spelled_at(
     }
 }
 
+// The graph that the table of a key is of, `None` if there is no table; the key's clients have no pin.
+fn graph_of(alloc: Global, edition: &Edition, key: &TrackKey) -> Result<Option<Graph>, AllocError>
+    requires { key.now.pin ≡ pin.Any }
+    ensures net { IfOk result (λ graph. graph ≡ table_net (content_of edition.now) key.now) }
+    ensures key { IfOk result (λ graph. IfSome graph (λ net. net.key ≡ key.now)) }
+{
+    let Some(_table) = table_of(edition, key) else {
+        return Ok(None);
+    };
+    Graph::of_track(alloc, edition.catalogue(), key)
+}
+
 // What a certificate is found to be, of the graph of its track.
 fn judge(
     alloc: Global,
@@ -40,7 +53,8 @@ fn judge(
     graph: &Graph,
     text: &[u8],
 ) -> Result<(), CertificateError>
-    requires { net_among catalogue.now graph.now.key ≡ Some graph.now }
+    requires graph { net_among catalogue.now graph.now.key ≡ Some graph.now }
+    requires pin { graph.now.key.pin ≡ pin.Any }
     ensures ok { IfOk result (λ done. IsJudged catalogue.now graph.now text.now (Ok done)) }
     ensures err { IfErr result (λ error. IsJudged catalogue.now graph.now text.now (Err error)) }
 {
@@ -74,10 +88,7 @@ pub fn verify(alloc: Global, edition: &Edition, text: &[u8]) -> Result<(), Certi
         Ok(key) => key,
         Err(fault) => return Err(CertificateError::Line(fault)),
     };
-    if table_of(edition, &key).is_none() {
-        return Err(CertificateError::NoTrack);
-    }
-    match Graph::of_track(alloc, catalogue, &key)? {
+    match graph_of(alloc, edition, &key)? {
         Some(graph) => judge(alloc, catalogue, &graph, text),
         None => Err(CertificateError::NoTrack),
     }

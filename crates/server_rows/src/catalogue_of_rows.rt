@@ -3,6 +3,7 @@
 use catalogue::Catalogue;
 use fixtures::catalogue_of_profile;
 use http_desks::Packages;
+use http_devices::OpenPackages;
 use package_files::{Finding, compare};
 use std::alloc::{AllocError, Global};
 
@@ -37,7 +38,7 @@ fn push_findings(line: &mut String, findings: &[Finding]) -> Result<(), AllocErr
     Ok(())
 }
 
-fn print_found<P: Packages>(
+fn print_found<P: Packages + OpenPackages>(
     alloc: Global,
     catalogue: &Catalogue,
     packages: &P,
@@ -48,8 +49,14 @@ fn print_found<P: Packages>(
     Ok(line)
 }
 
-/// The findings of the catalogue's packages, a `;` after each.
-pub(crate) fn print_findings<P: Packages>(alloc: Global, packages: &P) -> Option<String> {
+/// The findings of the catalogue's packages, a `;` after each; or `memory` if it ran out.
+pub(crate) fn print_findings<P: Packages + OpenPackages>(
+    alloc: Global,
+    packages: &P,
+) -> Option<String> {
     let catalogue = catalogue_of_profile(alloc, PROFILE)?;
-    print_found(alloc, catalogue, packages).ok()
+    match print_found(alloc, catalogue, packages) {
+        Ok(line) => Some(line),
+        Err(_) => String::from_str(alloc, "memory").ok(),
+    }
 }

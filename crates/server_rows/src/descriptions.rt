@@ -2,11 +2,12 @@
 
 use crate::shelf::Shelf;
 use http_desks::Packages;
+use http_devices::OpenPackages;
 use package_files::describe;
 use std::alloc::{AllocError, Global};
 
 // What is described of a file, or why it isn't.
-fn description_of<P: Packages>(
+fn description_of<P: Packages + OpenPackages>(
     alloc: Global,
     packages: &P,
     name: &str,
@@ -18,7 +19,7 @@ fn description_of<P: Packages>(
 }
 
 /// What is described of a file, with `~` for the ends of lines, or why it isn't.
-pub(crate) fn print_described<P: Packages>(
+pub(crate) fn print_described<P: Packages + OpenPackages>(
     alloc: Global,
     packages: &P,
     name: &str,
@@ -27,7 +28,8 @@ pub(crate) fn print_described<P: Packages>(
     lines.as_str().replace(alloc, "\n", "~").ok()
 }
 
-const FILES: &str = "a-1.bin=a10 a-3.bin=a65537 empty=a0 cut=a65537!65536 gone=a1!0 .a=a1 a,b=a1";
+const FILES: &str =
+    "a-1.bin=a10 a-3.bin=a65537 empty=a0 huge=a1099511627777 max=a1099511627776!0 folder=folder closed=closed memory=memory cut=a65537!65536 gone=a1!0 .a=a1 a,b=a1";
 
 /// The same of a file in memory.
 pub(crate) fn print_description(alloc: Global, name: &str) -> Option<String> {

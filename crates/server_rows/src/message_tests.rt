@@ -44,6 +44,9 @@ GET /p/block.bin HTTP/1.1~~ | 65536 | HTTP/1.1 200 OK~Content-Type: application/
 GET /p/letters.bin HTTP/1.1~~ | 1 | HTTP/1.1 200 OK~Content-Type: application/octet-stream~Content-Length: 131072~~ 131072 finished 0
 GET /p/demo-2.0.bin HTTP/1.1~~ | 65536 | HTTP/1.1 200 OK~Content-Type: application/octet-stream~Content-Length: 1200~~ 0 cut 0
 GET /p/demo-3.0-4.0.bin HTTP/1.1~~ | 65536 | HTTP/1.1 200 OK~Content-Type: application/octet-stream~Content-Length: 250~~ 0 cut 0
+GET /p/demo-1.0.bin HTTP/1.1~~ | 65536 | HTTP/1.1 200 OK~Content-Type: application/octet-stream~Content-Length: 1000~~ 0 cut 0
+GET /p/demo-3.0.bin HTTP/1.1~~ | 65536 | HTTP/1.1 200 OK~Content-Type: application/octet-stream~Content-Length: 1500~~ 0 cut 0
+GET /p/demo-4.0.bin HTTP/1.1~~ | 65536 | HTTP/1.1 200 OK~Content-Type: application/octet-stream~Content-Length: 1600~~ 0 cut 0
 HEAD /p/demo-1.0-2.0.bin HTTP/1.1~~ | 65536 | HTTP/1.1 405 Method Not Allowed~Allow: GET~Content-Length: 0~~ 0 finished 0
 HEAD /p/demo-2.0-1.0.bin HTTP/1.1~~ | 65536 | HTTP/1.1 404 Not Found~Content-Length: 0~~ 0 finished 0
 GET /p/Demo-2.0.bin HTTP/1.1~~ | 65536 | HTTP/1.1 404 Not Found~Content-Length: 0~~ 0 finished 0

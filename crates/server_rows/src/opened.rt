@@ -11,8 +11,9 @@ use std::alloc::{AllocError, Global};
 use std::sync::Wait;
 use update_desk::Single;
 
-// The files of three large packages.
-const FILES: &str = "mebibyte.bin=a1048576 block.bin=a65536 letters.bin=a131072";
+// The files of three large packages, and of three that can't be opened.
+const FILES: &str =
+    "mebibyte.bin=a1048576 block.bin=a65536 letters.bin=a131072 demo-1.0.bin=folder demo-3.0.bin=closed demo-4.0.bin=memory";
 
 fn end_of(served: &Result<Served, Fault>) -> &'static str {
     match served {

@@ -1,10 +1,11 @@
 // Packages in memory, as a row says: files of one letter each.
 
 use http_desks::Packages;
+use http_devices::{OpenError, OpenPackages};
 use http_wire::Failed;
 
 /// The files of a row, with a space between two. `a.bin=a10` has ten letters `a`; of `a.bin=a10!4` no read
-/// that reaches past the fourth byte succeeds.
+/// that reaches past the fourth byte succeeds. `folder`, `closed` and `memory` can't be opened.
 #[derive(Drop)]
 pub(crate) struct Shelf<'a> {
     pub(crate) files: &'a str,
@@ -37,15 +38,37 @@ fn letters_of(text: &str) -> Option<Letters> {
 }
 
 impl Shelf<'_> {
-    fn find(&self, name: &[u8]) -> Option<Letters> {
+    // What is said of a file.
+    fn find(&self, name: &[u8]) -> Option<&str> {
         for file in self.files.split(' ') {
-            if let Some((given, letters)) = file.split_once('=') {
+            if let Some((given, said)) = file.split_once('=') {
                 if given.as_bytes() == name {
-                    return letters_of(letters);
+                    return Some(said);
                 }
             }
         }
         None
+    }
+
+    fn find_letters(&self, name: &[u8]) -> Option<Letters> {
+        letters_of(self.find(name)?)
+    }
+}
+
+impl OpenPackages for Shelf<'_> {
+    ghost opens = { λ _ _ _. Unit {0} };
+
+    fn open(&self, name: &[u8]) -> Result<u64, OpenError> {
+        match self.find(name) {
+            None => Err(OpenError::Missing),
+            Some("folder") => Err(OpenError::NotRegular),
+            Some("closed") => Err(OpenError::Unreadable),
+            Some("memory") => Err(OpenError::Memory),
+            Some(said) => match letters_of(said) {
+                Some(letters) => Ok(letters.size),
+                None => Err(OpenError::Missing),
+            },
+        }
     }
 }
 
@@ -55,11 +78,11 @@ impl Packages for Shelf<'_> {
     ghost sizes = { λ _ _ _. Unit {0} };
 
     fn size(&self, name: &[u8]) -> Option<u64> {
-        Some(self.find(name)?.size)
+        self.open(name).ok()
     }
 
     fn read_at(&self, name: &[u8], at: u64, into: &mut [u8]) -> Result<(), Failed> {
-        let Some(file) = self.find(name) else {
+        let Some(file) = self.find_letters(name) else {
             return Err(Failed);
         };
         let end = at.saturating_add(into.len() as u64);

@@ -1,5 +1,5 @@
 -- How a string from outside is printed; this project's profile.
-use Rattle.std.specs.Prelude.{ℕ, ◌^◌, ◌+◌, ◌==◌, ◌&&◌, ◌||◌, Bool, false, nat_lt, List, [], ◌∷◌, if◌then◌else◌}
+use Rattle.std.specs.Prelude.{ℕ, ◌^◌, ◌+◌, ◌==◌, ◌&&◌, ◌||◌, Bool, false, nat_lt, List, [], ◌∷◌, codes, if◌then◌else◌}
 use Rattle.std.specs.Char.{is_ascii_control}
 use Rattle.percent_encoding.specs.Percent.{percent_encode}
 use Rattle.percent_encoding.specs.declared.ascii_set.AsciiSet.{AsciiSet}
@@ -25,6 +25,8 @@ has_control string = has_control_after 0 string
 
 -- rule: Shown string
 -- the string as it is or, if it has a control character, with each byte that is one or lies outside
--- ASCII as `%` and two hexadecimal digits
+-- ASCII as `%` and two hexadecimal digits; the empty string as two quotes
 abbrev pub shown_string : List ℕ → List ℕ
-shown_string string = if has_control string then percent_encode ascii_controls string else string
+shown_string [] = codes "\"\""
+shown_string (byte ∷ rest) =
+    if has_control (byte ∷ rest) then percent_encode ascii_controls (byte ∷ rest) else byte ∷ rest

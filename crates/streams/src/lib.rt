@@ -1,7 +1,7 @@
 //! Reading and writing whole, with contracts that also say what a failure leaves.
 //!
 //! `ReadWhole` reads a reader to its end, up to a maximum; `WriteWhole` writes all of some bytes;
-//! `Disk` reads a file. Every reader, writer and runtime of std has them. Read
+//! `Disk` reads a regular file. Every reader, writer and runtime of std has them. Read
 //! `specs/Streams.antt` for what is known of a stream.
 //!
 //! `Shown` prints a string from outside, as a path or an address, percent-encoded if it has control

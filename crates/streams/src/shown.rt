@@ -4,7 +4,7 @@ ghost use Rattle.streams.specs.Strings.{begins_control, has_control, shown_strin
 use percent_encoding::{CONTROLS, percent_encode};
 use std::fmt;
 
-/// A string, which prints without control characters.
+/// A string, which prints without control characters, and as `""` if it is empty.
 #[derive(Clone, Copy)]
 pub struct Shown<'a> {
     /// The string as it was given.
@@ -16,7 +16,9 @@ impl fmt::Display for Shown<'_> {
     ghost output = { λ shown. Some (shown_string shown.string.now) };
 
     fn fmt<W: fmt::Write>(&self, f: &mut fmt::Formatter<W>) -> fmt::Result {
-        if has_control(self.string) {
+        if self.string.is_empty() {
+            f.write_str("\"\"")
+        } else if has_control(self.string) {
             let string = percent_encode(self.string.as_bytes(), CONTROLS);
             write!(f, "{string}")
         } else {

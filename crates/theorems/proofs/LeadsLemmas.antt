@@ -11,10 +11,11 @@ use Rattle.records.specs.declared.content.Cohort.{Cohort}
 use Rattle.records.specs.declared.content.Diff.{Diff}
 use Rattle.records.specs.declared.content.Release.{Release}
 use Rattle.payload_graph.specs.Chains.{destination_of, index_of}
-use Rattle.payload_graph.specs.Permitted.{end_of, is_offered_at, jumps_stone, leads_down, leads_up, permits_differ, permits_from, permits_full, starts_at}
+use Rattle.payload_graph.specs.Permitted.{end_of, is_offered_at, jumps_stone, leads_down, leads_up, permits_differ, permits_from, permits_full, rolls_back, starts_at}
 use Rattle.payload_graph.specs.Places.{version_at}
 use Rattle.payload_graph.specs.declared.payload.Payload.{Payload}
 use Rattle.payload_graph.specs.declared.payload.Payload.TheVariants.{Full, Differ}
+use Rattle.payload_graph.specs.declared.payload.TrackKey.{TrackKey}
 use Rattle.payload_graph.specs.declared.place.Place.{Place}
 use Rattle.payload_graph.specs.declared.place.Place.TheVariants.{At, Outside}
 use Rattle.theorems.proofs.ItemLemmas.{Passes-option_map_or, find-position}
@@ -41,14 +42,14 @@ IsWay-down : (target from to : List ℕ) → leads_down target from to ≡ true 
 IsWay-down target from to down = inr (and_parts (is_below target from) (is_below to from) down)
 
 IsWay-full :
-    (releases : List Release) (cohort : Cohort) (rollback : Bool) (target from : List ℕ) (to : Release) →
-    permits_full releases cohort rollback target from to ≡ true → IsWay target from to.version
-IsWay-full releases cohort rollback target from to permitted =
-    let parts = and_parts (is_offered_at cohort from to)
-    (leads_up releases target from to.version || (rollback && leads_down target from to.version)) permitted in
-    elim (or_cases (leads_up releases target from to.version) (rollback && leads_down target from to.version) parts.1) [
+    (releases : List Release) (cohort : Cohort) (key : TrackKey) (target from : List ℕ) (to : Release) →
+    permits_full releases cohort key target from to ≡ true → IsWay target from to.version
+IsWay-full releases cohort key target from to permitted =
+    let parts = and_parts (is_offered_at cohort key.pin from to)
+    (leads_up releases target from to.version || (rolls_back cohort key && leads_down target from to.version)) permitted in
+    elim (or_cases (leads_up releases target from to.version) (rolls_back cohort key && leads_down target from to.version) parts.1) [
       | inl up ↦ IsWay-up releases target from to.version up
-      | inr down ↦ IsWay-down target from to.version (and_parts rollback (leads_down target from to.version) down).1
+      | inr down ↦ IsWay-down target from to.version (and_parts (rolls_back cohort key) (leads_down target from to.version) down).1
     ]
 
 -- the release that a payload leads to, and the way there from a place
@@ -60,20 +61,20 @@ pub record Leads (app : App) (target : List ℕ) (place : Place) (payload : Payl
   pub way : IsWay target from release.version
 
 Leads-full :
-    (app : App) (cohort : Cohort) (rollback : Bool) (target : List ℕ) (place : Place) (to : ℕ) →
-    permits_from app cohort rollback target place (Full to) ≡ true → Leads app target place (Full to)
-Leads-full app cohort rollback target place to permitted =
+    (app : App) (cohort : Cohort) (key : TrackKey) (target : List ℕ) (place : Place) (to : ℕ) →
+    permits_from app cohort key target place (Full to) ≡ true → Leads app target place (Full to)
+Leads-full app cohort key target place to permitted =
     let end = Passes-option_map_or (λ (release : Release). option_map_or
-    (λ (from : List ℕ). permits_full app.releases cohort rollback target from release) (version_at app.releases place) false)
+    (λ (from : List ℕ). permits_full app.releases cohort key target from release) (version_at app.releases place) false)
     (slice_get app.releases to) permitted in
-    let start = Passes-option_map_or (λ (from : List ℕ). permits_full app.releases cohort rollback target from end.item)
+    let start = Passes-option_map_or (λ (from : List ℕ). permits_full app.releases cohort key target from end.item)
     (version_at app.releases place) end.passed in
     record {
       release = end.item;
       there = end.is;
       from = start.item;
       from_is = start.is;
-      way = IsWay-full app.releases cohort rollback target start.item end.item start.passed;
+      way = IsWay-full app.releases cohort key target start.item end.item start.passed;
     }
 
 -- a differential starts at a release of its version
@@ -88,16 +89,16 @@ starts-version releases (At from) diff starts =
     ∙ ap (λ (v : List ℕ). Some v) (sym same)
 
 Leads-differ :
-    (app : App) (cohort : Cohort) (rollback : Bool) (target : List ℕ) (place : Place) (index : ℕ) →
-    permits_from app cohort rollback target place (Differ index) ≡ true → Leads app target place (Differ index)
-Leads-differ app cohort rollback target place index permitted =
-    let found = Passes-option_map_or (λ (diff : Diff). starts_at app.releases place diff && permits_differ app.releases cohort
+    (app : App) (cohort : Cohort) (key : TrackKey) (target : List ℕ) (place : Place) (index : ℕ) →
+    permits_from app cohort key target place (Differ index) ≡ true → Leads app target place (Differ index)
+Leads-differ app cohort key target place index permitted =
+    let found = Passes-option_map_or (λ (diff : Diff). starts_at app.releases place diff && permits_differ app.releases cohort key.pin
     target diff) (slice_get app.diffs index) permitted in
     let diff = found.item in
-    let parts = and_parts (starts_at app.releases place diff) (permits_differ app.releases cohort target diff) found.passed in
-    let end = Passes-option_map_or (λ (to : Release). is_offered_at cohort diff.from to && leads_up app.releases target diff.from to.version)
+    let parts = and_parts (starts_at app.releases place diff) (permits_differ app.releases cohort key.pin target diff) found.passed in
+    let end = Passes-option_map_or (λ (to : Release). is_offered_at cohort key.pin diff.from to && leads_up app.releases target diff.from to.version)
     (end_of app.releases diff) parts.1 in
-    let up = (and_parts (is_offered_at cohort diff.from end.item) (leads_up app.releases target diff.from end.item.version) end.passed).1 in
+    let up = (and_parts (is_offered_at cohort key.pin diff.from end.item) (leads_up app.releases target diff.from end.item.version) end.passed).1 in
     let to : destination_of app (Differ index) ≡ index_of app.releases diff.to =
     ap (λ (o : Option Diff). option_map_or (λ (d : Diff). index_of app.releases d.to) o (length app.releases)) found.is in
     record {
@@ -109,8 +110,8 @@ Leads-differ app cohort rollback target place index permitted =
     }
 
 pub Leads-from :
-    (app : App) (cohort : Cohort) (rollback : Bool) (target : List ℕ) (place : Place) (payload : Payload) →
-    permits_from app cohort rollback target place payload ≡ true → Leads app target place payload
-Leads-from app cohort rollback target place (Full to) permitted = Leads-full app cohort rollback target place to permitted
-Leads-from app cohort rollback target place (Differ index) permitted = Leads-differ app cohort rollback target place index
+    (app : App) (cohort : Cohort) (key : TrackKey) (target : List ℕ) (place : Place) (payload : Payload) →
+    permits_from app cohort key target place payload ≡ true → Leads app target place payload
+Leads-from app cohort key target place (Full to) permitted = Leads-full app cohort key target place to permitted
+Leads-from app cohort key target place (Differ index) permitted = Leads-differ app cohort key target place index
     permitted

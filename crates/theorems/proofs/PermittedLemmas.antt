@@ -12,9 +12,9 @@ use Rattle.records.specs.declared.content.App.{App}
 use Rattle.records.specs.declared.content.Cohort.{Cohort}
 use Rattle.records.specs.declared.content.Diff.{Diff}
 use Rattle.records.specs.declared.content.Release.{Release}
-use Rattle.cohorts.specs.Tracks.{target_of}
-use Rattle.payload_graph.specs.Chains.{IsAtTarget, destination_of, index_of, lane_target, target_index}
-use Rattle.payload_graph.specs.Permitted.{permits, permits_from, permits_in, rolls_back}
+use Rattle.cohorts.specs.Offers.{track_target}
+use Rattle.payload_graph.specs.Chains.{IsAtTarget, destination_of, index_of, cohort_target, target_index}
+use Rattle.payload_graph.specs.Permitted.{permits, permits_from, permits_in}
 use Rattle.payload_graph.specs.Places.{version_at}
 use Rattle.payload_graph.specs.declared.payload.Payload.{Payload}
 use Rattle.payload_graph.specs.declared.payload.Payload.TheVariants.{Differ}
@@ -31,7 +31,7 @@ pub record IsPermitted (app : App) (key : TrackKey) (place : Place) (payload : P
   pub cohort : Cohort
   pub cohort_there : slice_get app.cohorts key.cohort ≡ Some cohort
   pub target : List ℕ
-  pub targeted : target_of cohort key.lane ≡ Some target
+  pub targeted : track_target app.releases cohort key.lane key.pin ≡ Some target
   pub leads : Leads app target place payload
 
 pub IsPermitted-permits :
@@ -41,14 +41,14 @@ IsPermitted-permits app key place payload permitted =
     let served = Passes-option_map_or (λ (cohort : Cohort). permits_in app cohort key place payload)
     (slice_get app.cohorts key.cohort) permitted in
     let cohort = served.item in
-    let targeted = Passes-option_map_or (λ (target : List ℕ). permits_from app cohort (rolls_back cohort key) target place
-    payload) (target_of cohort key.lane) served.passed in
+    let targeted = Passes-option_map_or (λ (target : List ℕ). permits_from app cohort key target place
+    payload) (track_target app.releases cohort key.lane key.pin) served.passed in
     record {
       cohort = cohort;
       cohort_there = served.is;
       target = targeted.item;
       targeted = targeted.is;
-      leads = Leads-from app cohort (rolls_back cohort key) targeted.item place payload targeted.passed;
+      leads = Leads-from app cohort key targeted.item place payload targeted.passed;
     }
 
 -- a payload that leads to a release is in range
@@ -86,7 +86,7 @@ HasTarget-index :
     (permitted : IsPermitted app key place payload) →
     target_index app key ≡ Some target → HasTarget app permitted.target target
 HasTarget-index app key place payload target permitted is =
-    let by_cohort = ap (λ (o : Option Cohort). option_and_then (λ (cohort : Cohort). lane_target app cohort key.lane) o)
+    let by_cohort = ap (λ (o : Option Cohort). option_and_then (λ (cohort : Cohort). cohort_target app cohort key) o)
     permitted.cohort_there in
     let by_lane = ap (λ (o : Option (List ℕ)). option_and_then (λ (version : List ℕ). position (is_release version) app.releases)
     o) permitted.targeted in

@@ -152,7 +152,7 @@ client_at-good : (apps : List App) (session : List ℕ) (ask : AppAsk) (index : 
 client_at-good apps session ask index valid = cases (slice_get apps index) (holds IsValidApp apps index valid)
   where
     cases : (app : Option App) → Holds IsValidApp app →
-        Holds IsValidClient (option_map (λ app. record { index = index; app = app; track = track_of app.cohorts ask session }) app)
+        Holds IsValidClient (option_map (λ app. record { index = index; app = app; track = track_of app.releases app.cohorts ask session }) app)
     cases None is = tt
     cases (Some app) is = (is, bucket-small ask session (parsed ask.cohort) refl)
 

@@ -120,7 +120,7 @@ module _ (printed_is : PrintedIsParsed) (parsed_is : ParsedIsPrinted) (app : App
   -- the track is the one that it was
   pub track_of-again :
       (version fp : List ℕ) →
-      track_of app.cohorts (again ask version fp (printed name bucket)) session ≡ track_of app.cohorts ask session
+      track_of app.releases app.cohorts (again ask version fp (printed name bucket)) session ≡ track_of app.releases app.cohorts ask session
   track_of-again version fp =
       let next : AppAsk = again ask version fp (printed name bucket) in
       let cohort : cohort_of app.cohorts next ≡ index =
@@ -128,14 +128,14 @@ module _ (printed_is : PrintedIsParsed) (parsed_is : ParsedIsPrinted) (app : App
       ∙ chosen-again (hinted_cohort app.cohorts ask.hint) (sent_cohort app.cohorts ask.cohort) in
       let own : bucket_of next session ≡ bucket =
       ap (λ (o : Option (List ℕ × ℕ)). option_map_or (λ (named : List ℕ × ℕ). named.1) o (session_bucket session)) text-parsed in
-      ap (λ (k : ℕ). track_in (cohort_at app.cohorts k) k (bucket_of next session) next) cohort
-      ∙ ap (λ (b : ℕ). track_in (cohort_at app.cohorts index) index b next) own
+      ap (λ (k : ℕ). track_in app.releases (cohort_at app.cohorts k) k (bucket_of next session) next) cohort
+      ∙ ap (λ (b : ℕ). track_in app.releases (cohort_at app.cohorts index) index b next) own
 
 -- what a client is made of
 pub record HasClient (apps : List App) (session : List ℕ) (ask : AppAsk) (client : Client) : Type 0 where
   pub found : position (is_app ask.appid) apps ≡ Some client.index
   pub there : slice_get apps client.index ≡ Some client.app
-  pub track : client.track ≡ track_of client.app.cohorts ask session
+  pub track : client.track ≡ track_of client.app.releases client.app.cohorts ask session
 
 pub HasClient-client_of :
     (apps : List App) (session : List ℕ) (ask : AppAsk) (client : Client) →
@@ -143,7 +143,7 @@ pub HasClient-client_of :
 HasClient-client_of apps session ask client known = at (position (is_app ask.appid) apps) refl known
   where
     make : ℕ → App → Client
-    make index app = record { index = index; app = app; track = track_of app.cohorts ask session }
+    make index app = record { index = index; app = app; track = track_of app.releases app.cohorts ask session }
 
     there :
         (index : ℕ) → position (is_app ask.appid) apps ≡ Some index →
@@ -172,11 +172,11 @@ client_of-again printed_is parsed_is apps session ask client version fp valid kn
     (bucket_of ask session) =
     ap (λ (t : Track). printed (cohort_at client.app.cohorts t.cohort).name t.bucket) has.track in
     let next : AppAsk = again ask version fp (cohort_text client) in
-    let track : track_of client.app.cohorts next session ≡ client.track =
-    ap (λ (t : List ℕ). track_of client.app.cohorts (again ask version fp t) session) text
+    let track : track_of client.app.releases client.app.cohorts next session ≡ client.track =
+    ap (λ (t : List ℕ). track_of client.app.releases client.app.cohorts (again ask version fp t) session) text
     ∙ track_of-again printed_is parsed_is client.app valid session ask version fp
     ∙ sym has.track in
     ap (λ (o : Option ℕ). option_and_then (client_at apps session next) o) has.found
     ∙ ap (λ (o : Option App). option_map (λ (a : App). record
-    { index = client.index; app = a; track = track_of a.cohorts next session }) o) has.there
+    { index = client.index; app = a; track = track_of a.releases a.cohorts next session }) o) has.there
     ∙ ap (λ (t : Track). Some (record { index = client.index; app = client.app; track = t })) track

@@ -9,4 +9,4 @@ work_with_tills-requires-clause-bounded g c = are_bounded-mirrors c.into_vec.res
 pub returns : goal.returns
 returns g c =
     let (workers, one, served, totals) = rw c.into_vec.ensures.list at c.in_ok-totals.ensures.ok in
-    AreTotals-of (content_of c.args.service.edition) c.args.service.mirrors c.args.place.now.sessions workers c.in_ok-totals.totals.items one served totals
+    AreTotals-of (g.R.System.edges c.args.rt.now) c.args.place.now c.args.listener.now (content_of c.args.service.edition) c.args.service.mirrors workers c.in_ok-totals.totals.items one served totals

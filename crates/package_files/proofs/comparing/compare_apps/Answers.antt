@@ -3,6 +3,6 @@ use Rattle.package_files.proofs.comparing.compare_apps.Goals as goal
 
 pub loop-app-preserved : goal.loop-app-preserved
 loop-app-preserved g c =
-    Adds-app (g.P.Packages.sizes c.args.packages.now) (g.P.Packages.reads c.args.packages.now)
+    Adds-app (g.P.OpenPackages.opens c.args.packages.now) (g.P.Packages.reads c.args.packages.now)
     c.args.apps.now c.loop-app.app-index c.app-item.result c.args.findings.now c.loop-app.findings c.compare_app.new.findings
     c.loop-app-test.true c.app-item.is c.loop-app.invariant c.in_ok-compare_app.ensures

@@ -5,5 +5,5 @@ use Rattle.package_files.proofs.comparing.compare_apps.Given as goal
 
 abbrev pub invariant-loop-app : goal.invariant-loop-app
 invariant-loop-app g l =
-    Adds (g.P.Packages.sizes l.packages) (g.P.Packages.reads l.packages)
+    Adds (g.P.OpenPackages.opens l.packages) (g.P.Packages.reads l.packages)
     (packages_of (take l.app-index l.apps)) l.fn.findings l.findings

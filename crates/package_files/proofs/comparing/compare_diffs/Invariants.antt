@@ -5,5 +5,5 @@ use Rattle.package_files.proofs.comparing.compare_diffs.Given as goal
 
 abbrev pub invariant-loop-diff : goal.invariant-loop-diff
 invariant-loop-diff g l =
-    Adds (g.P.Packages.sizes l.packages) (g.P.Packages.reads l.packages)
+    Adds (g.P.OpenPackages.opens l.packages) (g.P.Packages.reads l.packages)
     (map diff_package (take l.diff-index l.diffs)) l.fn.findings l.findings

@@ -5,5 +5,5 @@ use Rattle.package_files.proofs.comparing.compare_releases.Given as goal
 
 abbrev pub invariant-loop-release : goal.invariant-loop-release
 invariant-loop-release g l =
-    Adds (g.P.Packages.sizes l.packages) (g.P.Packages.reads l.packages)
+    Adds (g.P.OpenPackages.opens l.packages) (g.P.Packages.reads l.packages)
     (map full_package (take l.release-index l.releases)) l.fn.findings l.findings

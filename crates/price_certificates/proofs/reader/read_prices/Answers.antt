@@ -11,7 +11,7 @@ pub returns-clause-sized : goal.returns-clause-sized
 returns-clause-sized c =
     let apps = c.args.catalogue.now in
     let app = c.in-Some.app.now in
-    let made = ap (λ (key : TrackKey). net_among apps key) c.key-key.ensures ∙ c.requires in
+    let made = ap (λ (key : TrackKey). net_among apps key) c.key-key.ensures ∙ c.requires.graph in
     let doors = length-doors-track apps c.key-key.result c.args.graph.now app c.in-Some.cohort.now (sym c.in-Some.ensures.track) made in
     let rows =
     length-rows_after app.releases

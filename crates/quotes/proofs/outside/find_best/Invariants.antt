@@ -3,4 +3,4 @@ use Rattle.quotes.proofs.outside.find_best.Given as goal
 
 abbrev pub invariant-loop-to : goal.invariant-loop-to
 invariant-loop-to l =
-    HasLooked l.releases l.visitor.cohort.now l.visitor.rollback l.visitor.target l.visitor.version l.rows l.to l.best l.blocked
+    HasLooked l.releases l.visitor.cohort.now l.visitor.key.now l.visitor.target l.visitor.version l.rows l.to l.best l.blocked

@@ -30,5 +30,5 @@ returns c =
     rw c.best_quote.ensures
     (quote-outside c.order.ensures.irreflexive c.fulls.ensures c.differs.ensures c.args.catalogue.now c.args.key.now
     c.args.table.now.net c.validity.ensures c.requires.table c.args.table.now.rows c.rows.ensures.least c.args.version
-    c.in-Some.visitor.cohort.now c.in-Some.visitor.rollback c.in-Some.visitor.target c.find_best.result
-    c.in-Some.ensures.cohort c.in-Some.ensures.rollback c.in-Some.ensures.target best)
+    c.in-Some.visitor.cohort.now c.in-Some.visitor.key.now c.in-Some.visitor.target c.find_best.result
+    c.in-Some.ensures.cohort c.in-Some.ensures.key c.in-Some.ensures.target best)

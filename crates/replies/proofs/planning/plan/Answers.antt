@@ -15,8 +15,8 @@ loop-ask-preserved c =
       same = c.plan_app-client.ensures.same ∙ c.loop-ask.invariant.same;
       assigned =
           rw c.in_ok-push.ensures.clients
-          (AllZip-more (IsAssigned (content_of c.args.edition.now) c.new-session.result) c.args.request.now.apps c.loop-ask.plan.clients c.loop-ask.ask-index c.ask-item.result c.plan_app-client.result.0 within item c.loop-ask.invariant.assigned assigned);
+          (AllZip-more (IsAssigned (content_of c.args.edition.now) c.new-session.result) c.args.request.now.apps c.loop-ask.draft.clients.items c.loop-ask.ask-index c.ask-item.result c.plan_app-client.result.0 within item c.loop-ask.invariant.assigned assigned);
       chosen =
           rw c.in_ok-push.ensures.choices
-          (AllZip-more (IsChosen (content_of c.args.edition.now) c.new-session.result) c.args.request.now.apps c.loop-ask.plan.choices c.loop-ask.ask-index c.ask-item.result c.plan_app-client.result.1 within item c.loop-ask.invariant.chosen chosen);
+          (AllZip-more (IsChosen (content_of c.args.edition.now) c.new-session.result) c.args.request.now.apps c.loop-ask.draft.choices.items c.loop-ask.ask-index c.ask-item.result c.plan_app-client.result.1 within item c.loop-ask.invariant.chosen chosen);
     }

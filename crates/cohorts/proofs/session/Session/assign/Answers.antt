@@ -1,6 +1,6 @@
 use Rattle.std.proofs.Common.{◌≡◌, ap, ◌∙◌, get_or, rules}
 use Rattle.cohorts.specs.Tracks.{bucket_of, cohort_at, session_bucket, track_in}
-use Rattle.records.specs.Lookups.{cohorts_at}
+use Rattle.records.specs.Lookups.{cohorts_at, releases_at}
 use Rattle.cohorts.proofs.TrackLemmas.{named_bucket, named_bucket-small, there-cohort_at}
 use Rattle.cohorts.proofs.session.Session.assign.Goals as goal
 
@@ -19,7 +19,9 @@ returns-clause-track c =
     let at_index : there ≡ get_or cohorts index there = rw (← c.cohorts.ensures) c.index-cohorts-index.is in
     let cohort : there ≡ cohort_at cohorts index =
     at_index ∙ there-cohort_at cohorts index there c.find_serving-index.ensures.within in
+    let releases = releases_at c.args.catalogue.now c.args.app in
     c.track_in.ensures
-    ∙ ap (λ found. track_in there index found ask) bucket
-    ∙ ap (λ found. track_in found index (bucket_of ask c.args.self.now) ask) cohort
-    ∙ ap (λ found. track_in (cohort_at cohorts found) found (bucket_of ask c.args.self.now) ask) c.find_serving-index.ensures.cohort
+    ∙ ap (λ found. track_in found there index c.choose_bucket-bucket.result ask) c.releases.ensures
+    ∙ ap (λ found. track_in releases there index found ask) bucket
+    ∙ ap (λ found. track_in releases found index (bucket_of ask c.args.self.now) ask) cohort
+    ∙ ap (λ found. track_in releases (cohort_at cohorts found) found (bucket_of ask c.args.self.now) ask) c.find_serving-index.ensures.cohort

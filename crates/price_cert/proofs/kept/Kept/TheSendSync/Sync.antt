@@ -1,6 +1,6 @@
 -- Each thread may borrow it.
 use denote.RattleType.{RattleType}
-use denote.Param.Send.{IsSend, IsSync, part_keyless}
+use denote.Param.Send.{IsSync, part_keyless}
 use Rattle.price_cert.proofs.kept.Kept.TheSendSync.Send.{send}
 use Rattle.price_cert.specs.contracts.kept.Kept.{the_row}
 

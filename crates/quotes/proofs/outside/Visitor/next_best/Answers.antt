@@ -8,7 +8,7 @@ pub returns-in_default : goal.returns-in_default
 returns-in_default c =
     let visitor = c.args.self.now in
     let release = c.args.release.now in
-    let permitted = leads_to visitor.cohort.now visitor.rollback visitor.target visitor.version c.args.blocked release in
+    let permitted = leads_to visitor.cohort.now visitor.key.now visitor.target visitor.version c.args.blocked release in
     λ sums. IsBest-without_price sums c.args.to c.args.best permitted release.size (price_of c.args.row.now)
     (sym c.price.ensures ∙ c.in_default.is)
 
@@ -16,6 +16,6 @@ pub returns-then-known-sum : goal.returns-then-known-sum
 returns-then-known-sum c =
     let visitor = c.args.self.now in
     let release = c.args.release.now in
-    let permitted = leads_to visitor.cohort.now visitor.rollback visitor.target visitor.version c.args.blocked release in
+    let permitted = leads_to visitor.cohort.now visitor.key.now visitor.target visitor.version c.args.blocked release in
     λ sums. IsBestOf-larger sums c.args.to c.args.best c.in-Some-best.known permitted release.size c.in-Some.rest (price_of c.args.row.now)
     c.in-Some-best.is (sym c.price.ensures ∙ c.in-Some.is) c.if-known-sum.true

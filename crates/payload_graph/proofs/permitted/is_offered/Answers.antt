@@ -1,5 +1,0 @@
-use Rattle.std.proofs.Common.{rules}
-use Rattle.payload_graph.proofs.permitted.is_offered.Goals as goal
-
-pub returns-then-not-release : goal.returns-then-not-release
-returns-then-not-release c = search rules
