@@ -1,9 +1,10 @@
-ghost use Rattle.std.specs.Prelude.{◌≡◌, ◌++◌, ◌∷◌, true, IfOk, IfSome, OnOk, string_bytes};
+ghost use Rattle.std.specs.Prelude.{◌≡◌, ◌++◌, ◌∷◌, true, IfSome, OnOk, string_bytes};
 ghost use Rattle.http_devices.specs.Files.{ReadsAt};
 ghost use Rattle.http_devices.specs.Names.{is_file_name};
+ghost use Rattle.http_devices.specs.Opening.{size_of};
 
+use crate::entry::{Entry, entry_of};
 use crate::name::file_name;
-use crate::open_error::OpenError;
 use crate::opening::OpenPackages;
 use crate::regular::RegularFiles;
 use http_desks::Packages;
@@ -58,13 +59,13 @@ fn set_path(path: &mut String, folder: &str, name: &str) -> Result<(), AllocErro
 }
 
 impl<F: Drop> Opened<F> {
-    // Opens the file of a name, which is a regular one, and returns its size.
+    // Opens the file of a name if it is a regular one, and returns what there is.
     fn open<S: RegularFiles<F>>(
         &mut self,
         files: &S,
         folder: &str,
         name: &str,
-    ) -> Result<u64, OpenError>
+    ) -> Result<Entry, AllocError>
         ensures name { OnOk result (string_bytes self.new.name ≡ name.now) }
         ensures path { OnOk result (string_bytes self.new.path ≡ folder.now ++ 47 ∷ name.now) }
     {
@@ -72,9 +73,14 @@ impl<F: Drop> Opened<F> {
         self.name.clear();
         set_path(&mut self.path, folder, name)?;
         self.name.push_str(name)?;
-        let (file, size) = files.open_regular(self.path.as_str())?;
-        self.file = Some(file);
-        Ok(size)
+        match files.open_regular(self.path.as_str()) {
+            Ok(Some((file, size))) => {
+                self.file = Some(file);
+                Ok(Entry::File(size))
+            }
+            Ok(None) => Ok(Entry::NotRegular),
+            Err(error) => entry_of(&error),
+        }
     }
 }
 
@@ -95,13 +101,15 @@ fn read_from<F: Read + Seek>(file: &mut F, at: u64, into: &mut [u8]) -> Result<(
 
 impl<'a, S: RegularFiles<F>, F: Drop> OpenPackages for Folder<'a, S, F> {
     // a size is that of a file of the folder
-    ghost opens = { λ _ name opened. IfOk opened (λ _. is_file_name name ≡ true) };
+    ghost opens = { λ _ name entry. IfSome (size_of entry) (λ _. is_file_name name ≡ true) };
 
-    fn open(&self, name: &[u8]) -> Result<u64, OpenError> {
-        let name = file_name(name).ok_or(OpenError::Missing)?;
+    fn open(&self, name: &[u8]) -> Result<Entry, AllocError> {
+        let Some(name) = file_name(name) else {
+            return Ok(Entry::Missing);
+        };
         match self.opened.try_borrow_mut() {
             Ok(mut opened) => opened.open(self.files, self.path, name),
-            Err(_) => Err(OpenError::Unreadable),
+            Err(_) => Ok(Entry::Unreadable),
         }
     }
 }
@@ -114,7 +122,10 @@ impl<'a, S: RegularFiles<F>, F: Read + Seek + Drop> Packages for Folder<'a, S, F
     ghost reads = { λ _ name _ _ bytes. IfSome bytes (λ _. is_file_name name ≡ true) };
 
     fn size(&self, name: &[u8]) -> Option<u64> {
-        self.open(name).ok()
+        match self.open(name) {
+            Ok(Entry::File(size)) => Some(size),
+            _ => None,
+        }
     }
 
     fn read_at(&self, name: &[u8], at: u64, into: &mut [u8]) -> Result<(), Failed> {

@@ -10,19 +10,19 @@
 #![tactic(auto)]
 
 mod clock;
+mod entry;
 mod failures;
 mod folder;
 mod name;
-mod open_error;
 mod opening;
 mod reading;
 mod regular;
 mod writing;
 
 pub use crate::clock::SystemClock;
+pub use crate::entry::Entry;
 pub use crate::failures::Failures;
 pub use crate::folder::Folder;
-pub use crate::open_error::OpenError;
 pub use crate::opening::OpenPackages;
 pub use crate::reading::Reading;
 pub use crate::regular::RegularFiles;

@@ -1,14 +1,15 @@
-ghost use Rattle.std.specs.Prelude.{List, Result, ℕ};
-ghost use Rattle.http_devices.specs.declared.open_error.OpenError.{OpenError as Reason};
+ghost use Rattle.std.specs.Prelude.{List, ℕ, IfOk};
+ghost use Rattle.http_devices.specs.declared.entry.Entry.{Entry};
 
-use crate::open_error::OpenError;
+use crate::entry::Entry;
+use std::alloc::AllocError;
 
 /// Opens packages by their names, or says why one can't be opened.
 pub trait OpenPackages {
-    // what opening a name may give: the size of its file, or why there is none
-    ghost opens: { Self → List ℕ → Result ℕ Reason → Type 0 };
+    // what there may be under a name
+    ghost opens: { Self → List ℕ → Entry → Type 0 };
 
-    /// Opens the file of a package, and returns its size, or why it can't be opened.
-    fn open(&self, name: &[u8]) -> Result<u64, OpenError>
-        ensures { opens self.now name.now result };
+    /// Opens the file of a package if there is a regular one, and returns what there is. Fails if memory ran out.
+    fn open(&self, name: &[u8]) -> Result<Entry, AllocError>
+        ensures { IfOk result (opens self.now name.now) };
 }

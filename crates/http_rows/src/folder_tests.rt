@@ -1,6 +1,6 @@
 use crate::lines::columns;
 use http_desks::Packages;
-use http_devices::{Folder, OpenError, OpenPackages};
+use http_devices::{Entry, Folder, OpenPackages};
 use std::alloc::Global;
 use std::fs::File;
 use std::rt::Files;
@@ -42,22 +42,15 @@ fn make_folder(rt: &HostRuntime, end: &str) -> Option<&'static str> {
     Some(folder)
 }
 
-// What a row calls the reason that a file can't be opened for.
-fn name_of(reason: OpenError) -> &'static str {
-    match reason {
-        OpenError::Missing => "missing",
-        OpenError::NotRegular => "irregular",
-        OpenError::Unreadable => "unreadable",
-        OpenError::Memory => "memory",
-    }
-}
-
 // Whether a package of a folder has that size, or can't be opened for that reason.
 fn has_size(folder: &Folder<'_, HostRuntime, File>, name: &str, wanted: &str) -> bool {
     let size = folder.size(name.as_bytes());
     match folder.open(name.as_bytes()) {
-        Ok(found) => wanted.parse() == Ok(found) && size == Some(found),
-        Err(reason) => wanted == name_of(reason) && size.is_none(),
+        Ok(Entry::File(found)) => wanted.parse() == Ok(found) && size == Some(found),
+        Ok(Entry::Missing) => wanted == "missing" && size.is_none(),
+        Ok(Entry::NotRegular) => wanted == "irregular" && size.is_none(),
+        Ok(Entry::Unreadable) => wanted == "unreadable" && size.is_none(),
+        Err(_) => false,
     }
 }
 

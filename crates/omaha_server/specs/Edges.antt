@@ -10,11 +10,12 @@ IsTime moment = moment < 2 ^ 63
 
 -- rule: Edges of a server
 -- which listener is bound to an address; which connections a listener accepted, each of whose reads and writes may take
--- so many seconds; the size of a file, and what may be read of it, by the path of its folder and its name; and at which
--- paths a log was opened
+-- so many seconds; at which paths there is a folder; the size of a file, and what may be read of it, by the path of its
+-- folder and its name; and at which paths a log was opened
 pub record Edges : Type 1 where
   pub listens : List ℕ → TcpListener → Type 0
   pub accepts : TcpListener → ℕ → TcpStream → Type 0
+  pub folders : List ℕ → Type 0
   pub sizes : List ℕ → List ℕ → Option ℕ → Type 0
   pub reads : List ℕ → List ℕ → Reads
   pub logs : List ℕ → Type 0

@@ -62,17 +62,18 @@ pub record AreTotals (edges : Edges) (place : Place) (listener : TcpListener) (s
 abbrev pub IsReady : Known → Known → Type 0
 IsReady old new = Appends old.bytes new.bytes ready_line
 
--- a listener is bound to the address of the place, and to no other
-abbrev pub IsBound : Edges → Place → Type 0
-IsBound edges place = (listener : TcpListener) × edges.listens place.address listener
+-- there is the folder of the place, and a listener is bound to its address
+abbrev pub IsOpen : Edges → Place → Type 0
+IsOpen edges place =
+    edges.folders place.packages × ((listener : TcpListener) × edges.listens place.address listener)
 
--- what was printed of a server that ended before its totals: `ready` only if it listens
+-- what was printed of a server that ended before its totals: `ready` only if it has its folder and listens
 abbrev pub Stops : Edges → Place → Known → Known → ServerError → Type 0
 Stops edges place old new server.Net = new ≡ old
 Stops edges place old new server.Log = new ≡ old
 Stops edges place old new server.Folder = new ≡ old
-Stops edges place old new server.Write = IsBound edges place × Breaks old new ready_line
-Stops edges place old new server.Memory = (new ≡ old) ⊎ (IsBound edges place × IsReady old new)
+Stops edges place old new server.Write = IsOpen edges place × Breaks old new ready_line
+Stops edges place old new server.Memory = (new ≡ old) ⊎ (IsOpen edges place × IsReady old new)
 
 -- an error that isn't that of a log
 abbrev pub IsUnlogged : ServerError → Type 0
@@ -106,11 +107,12 @@ PrintsTotals stock totals old new (Err error) =
     (error ≡ server.Write) × Breaks old new (totals_string (names_of stock.mirrors) totals)
 
 -- rule: Run of a server
--- a listener was bound to the address of the place, its sessions were served after `ready`, and the totals printed after
--- them, whole or not; or the server ended before
+-- there was the folder of the place, a listener was bound to its address, its sessions were served after `ready`, and the
+-- totals printed after them, whole or not; or the server ended before
 abbrev pub Serves : Edges → Place → Stock → Known → Known → Result (Unit {0}) ServerError → Type 0
 Serves edges place stock old new result =
     ((listener : TcpListener) × (totals : List ℕ) × (between : Known)
-    × edges.listens place.address listener × AreTotals edges place listener stock totals
+    × edges.folders place.packages × edges.listens place.address listener
+    × AreTotals edges place listener stock totals
     × IsReady old between × PrintsTotals stock totals between new result)
     ⊎ ((error : ServerError) × (result ≡ Err error) × Stops edges place old new error)

@@ -89,12 +89,13 @@ fn serve_sessions<R: System + Wait + AllocGlobal, V: Watch>(
     Ok(totals)
 }
 
-// Binds the address of a place, and prints `ready`.
+// Binds the address of a place whose folder was found, and prints `ready`.
 fn open_place<R: System, W: WriteWhole>(
     rt: &R,
     place: &Place,
     out: &mut W,
 ) -> Result<TcpListener, ServerError>
+    requires { (R.edges rt.now).folders place.now.packages }
     ensures bound { IfOk result (λ listener. (R.edges rt.now).listens place.now.address listener) }
     ensures ready { IfOk result (λ _. IsReady (W.output out.old) (W.output out.new)) }
     ensures err { IfErr result (λ error. IsUnlogged error

@@ -1,6 +1,6 @@
 // What a server asks of the system.
 
-ghost use Rattle.std.specs.Prelude.{◌≡◌, ◌<◌, List, length, IfOk};
+ghost use Rattle.std.specs.Prelude.{◌≡◌, ◌<◌, List, length, IfOk, IsTrue};
 ghost use Rattle.http_connections.specs.Connections.{IsSession, IsSessionOver, Visit, Visits, limit_of};
 ghost use Rattle.omaha_server.specs.Edges.{IsTime};
 
@@ -38,7 +38,8 @@ pub trait System {
         ensures { IfOk result (λ _. (edges self.now).logs path.now) };
 
     /// Whether there is a folder at a path, which may be empty.
-    fn has_folder(&self, path: &str) -> bool;
+    fn has_folder(&self, path: &str) -> bool
+        ensures { IsTrue result → (edges self.now).folders path.now };
 
     // rule: Connections of a listener
     /// Serves the connections of a listener, as `serve_listener` does, with the packages of the folder at a path.
@@ -69,6 +70,7 @@ impl<R: Net<Listener = TcpListener, Stream = TcpStream> + Clock + Files + AllocG
     ghost edges = { λ _. record {
       listens = λ _ _. ⊤;
       accepts = λ _ _ _. ⊤;
+      folders = λ _. ⊤;
       sizes = λ _ name size. IfSome size (λ _. is_file_name name ≡ true);
       reads = λ _ name _ _ bytes. IfSome bytes (λ _. is_file_name name ≡ true);
       logs = λ _. ⊤;

@@ -2,7 +2,7 @@
 use Rattle.std.specs.Prelude.{◌≡◌, ◌⊎◌, ⊤, ℕ, true, false, List, ◌++◌, codes, decimal, Option, None, Some, Result, Ok, Err}
 use Rattle.hex.specs.Hex.{encode_lower}
 use Rattle.http_desks.specs.Downloads.{Reads}
-use Rattle.http_devices.specs.declared.open_error.OpenError.TheVariants as reason
+use Rattle.http_devices.specs.declared.entry.Entry.TheVariants as entry
 use Rattle.records.specs.Forms.{is_package_name, is_size}
 use Rattle.http_devices.specs.Opening.{Opens}
 use Rattle.package_files.specs.Hashing.{IsHashed}
@@ -17,16 +17,16 @@ description_string name size digits =
 
 -- the file is opened, and has a size that a profile may have
 abbrev pub IsSized : Opens → ℕ → Type 0
-IsSized opens size = (is_size size ≡ true) × opens (Ok size)
+IsSized opens size = (is_size size ≡ true) × opens (entry.File size)
 
 -- why there is no such file: it isn't there, it is no regular one, it has a size that no profile may have, it can't
 -- be opened, or memory ran out
 abbrev pub IsUnopened : Opens → DescribeError → Type 0
 IsUnopened opens error.Name = ⊥
-IsUnopened opens error.Missing = opens (Err reason.Missing)
-IsUnopened opens error.NotRegular = opens (Err reason.NotRegular)
-IsUnopened opens (error.Size size) = (is_size size ≡ false) × opens (Ok size)
-IsUnopened opens error.Unreadable = opens (Err reason.Unreadable)
+IsUnopened opens error.Missing = opens entry.Missing
+IsUnopened opens error.NotRegular = opens entry.NotRegular
+IsUnopened opens (error.Size size) = (is_size size ≡ false) × opens (entry.File size)
+IsUnopened opens error.Unreadable = opens entry.Unreadable
 IsUnopened opens error.Memory = ⊤
 
 -- the file has such a size, and is hashed so

@@ -1,8 +1,8 @@
 -- What is found of the files of declared packages; this project's profile.
-use Rattle.std.specs.Prelude.{◌≡◌, ◌≢◌, ◌⊎◌, ℕ, List, [], ◌∷◌, ◌++◌, Option, None, Some, Ok, Err}
+use Rattle.std.specs.Prelude.{◌≡◌, ◌≢◌, ◌⊎◌, ℕ, List, [], ◌∷◌, ◌++◌, Option, None, Some}
 use Rattle.http_desks.specs.Downloads.{Reads}
 use Rattle.http_devices.specs.Opening.{Opens}
-use Rattle.http_devices.specs.declared.open_error.OpenError.TheVariants as reason
+use Rattle.http_devices.specs.declared.entry.Entry.TheVariants as entry
 use Rattle.values.specs.declared.declared.Declared.{Declared}
 use Rattle.package_files.specs.Hashing.{IsHashed}
 use Rattle.package_files.specs.declared.finding.Finding.{Finding}
@@ -28,16 +28,16 @@ AreBytes reads declared (Some (mismatch.Size size other)) = ⊥
 -- size, it has the size and another SHA-256, or it couldn't be opened or read
 abbrev pub IsFound : Opens → Reads → Declared → Option Mismatch → Type 0
 IsFound opens reads declared None =
-    opens (Ok declared.size) × IsHashed reads declared.size (Some declared.hash)
-IsFound opens reads declared (Some mismatch.Missing) = opens (Err reason.Missing)
-IsFound opens reads declared (Some mismatch.NotRegular) = opens (Err reason.NotRegular)
+    opens (entry.File declared.size) × IsHashed reads declared.size (Some declared.hash)
+IsFound opens reads declared (Some mismatch.Missing) = opens entry.Missing
+IsFound opens reads declared (Some mismatch.NotRegular) = opens entry.NotRegular
 IsFound opens reads declared (Some (mismatch.Size size other)) =
-    opens (Ok size) × (size ≢ declared.size) × (other ≡ declared.size)
+    opens (entry.File size) × (size ≢ declared.size) × (other ≡ declared.size)
 IsFound opens reads declared (Some mismatch.Hash) =
-    opens (Ok declared.size)
+    opens (entry.File declared.size)
     × ((hash : List ℕ) × (hash ≢ declared.hash) × IsHashed reads declared.size (Some hash))
 IsFound opens reads declared (Some mismatch.Unreadable) =
-    opens (Err reason.Unreadable) ⊎ (opens (Ok declared.size) × IsHashed reads declared.size None)
+    opens entry.Unreadable ⊎ (opens (entry.File declared.size) × IsHashed reads declared.size None)
 
 -- the finding of a package, if its file differs
 abbrev pub finding_of : List ℕ → Option Mismatch → List Finding

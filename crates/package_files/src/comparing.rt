@@ -7,7 +7,7 @@ ghost use Rattle.package_files.specs.Findings.{Adds, AreBytes, AreFindings, IsFo
 use crate::finding::{Finding, Mismatch};
 use crate::hashing::hash_package;
 use http_desks::{BLOCK, Packages};
-use http_devices::{OpenError, OpenPackages};
+use http_devices::{Entry, OpenPackages};
 use records::{App, Declared, Diff, Release};
 use std::alloc::{AllocError, Global};
 use values::{Items, Text};
@@ -41,16 +41,15 @@ fn find_mismatch<P: Packages + OpenPackages>(
     ensures { IfOk result (λ differs.
         IsFound (P.opens packages.now name.now) (P.reads packages.now name.now) declared differs) }
 {
-    match packages.open(name) {
-        Ok(size) if size != declared.size => Ok(Some(Mismatch::Size {
+    match packages.open(name)? {
+        Entry::File(size) if size != declared.size => Ok(Some(Mismatch::Size {
             size,
             declared: declared.size,
         })),
-        Ok(_) => Ok(compare_bytes(packages, block, name, declared)),
-        Err(OpenError::Missing) => Ok(Some(Mismatch::Missing)),
-        Err(OpenError::NotRegular) => Ok(Some(Mismatch::NotRegular)),
-        Err(OpenError::Unreadable) => Ok(Some(Mismatch::Unreadable)),
-        Err(OpenError::Memory) => Err(AllocError),
+        Entry::File(_) => Ok(compare_bytes(packages, block, name, declared)),
+        Entry::Missing => Ok(Some(Mismatch::Missing)),
+        Entry::NotRegular => Ok(Some(Mismatch::NotRegular)),
+        Entry::Unreadable => Ok(Some(Mismatch::Unreadable)),
     }
 }
 

@@ -6,7 +6,7 @@ ghost use Rattle.package_files.specs.Descriptions.{Describes, IsSized, IsUnopene
 
 use crate::hashing::hash_package;
 use http_desks::{BLOCK, Packages};
-use http_devices::{OpenError, OpenPackages};
+use http_devices::{Entry, OpenPackages};
 use records::form::{is_package_name, is_size};
 use std::alloc::{AllocError, Global};
 use std::error::Error;
@@ -100,13 +100,12 @@ fn open_sized<P: OpenPackages>(packages: &P, name: &[u8]) -> Result<u64, Describ
     ensures ok { IfOk result (λ size. IsSized (P.opens packages.now name.now) size) }
     ensures err { IfErr result (IsUnopened (P.opens packages.now name.now)) }
 {
-    match packages.open(name) {
-        Ok(size) if is_size(size) => Ok(size),
-        Ok(size) => Err(DescribeError::Size(size)),
-        Err(OpenError::Missing) => Err(DescribeError::Missing),
-        Err(OpenError::NotRegular) => Err(DescribeError::NotRegular),
-        Err(OpenError::Unreadable) => Err(DescribeError::Unreadable),
-        Err(OpenError::Memory) => Err(DescribeError::Memory),
+    match packages.open(name)? {
+        Entry::File(size) if is_size(size) => Ok(size),
+        Entry::File(size) => Err(DescribeError::Size(size)),
+        Entry::Missing => Err(DescribeError::Missing),
+        Entry::NotRegular => Err(DescribeError::NotRegular),
+        Entry::Unreadable => Err(DescribeError::Unreadable),
     }
 }
 

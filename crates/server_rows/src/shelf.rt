@@ -1,8 +1,9 @@
 // Packages in memory, as a row says: files of one letter each.
 
 use http_desks::Packages;
-use http_devices::{OpenError, OpenPackages};
+use http_devices::{Entry, OpenPackages};
 use http_wire::Failed;
+use std::alloc::AllocError;
 
 /// The files of a row, with a space between two. `a.bin=a10` has ten letters `a`; of `a.bin=a10!4` no read
 /// that reaches past the fourth byte succeeds. `folder`, `closed` and `memory` can't be opened.
@@ -58,15 +59,15 @@ impl Shelf<'_> {
 impl OpenPackages for Shelf<'_> {
     ghost opens = { λ _ _ _. Unit {0} };
 
-    fn open(&self, name: &[u8]) -> Result<u64, OpenError> {
+    fn open(&self, name: &[u8]) -> Result<Entry, AllocError> {
         match self.find(name) {
-            None => Err(OpenError::Missing),
-            Some("folder") => Err(OpenError::NotRegular),
-            Some("closed") => Err(OpenError::Unreadable),
-            Some("memory") => Err(OpenError::Memory),
+            None => Ok(Entry::Missing),
+            Some("folder") => Ok(Entry::NotRegular),
+            Some("closed") => Ok(Entry::Unreadable),
+            Some("memory") => Err(AllocError),
             Some(said) => match letters_of(said) {
-                Some(letters) => Ok(letters.size),
-                None => Err(OpenError::Missing),
+                Some(letters) => Ok(Entry::File(letters.size)),
+                None => Ok(Entry::Missing),
             },
         }
     }
@@ -78,7 +79,7 @@ impl Packages for Shelf<'_> {
     ghost sizes = { λ _ _ _. Unit {0} };
 
     fn size(&self, name: &[u8]) -> Option<u64> {
-        self.open(name).ok()
+        self.find_letters(name).map(|letters| letters.size)
     }
 
     fn read_at(&self, name: &[u8], at: u64, into: &mut [u8]) -> Result<(), Failed> {
