@@ -11,7 +11,7 @@ use crate::package_index::PackageIndex;
 use records::{App, Cohort, Declared, Diff, Release, lookup};
 use std::alloc::{AllocError, Global};
 use std::marker::Model;
-use values::{Items, ReadError};
+use values::{Items, ReadError, Shared};
 use version::Version;
 
 /// The apps of a vendor, which contracts see as their list.
@@ -114,7 +114,7 @@ impl Catalogue {
     }
 
     /// Borrows the differentials of the app at an index, by ascending `from`, then `to`.
-    pub fn diffs(&self, app: usize) -> &[Diff]
+    pub fn diffs(&self, app: usize) -> &[Shared<Diff>]
         requires { app < length self.now }
         ensures { result.now ≡ diffs_at self.now app }
     {

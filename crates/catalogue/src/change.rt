@@ -16,7 +16,7 @@ use crate::edits::releases::AddRelease;
 use records::form::hash_named;
 use records::{App, Cohort, Diff, Release, lookup};
 use std::alloc::{AllocError, Global};
-use values::{Items, SharedItems, Text};
+use values::{Items, Shared, SharedItems, Text};
 use version::Version;
 
 fn new_cohort(name: Text) -> Cohort
@@ -95,11 +95,15 @@ fn place(releases: &mut SharedItems<Release>, release: Release) -> Result<(), Al
     releases.insert(index, release)
 }
 
-fn place_diff(diffs: &mut SharedItems<Diff>, diff: Diff) -> Result<(), AllocError>
+fn place_diff(
+    diffs: &mut SharedItems<Shared<Diff>>,
+    diff: Shared<Diff>,
+) -> Result<(), AllocError>
     requires { ascend is_diff_before diffs.old ≡ true }
     ensures { OnOk result (diffs.new ≡ placed_diff diff diffs.old) }
 {
-    let index = lookup::place_of_pair(diffs.as_slice(), &diff.from, &diff.to);
+    let pair = diff.get();
+    let index = lookup::place_of_pair(diffs.as_slice(), &pair.from, &pair.to);
     diffs.insert(index, diff)
 }
 
@@ -127,7 +131,11 @@ pub(crate) fn place_in(apps: &mut Items<App>, id: &Text, release: Release) -> Re
     Ok(())
 }
 
-pub(crate) fn place_diff_in(apps: &mut Items<App>, id: &Text, diff: Diff) -> Result<(), AllocError>
+pub(crate) fn place_diff_in(
+    apps: &mut Items<App>,
+    id: &Text,
+    diff: Shared<Diff>,
+) -> Result<(), AllocError>
     requires { IsValid apps.old }
     ensures { OnOk result (apps.new ≡ change (is_app id.now) (with_diff diff) apps.old) }
 {

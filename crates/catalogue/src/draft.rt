@@ -31,7 +31,7 @@ use crate::fault::{Fault, Refused};
 use crate::package_index::PackageIndex;
 use records::{App, Declared, lookup};
 use std::alloc::{AllocError, Global};
-use values::{Items, ReadError, Text};
+use values::{Items, ReadError, Shared, Text};
 use version::Version;
 
 /// Tests that an app has a cohort of the name, else returns `UnknownCohort`.
@@ -162,7 +162,8 @@ impl Draft {
             hash,
         };
         self.packages.insert(package, declared)?;
-        place_diff_in(&mut self.apps, &edit.app, diff)?;
+        let shared = Shared::new(self.alloc, diff)?;
+        place_diff_in(&mut self.apps, &edit.app, shared)?;
         Ok(())
     }
 

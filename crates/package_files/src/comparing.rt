@@ -10,7 +10,7 @@ use http_desks::{BLOCK, Packages};
 use http_devices::{Entry, OpenPackages};
 use records::{App, Declared, Diff, Release};
 use std::alloc::{AllocError, Global};
-use values::{Items, Text};
+use values::{Items, Shared, Text};
 
 // How the bytes of a file of the declared size differ, if they do.
 fn compare_bytes<P: Packages>(
@@ -108,14 +108,15 @@ fn compare_diffs<P: Packages + OpenPackages>(
     alloc: Global,
     packages: &P,
     block: &mut [u8],
-    diffs: &[Diff],
+    diffs: &[Shared<Diff>],
     findings: &mut Items<Finding>,
 ) -> Result<(), AllocError>
     requires { length block.old ≡ 65536 }
     ensures { OnOk result (Adds (P.opens packages.now) (P.reads packages.now)
         (map diff_package diffs.now) findings.old findings.new) }
 {
-    for diff in diffs {
+    for shared in diffs {
+        let diff = shared.get();
         let declared = Declared {
             size: diff.size,
             hash: diff.hash,

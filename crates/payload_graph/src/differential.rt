@@ -14,6 +14,7 @@ use crate::door::Door;
 use crate::edge::{Edge, Kind};
 use catalogue::{Diff, Release};
 use std::alloc::{AllocError, Global};
+use values::Shared;
 use version::Version;
 
 // The index of a version, sought from one on that is not past it.
@@ -40,7 +41,7 @@ fn first_end(last_from: usize, last_to: usize, from: usize) -> usize
 pub(crate) fn resolve(
     alloc: Global,
     releases: &[Release],
-    diffs: &[Diff],
+    diffs: &[Shared<Diff>],
 ) -> Result<Vec<Edge>, AllocError>
     requires rises { ascend is_release_below releases.now ≡ true }
     requires sorted { ascend is_diff_before diffs.now ≡ true }
@@ -51,7 +52,8 @@ pub(crate) fn resolve(
     let mut edges = Vec::with_capacity(alloc, diffs.len())?;
     let mut from = 0;
     let mut to = 0;
-    for diff in diffs {
+    for shared in diffs {
+        let diff = shared.get();
         let next = seek(releases, from, &diff.from);
         let start = first_end(from, to, next);
         from = next;

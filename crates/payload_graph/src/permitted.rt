@@ -134,7 +134,8 @@ fn permits_from(
             _ => false,
         },
         Payload::Differ(index) => match app.diffs.as_slice().get(*index) {
-            Some(diff) => {
+            Some(shared) => {
+                let diff = shared.get();
                 starts_at(releases, place, diff)
                     && permits_differ(releases, cohort, &key.pin, target, diff)
             }

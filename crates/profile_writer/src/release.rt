@@ -15,6 +15,7 @@ use catalogue::{Diff, Release};
 use records::lookup;
 use std::alloc::{AllocError, Global};
 use toml::Table;
+use values::Shared;
 use version::Version;
 
 /// Returns the string that a version's release was added with.
@@ -91,7 +92,7 @@ fn write_diff(alloc: Global, releases: &[Release], diff: &Diff) -> Result<Table,
 pub(crate) fn write_diffs(
     alloc: Global,
     releases: &[Release],
-    diffs: &[Diff],
+    diffs: &[Shared<Diff>],
 ) -> Result<Vec<Table>, AllocError>
     requires ascend { ascend is_release_below releases.now ≡ true }
     requires sized { AllByRecursion (λ diff. diff.size < 2 ^ 63) diffs.now }
@@ -100,7 +101,7 @@ pub(crate) fn write_diffs(
 {
     let mut tables = Vec::new(alloc);
     for diff in diffs {
-        tables.push(write_diff(alloc, releases, diff)?)?;
+        tables.push(write_diff(alloc, releases, diff.get())?)?;
     }
     Ok(tables)
 }

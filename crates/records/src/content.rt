@@ -2,7 +2,7 @@ ghost use Rattle.std.specs.Prelude.{◌≡◌, IfOk, position};
 ghost use Rattle.records.specs.Lookups.{is_release};
 
 use std::alloc::AllocError;
-use values::{Items, SharedItems, Text};
+use values::{Items, Shared, SharedItems, Text};
 use version::Version;
 
 /// An app with all that the catalogue holds of it.
@@ -15,7 +15,7 @@ pub struct App {
     /// Its releases by ascending version; at most 512.
     pub releases: SharedItems<Release>,
     /// Its differentials by ascending `from`, then by ascending `to`; at most 16384.
-    pub diffs: SharedItems<Diff>,
+    pub diffs: SharedItems<Shared<Diff>>,
 }
 
 // The derived clone of the cohorts, with its equation, which the clone of an app rests on.

@@ -9,7 +9,7 @@ ghost use Rattle.records.specs.Validity.{IsValid, is_diff_before, is_release_bel
 
 use crate::content::{App, Cohort, Diff, Release};
 use crate::form::is_same_id;
-use values::Items;
+use values::{Items, Shared};
 use version::Version;
 
 /// The index of the app of an identifier, sought from the last app on.
@@ -77,29 +77,33 @@ fn is_diff(diff: &Diff, from: &Version, to: &Version) -> bool
 }
 
 /// The place of a pair among differentials by ascending pair, found by halves.
-pub fn place_of_pair(diffs: &[Diff], from: &Version, to: &Version) -> usize
+pub fn place_of_pair(diffs: &[Shared<Diff>], from: &Version, to: &Version) -> usize
     requires { ascend is_diff_before diffs.now ≡ true }
     ensures value { result ≡ place_of_pair (from.now, to.now) diffs.now }
     ensures bound { result ≤ length diffs.now }
 {
     version::laws::order();
-    diffs.partition_point(|diff| is_diff_below(diff, from, to))
+    diffs.partition_point(|diff| is_diff_below(diff.get(), from, to))
 }
 
 /// Whether there is a differential of a pair among differentials by ascending pair.
-pub fn has_diff(diffs: &[Diff], from: &Version, to: &Version) -> bool
+pub fn has_diff(diffs: &[Shared<Diff>], from: &Version, to: &Version) -> bool
     requires { ascend is_diff_before diffs.now ≡ true }
     ensures { result ≡ has_diff diffs.now (from.now, to.now) }
 {
     version::laws::order();
     match diffs.get(place_of_pair(diffs, from, to)) {
-        Some(diff) => is_diff(diff, from, to),
+        Some(diff) => is_diff(diff.get(), from, to),
         None => false,
     }
 }
 
 /// The index of the differential of a pair among differentials by ascending pair.
-pub fn index_of_diff(diffs: &[Diff], from: &Version, to: &Version) -> Option<usize>
+pub fn index_of_diff(
+    diffs: &[Shared<Diff>],
+    from: &Version,
+    to: &Version,
+) -> Option<usize>
     requires { ascend is_diff_before diffs.now ≡ true }
     ensures { result ≡ position (is_diff (from.now, to.now)) diffs.now }
 {

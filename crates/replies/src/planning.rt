@@ -46,7 +46,7 @@ fn bytes_of(app: &App, payload: Payload) -> u64
             None => 0,
         },
         Payload::Differ(index) => match app.diffs.as_slice().get(index) {
-            Some(there) => there.size,
+            Some(there) => there.get().size,
             None => 0,
         },
     }

@@ -106,7 +106,10 @@ fn find_diff(app: &App, payload: Payload) -> Option<&Diff>
 {
     match payload {
         Payload::Full(_) => None,
-        Payload::Differ(index) => app.diffs.as_slice().get(index),
+        Payload::Differ(index) => match app.diffs.as_slice().get(index) {
+            Some(there) => Some(there.get()),
+            None => None,
+        },
     }
 }
 

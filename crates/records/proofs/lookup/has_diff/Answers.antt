@@ -22,6 +22,7 @@ returns-in-Some c =
     let there = ap (slice_get xs) (sym c.place_of_pair.ensures.value)
     ∙ slice_get_read xs (length xs) c.place_of_pair.result c.in-Some.diff.now refl item.3.0 item.1 in
     c.is_diff.ensures
+    ∙ ap (is_diff pair) c.get-in-Some.ensures
     ∙ sym (has_in-at_place is_pair_below same_pair key (IsOrder-pairs laws) pair xs c.requires
     ∙ ap (λ (o : Option Diff). option_map_or (is_diff pair) o false) there)
 

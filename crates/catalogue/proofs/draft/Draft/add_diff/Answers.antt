@@ -15,7 +15,7 @@ returns c =
     let diff = c.in_ok-diff.diff in
     let content : c.place_diff_in.new.apps ≡ change (is_app edit.app) (with_diff (new_diff edit)) draft.apps =
     c.in_ok-place_diff_in.ensures
-    ∙ ap (λ (d : Diff). change (is_app edit.app) (with_diff d) draft.apps) c.in_ok-diff.ensures in
+    ∙ ap (λ (d : Diff). change (is_app edit.app) (with_diff d) draft.apps) (c.in_ok-shared.ensures ∙ c.in_ok-diff.ensures) in
     let indexed : Indexes c.insert.new.self (change (is_app edit.app) (with_diff (new_diff edit)) draft.apps) =
     Indexes-with_diff draft.packages c.insert.new.self draft.apps edit (string_bytes c.in_ok-package.package) diff c.requires.indexed c.requires.accepted c.in_ok-diff.ensures
     (c.in_ok-package.ensures.ok ∙ c.as_str.ensures) c.in_ok-insert.ensures in
