@@ -1,7 +1,7 @@
 // What a folder has under the name of a package.
 
 ghost use Rattle.std.specs.IoError.{error_kind};
-ghost use Rattle.std.specs.Prelude.{◌≡◌, Err, Ok};
+ghost use Rattle.std.specs.Prelude.{◌≡◌, Ok, is_err, true};
 ghost use Rattle.http_devices.specs.declared.entry.Entry.TheVariants.{Missing, Unreadable};
 
 use std::alloc::AllocError;
@@ -25,7 +25,7 @@ pub enum Entry {
 /// Returns what there is where a file can't be opened, by the system's error. Fails if memory ran out.
 pub(crate) fn entry_of(error: &io::Error) -> Result<Entry, AllocError>
     ensures missing { error_kind error.now ≡ ErrorKind.NotFound → result ≡ Ok Missing }
-    ensures memory { error_kind error.now ≡ ErrorKind.OutOfMemory → result ≡ Err AllocError }
+    ensures memory { error_kind error.now ≡ ErrorKind.OutOfMemory → is_err result ≡ true }
     ensures unreadable { error_kind error.now ≡ ErrorKind.PermissionDenied → result ≡ Ok Unreadable }
 {
     match error.kind() {

@@ -40,12 +40,13 @@ pub trait Folders {
 }
 
 impl<R: Files> Folders for R {
-    ghost use Rattle.std.specs.Prelude.{◌≡◌, IfOk, IfSome, true};
+    ghost use Rattle.std.specs.Prelude.{◌≡◌, IfSome, true};
     ghost use Rattle.http_devices.specs.Names.{is_file_name};
+    ghost use Rattle.http_devices.specs.Opening.{size_of};
 
     // a size and bytes are those of a file of the folder
     ghost storage = { λ _. record {
-      opens = λ _ name opened. IfOk opened (λ _. is_file_name name ≡ true);
+      opens = λ _ name entry. IfSome (size_of entry) (λ _. is_file_name name ≡ true);
       reads = λ _ name _ _ bytes. IfSome bytes (λ _. is_file_name name ≡ true);
     } };
 
