@@ -1,15 +1,17 @@
 #!/usr/bin/env python3
 """Writes a large profile to standard output.
 
-    bench/generate.py [--apps N] [--releases N] [--cohorts N] [--diffs N] [--no-targets]
+    bench/generate.py [--apps N] [--releases N] [--cohorts N] [--diffs N] [--descending] [--no-targets]
 
 Each app has its cohorts, the first of which is the default one, and its releases in ascending
 order; each cohort has a target, a held target and a share. The differentials of an app lead from each of its
-last releases to the next one. Without targets there is no table of prices to make.
+last releases to the next one, then to the one after it, and so on; they are listed in ascending or in descending
+order. Without targets there is no table of prices to make.
 """
 
 import argparse
 import hashlib
+import itertools
 import sys
 
 
@@ -45,7 +47,13 @@ def differential(app, number, start, end):
     )
 
 
-def write_profile(out, apps, releases, cohorts, diffs=0, has_targets=True):
+def pairs(releases, count):
+    """The pairs of releases that so many differentials lead between, in ascending order."""
+    every = ((end - step, end) for step in range(1, releases) for end in range(releases - 1, step - 1, -1))
+    return sorted(itertools.islice(every, count))
+
+
+def write_profile(out, apps, releases, cohorts, diffs=0, has_targets=True, descending=False):
     out.write("schema = 1\n\n")
     out.write('[[mirror]]\nname = "m0"\ncodebase = "http://m0.example/p/"\nbudget = 1000000000\n\n')
     for app in range(apps):
@@ -63,8 +71,9 @@ def write_profile(out, apps, releases, cohorts, diffs=0, has_targets=True):
             )
         for _, text in rows:
             out.write(text)
-        for number in range(releases - diffs, releases):
-            out.write(differential(app, number, rows[number - 1][0], rows[number][0]))
+        named = list(enumerate(pairs(releases, diffs)))
+        for number, (start, end) in reversed(named) if descending else named:
+            out.write(differential(app, number, rows[start][0], rows[end][0]))
 
 
 def main():
@@ -72,10 +81,11 @@ def main():
     options.add_argument("--apps", type=int, default=64, help="apps, 1 to 64 [default: 64]")
     options.add_argument("--releases", type=int, default=512, help="releases of an app, 8 to 512 [default: 512]")
     options.add_argument("--cohorts", type=int, default=4, help="cohorts of an app, 1 to 4 [default: 4]")
-    options.add_argument("--diffs", type=int, default=0, help="differentials of an app, below its releases [default: 0]")
+    options.add_argument("--diffs", type=int, default=0, help="differentials of an app, 0 to 16384 [default: 0]")
+    options.add_argument("--descending", action="store_true", help="differentials in descending order")
     options.add_argument("--no-targets", action="store_true", help="cohorts without targets")
     asked = options.parse_args()
-    write_profile(sys.stdout, asked.apps, asked.releases, asked.cohorts, asked.diffs, not asked.no_targets)
+    write_profile(sys.stdout, asked.apps, asked.releases, asked.cohorts, asked.diffs, not asked.no_targets, asked.descending)
 
 
 if __name__ == "__main__":

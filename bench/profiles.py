@@ -1,7 +1,7 @@
 #!/usr/bin/env python3
 """Times how the program reads and applies large profiles, beside Python's `tomllib`.
 
-    bench/profiles.py [--omaha PATH] [--runs N] [--apps N ..] [--diffs N] [--no-targets]
+    bench/profiles.py [--omaha PATH] [--runs N] [--apps N ..] [--diffs N] [--descending] [--no-targets]
 
 For each count of apps, of 512 releases and 4 cohorts each, it runs `omaha once --profile F` on a
 request without apps and `python3 -c` with `tomllib` on the same file in turn, and prints the least
@@ -60,6 +60,7 @@ def main():
     options.add_argument("--runs", type=int, default=5, help="runs of each [default: 5]")
     options.add_argument("--apps", type=int, nargs="+", default=[8, 16, 32, 64], help="counts of apps [default: 8 16 32 64]")
     options.add_argument("--diffs", type=int, default=0, help="differentials of an app [default: 0]")
+    options.add_argument("--descending", action="store_true", help="differentials in descending order")
     options.add_argument("--no-targets", action="store_true", help="cohorts without targets, so no tables of prices")
     asked = options.parse_args()
     print("apps  releases    MB  omaha s  tomllib s  quotient  us/release  MiB")
@@ -67,7 +68,7 @@ def main():
         for apps in asked.apps:
             path = os.path.join(folder, f"{apps}.toml")
             with open(path, "w") as out:
-                generate.write_profile(out, apps, 512, 4, asked.diffs, not asked.no_targets)
+                generate.write_profile(out, apps, 512, 4, asked.diffs, not asked.no_targets, asked.descending)
             ours, theirs, peak = measure(asked.omaha, path, asked.runs)
             releases = apps * 512
             print(
