@@ -3,7 +3,7 @@ use Rattle.payload_graph.specs.Net.{net_among}
 use Rattle.price_cert.specs.Laws.{IsGraph}
 use Rattle.par_tables.proofs.ListingLemmas.{Adds-one}
 use Rattle.par_tables.specs.Tables.{IsTable}
-use Rattle.par_tables.proofs.draft.push_table.Goals as goal
+use Rattle.par_tables.proofs.piece.push_table.Goals as goal
 
 pub returns-in_ok-push : goal.returns-in_ok-push
 returns-in_ok-push c =
