@@ -42,7 +42,6 @@ CertifiedTablesAreOne =
     (net : Net) (rows others : List Row) →
     IsGraph net → AreCertified net rows → AreCertified net others → rows ≡ others
 
--- rule: Bounded pair
 -- a row keeps C2 exactly if it does so for each release that payloads may lead to
 abbrev pub PairsDecideBounds : Type 0
 PairsDecideBounds =

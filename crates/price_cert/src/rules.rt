@@ -68,13 +68,7 @@ fn is_bounded_to(rows: &[Row], row: Row, to: usize, edge: &Edge) -> bool
 
 // rule: Bounded pair
 /// Whether each payload from a row's release to a release keeps C2.
-pub(crate) fn meets_bounds_to(
-    graph: &Graph,
-    rows: &[Row],
-    from: usize,
-    row: Row,
-    to: usize,
-) -> bool
+pub(crate) fn meets_bounds_to(graph: &Graph, rows: &[Row], from: usize, row: Row, to: usize) -> bool
     requires { from < length graph.now.doors }
     ensures { result ≡ meets_bounds_to graph.now rows.now from row to }
 {
