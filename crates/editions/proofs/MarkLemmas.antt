@@ -25,10 +25,10 @@ AreMarks-more apps batch index marks new mark are is pushed = record {
   where
     at : (k : ℕ) → k < index + 1 → get_or (marks ++ mark ∷ []) k true ≡ may_change apps batch k
     at k below = elim (cases_eq k index) [
-        | inl same ↦
-            ap (λ n. get_or (marks ++ mark ∷ []) n true) (same ∙ sym are.sized) ∙ get_or-append_seam marks mark [] true
-            ∙ is ∙ sym (ap (may_change apps batch) same)
-        | inr other ↦ let count = are.sized in get_or_append_left marks (mark ∷ []) true k (omega arith) ∙ are.right k (omega arith)
+      | inl same ↦
+          ap (λ n. get_or (marks ++ mark ∷ []) n true) (same ∙ sym are.sized) ∙ get_or-append_seam marks mark [] true
+          ∙ is ∙ sym (ap (may_change apps batch) same)
+      | inr other ↦ let count = are.sized in get_or_append_left marks (mark ∷ []) true k (omega arith) ∙ are.right k (omega arith)
     ]
 
 -- an app without a mark is the same in the content that the batch leads to
@@ -37,13 +37,13 @@ pub KeepsOthers-marks :
     outcome batch apps ≡ Ok made → AreMarks apps batch (length made) marks → KeepsOthers apps made marks
 KeepsOthers-marks law apps made batch marks leads are key unmarked =
     elim (cases_lt key.app (length made)) [
-        | inl within ↦ cases (slice_get apps key.app) refl (sym (are.right key.app within) ∙ unmarked)
-        | inr past ↦
-            let count = are.sized in
-            let beyond : length marks ≤ key.app = omega arith in
-            let marked : get_or marks key.app true ≡ true = get_or_past marks key.app true beyond in
-            let no : true ≡ false = sym marked ∙ unmarked in
-            cc
+      | inl within ↦ cases (slice_get apps key.app) refl (sym (are.right key.app within) ∙ unmarked)
+      | inr past ↦
+          let count = are.sized in
+          let beyond : length marks ≤ key.app = omega arith in
+          let marked : get_or marks key.app true ≡ true = get_or_past marks key.app true beyond in
+          let no : true ≡ false = sym marked ∙ unmarked in
+          cc
     ]
   where
     cases :

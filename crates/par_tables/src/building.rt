@@ -68,7 +68,10 @@ fn build_tracks<R: Threads + Sync, G: Gate + Sync>(
 }
 
 /// Makes the list of a catalogue's tables by the calling thread alone.
-pub(crate) fn list_tables(alloc: Global, catalogue: &Catalogue) -> Result<Vec<Certified>, AllocError>
+pub(crate) fn list_tables(
+    alloc: Global,
+    catalogue: &Catalogue,
+) -> Result<Vec<Certified>, AllocError>
     ensures { IfOk result (λ tables. AreTables catalogue.now tables.items) }
 {
     let keys = tracks(alloc, catalogue)?;

@@ -102,11 +102,7 @@ pub(crate) fn is_marked(marks: &[bool], key: &TrackKey) -> bool
 }
 
 // Those of the tracks whose apps are marked.
-fn marked(
-    alloc: Global,
-    listed: &[TrackKey],
-    marks: &[bool],
-) -> Result<Vec<TrackKey>, AllocError>
+fn marked(alloc: Global, listed: &[TrackKey], marks: &[bool]) -> Result<Vec<TrackKey>, AllocError>
     ensures { IfOk result (λ keys. keys.items ≡ filter (is_marked marks.now) listed.now) }
 {
     let mut keys = Vec::new(alloc);

@@ -24,8 +24,8 @@ none_found test low (suc count) none k from to =
         test k ≡ false
     cases true is h rest = cc
     cases false is h rest = elim (cases_eq k low) [
-        | inl same ↦ ap test same ∙ is
-        | inr other ↦ rest h k (omega arith) (omega arith)
+      | inl same ↦ ap test same ∙ is
+      | inr other ↦ rest h k (omega arith) (omega arith)
     ]
 
 -- a number of a range that passes a test, which all before it fail
@@ -56,8 +56,8 @@ one_found test low (suc count) found is = cases (test low) refl is (λ h. one_fo
           to = omega arith;
           passes = later.passes;
           fails = λ k start below. elim (cases_eq k low) [
-              | inl same ↦ ap test same ∙ holds
-              | inr other ↦ later.fails k (omega arith) below
+            | inl same ↦ ap test same ∙ holds
+            | inr other ↦ later.fails k (omega arith) below
           ];
         }
 

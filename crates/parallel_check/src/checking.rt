@@ -20,11 +20,7 @@ fn is_wrong(graph: &Graph, rows: &[Row], turned: usize) -> bool
 }
 
 // How many rows are above the highest wrong one, if there is a wrong one.
-fn rows_above_wrong(
-    rt: &(impl Threads + Sync),
-    graph: &Graph,
-    rows: &[Row],
-) -> Option<usize>
+fn rows_above_wrong(rt: &(impl Threads + Sync), graph: &Graph, rows: &[Row]) -> Option<usize>
     requires { length rows.now ≡ length graph.now.doors }
     ensures { result ≡ find (is_wrong graph.now rows.now) (range_with_len 0 (length rows.now)) }
 {
