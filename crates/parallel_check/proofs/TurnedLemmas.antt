@@ -6,7 +6,6 @@ use Rattle.std.proofs.lemmas.Bool.{cases_eq}
 use Rattle.payload_graph.specs.Net.{Net}
 use Rattle.price_cert.specs.Rules.{broken_at, AreCertified, IsFirstWrong}
 use Rattle.price_cert.specs.declared.row.Row.{Row}
-use Rattle.price_cert.specs.declared.rules.Rule.{Rule}
 use Rattle.price_cert.specs.declared.rules.Wrong.{Wrong}
 use Rattle.parallel_check.specs.Turned.{is_wrong}
 

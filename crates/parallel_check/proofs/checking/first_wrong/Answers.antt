@@ -1,4 +1,4 @@
-use Rattle.std.proofs.Common.{◌≡◌, ◌∙◌, ◌-◌, ◌≤◌, length, true, false, refl, sym, ap, arith}
+use Rattle.std.proofs.Common.{◌≡◌, ◌∙◌, ◌-◌, length, true, false, refl, sym, ap, arith}
 use Rattle.std.specs.Option.{is_some}
 use Rattle.price_cert.specs.declared.rules.Wrong.{Wrong}
 use Rattle.parallel_check.proofs.TurnedLemmas.{one_found, AreCertified-none, IsFirstWrong-found}
