@@ -1,7 +1,5 @@
-use Rattle.std.proofs.Common.{List, [], false, ◌∙◌, subst, arith}
+use Rattle.std.proofs.Common.{List, [], ◌∷◌, ◌∙◌, subst, arith}
 use Rattle.std.proofs.lemmas.List.{take_all}
-use Rattle.cohorts.specs.declared.pin.Pin.TheVariants as pin
-use Rattle.cohorts.specs.declared.track.Lane.TheVariants as lane
 use Rattle.payload_graph.specs.declared.payload.TrackKey.{TrackKey}
 use Rattle.par_tables.proofs.ListingLemmas.{Adds-more}
 use Rattle.par_tables.proofs.TargetLemmas.{AreTables-tracks}
@@ -10,8 +8,9 @@ use Rattle.par_tables.proofs.keeping.merged.Goals as goal
 
 pub loop-key-preserved : goal.loop-key-preserved
 loop-key-preserved c =
-    Adds-more c.args.made.now c.as_slice-listed.result.now c.loop-key.key-index (record { app = 0; cohort = 0; lane = lane.Target; rollback = false; pin = pin.Any }) [] c.loop-key.merged.items c.push_copy.new.tables.items c.loop-key-test.true
-    c.loop-key.invariant c.in_ok-push_copy.ensures
+    Adds-more c.args.made.now c.as_slice-listed.result.now c.loop-key.key-index c.key-item.result [] c.loop-key.merged.items c.push_copy.new.tables.items c.loop-key-test.true
+    c.loop-key.invariant
+    (subst (λ (key : TrackKey). Adds c.args.made.now (key ∷ []) c.loop-key.merged.items c.push_copy.new.tables.items) c.key-item.is c.in_ok-push_copy.ensures)
 
 pub returns : goal.returns
 returns c =

@@ -1,4 +1,4 @@
-use Rattle.std.proofs.Common.{◌≡◌, ℕ, ◌+◌, ◌≤◌, List, [], ◌++◌, get_or, length, take, sym, ap, ◌∙◌, slice_get, Option, Some, arith}
+use Rattle.std.proofs.Common.{◌≡◌, List, [], ◌++◌, get_or, take, sym, ap, ◌∙◌, Option, arith}
 use Rattle.std.specs.Option.{option_map_or}
 use Rattle.std.proofs.lemmas.List.{append_assoc, take_all}
 use Rattle.std.proofs.lemmas.Option.{slice_get-get_or}
