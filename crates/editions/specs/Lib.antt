@@ -1,3 +1,5 @@
+pub mod Drafts
 pub mod Editions
 pub mod FaultStrings
+pub mod Marks
 pub mod NextErrors

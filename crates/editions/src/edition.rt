@@ -1,18 +1,22 @@
-ghost use Rattle.std.specs.Prelude.{◌≡◌, ◌≤◌, [], ◌∷◌, ◌++◌, IfOk, IfSome, length, map, option_map};
+ghost use Rattle.std.specs.Prelude.{◌≡◌, ◌≤◌, [], ◌∷◌, ◌++◌, Err, IfErr, IfOk, IfSome, length, map, option_map};
 ghost use Rattle.std.specs.Arc.{arc_value};
 ghost use Rattle.catalogue_laws.specs.Histories.{LeadsTo};
-ghost use Rattle.par_tables.specs.Tables.{AreTables};
 ghost use Rattle.payload_graph.specs.Net.{net_among};
+ghost use Rattle.par_tables.specs.Marks.{AreOfTracks, KeepsOthers};
+ghost use Rattle.par_tables.specs.Tables.{AreTables};
+ghost use Rattle.editions.specs.Drafts.{IsDraft};
 ghost use Rattle.editions.specs.Editions.{content_of, max_batches, Continues, IsTrackKey};
 
 use crate::fault::NextError;
+use crate::marks::marks_of;
 use catalogue::{Batch, Catalogue};
-use par_tables::{TrackTables, tables};
+use par_tables::{Gate, TrackTables, build_for, merged, tables_for};
 use payload_graph::TrackKey;
 use price_cert::Certified;
 use std::alloc::{AllocError, Global};
 use std::marker::Model;
 use std::sync::Arc;
+use std::thread::Threads;
 
 const MAX_BATCHES: usize = 4096;
 
@@ -42,6 +46,13 @@ impl Model for Edition {
     ghost invariant = { λ e. IsSound (map arc_value e.batches.items) e.catalogue e.tables };
 }
 
+// What a batch leads to, with a mark for each app that it may change.
+#[derive(Drop)]
+struct Draft {
+    made: Catalogue,
+    marks: Vec<bool>,
+}
+
 // The same batches with one more, in a list of its own.
 fn followed(
     alloc: Global,
@@ -57,6 +68,25 @@ fn followed(
     }
     next.push(Arc::new(alloc, batch)?)?;
     Ok(next)
+}
+
+// The tables of the next edition: those of the marked apps, and this edition's of the others.
+// rule: Tables of an edition
+fn next_tables(
+    alloc: Global,
+    before: &Catalogue,
+    tables: &TrackTables,
+    draft: &Draft,
+    built: &[Certified],
+) -> Result<TrackTables, AllocError>
+    requires tables { AreTables before.now tables.now }
+    requires kept { KeepsOthers before.now draft.now.made draft.now.marks.items }
+    requires built { AreOfTracks draft.now.made built.now }
+    ensures { IfOk result (λ next. AreTables draft.now.made next) }
+{
+    let marks = draft.marks.as_slice();
+    let list = merged(alloc, before, tables, &draft.made, marks, built)?;
+    TrackTables::placed(alloc, &draft.made, list)
 }
 
 impl Edition {
@@ -110,28 +140,75 @@ impl Edition {
         }
     }
 
-    /// Makes the edition with one more batch, and leaves this one as it is.
-    ///
-    /// Returns the batch's first rejected edit if there is one, then `HistoryFull` if this edition
-    /// holds 4096 batches.
-    // rule: The next edition
+    // What a batch leads to, or why it has no next edition.
     // rule: Room for 4096 batches
     // rule: A rejected batch before a full history
-    pub fn next(&self, batch: Batch) -> Result<Edition, NextError>
-        ensures { Continues self.now batch result }
+    fn draft(&self, batch: &Batch) -> Result<Draft, NextError>
+        ensures ok { IfOk result (λ draft. IsDraft self.now batch.now draft) }
+        ensures err { IfErr result (λ error. Continues self.now batch.now (Err error)) }
     {
-        catalogue_laws::growth();
-        let catalogue = self.catalogue.applied(&batch)?;
+        let made = self.catalogue.applied(batch)?;
         if self.batches.len() >= MAX_BATCHES {
             return Err(NextError::HistoryFull);
         }
+        let marks = marks_of(self.alloc, &self.catalogue, batch, &made)?;
+        Ok(Draft { made, marks })
+    }
+
+    // The next edition, by the tables of the marked apps.
+    fn followed_by(
+        &self,
+        batch: Batch,
+        draft: Draft,
+        built: &[Certified],
+    ) -> Result<Edition, NextError>
+        requires draft { IsDraft self.now batch draft }
+        requires built { AreOfTracks draft.made built.now }
+        ensures { Continues self.now batch result }
+    {
+        catalogue_laws::growth();
+        let tables = next_tables(self.alloc, &self.catalogue, &self.tables, &draft, built)?;
         let batches = followed(self.alloc, &self.batches, batch)?;
-        let tables = tables(self.alloc, &catalogue)?;
+        let Draft { made, marks: _ } = draft;
         Ok(Edition {
             alloc: self.alloc,
             batches,
-            catalogue,
+            catalogue: made,
             tables,
         })
+    }
+
+    /// Makes the edition with one more batch, and leaves this one as it is.
+    ///
+    /// The tables of the apps that no edit of the batch names are kept: they share their rows with this edition's.
+    /// The calling thread makes those of the other apps. Returns the batch's first rejected edit if there is one,
+    /// then `HistoryFull` if this edition holds 4096 batches.
+    // rule: The next edition
+    pub fn next(&self, batch: Batch) -> Result<Edition, NextError>
+        ensures { Continues self.now batch result }
+    {
+        let draft = self.draft(&batch)?;
+        let built = tables_for(self.alloc, &draft.made, draft.marks.as_slice())?;
+        self.followed_by(batch, draft, built.as_slice())
+    }
+
+    /// Makes the edition that `next` makes, with the tables of the apps that the batch names in `workers` pieces, from
+    /// 1 to 16, each of which may have a thread of its own and calls `gate` before its first table.
+    ///
+    /// The errors are those of `next`; after one of them no piece has begun, unless it is `Memory`.
+    pub fn next_with<R: Threads + Sync, G: Gate + Sync>(
+        &self,
+        rt: &R,
+        batch: Batch,
+        workers: usize,
+        gate: &G,
+    ) -> Result<Edition, NextError>
+        requires { (1 ≤ workers) × (workers ≤ 16) }
+        ensures { Continues self.now batch result }
+    {
+        let draft = self.draft(&batch)?;
+        let marks = draft.marks.as_slice();
+        let built = build_for(rt, self.alloc, &draft.made, marks, workers, gate)?;
+        self.followed_by(batch, draft, built.as_slice())
     }
 }

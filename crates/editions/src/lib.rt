@@ -1,7 +1,9 @@
 //! Editions: histories of accepted batches with their catalogues.
 //!
 //! Contracts see an `Edition` as its history, the list of its batches; `Edition::next` returns the
-//! edition with one more batch, or the reason why there is none. Read `specs/Editions.antt`.
+//! edition with one more batch, or the reason why there is none. Read `specs/Editions.antt`. It keeps the tables of
+//! the apps that the batch doesn't name, by `specs/Marks.antt`; `Edition::next_with` makes the others by several
+//! threads.
 //!
 //! It does not publish editions, and replies to no requests: crates above do.
 
@@ -9,6 +11,7 @@
 
 mod edition;
 mod fault;
+mod marks;
 
 pub use crate::edition::Edition;
 pub use crate::fault::NextError;

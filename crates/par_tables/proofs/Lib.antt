@@ -1,8 +1,12 @@
-mod DraftLemmas
+mod CountLemmas
 mod FindLemmas
 mod JoinLemmas
+mod KeptLemmas
 mod KeyLemmas
 mod ListingLemmas
 mod OneLemmas
+mod PieceLemmas
 mod PlaceLemmas
+mod PlacingLemmas
+mod TargetLemmas
 mod TrackLemmas

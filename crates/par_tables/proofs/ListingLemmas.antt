@@ -7,8 +7,7 @@ use Rattle.records.specs.declared.content.App.{App}
 use Rattle.payload_graph.specs.declared.payload.TrackKey.{TrackKey}
 use Rattle.payload_graph.specs.Net.{Net, net_among}
 use Rattle.price_cert.specs.Tables.{Certificate}
-use Rattle.par_tables.specs.Tables.{Adds, AreTables, IsTable, net_of_table, nets_of}
-use Rattle.par_tables.specs.Tracks.{keys_of}
+use Rattle.par_tables.specs.Tables.{Adds, IsTable, net_of_table, nets_of}
 
 -- a table for a track with a target
 pub Adds-one :
@@ -62,9 +61,3 @@ pub Adds-more :
 Adds-more apps keys index d old mid new within first second =
     subst (λ (ks : List TrackKey). Adds apps ks old new) (sym (take_more keys index d within))
     (Adds-both apps (take index keys) (get_or keys index d ∷ []) old mid new first second)
-
--- the tables of all apps
-pub AreTables-all :
-    (apps : List App) (tables : List Certificate) →
-    Adds apps (keys_of apps) [] tables → All IsTable [] → AreTables apps tables
-AreTables-all apps tables adds none = record { nets = adds.nets; certified = adds.certified none }

@@ -1,3 +1,5 @@
+pub mod Marks
+pub mod Pieces
 pub mod Places
 pub mod Tables
 pub mod Tracks

@@ -1,12 +1,12 @@
 -- Where the tables of a list are found: those of one cohort are together, four at most.
-use Rattle.std.specs.Prelude.{◌≡◌, ℕ, ◌+◌, ◌<◌, ◌≤◌, List, [], length, map, slice_get, slice_index_or, take, Option, Some, option_and_then}
+use Rattle.std.specs.Prelude.{◌≡◌, ℕ, ◌+◌, ◌<◌, ◌≤◌, List, length, slice_get, slice_index_or, take, Option, Some, option_and_then}
 use Rattle.records.specs.declared.content.App.{App}
 use Rattle.payload_graph.specs.declared.payload.TrackKey.{TrackKey}
 use Rattle.payload_graph.specs.Net.{Net}
 use Rattle.price_cert.specs.Tables.{Certificate}
-use Rattle.par_tables.specs.Tables.{Adds, net_of_table}
+use Rattle.par_tables.specs.Tables.{nets_of}
 use Rattle.par_tables.specs.Tracks.{app_keys, joined_from}
-use Rattle.par_tables.specs.declared.draft.Draft.{Draft}
+use Rattle.par_tables.specs.declared.places.Places.{Places}
 
 -- where the search for a key begins, by how many cohorts are before those of each app and where the
 -- tables of each cohort begin
@@ -36,8 +36,8 @@ abbrev pub HasOtherKeyAt : TrackKey → List Certificate → ℕ → Type 0
 HasOtherKeyAt key tables place =
     (d : Certificate) → place < length tables → HasOtherKey key (slice_index_or tables place d)
 
--- the tables of the first apps of a content, each where it is found
-pub record IsDraft (apps : List App) (app : ℕ) (draft : Draft) : Type 0 where
-  pub count : length draft.firsts.items ≡ app
-  pub adds : Adds apps (joined_from app_keys 0 (take app apps)) [] draft.tables.items
-  pub placed : ArePlaced draft.firsts.items draft.starts.items (map net_of_table draft.tables.items)
+-- the places of the tables of the first apps of a content, and how many tables they have
+pub record ArePlacesOf (apps : List App) (app : ℕ) (places : Places) : Type 0 where
+  pub apps_count : length places.firsts.items ≡ app
+  pub counted : places.count ≡ length (nets_of apps (joined_from app_keys 0 (take app apps)))
+  pub placed : ArePlaced places.firsts.items places.starts.items (nets_of apps (joined_from app_keys 0 (take app apps)))

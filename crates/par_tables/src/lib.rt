@@ -4,13 +4,25 @@
 //! that order, `specs/Tables.antt` for the list, and `specs/Places.antt` for how a table is found by its key.
 //! There is one such list, by `laws`.
 //!
-//! It does not find prices, which `solver` does, and starts no thread.
+//! `build` makes the same list by several threads, each of which has a piece of it: read `specs/Pieces.antt`.
+//! `build_for` makes the tables of some apps, and `merged` adds those of the others, kept of the content before:
+//! read `specs/Marks.antt`. `tables_for` is `build_for` by one thread.
+//!
+//! It does not find prices, which `solver` does. Only `build` and `build_for` start threads.
 
 #![tactic(auto)]
 
-mod draft;
+mod building;
+mod gate;
+mod keeping;
 mod keys;
 pub mod laws;
 mod listing;
+mod piece;
+mod places;
+mod tracks;
 
+pub use crate::building::{build, build_for, tables_for};
+pub use crate::gate::{Free, Gate};
+pub use crate::keeping::merged;
 pub use crate::listing::{TrackTables, tables};

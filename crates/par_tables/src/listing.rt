@@ -4,7 +4,8 @@ ghost use Rattle.std.specs.Prelude.{◌≡◌, ℕ, ◌+◌, ◌<◌, ◌≤◌,
 ghost use Rattle.par_tables.specs.Places.{start_of, HasOtherKey, HasOtherKeyAt};
 ghost use Rattle.par_tables.specs.Tables.{AreTables};
 
-use crate::draft::{Draft, push_app};
+use crate::building::list_tables;
+use crate::places::{Places, places_of};
 use catalogue::Catalogue;
 use payload_graph::TrackKey;
 use price_cert::Certified;
@@ -84,6 +85,24 @@ impl TrackTables {
         }
     }
 
+    /// Makes the tables of a catalogue of their list, as `build` or `merged` makes it.
+    pub fn placed(
+        alloc: Global,
+        catalogue: &Catalogue,
+        list: Vec<Certified>,
+    ) -> Result<TrackTables, AllocError>
+        requires { AreTables catalogue.now list.items }
+        ensures { IfOk result (λ tables. tables ≡ list.items) }
+    {
+        let places = places_of(alloc, catalogue)?;
+        let Places { starts, firsts, .. } = places;
+        Ok(TrackTables {
+            list,
+            starts,
+            firsts,
+        })
+    }
+
     /// Borrows the tables, in the order of the tracks.
     pub fn as_slice(&self) -> &[Certified]
         ensures { result.now ≡ self.now }
@@ -114,22 +133,6 @@ impl TrackTables {
 pub fn tables(alloc: Global, catalogue: &Catalogue) -> Result<TrackTables, AllocError>
     ensures { IfOk result (λ tables. AreTables catalogue.now tables) }
 {
-    let mut draft = Draft {
-        tables: Vec::new(alloc),
-        starts: Vec::new(alloc),
-        firsts: Vec::new(alloc),
-    };
-    for app in 0..catalogue.apps().len() {
-        push_app(&mut draft, alloc, catalogue, app)?;
-    }
-    let Draft {
-        tables,
-        starts,
-        firsts,
-    } = draft;
-    Ok(TrackTables {
-        list: tables,
-        starts,
-        firsts,
-    })
+    let list = list_tables(alloc, catalogue)?;
+    TrackTables::placed(alloc, catalogue, list)
 }

@@ -3,6 +3,7 @@ mod BetterLemmas
 mod InductionLemmas
 mod LeastLemmas
 mod OpeningLemmas
+mod PairLemmas
 mod PassLemmas
 mod RuleLemmas
 mod SmallLemmas

@@ -1,10 +1,10 @@
 -- What the rules of a table imply.
-use Rattle.std.specs.Prelude.{◌≡◌, ℕ, ◌+◌, ◌^◌, ◌<◌, ◌≤◌, All, IfSome, List, length}
+use Rattle.std.specs.Prelude.{◌≡◌, ◌↔◌, ℕ, ◌+◌, ◌^◌, ◌<◌, ◌≤◌, true, All, IfSome, List, length}
 use Rattle.payload_graph.specs.Net.{Net}
 use Rattle.payload_graph.specs.Soundness.{AreNumbered, IsBounded, IsNearing}
 use Rattle.price_cert.specs.Chains.{IsPriceOf}
 use Rattle.price_cert.specs.Rows.{price_at}
-use Rattle.price_cert.specs.Rules.{AreCertified}
+use Rattle.price_cert.specs.Rules.{AreCertified, meets_bounds, meets_bounds_to}
 use Rattle.price_cert.specs.declared.row.Row.{Row}
 
 -- what holds of each graph, by its readers
@@ -41,3 +41,9 @@ abbrev pub CertifiedTablesAreOne : Type 0
 CertifiedTablesAreOne =
     (net : Net) (rows others : List Row) →
     IsGraph net → AreCertified net rows → AreCertified net others → rows ≡ others
+
+-- a row keeps C2 exactly if it does so for each release that payloads may lead to
+abbrev pub PairsDecideBounds : Type 0
+PairsDecideBounds =
+    (net : Net) (rows : List Row) (from : ℕ) (row : Row) →
+    (meets_bounds net rows from row ≡ true) ↔ ((to : ℕ) → meets_bounds_to net rows from row to ≡ true)

@@ -37,6 +37,15 @@ is_bounded rows row edge = is_at_most (price_at rows edge.to) (price_of row) edg
 abbrev pub meets_bounds : Net → List Row → ℕ → Row → Bool
 meets_bounds net rows from row = list_all (is_bounded rows row) (edges_from net from)
 
+-- the payload doesn't lead to a release, or keeps C2
+abbrev pub is_bounded_to : List Row → Row → ℕ → Edge → Bool
+is_bounded_to rows row to edge = not (edge.to == to) || is_bounded rows row edge
+
+-- rule: Bounded pair
+-- C2 of a pair of releases: it holds of each payload from the one to the other
+abbrev pub meets_bounds_to : Net → List Row → ℕ → Row → ℕ → Bool
+meets_bounds_to net rows from row to = list_all (is_bounded_to rows row to) (edges_from net from)
+
 -- a price is a payload's bytes and the rest, if there is a rest
 abbrev pub adds_up : Option ℕ → ℕ → ℕ → Bool
 adds_up None price bytes = false
@@ -107,6 +116,12 @@ broken_rule net rows from row =
 -- the same of the row that the table has for a release
 abbrev pub broken_at : Net → List Row → ℕ → Option Rule
 broken_at net rows from = broken_rule net rows from (row_at rows from)
+
+-- rule: Broken rule of a row alone
+-- the first rule but C2 that a row of a release breaks, if any
+abbrev pub broken_alone : Net → List Row → ℕ → Row → Option Rule
+broken_alone net rows from row =
+    first_failed (ends_at_target net.target from row) true (is_attained net rows from row) (comes_first net rows from row)
 
 -- rule: Certified table
 -- a table is certified for a graph: it has a row for each release, and none of them breaks a rule

@@ -2,7 +2,7 @@
 
 ghost use Rattle.price_cert.specs.Best.{BestTablesAreCertified};
 ghost use Rattle.price_cert.specs.Examples.{ExampleIsWorked};
-ghost use Rattle.price_cert.specs.Laws.{CertifiedPricesAreLeast, CertifiedPricesAreSmall, CertifiedTablesAreOne};
+ghost use Rattle.price_cert.specs.Laws.{CertifiedPricesAreLeast, CertifiedPricesAreSmall, CertifiedTablesAreOne, PairsDecideBounds};
 
 /// States that the prices of a certified table are the least sums, and that a release without a price
 /// has no chain.
@@ -31,6 +31,11 @@ pub fn unique()
 {
     payload_graph::laws::nearer();
 }
+
+/// States that a row keeps C2 exactly if each pair of its release and another one does.
+pub fn pairs()
+    ensures { PairsDecideBounds }
+{}
 
 /// States which rules the tables of a small app break, worked by hand.
 pub fn example()

@@ -10,6 +10,9 @@
 //! read `specs/Best.antt`. Only a table that fails there is tested rule by rule. Whoever finds prices goes
 //! along the releases in the same way, by `best_below`, `best_above` and `best_row`.
 //!
+//! Several threads can share the work of the check: `passes` is the quick test, `broken_at` tests a row, `check_pair`
+//! and `check_row` test parts of one, and `into_certified` makes a `Certified` of a table that was found right.
+//!
 //! It does not find prices: whoever does is checked here.
 
 #![tactic(auto)]
@@ -18,12 +21,15 @@ mod best;
 mod certified;
 mod kept;
 pub mod laws;
+mod parts;
 mod passing;
 mod row;
 mod rules;
 mod windows;
 
-pub use crate::certified::{Certified, check};
+pub use crate::certified::{Certified, check, into_certified};
+pub use crate::parts::{check_pair, check_row};
+pub use crate::passing::passes;
 pub use crate::row::{Prices, Row};
-pub use crate::rules::{Rule, Wrong};
+pub use crate::rules::{Rule, Wrong, broken_at};
 pub use crate::windows::{best_above, best_below, best_row, best_to_target};

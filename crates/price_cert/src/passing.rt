@@ -88,9 +88,9 @@ fn pass_above(graph: &Graph, rows: &[Row]) -> bool
 // rule: Table of best payloads
 /// Whether each row but the target's names the best payload of its release, and that is the end.
 ///
-/// Such a table is certified. It takes a step for each release and each differential, and more where a
-/// floor ends the best full package.
-pub(crate) fn passes(graph: &Graph, rows: &[Row]) -> bool
+/// Such a table is certified. The table has a row for each release of the graph. It takes no memory, and a step for
+/// each release and each differential, and more where a floor ends the best full package.
+pub fn passes(graph: &Graph, rows: &[Row]) -> bool
     requires { length rows.now ≡ length graph.now.doors }
     ensures { IsTrue result → AreCertified graph.now rows.now }
 {

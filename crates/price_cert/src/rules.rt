@@ -2,7 +2,7 @@
 
 ghost use Rattle.std.specs.Prelude.{◌≡◌, ◌<◌, length, MatchOption};
 ghost use Rattle.price_cert.specs.Rows.{price_of};
-ghost use Rattle.price_cert.specs.Rules.{adds_up, broken_at, broken_rule, comes_first, costs, ends_at_target, is_at_most, is_attained, is_bounded, is_first_or_larger, is_named, is_next, is_same_kind, meets_bounds, yields, AreCertified, IsFirstWrong};
+ghost use Rattle.price_cert.specs.Rules.{adds_up, broken_alone, broken_at, broken_rule, comes_first, costs, ends_at_target, is_at_most, is_attained, is_bounded, is_bounded_to, is_first_or_larger, is_named, is_next, is_same_kind, meets_bounds, meets_bounds_to, yields, AreCertified, IsFirstWrong};
 
 use crate::row::{Row, row_at};
 use payload_graph::{Edge, Graph, Kind};
@@ -58,6 +58,23 @@ fn is_bounded(rows: &[Row], row: Row, edge: &Edge) -> bool
     ensures { result ≡ is_bounded rows.now row edge.now }
 {
     is_at_most(row_at(rows, edge.to).price(), row.price(), edge.bytes)
+}
+
+fn is_bounded_to(rows: &[Row], row: Row, to: usize, edge: &Edge) -> bool
+    ensures { result ≡ is_bounded_to rows.now row to edge.now }
+{
+    edge.to != to || is_bounded(rows, row, edge)
+}
+
+// rule: Bounded pair
+/// Whether each payload from a row's release to a release keeps C2.
+pub(crate) fn meets_bounds_to(graph: &Graph, rows: &[Row], from: usize, row: Row, to: usize) -> bool
+    requires { from < length graph.now.doors }
+    ensures { result ≡ meets_bounds_to graph.now rows.now from row to }
+{
+    graph
+        .edges_from(from)
+        .all(|edge| is_bounded_to(rows, row, to, &edge))
 }
 
 // rule: Bounded price
@@ -166,7 +183,28 @@ fn broken_rule(graph: &Graph, rows: &[Row], from: usize, row: Row) -> Option<Rul
     None
 }
 
-fn broken_at(graph: &Graph, rows: &[Row], from: usize) -> Option<Rule>
+// rule: Broken rule of a row alone
+/// The first of C1, C3 and C4 that the row of a release breaks.
+pub(crate) fn broken_alone(graph: &Graph, rows: &[Row], from: usize, row: Row) -> Option<Rule>
+    requires { from < length graph.now.doors }
+    ensures { result ≡ broken_alone graph.now rows.now from row }
+{
+    if !ends_at_target(graph.target(), from, row) {
+        return Some(Rule::C1);
+    }
+    if !is_attained(graph, rows, from, row) {
+        return Some(Rule::C3);
+    }
+    if !comes_first(graph, rows, from, row) {
+        return Some(Rule::C4);
+    }
+    None
+}
+
+/// The first rule that the row of a release breaks, in their order, `None` if it breaks none.
+///
+/// The release is given by its index, which is in range. It takes no memory.
+pub fn broken_at(graph: &Graph, rows: &[Row], from: usize) -> Option<Rule>
     requires { from < length graph.now.doors }
     ensures { result ≡ broken_at graph.now rows.now from }
 {

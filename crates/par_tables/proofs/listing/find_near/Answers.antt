@@ -1,8 +1,7 @@
-use Rattle.std.proofs.Common.{◌≡◌, ◌≢◌, rules, ℕ, ◌<◌, inl, inr, length, get_or, sym, ap, ◌∙◌, arith}
+use Rattle.std.proofs.Common.{◌≡◌, ◌≢◌, rules, inl, inr, get_or, sym, ap, ◌∙◌, arith}
 use Rattle.std.proofs.lemmas.Bool.{cases_lt}
 use Rattle.std.proofs.lemmas.List.{get_or_default}
 use Rattle.price_cert.specs.Tables.{Certificate}
-use Rattle.payload_graph.specs.declared.payload.TrackKey.{TrackKey}
 use Rattle.par_tables.proofs.listing.find_near.Goals as goal
 
 pub loop-index-preserved : goal.loop-index-preserved

@@ -1,0 +1,43 @@
+-- The tables of some apps of a content, and those kept of the other apps; this project's profile.
+use Rattle.std.specs.Prelude.{◌≡◌, Bool, true, false, List, All, Some, map, slice_get, slice_index_or}
+use Rattle.std.specs.List.{filter}
+use Rattle.records.specs.declared.content.App.{App}
+use Rattle.payload_graph.specs.declared.payload.TrackKey.{TrackKey}
+use Rattle.payload_graph.specs.Net.{net_among}
+use Rattle.price_cert.specs.Tables.{Certificate}
+use Rattle.par_tables.specs.Pieces.{has_target}
+use Rattle.par_tables.specs.Tables.{IsTable, net_of_table, nets_of}
+use Rattle.par_tables.specs.Tracks.{keys_of}
+
+-- the app of the track is marked; an app without a mark counts as marked
+abbrev pub is_marked : List Bool → TrackKey → Bool
+is_marked marks key = slice_index_or marks key.app true
+
+-- the keys of the tracks of marked apps, in order
+abbrev pub marked_keys : List App → List Bool → List TrackKey
+marked_keys apps marks = filter (is_marked marks) (keys_of apps)
+
+-- those of them that have a target
+abbrev pub marked_tracks : List App → List Bool → List TrackKey
+marked_tracks apps marks = filter (has_target apps) (marked_keys apps marks)
+
+-- rule: Tables of marked apps
+-- of the tables of a content those whose app is marked, in order, each certified for its graph
+pub record AreTablesFor (apps : List App) (marks : List Bool) (tables : List Certificate) : Type 0 where
+  pub nets : map net_of_table tables ≡ nets_of apps (marked_keys apps marks)
+  pub certified : All IsTable tables
+
+-- the table is that of the track of a key
+pub record IsTableOf (apps : List App) (key : TrackKey) (table : Certificate) : Type 0 where
+  pub own : net_among apps key ≡ Some table.net
+  pub is : IsTable table
+
+-- each table is that of the track of its own key
+abbrev pub AreOfTracks : List App → List Certificate → Type 0
+AreOfTracks apps tables = All (λ (table : Certificate). IsTableOf apps table.net.key table) tables
+
+-- rule: Kept tables
+-- the apps without a mark are the same in two contents
+abbrev pub KeepsOthers : List App → List App → List Bool → Type 0
+KeepsOthers apps made marks =
+    (key : TrackKey) → is_marked marks key ≡ false → slice_get made key.app ≡ slice_get apps key.app
