@@ -9,8 +9,7 @@ use Rattle.records.specs.declared.content.App.{App}
 use Rattle.catalogue.specs.Batches.{outcome}
 use Rattle.catalogue.specs.declared.edit.Edit.{Edit}
 use Rattle.catalogue_laws.specs.Histories.{BatchesKeepOtherApps}
-use Rattle.payload_graph.specs.declared.payload.TrackKey.{TrackKey}
-use Rattle.par_tables.specs.Marks.{is_marked, KeepsOthers}
+use Rattle.par_tables.specs.Marks.{KeepsOthers}
 use Rattle.editions.specs.Marks.{AreMarks, is_named, may_change}
 
 -- the mark of one app more
