@@ -21,6 +21,8 @@ mod offers;
 #[cfg(test)]
 mod outcomes;
 #[cfg(test)]
+mod parallel;
+#[cfg(test)]
 mod places;
 #[cfg(test)]
 mod rule;
