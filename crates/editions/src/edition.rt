@@ -2,7 +2,7 @@ ghost use Rattle.std.specs.Prelude.{◌≡◌, ◌≤◌, [], ◌∷◌, ◌++�
 ghost use Rattle.std.specs.Arc.{arc_value};
 ghost use Rattle.catalogue_laws.specs.Histories.{LeadsTo};
 ghost use Rattle.payload_graph.specs.Net.{net_among};
-ghost use Rattle.par_tables.specs.Marks.{AreOfTracks, KeepsOthers};
+ghost use Rattle.par_tables.specs.Marks.{AreTablesFor, KeepsOthers};
 ghost use Rattle.par_tables.specs.Tables.{AreTables};
 ghost use Rattle.editions.specs.Drafts.{IsDraft};
 ghost use Rattle.editions.specs.Editions.{content_of, max_batches, Continues, IsTrackKey};
@@ -81,7 +81,7 @@ fn next_tables(
 ) -> Result<TrackTables, AllocError>
     requires tables { AreTables before.now tables.now }
     requires kept { KeepsOthers before.now draft.now.made draft.now.marks.items }
-    requires built { AreOfTracks draft.now.made built.now }
+    requires built { AreTablesFor draft.now.made draft.now.marks.items built.now }
     ensures { IfOk result (λ next. AreTables draft.now.made next) }
 {
     let marks = draft.marks.as_slice();
@@ -163,7 +163,7 @@ impl Edition {
         built: &[Certified],
     ) -> Result<Edition, NextError>
         requires draft { IsDraft self.now batch draft }
-        requires built { AreOfTracks draft.made built.now }
+        requires built { AreTablesFor draft.made draft.marks.items built.now }
         ensures { Continues self.now batch result }
     {
         catalogue_laws::growth();

@@ -1,14 +1,16 @@
 -- The table of a track of an app that is the same in two contents.
-use Rattle.std.proofs.Common.{◌≡◌, List, Option, Some, Contains, sym, ap, ◌∙◌}
-use Rattle.std.specs.List.{slice_get}
-use Rattle.std.specs.Option.{option_and_then}
+use Rattle.std.proofs.Common.{◌≡◌, List, Option, None, Some, Contains, true, refl, sym, ap, ◌∙◌}
+use Rattle.std.specs.List.{All, slice_get}
+use Rattle.std.specs.Option.{is_some, option_and_then}
 use Rattle.std.proofs.lemmas.List.Elements.{All-contains}
 use Rattle.records.specs.declared.content.App.{App}
 use Rattle.payload_graph.specs.declared.payload.TrackKey.{TrackKey}
-use Rattle.payload_graph.specs.Net.{net_among, net_in}
+use Rattle.payload_graph.specs.Net.{Net, net_among, net_in}
 use Rattle.price_cert.specs.Tables.{Certificate}
-use Rattle.par_tables.specs.Marks.{IsTableOf}
-use Rattle.par_tables.specs.Tables.{AreTables, IsTable, TablesAreOfTracks}
+use Rattle.par_tables.proofs.PlaceLemmas.{net_among-key}
+use Rattle.par_tables.specs.Marks.{IsTableOf, IsTrack}
+use Rattle.par_tables.specs.Places.{HasOtherKey}
+use Rattle.par_tables.specs.Tables.{AreTables, IsTable, TablesAreOfTracks, TracksHaveTables}
 
 -- a graph is read of its app alone
 net_among-same_app :
@@ -28,3 +30,18 @@ kept_table law apps made tables key table are same inside own = record {
       ∙ All-contains (λ (t : Certificate). net_among apps t.net.key ≡ Some t.net) tables table (law apps tables are) inside;
   is = All-contains IsTable tables table are.certified inside;
 }
+
+-- and there is one
+pub no_kept_table :
+    TracksHaveTables → (apps made : List App) (tables : List Certificate) (key : TrackKey) →
+    AreTables apps tables → slice_get made key.app ≡ slice_get apps key.app → IsTrack made key →
+    All (HasOtherKey key) tables → ⊥
+no_kept_table law apps made tables key are same track others = cases (net_among made key) refl track.target
+  where
+    cases : (found : Option Net) → net_among made key ≡ found → is_some found ≡ true → ⊥
+    cases None there none = absurd cc
+    cases (Some net) there some =
+        let before : net_among apps key ≡ Some net = sym (net_among-same_app apps made key same) ∙ there in
+        let found = law apps tables key net are before (track.rollback net there) track.pin in
+        let other = All-contains (HasOtherKey key) tables found.1 others (found.0, found.2, found.3) in
+        other (ap (λ (n : Net). n.key) found.4 ∙ net_among-key apps key net before)

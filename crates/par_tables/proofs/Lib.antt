@@ -1,3 +1,4 @@
+mod BuiltLemmas
 mod CountLemmas
 mod FindLemmas
 mod JoinLemmas
@@ -5,6 +6,7 @@ mod KeptLemmas
 mod KeyLemmas
 mod ListingLemmas
 mod OneLemmas
+mod OwnLemmas
 mod PieceLemmas
 mod PlaceLemmas
 mod PlacingLemmas

@@ -17,8 +17,7 @@ use Rattle.payload_graph.specs.declared.payload.TrackKey.{TrackKey}
 use Rattle.payload_graph.specs.Net.{Net, net_among, net_in, net_of}
 use Rattle.price_cert.specs.Tables.{Certificate}
 use Rattle.par_tables.proofs.PlaceLemmas.{found_net, net_among-key, nets_of-cons}
-use Rattle.par_tables.specs.Marks.{AreOfTracks}
-use Rattle.par_tables.specs.Tables.{IsTable, TablesAreOfTracks, TracksHaveTables, net_of_table, nets_of}
+use Rattle.par_tables.specs.Tables.{TablesAreOfTracks, TracksHaveTables, net_of_table, nets_of}
 use Rattle.par_tables.specs.Tracks.{app_keys, cohort_keys, joined_from, keys_of, lane_keys}
 
 -- the graphs of keys are those of their own keys
@@ -36,21 +35,11 @@ All-of_tracks apps (key ∷ keys) =
     one (Some net) there =
         All-cons (IsOfTrack apps) net [] (ap (net_among apps) (net_among-key apps key net there) ∙ there) (All-nil (IsOfTrack apps))
 
--- the tables of some tracks are those of the tracks of their own keys
-pub tables_of_tracks :
-    (apps : List App) (keys : List TrackKey) (tables : List Certificate) →
-    map net_of_table tables ≡ nets_of apps keys → All IsTable tables → AreOfTracks apps tables
-tables_of_tracks apps keys tables nets certified place d within =
-    let all = subst (All (IsOfTrack apps)) (sym nets) (All-of_tracks apps keys) in
-    let sized = length-map tables net_of_table in
-    record {
-      own = subst (IsOfTrack apps) (get_or-map net_of_table tables place d (net_of_table d) within) (all place (net_of_table d) (omega arith));
-      is = certified place d within;
-    }
-
 pub tables_are_of_tracks : TablesAreOfTracks
 tables_are_of_tracks apps tables are place d within =
-    (tables_of_tracks apps (keys_of apps) tables are.nets are.certified place d within).own
+    let all = subst (All (IsOfTrack apps)) (sym are.nets) (All-of_tracks apps (keys_of apps)) in
+    let sized = length-map tables net_of_table in
+    subst (IsOfTrack apps) (get_or-map net_of_table tables place d (net_of_table d) within) (all place (net_of_table d) (omega arith))
 
 -- the graph of a key of a list is among the list's
 Contains-nets_of :

@@ -1,9 +1,10 @@
 -- The tables of some apps of a content, and those kept of the other apps; this project's profile.
-use Rattle.std.specs.Prelude.{◌≡◌, Bool, true, false, List, All, Some, map, slice_get, slice_index_or}
+use Rattle.std.specs.Prelude.{◌≡◌, ℕ, ◌<◌, Bool, true, false, List, All, Some, length, map, slice_get, slice_index_or}
 use Rattle.std.specs.List.{filter}
 use Rattle.records.specs.declared.content.App.{App}
+use Rattle.cohorts.specs.declared.pin.Pin.TheVariants as pin
 use Rattle.payload_graph.specs.declared.payload.TrackKey.{TrackKey}
-use Rattle.payload_graph.specs.Net.{net_among}
+use Rattle.payload_graph.specs.Net.{Net, net_among}
 use Rattle.price_cert.specs.Tables.{Certificate}
 use Rattle.par_tables.specs.Pieces.{has_target}
 use Rattle.par_tables.specs.Tables.{IsTable, net_of_table, nets_of}
@@ -32,9 +33,18 @@ pub record IsTableOf (apps : List App) (key : TrackKey) (table : Certificate) : 
   pub own : net_among apps key ≡ Some table.net
   pub is : IsTable table
 
--- each table is that of the track of its own key
-abbrev pub AreOfTracks : List App → List Certificate → Type 0
-AreOfTracks apps tables = All (λ (table : Certificate). IsTableOf apps table.net.key table) tables
+-- a track of a content's tables: it has a target, its clients have no pin, and it allows a downgrade only if its cohort
+-- does
+pub record IsTrack (apps : List App) (key : TrackKey) : Type 0 where
+  pub target : has_target apps key ≡ true
+  pub pin : key.pin ≡ pin.Any
+  pub rollback : (net : Net) → net_among apps key ≡ Some net → net.rollback ≡ key.rollback
+
+-- if the app of a key is marked, the built table at an index is that of its track
+abbrev pub IsNext : List App → List Bool → List Certificate → ℕ → TrackKey → Type 0
+IsNext apps marks built next key =
+    is_marked marks key ≡ true →
+    (next < length built) × ((d : Certificate) → IsTableOf apps key (slice_index_or built next d))
 
 -- rule: Kept tables
 -- the apps without a mark are the same in two contents

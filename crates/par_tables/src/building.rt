@@ -1,7 +1,7 @@
 //! The tables of a catalogue, or of some of its apps, by one thread or by several.
 
 ghost use Rattle.std.specs.Prelude.{◌≡◌, ◌<◌, ◌≤◌, [], All, IfOk, length, vec_len};
-ghost use Rattle.par_tables.specs.Marks.{AreOfTracks, AreTablesFor};
+ghost use Rattle.par_tables.specs.Marks.{AreTablesFor};
 ghost use Rattle.par_tables.specs.Pieces.{piece_of, ArePieces, HasTarget};
 ghost use Rattle.par_tables.specs.Tables.{Adds, AreTables};
 
@@ -113,8 +113,7 @@ pub fn build_for<R: Threads + Sync, G: Gate + Sync>(
 ) -> Result<Vec<Certified>, AllocError>
     requires marks { length marks.now ≡ length catalogue.now }
     requires workers { (1 ≤ workers) × (workers ≤ 16) }
-    ensures tables { IfOk result (λ tables. AreTablesFor catalogue.now marks.now tables.items) }
-    ensures tracks { IfOk result (λ tables. AreOfTracks catalogue.now tables.items) }
+    ensures { IfOk result (λ tables. AreTablesFor catalogue.now marks.now tables.items) }
 {
     let keys = tracks_for(alloc, catalogue, marks)?;
     let tables = build_tracks(rt, alloc, catalogue, keys.as_slice(), workers, gate)?;
@@ -131,8 +130,7 @@ pub fn tables_for(
     marks: &[bool],
 ) -> Result<Vec<Certified>, AllocError>
     requires { length marks.now ≡ length catalogue.now }
-    ensures tables { IfOk result (λ tables. AreTablesFor catalogue.now marks.now tables.items) }
-    ensures tracks { IfOk result (λ tables. AreOfTracks catalogue.now tables.items) }
+    ensures { IfOk result (λ tables. AreTablesFor catalogue.now marks.now tables.items) }
 {
     let keys = tracks_for(alloc, catalogue, marks)?;
     let tables = tables_of(alloc, catalogue, keys.as_slice())?;

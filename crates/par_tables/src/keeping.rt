@@ -1,57 +1,32 @@
 //! The tables of a content of which some are kept from another content.
 
-ghost use Rattle.std.specs.Prelude.{◌≡◌, ◌∷◌, [], false, IfOk, IfSome, OnOk, slice_get};
-ghost use Rattle.par_tables.specs.Marks.{is_marked, AreOfTracks, IsTableOf, KeepsOthers};
+ghost use Rattle.std.specs.Prelude.{◌≡◌, ◌+◌, ◌∷◌, ◌<◌, [], false, if◌then◌else◌, true, IfOk, OnOk, length, slice_get};
+ghost use Rattle.par_tables.specs.Marks.{is_marked, AreTablesFor, IsNext, IsTableOf, IsTrack, KeepsOthers};
 ghost use Rattle.par_tables.specs.Tables.{Adds, AreTables};
 
 use crate::listing::TrackTables;
-use crate::piece::push_solved;
 use crate::tracks::{is_marked, tracks};
 use catalogue::Catalogue;
 use payload_graph::TrackKey;
 use price_cert::Certified;
 use std::alloc::{AllocError, Global};
 
-// The table of a track before, if its app is the same in both contents.
+// The table before of a track whose app is the same in both contents.
 fn find_kept<'a>(
     before: &Catalogue,
     tables: &'a TrackTables,
     made: &Catalogue,
     key: &TrackKey,
-) -> Option<&'a Certified>
+) -> &'a Certified
     requires tables { AreTables before.now tables.now }
     requires same { slice_get made.now key.now.app ≡ slice_get before.now key.now.app }
-    ensures { IfSome result (λ table. IsTableOf made.now key.now table.now) }
+    requires track { IsTrack made.now key.now }
+    ensures { IsTableOf made.now key.now result.now }
 {
     let _ = before;
     let _ = made;
     crate::laws::tracks();
-    match tables.find(key) {
-        Some(table) => Some(table),
-        None => None,
-    }
-}
-
-// The built table at an index, if it is that of the track.
-fn find_built<'a>(
-    made: &Catalogue,
-    built: &'a [Certified],
-    index: usize,
-    key: &TrackKey,
-) -> Option<&'a Certified>
-    requires { AreOfTracks made.now built.now }
-    ensures { IfSome result (λ table. IsTableOf made.now key.now table.now) }
-{
-    let _ = made;
-    if index >= built.len() {
-        return None;
-    }
-    let table = &built[index];
-    if table.key() == *key {
-        Some(table)
-    } else {
-        None
-    }
+    tables.find(key).unwrap()
 }
 
 // The table of a track: the next built one if its app is marked, else the one before.
@@ -63,54 +38,55 @@ fn source_of<'a>(
     built: &'a [Certified],
     next: usize,
     key: &TrackKey,
-) -> Option<&'a Certified>
+) -> &'a Certified
     requires tables { AreTables before.now tables.now }
     requires kept { KeepsOthers before.now made.now marks.now }
-    requires built { AreOfTracks made.now built.now }
-    ensures { IfSome result (λ table. IsTableOf made.now key.now table.now) }
+    requires next { IsNext made.now marks.now built.now next key.now }
+    requires track { IsTrack made.now key.now }
+    ensures { IsTableOf made.now key.now result.now }
 {
     if is_marked(marks, key) {
-        find_built(made, built, next, key)
+        &built[next]
     } else {
         find_kept(before, tables, made, key)
     }
 }
 
-// Adds a copy of the table of a track, or makes it if there is none.
+// Adds a copy of the table of a track.
 fn push_copy(
     tables: &mut Vec<Certified>,
-    alloc: Global,
     catalogue: &Catalogue,
     key: &TrackKey,
-    table: Option<&Certified>,
+    table: &Certified,
 ) -> Result<(), AllocError>
-    requires { IfSome table (λ table. IsTableOf catalogue.now key.now table.now) }
+    requires { IsTableOf catalogue.now key.now table.now }
     ensures { OnOk result (Adds catalogue.now (key.now ∷ []) tables.old.items tables.new.items) }
 {
-    match table {
-        Some(table) => {
-            let copied = table.copy()?;
-            tables.push(copied)?;
-            Ok(())
-        }
-        None => push_solved(tables, alloc, catalogue, key),
-    }
+    let _ = catalogue;
+    let _ = key;
+    let copied = table.copy()?;
+    tables.push(copied)?;
+    Ok(())
 }
 
 // The index of the built table after that of a track.
-fn index_after(marks: &[bool], next: usize, key: &TrackKey) -> usize {
+fn index_after(marks: &[bool], built: &[Certified], next: usize, key: &TrackKey) -> usize
+    requires { is_marked marks.now key.now ≡ true → next < length built.now }
+    ensures { result ≡ next + (if is_marked marks.now key.now then 1 else 0) }
+{
+    let _few = built.len();
     if is_marked(marks, key) {
-        next.saturating_add(1)
+        next + 1
     } else {
         next
     }
 }
 
 // rule: Kept tables
-/// Makes the list of a content's tables: of the marked apps copies of those that were built, in their order, and of
-/// the others copies of those of the content before. A copy shares its rows.
+/// Makes the list of a content's tables: of the marked apps copies of those that were built, and of the others copies
+/// of those of the content before. A copy shares its rows.
 ///
-/// An app without a mark is the same in both contents, and each built table is that of the track of its key.
+/// An app without a mark is the same in both contents, and `built` is what `build_for` makes by the marks.
 pub fn merged(
     alloc: Global,
     before: &Catalogue,
@@ -121,7 +97,7 @@ pub fn merged(
 ) -> Result<Vec<Certified>, AllocError>
     requires tables { AreTables before.now tables.now }
     requires kept { KeepsOthers before.now made.now marks.now }
-    requires built { AreOfTracks made.now built.now }
+    requires built { AreTablesFor made.now marks.now built.now }
     ensures { IfOk result (λ merged. AreTables made.now merged.items) }
 {
     let keys = tracks(alloc, made)?;
@@ -129,9 +105,9 @@ pub fn merged(
     let mut merged = Vec::new(alloc);
     let mut next = 0;
     for key in listed {
-        let source = source_of(before, tables, made, marks, built, next, key);
-        push_copy(&mut merged, alloc, made, key, source)?;
-        next = index_after(marks, next, key);
+        let table = source_of(before, tables, made, marks, built, next, key);
+        push_copy(&mut merged, made, key, table)?;
+        next = index_after(marks, built, next, key);
     }
     Ok(merged)
 }

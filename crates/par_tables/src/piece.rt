@@ -33,24 +33,6 @@ fn push_table(
     Ok(())
 }
 
-/// Adds the table of a track, if it has a target; the differentials of its app are resolved for it alone.
-pub(crate) fn push_solved(
-    tables: &mut Vec<Certified>,
-    alloc: Global,
-    catalogue: &Catalogue,
-    key: &TrackKey,
-) -> Result<(), AllocError>
-    ensures { OnOk result (Adds catalogue.now (key.now ∷ []) tables.old.items tables.new.items) }
-{
-    if let Some(graph) = Graph::of_track(alloc, catalogue, key)? {
-        let _within = graph.target();
-        let _numbered = graph.doors();
-        let _nearing = graph.differs();
-        tables.push(solve(alloc, &graph)?)?;
-    }
-    Ok(())
-}
-
 // The resolved differentials of an app.
 #[derive(Drop)]
 struct Resolved {

@@ -55,7 +55,8 @@ pub(crate) fn keep<'a, T: Drop + 'a>(alloc: Global, value: T) -> Option<&'a T>
     }
 }
 
-fn batch_of(alloc: Global, script: &str, more: &str) -> Option<&'static Batch> {
+/// The batch of a script, with more of its edits.
+pub(crate) fn batch_of(alloc: Global, script: &str, more: &str) -> Option<&'static Batch> {
     let script = format!(in alloc; "{script}{more}]").ok()?;
     match read_script(alloc, script.as_str().as_bytes()) {
         Ok((_, batch)) => keep(alloc, batch),

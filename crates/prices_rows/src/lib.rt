@@ -1,5 +1,5 @@
 //! Worked rows of payloads: what is permitted on the tracks of small catalogues, their graphs, tables of
-//! prices and certificates, also with wrong lines.
+//! prices, also by several threads and kept by editions, and certificates, also with wrong lines.
 //!
 //! It has tests alone, so that the crates of payloads and prices are proved once. Catalogues are made of scripts,
 //! and payloads are words.
@@ -17,9 +17,13 @@ mod edits;
 #[cfg(test)]
 mod graphs;
 #[cfg(test)]
+mod kept;
+#[cfg(test)]
 mod offers;
 #[cfg(test)]
 mod outcomes;
+#[cfg(test)]
+mod parallel;
 #[cfg(test)]
 mod places;
 #[cfg(test)]

@@ -15,8 +15,8 @@ use std::alloc::{AllocError, Global};
 use std::mem::forget;
 use values::ReadError;
 
-// The first wrong row of a table, and the rule that it breaks.
-fn find_wrong(graph: &Graph, prices: Prices) -> Option<Wrong>
+/// The first wrong row of a table, and the rule that it breaks.
+pub(crate) fn find_wrong(graph: &Graph, prices: Prices) -> Option<Wrong>
     requires key { prices.key ≡ graph.now.key }
     requires sized { length prices.rows ≡ length graph.now.doors }
 {
@@ -32,7 +32,8 @@ fn find_wrong(graph: &Graph, prices: Prices) -> Option<Wrong>
     }
 }
 
-fn push_wrong(words: &mut String, wrong: Wrong) -> Result<(), AllocError> {
+/// Puts a wrong row at the end, with the rule that it breaks.
+pub(crate) fn push_wrong(words: &mut String, wrong: Wrong) -> Result<(), AllocError> {
     let rule = match wrong.rule {
         Rule::C1 => "C1",
         Rule::C2 => "C2",
