@@ -1,5 +1,5 @@
 -- Items of lists by their index: what holds of all of them, and the first one that passes a test.
-use Rattle.std.proofs.Common.{◌≡◌, ℕ, zero, suc, ◌<◌, Bool, true, false, List, [], ◌∷◌, get_or, Option, None, Some, refl, sym, ap, ◌∙◌, arith}
+use Rattle.std.proofs.Common.{◌≡◌, ℕ, zero, suc, ◌<◌, Bool, true, false, cond, List, [], ◌∷◌, get_or, Option, None, Some, refl, sym, ap, ◌∙◌, arith}
 use Rattle.std.specs.List.{AllByRecursion, find, list_all, position, position_or_len, slice_get}
 use Rattle.std.specs.Option.{option_map_or}
 use Rattle.std.proofs.lemmas.Bool.{and_parts, false≢true}
@@ -62,6 +62,16 @@ pub find-position :
     {A : Type 0} (test : A → Bool) (items : List A) (item : A) →
     find test items ≡ Some item → slice_get items (position_or_len test items) ≡ Some item
 find-position test items item found = sym (find_at test items) ∙ found
+
+pub find-passes : {A : Type 0} (test : A → Bool) (items : List A) (item : A) → find test items ≡ Some item → test item ≡ true
+find-passes test [] item found = cc
+find-passes {A} test (first ∷ items) item found = cases (test first) refl found
+  where
+    cases : (passed : Bool) → test first ≡ passed → cond passed (Some first) (find test items) ≡ Some item → test item ≡ true
+    cases true passed found =
+        let same : first ≡ item = cc in
+        sym (ap test same) ∙ passed
+    cases false passed found = find-passes test items item found
 
 pub position-Passes :
     {A : Type 0} (test : A → Bool) (items : List A) (index : ℕ) →
