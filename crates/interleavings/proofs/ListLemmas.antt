@@ -30,6 +30,15 @@ pub zip-itself : {A : Type 0} (R : A → A → Type 0) (items : List A) → ((it
 zip-itself R [] same = tt
 zip-itself R (item ∷ items) same = (same item, zip-itself R items same)
 
+pub all-at :
+    {A : Type 0} (P : A → Type 0) (items : List A) (index : ℕ) (item : A) →
+    slice_get items index ≡ Some item → AllByRecursion P items → P item
+all-at P [] index item there all = cc
+all-at P (first ∷ items) zero item there all =
+    let same : first ≡ item = cc in
+    subst P same all.0
+all-at P (first ∷ items) (suc index) item there all = all-at P items index item there all.1
+
 -- a relation that each item has to itself, and the changed one to what it becomes
 pub zip-changed :
     {A : Type 0} (P : A → Type 0) (R : A → A → Type 0) (change : A → A) (index : ℕ) (items : List A) →

@@ -4,5 +4,7 @@ pub mod Headline
 pub mod Jobs
 pub mod Laws
 pub mod Moves
+pub mod Runs
 pub mod Services
 pub mod Ties
+pub mod Wrong

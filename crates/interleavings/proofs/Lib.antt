@@ -1,0 +1,13 @@
+mod ChoiceLemmas
+mod ClientLemmas
+mod EventLemmas
+mod HeadlineLemmas
+mod KeptLemmas
+mod LawLemmas
+mod ListLemmas
+mod MoveLemmas
+mod PendingLemmas
+mod PlanLemmas
+mod RunLemmas
+mod TieLemmas
+mod WrongLemmas

@@ -1,0 +1,124 @@
+-- Wrong machines, and the law that each of them breaks. Each differs from the machine of the service in one event.
+use Rattle.std.specs.Prelude.{ℕ, ◌+◌, ◌==◌, ◌&&◌, Bool, if◌then◌else◌, List, [], ◌∷◌, ◌++◌, is_none, is_ok, length, max, nat_lt, take, Option, None, Some, option_map}
+use Rattle.std.specs.Option.{option_map_or}
+use Rattle.catalogue.specs.declared.edit.Edit.{Edit}
+use Rattle.catalogue_laws.specs.Histories.{History}
+use Rattle.editions.specs.Editions.{content_of, max_batches}
+use Rattle.mirror_ledger.specs.Budgets.{Account}
+use Rattle.omaha_json.specs.declared.request.Request.{Request}
+use Rattle.records.specs.declared.content.App.{App}
+use Rattle.records.specs.declared.mirror.Mirror.{Mirror}
+use Rattle.interleavings.specs.Choices.{Tables}
+use Rattle.interleavings.specs.Events.{Drop, Enter, Event, Grant, Learn, Machine, Plan, Publish, Raise, Render, asks, granted, happens, moved}
+use Rattle.interleavings.specs.Jobs.{EndedJob, Job, Pending, Rendered, Worker}
+use Rattle.interleavings.specs.Laws.{BatchesArePublishedWhole, JobsGoByWhatWasSeen, PublishedIsAccepted, RepliesAreOfOneCatalogue, SeenIsPublished, SharesAreOfJobs, TotalsAreWithinBudgets}
+use Rattle.interleavings.specs.Moves.{after_drop, after_entry, after_grant, begun, planned_by, reply_by, with_outcome, with_pending, without_job}
+use Rattle.interleavings.specs.Services.{Service, changed_at, content_at, published, with_grant}
+
+-- a worker that has a job in the making ends it with a reply, whatever the outcomes
+abbrev pub ends_by : (Job → Pending → Rendered) → Worker → Worker
+ends_by render worker =
+    option_map_or
+    (λ (job : Job). option_map_or (λ (pending : Pending). without_job (Some (render job pending)) job worker) job.pending worker)
+    worker.job worker
+
+-- renders by the newest catalogue what was planned by an older one
+abbrev pub renders_by_the_newest : Machine
+renders_by_the_newest mirrors service (Render worker moment) =
+    moved worker
+    (ends_by (λ job pending. record { moment = moment; reply = reply_by mirrors (content_of service.history) moment pending }))
+    service
+renders_by_the_newest mirrors service event = happens mirrors service event
+
+-- renders before all choices have their outcomes
+abbrev pub renders_undecided : Machine
+renders_undecided mirrors service (Render worker moment) =
+    moved worker
+    (ends_by (λ job pending. record { moment = moment; reply = reply_by mirrors (content_at service.history job.number) moment pending }))
+    service
+renders_undecided mirrors service event = happens mirrors service event
+
+-- plans by the newest catalogue a job that entered an older one
+abbrev pub plans_by_the_newest : Machine
+plans_by_the_newest mirrors service (Plan worker request tables) =
+    moved worker
+    (λ (w : Worker). record w { job = option_map (λ (job : Job). planned_by (content_of service.history) request tables job) w.job })
+    service
+plans_by_the_newest mirrors service event = happens mirrors service event
+
+-- plans by rows that nobody checked
+abbrev pub plans_by_any_rows : Machine
+plans_by_any_rows mirrors service (Plan worker request tables) =
+    moved worker
+    (λ (w : Worker). record w {
+      job = option_map (λ (job : Job). record job { pending = Some (begun (content_at service.history job.number) request tables) }) w.job;
+    })
+    service
+plans_by_any_rows mirrors service event = happens mirrors service event
+
+-- keeps to the first catalogue, whatever was seen
+abbrev pub keeps_the_first_catalogue : Machine
+keeps_the_first_catalogue mirrors service (Enter worker) = moved worker (after_entry 1) service
+keeps_the_first_catalogue mirrors service event = happens mirrors service event
+
+-- believes each number that it is told of
+abbrev pub believes_any_number : Machine
+believes_any_number mirrors service (Learn worker number) =
+    moved worker (λ (w : Worker). record w { seen = max w.seen number }) service
+believes_any_number mirrors service event = happens mirrors service event
+
+-- grants without room
+abbrev pub grants_without_room : Machine
+grants_without_room mirrors service (Grant worker mirror bytes) =
+    if asks mirrors service worker mirror bytes then granted worker mirror bytes service else service
+grants_without_room mirrors service event = happens mirrors service event
+
+-- grants bytes and leaves the worker's share as it was
+abbrev pub leaves_the_share : Machine
+leaves_the_share mirrors service (Grant worker mirror bytes) =
+    record (moved worker (with_pending (with_outcome (Some mirror))) service) { books = with_grant service.books mirror bytes }
+leaves_the_share mirrors service event = happens mirrors service event
+
+-- lowers a budget below what was granted
+abbrev pub lowers_a_budget : Machine
+lowers_a_budget mirrors service (Raise mirror bytes) =
+    record service { books = λ index. record (service.books index) { budget = bytes } }
+lowers_a_budget mirrors service event = happens mirrors service event
+
+-- forgets a job that is dropped
+abbrev pub forgets_dropped_jobs : Machine
+forgets_dropped_jobs mirrors service (Drop worker) = moved worker (λ (w : Worker). record w { job = None }) service
+forgets_dropped_jobs mirrors service event = happens mirrors service event
+
+-- publishes the first edit of a batch alone
+abbrev pub publishes_half_a_batch : Machine
+publishes_half_a_batch mirrors service (Publish known batch) =
+    record service { history = published service.history known (take 1 batch) }
+publishes_half_a_batch mirrors service event = happens mirrors service event
+
+-- publishes a batch with a rejected edit
+abbrev pub publishes_rejected_batches : Machine
+publishes_rejected_batches mirrors service (Publish known batch) =
+    record service { history = service.history ++ batch ∷ [] }
+publishes_rejected_batches mirrors service event = happens mirrors service event
+
+-- each of them breaks a law
+pub record PlansAndRepliesBreak : Type 0 where
+  pub newest_reply : ¬ (RepliesAreOfOneCatalogue renders_by_the_newest)
+  pub undecided : ¬ (RepliesAreOfOneCatalogue renders_undecided)
+  pub newest_plan : ¬ (RepliesAreOfOneCatalogue plans_by_the_newest)
+  pub unchecked : ¬ (RepliesAreOfOneCatalogue plans_by_any_rows)
+
+pub record EntriesBreak : Type 0 where
+  pub first : ¬ (JobsGoByWhatWasSeen keeps_the_first_catalogue)
+  pub untrue : ¬ (SeenIsPublished believes_any_number)
+
+pub record GrantsBreak : Type 0 where
+  pub no_room : ¬ (TotalsAreWithinBudgets grants_without_room)
+  pub share : ¬ (TotalsAreWithinBudgets leaves_the_share)
+  pub lowered : ¬ (TotalsAreWithinBudgets lowers_a_budget)
+  pub forgotten : ¬ (SharesAreOfJobs forgets_dropped_jobs)
+
+pub record PublishesBreak : Type 0 where
+  pub half : ¬ (BatchesArePublishedWhole publishes_half_a_batch)
+  pub rejected : ¬ (PublishedIsAccepted publishes_rejected_batches)
