@@ -20,11 +20,11 @@ use Rattle.theorems.specs.Laws.{TrackGraphsAreGraphs}
 use Rattle.interleavings.specs.Events.{Drop, Enter, Event, Grant, Learn, Plan, Publish, Raise, Render, asks, decided, granted, happens, moved}
 use Rattle.interleavings.specs.Jobs.{Worker}
 use Rattle.interleavings.specs.Laws.{BeginsWith, batch_given, budget_after}
-use Rattle.interleavings.specs.Moves.{after_drop, after_entry, after_grant, after_news, after_plan, after_refusal, after_rendering, is_asking, with_pending}
+use Rattle.interleavings.specs.Moves.{after_drop, after_entry, after_grant, after_news, after_plan, after_rejection, after_rendering, is_asking, with_pending}
 use Rattle.interleavings.specs.Services.{Service, has_room, is_published, raised_budget, with_budget}
 use Rattle.interleavings.proofs.KeptLemmas.{GoesOn, GoesOn-same, Keeps, KeepsBook, KeepsWorker, KeepsWorker-longer, LeadsTo-content_at}
 use Rattle.interleavings.proofs.ListLemmas.{Passes-option_map_or, all-at, all-changed, all-weaker, sum-changed, zip-changed, zip-itself}
-use Rattle.interleavings.proofs.MoveLemmas.{IsMove, drop, entry, grant, news, plan, refusal, rendering}
+use Rattle.interleavings.proofs.MoveLemmas.{IsMove, drop, entry, grant, news, plan, rejection, rendering}
 
 -- the history is longer by what the event gave, or as it was
 abbrev pub Extends : Event → History → History → Type 0
@@ -147,12 +147,12 @@ module _ (mirrors : List Mirror) (service : Service) (keeps : Keeps mirrors serv
   -- or has no room for them
   refuses :
       (index refusing bytes : ℕ) → asks mirrors service index refusing bytes ≡ true →
-      IsStep mirrors (Grant index refusing bytes) service (moved index (with_pending (after_refusal mirrors refusing)) service)
+      IsStep mirrors (Grant index refusing bytes) service (moved index (with_pending (after_rejection mirrors refusing)) service)
   refuses index refusing bytes asking =
       let found = Passes-option_map_or (is_asking mirrors refusing bytes) (slice_get service.workers index) asking in
-      moves (Grant index refusing bytes) index (with_pending (after_refusal mirrors refusing)) (λ mirror budget. refl)
+      moves (Grant index refusing bytes) index (with_pending (after_rejection mirrors refusing)) (λ mirror budget. refl)
       (λ worker there kept.
-      refusal mirrors service.history worker kept refusing bytes
+      rejection mirrors service.history worker kept refusing bytes
       (subst (λ (w : Worker). is_asking mirrors refusing bytes w ≡ true) (same_Some found.item worker (sym found.is ∙ there)) found.passed))
 
   -- a mirror's budget is raised
@@ -226,7 +226,7 @@ module _ (mirrors : List Mirror) (service : Service) (keeps : Keeps mirrors serv
         (IsStep mirrors (Grant index mirror bytes) service)
         (λ asking.
         cond_both (has_room (service.books mirror) bytes) (granted index mirror bytes service)
-        (moved index (with_pending (after_refusal mirrors mirror)) service)
+        (moved index (with_pending (after_rejection mirrors mirror)) service)
         (IsStep mirrors (Grant index mirror bytes) service)
         (grants index mirror bytes asking) (λ room. refuses index mirror bytes asking))
         (λ test. unchanged (Grant index mirror bytes) (λ mirror budget. refl))

@@ -15,12 +15,12 @@ use Rattle.theorems.specs.Laws.{TrackGraphsAreGraphs}
 use Rattle.interleavings.specs.Choices.{Tables, are_certified}
 use Rattle.interleavings.specs.Jobs.{EndedJob, Job, Pending, Rendered, Worker, bytes_asked, granted_for, granted_to, is_decided, jobs_of}
 use Rattle.interleavings.specs.Laws.{EndsWell}
-use Rattle.interleavings.specs.Moves.{after_drop, after_entry, after_grant, after_news, after_plan, after_refusal, after_rendering, asks_next, begun, is_asking, planned_by, reply_by, sent, with_outcome, with_pending, without_job}
+use Rattle.interleavings.specs.Moves.{after_drop, after_entry, after_grant, after_news, after_plan, after_rejection, after_rendering, asks_next, begun, is_asking, planned_by, reply_by, sent, with_outcome, with_pending, without_job}
 use Rattle.interleavings.specs.Services.{content_at}
 use Rattle.interleavings.proofs.ChoiceLemmas.{IsPlan-choices_of}
 use Rattle.interleavings.proofs.KeptLemmas.{GoesOn, GoesOn-same, IsAfter, IsValid-content, KeepsJob, KeepsPending, KeepsWorker}
 use Rattle.interleavings.proofs.ListLemmas.{Passes-option_map_or, all-append, none-is}
-use Rattle.interleavings.proofs.PendingLemmas.{AreOutcomes-by_app, AsksNext-passed, KeepsPending-outcome, KeepsPending-refusal, granted-begun, granted-outcome, granted-refusal}
+use Rattle.interleavings.proofs.PendingLemmas.{AreOutcomes-by_app, AsksNext-passed, KeepsPending-outcome, KeepsPending-rejection, granted-begun, granted-outcome, granted-rejection}
 
 -- a move of a worker, by which it was granted more of each mirror
 pub record IsMove (mirrors : List Mirror) (history : History) (more : ℕ → ℕ) (old new : Worker) : Type 0 where
@@ -242,14 +242,14 @@ module _ (mirrors : List Mirror) (history : History) (worker : Worker) (keeps : 
         (kept-pending own.job own.pending own.is own.pending_is))
         (λ m. granted-outcome m bytes (Some mirror) own.pending next.next) (λ m. refl)
 
-    pub refusal : Moves (λ m. 0) (with_pending (after_refusal mirrors mirror) worker)
-    refusal =
+    pub rejection : Moves (λ m. 0) (with_pending (after_rejection mirrors mirror) worker)
+    rejection =
         let own = own-asking in
         let next = AsksNext-passed mirrors mirror bytes own.pending own.asks in
-        other_pending (after_refusal mirrors mirror) worker.share (λ m. 0) own.job own.pending own.is own.pending_is
-        (KeepsPending-refusal mirrors (content_at history own.job.number) mirror own.pending
+        other_pending (after_rejection mirrors mirror) worker.share (λ m. 0) own.job own.pending own.is own.pending_is
+        (KeepsPending-rejection mirrors (content_at history own.job.number) mirror own.pending
         (kept-pending own.job own.pending own.is own.pending_is))
-        (λ m. granted-refusal mirrors m mirror bytes own.pending next.next) (λ m. omega arith)
+        (λ m. granted-rejection mirrors m mirror bytes own.pending next.next) (λ m. omega arith)
 
   module _ (quotes : CertifiedRowsQuote) (graphs : TrackGraphsAreGraphs) (are_valid : HistoriesAreValid) (request : Request) (tables : Tables) where
     pub plan : Moves (λ mirror. 0) (after_plan history request tables worker)

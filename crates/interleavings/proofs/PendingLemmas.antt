@@ -13,7 +13,7 @@ use Rattle.replies.specs.declared.choices.Choice.{Choice}
 use Rattle.update_desk.specs.Asking.{asks_of}
 use Rattle.interleavings.specs.Choices.{Tables}
 use Rattle.interleavings.specs.Jobs.{Pending, bytes_asked, granted_to, outcomes_by_app}
-use Rattle.interleavings.specs.Moves.{after_refusal, asks_next, begun, with_outcome}
+use Rattle.interleavings.specs.Moves.{after_rejection, asks_next, begun, with_outcome}
 use Rattle.interleavings.proofs.KeptLemmas.{IsNamed, KeepsPending}
 use Rattle.interleavings.proofs.ListLemmas.{Passes-option_map_or, all-append, pairs-nil, pairs-push}
 
@@ -81,9 +81,9 @@ module _ (mirrors : List Mirror) (apps : List App) where
         named = all-append (IsNamed mirrors) pending.outcomes (outcome ∷ []) keeps.named (named, tt);
       }
 
-  pub KeepsPending-refusal :
-      (mirror : ℕ) (pending : Pending) → KeepsPending mirrors apps pending → KeepsPending mirrors apps (after_refusal mirrors mirror pending)
-  KeepsPending-refusal mirror pending keeps =
+  pub KeepsPending-rejection :
+      (mirror : ℕ) (pending : Pending) → KeepsPending mirrors apps pending → KeepsPending mirrors apps (after_rejection mirrors mirror pending)
+  KeepsPending-rejection mirror pending keeps =
       cond_both (eqb (mirror + 1) (length mirrors)) (with_outcome None pending) (record pending { tried = mirror + 1 })
       (KeepsPending mirrors apps) (λ last. KeepsPending-outcome None pending tt keeps)
       (λ other. record { planned = keeps.planned; named = keeps.named })
@@ -100,11 +100,11 @@ granted-outcome mirror bytes outcome pending next =
     ∙ sum_by_push (λ (ask : Ask). booked mirror ask.0 ask.1) (zip sizes pending.outcomes) (bytes, outcome)
     ∙ ap (λ n. n + booked mirror bytes outcome) (sym (granted-decided mirror pending.choices pending.outcomes))
 
-pub granted-refusal :
+pub granted-rejection :
     (mirrors : List Mirror) (mirror refusing bytes : ℕ) (pending : Pending) →
     slice_get (bytes_asked pending.choices) (length pending.outcomes) ≡ Some bytes →
-    granted_to mirror (after_refusal mirrors refusing pending) ≡ granted_to mirror pending + 0
-granted-refusal mirrors mirror refusing bytes pending next =
+    granted_to mirror (after_rejection mirrors refusing pending) ≡ granted_to mirror pending + 0
+granted-rejection mirrors mirror refusing bytes pending next =
     cond_both (eqb (refusing + 1) (length mirrors)) (with_outcome None pending) (record pending { tried = refusing + 1 })
     (λ (p : Pending). granted_to mirror p ≡ granted_to mirror pending + 0)
     (λ last. granted-outcome mirror bytes None pending next) (λ other. omega arith)

@@ -28,7 +28,7 @@ use Rattle.interleavings.specs.Laws.{BatchesArePublishedWhole, IsOfOneCatalogue,
 use Rattle.interleavings.specs.Moves.{reply_by}
 use Rattle.interleavings.specs.Runs.{begins, lower_release, small_batch, small_mirrors, small_request, small_rows, unknown_release, withdrawal, wrong_rows}
 use Rattle.interleavings.specs.Services.{content_at}
-use Rattle.interleavings.specs.Wrong.{believes_any_number, forgets_dropped_jobs, grants_without_room, keeps_the_first_catalogue, leaves_the_share, lowers_a_budget, plans_by_any_rows, plans_by_the_newest, publishes_half_a_batch, publishes_rejected_batches, renders_by_the_newest, renders_undecided}
+use Rattle.interleavings.specs.Wrong.{believes_any_number, forgets_dropped_jobs, grants_without_room, keeps_the_first_catalogue, leaves_the_share, cuts_a_budget, plans_by_any_rows, plans_by_the_newest, publishes_half_a_batch, publishes_rejected_batches, renders_by_the_newest, renders_undecided}
 
 pub small-accepted : IsAccepted [] small_batch
 unfolding hex_on_literals version.version_of version.components_of version.lenient_version_of hash_of parsed
@@ -130,7 +130,7 @@ share law =
     let same : 3 ≡ 0 = book.adds_up in
     absurd (omega arith)
 
-pub lowered : ¬ (TotalsAreWithinBudgets lowers_a_budget)
+pub lowered : ¬ (TotalsAreWithinBudgets cuts_a_budget)
 unfolding hex_on_literals version.version_of version.components_of version.lenient_version_of hash_of parsed
 lowered law =
     let book = law small_mirrors small_batch 1 (begins 0 (Grant 0 0 3 ∷ Raise 0 2 ∷ [])) small-accepted 0 in

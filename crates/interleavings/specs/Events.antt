@@ -7,7 +7,7 @@ use Rattle.omaha_json.specs.declared.request.Request.{Request}
 use Rattle.records.specs.declared.mirror.Mirror.{Mirror}
 use Rattle.interleavings.specs.Choices.{Tables}
 use Rattle.interleavings.specs.Jobs.{Worker}
-use Rattle.interleavings.specs.Moves.{after_drop, after_entry, after_grant, after_news, after_plan, after_refusal, after_rendering, is_asking, with_pending}
+use Rattle.interleavings.specs.Moves.{after_drop, after_entry, after_grant, after_news, after_plan, after_rejection, after_rendering, is_asking, with_pending}
 use Rattle.interleavings.specs.Services.{Service, changed_at, has_room, opened, published, with_budget, with_grant}
 
 -- rule: Event
@@ -16,7 +16,7 @@ pub data Event : Type 0 where
   Publish : (known : ℕ) (batch : List Edit) → Event
   -- a worker begins a job by what is published
   Enter : (worker : ℕ) → Event
-  -- a worker is told that so many batches are published
+  -- a worker hears that so many batches are published
   Learn : (worker number : ℕ) → Event
   -- a worker plans the reply to a request, by rows for each of its apps
   Plan : (worker : ℕ) (request : Request) (tables : Tables) → Event
@@ -48,7 +48,7 @@ abbrev pub decided : List Mirror → ℕ → ℕ → ℕ → Service → Service
 decided mirrors worker mirror bytes service =
     if has_room (service.books mirror) bytes
     then granted worker mirror bytes service
-    else moved worker (with_pending (after_refusal mirrors mirror)) service
+    else moved worker (with_pending (after_rejection mirrors mirror)) service
 
 -- a machine: what becomes of a service over its mirrors by an event
 abbrev pub Machine : Type 0

@@ -31,7 +31,7 @@ pub record EndedJob : Type 0 where
   pub rendered : Option Rendered
 
 -- rule: Worker
--- a worker: the highest number of batches that it has seen or was told of, its job, the jobs that it ended in their
+-- a worker: the highest number of batches that it has seen or heard of, its job, the jobs that it ended in their
 -- order, and what each mirror granted to it
 pub record Worker : Type 0 where
   pub seen : ℕ

@@ -77,7 +77,7 @@ pub record EndsLater (number : ℕ) (before after : Worker) : Type 0 where
   pub ended : after.ended ≡ before.ended ++ later
   pub follow : All (λ (ended : EndedJob). number ≤ ended.job.number) later
 
--- a job goes by no fewer batches than its worker had seen or was told of before it began
+-- a job goes by no fewer batches than its worker had seen or heard of before it began
 abbrev pub JobsGoByWhatWasSeen : Machine → Type 0
 JobsGoByWhatWasSeen machine =
     Onward machine
@@ -109,7 +109,7 @@ abbrev pub budget_by : ℕ → List Event → ℕ → ℕ
 budget_by mirror [] budget = budget
 budget_by mirror (event ∷ events) budget = budget_by mirror events (budget_after mirror event budget)
 
--- the book of a mirror: its total is the sum of the workers' shares and within its budget of the moment
+-- the book of a mirror: its total is the sum of the workers' shares and within its current budget
 pub record IsBooked (mirrors : List Mirror) (events : List Event) (service : Service) (mirror : ℕ) : Type 0 where
   pub adds_up : (service.books mirror).total ≡ sum_by (λ (worker : Worker). worker.share mirror) service.workers
   pub within : (service.books mirror).total ≤ (service.books mirror).budget

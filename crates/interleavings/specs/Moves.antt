@@ -20,7 +20,7 @@ after_entry number worker =
     then record worker { seen = number; job = Some (record { number = number; pending = None }) }
     else worker
 
--- a worker without a job is told of a number of batches that are published
+-- a worker without a job hears of a number of batches that are published
 abbrev pub after_news : ℕ → ℕ → Worker → Worker
 after_news published number worker =
     if is_none worker.job && nat_le number published
@@ -62,8 +62,8 @@ abbrev pub with_outcome : Option ℕ → Pending → Pending
 with_outcome outcome pending = record pending { outcomes = pending.outcomes ++ outcome ∷ []; tried = 0 }
 
 -- a mirror had no room for the next choice: the one after it is next, and after the last one no mirror grants it
-abbrev pub after_refusal : List Mirror → ℕ → Pending → Pending
-after_refusal mirrors mirror pending =
+abbrev pub after_rejection : List Mirror → ℕ → Pending → Pending
+after_rejection mirrors mirror pending =
     if mirror + 1 == length mirrors then with_outcome None pending else record pending { tried = mirror + 1 }
 
 -- the reply that the worker has in the making changes

@@ -155,7 +155,7 @@ pub record BudgetRaised : Type 0 where
   pub total : (budget_raised.books 0).total ≡ 6
   pub budget : (budget_raised.books 0).budget ≡ 6
 
--- events whose conditions fail: a worker without a job plans, asks, renders and drops, or is told of what isn't published;
+-- events whose conditions fail: a worker without a job plans, asks, renders and drops, or hears of what isn't published;
 -- there is no worker 7; an edit is rejected
 abbrev pub nothing_happened : Service
 nothing_happened =

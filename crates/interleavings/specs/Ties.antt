@@ -1,4 +1,4 @@
--- Which events the contracts of the program's functions are: each law reads one contract in the words of an event.
+-- Which events the contracts of the program's functions are: each law reads one contract as an event.
 use Rattle.std.specs.Prelude.{◌≡◌, ◌↔◌, ℕ, true, List, ◌++◌, length, Ok, Err}
 use Rattle.catalogue.specs.declared.edit.Edit.{Edit}
 use Rattle.catalogue.specs.declared.fault.Refused.{Refused}

@@ -61,7 +61,7 @@ abbrev pub keeps_the_first_catalogue : Machine
 keeps_the_first_catalogue mirrors service (Enter worker) = moved worker (after_entry 1) service
 keeps_the_first_catalogue mirrors service event = happens mirrors service event
 
--- believes each number that it is told of
+-- believes each number that it hears of
 abbrev pub believes_any_number : Machine
 believes_any_number mirrors service (Learn worker number) =
     moved worker (λ (w : Worker). record w { seen = max w.seen number }) service
@@ -79,11 +79,11 @@ leaves_the_share mirrors service (Grant worker mirror bytes) =
     record (moved worker (with_pending (with_outcome (Some mirror))) service) { books = with_grant service.books mirror bytes }
 leaves_the_share mirrors service event = happens mirrors service event
 
--- lowers a budget below what was granted
-abbrev pub lowers_a_budget : Machine
-lowers_a_budget mirrors service (Raise mirror bytes) =
+-- cuts a budget below what was granted
+abbrev pub cuts_a_budget : Machine
+cuts_a_budget mirrors service (Raise mirror bytes) =
     record service { books = λ index. record (service.books index) { budget = bytes } }
-lowers_a_budget mirrors service event = happens mirrors service event
+cuts_a_budget mirrors service event = happens mirrors service event
 
 -- forgets a job that is dropped
 abbrev pub forgets_dropped_jobs : Machine
@@ -116,7 +116,7 @@ pub record EntriesBreak : Type 0 where
 pub record GrantsBreak : Type 0 where
   pub no_room : ¬ (TotalsAreWithinBudgets grants_without_room)
   pub share : ¬ (TotalsAreWithinBudgets leaves_the_share)
-  pub lowered : ¬ (TotalsAreWithinBudgets lowers_a_budget)
+  pub lowered : ¬ (TotalsAreWithinBudgets cuts_a_budget)
   pub forgotten : ¬ (SharesAreOfJobs forgets_dropped_jobs)
 
 pub record PublishesBreak : Type 0 where

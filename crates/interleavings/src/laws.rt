@@ -16,9 +16,9 @@ ghost use Rattle.interleavings.specs.Wrong.{EntriesBreak, GrantsBreak, PlansAndR
 /// of workers, mirrors and batches.
 ///
 /// Each rendered reply is the reply to its request at its time, by its outcomes and by the first batches that are
-/// published, of the number that its job entered; its job goes by no fewer batches than its worker had seen or was told
+/// published, of the number that its job entered; its job goes by no fewer batches than its worker had seen or heard
 /// of before. What a worker has seen never falls, and is published. Each mirror's total is the sum of the workers'
-/// shares and within its budget of the moment, which is the highest one that it was given. Each share is the sum of
+/// shares and within its current budget, which is the highest one that it was given. Each share is the sum of
 /// what the mirror granted for the worker's jobs: for those that ended with a reply, for those that were dropped, and
 /// for the one that it has.
 pub fn every_interleaving()
