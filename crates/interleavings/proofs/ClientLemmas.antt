@@ -84,10 +84,10 @@ module _ (apps : List App) (session : List ℕ) (ask : AppAsk) where
         (λ cohort there graph.
         let target = Mapped-Some (net_of client.app (key_of client) cohort) (cohort_target client.app cohort (key_of client)) net graph in
         let own : cohort_at client.app.cohorts client.track.cohort ≡ cohort = ap (λ (o : Option Cohort). unwrap_or o no_cohort) there in
-        let rolls : client.track.rollback ≡ (cohort_at client.app.cohorts client.track.cohort).rollback && asks_rollback ask =
+        let rolls : client.track.rollback ≡ ((cohort_at client.app.cohorts client.track.cohort).rollback && asks_rollback ask) =
         ap (λ (t : Track). t.rollback) is.track
         ∙ sym (ap (λ (t : Track). (cohort_at client.app.cohorts t.cohort).rollback && asks_rollback ask) is.track) in
-        let both : client.track.rollback ≡ cohort.rollback && asks_rollback ask =
+        let both : client.track.rollback ≡ (cohort.rollback && asks_rollback ask) =
         rolls ∙ ap (λ (c : Cohort). c.rollback && asks_rollback ask) own in
         sym (ap (λ (n : Net). n.rollback) target.same)
         ∙ ap (λ b. cohort.rollback && b) both ∙ twice cohort.rollback (asks_rollback ask) ∙ sym both)

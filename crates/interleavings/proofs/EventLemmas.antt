@@ -85,8 +85,7 @@ module _ (mirrors : List Mirror) (service : Service) (keeps : Keeps mirrors serv
               (λ worker there kept. (steps worker there kept).kept) keeps.workers;
           books = λ mirror.
               let book = keeps.books mirror in
-              let sum = sum-all mirror in
-              record { adds_up = omega arith; within = book.within };
+              record { adds_up = sym (sum-all mirror); within = book.within };
         };
         goes =
             zip-changed (KeepsWorker mirrors service.history) GoesOn move index service.workers GoesOn-same
