@@ -15,7 +15,7 @@ use Rattle.theorems.specs.Laws.{TrackGraphsAreGraphs}
 use Rattle.interleavings.specs.Choices.{Tables, are_certified}
 use Rattle.interleavings.specs.Jobs.{EndedJob, Job, Pending, Rendered, Worker, bytes_asked, granted_for, granted_to, is_decided, jobs_of}
 use Rattle.interleavings.specs.Laws.{EndsWell}
-use Rattle.interleavings.specs.Moves.{after_drop, after_entry, after_grant, after_news, after_plan, after_rejection, after_rendering, asks_next, begun, is_asking, planned_by, reply_by, sent, with_outcome, with_pending, without_job}
+use Rattle.interleavings.specs.Moves.{after_drop, after_entry, after_grant, after_news, after_plan, after_rejection, after_rendering, asks_next, begun, is_asking, planned_by, rendered_at, sent, with_outcome, with_pending, without_job}
 use Rattle.interleavings.specs.Services.{content_at}
 use Rattle.interleavings.proofs.ChoiceLemmas.{IsPlan-choices_of}
 use Rattle.interleavings.proofs.KeptLemmas.{GoesOn, GoesOn-same, IsAfter, IsValid-content, KeepsJob, KeepsPending, KeepsWorker}
@@ -164,7 +164,7 @@ module _ (mirrors : List Mirror) (history : History) (worker : Worker) (keeps : 
           Moves (λ mirror. 0) (option_map_or (sent mirrors history moment worker job) pending worker)
       by_pending job None is pending_is = still
       by_pending job (Some pending) is pending_is =
-          let reply : Rendered = record { moment = moment; reply = reply_by mirrors (content_at history job.number) moment pending } in
+          let reply = rendered_at mirrors (content_at history job.number) moment pending in
           let own = kept-job job is in
           let kept = kept-pending job pending is pending_is in
           cond_both (is_decided pending) (without_job (Some reply) job worker) worker (Moves (λ mirror. 0))

@@ -6,7 +6,6 @@ use Rattle.omaha_json.specs.declared.request.AppAsk.{AppAsk}
 use Rattle.omaha_json.specs.declared.request.Request.{Request}
 use Rattle.payload_graph.specs.Chains.{bytes_of}
 use Rattle.payload_graph.specs.Net.{Net, net_in}
-use Rattle.payload_graph.specs.Places.{place_of}
 use Rattle.price_cert.specs.Rules.{broken_at}
 use Rattle.price_cert.specs.declared.row.Row.{Row}
 use Rattle.quotes.specs.ByRows.{quote_by_rows}
@@ -16,6 +15,7 @@ use Rattle.records.specs.declared.content.App.{App}
 use Rattle.replies.specs.Clients.{Client, key_of}
 use Rattle.replies.specs.Plans.{client_to_update}
 use Rattle.replies.specs.declared.choices.Choice.{Choice}
+use Rattle.theorems.specs.Asks.{place_at}
 
 -- the rows that a worker reads for each app that is asked for
 abbrev pub Tables : Type 0
@@ -54,7 +54,7 @@ quoted_choice app NoChain = None
 abbrev pub choice_for : AppAsk → List Row → Client → Option Choice
 choice_for ask rows client =
     option_and_then
-    (λ net. quoted_choice client.app (quote_by_rows client.app (key_of client) rows (place_of client.app.releases ask.fp ask.version)))
+    (λ net. quoted_choice client.app (quote_by_rows client.app (key_of client) rows (place_at client ask)))
     (graph_for client)
 
 -- the choice for an app, none if no client of it wants an update

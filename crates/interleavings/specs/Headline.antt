@@ -21,11 +21,12 @@ use Rattle.interleavings.specs.Services.{Service, content_at}
 -- what holds of each reply of each worker, by its job
 abbrev pub AllReplies : (Job → Rendered → Type 0) → Service → Type 0
 AllReplies Holds service =
-    All (λ (worker : Worker). All (λ (ended : EndedJob). IfSome ended.rendered (Holds ended.job)) worker.ended) service.workers
+    All (λ (worker : Worker). All (λ (ended : EndedJob). IfSome ended.rendered (Holds ended.job)) worker.ended)
+    service.workers
 
 -- the reply to an app says true to its client, if that wants an update: `noupdate` that it is at its target or that no
--- chain leads there; `error-internal` that no mirror granted the first payload of a chain of the least sum; and an offer
--- that it is of that payload
+-- chain leads there; `error-internal` that no mirror granted the first payload of a chain of the least sum; and an
+-- offer that it is of that payload
 abbrev pub SaysTrue : List App → List Mirror → List ℕ → AppAsk × Option ℕ → AppReply → Type 0
 SaysTrue apps mirrors session asked reply =
     (client : Client) → IsAskOf apps session client asked.0 →

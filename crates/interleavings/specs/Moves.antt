@@ -69,7 +69,9 @@ after_rejection mirrors mirror pending =
 -- the reply that the worker has in the making changes
 abbrev pub with_pending : (Pending → Pending) → Worker → Worker
 with_pending change worker =
-    record worker { job = option_map (λ (job : Job). record job { pending = option_map change job.pending }) worker.job }
+    record worker {
+      job = option_map (λ (job : Job). record job { pending = option_map change job.pending }) worker.job;
+    }
 
 -- a mirror granted the bytes of the next choice
 abbrev pub after_grant : ℕ → ℕ → Worker → Worker
@@ -88,12 +90,15 @@ abbrev pub reply_by : List Mirror → List App → ℕ → Pending → Reply
 reply_by mirrors apps moment pending =
     reply_of apps pending.request (payloads_of pending.choices) (outcomes_of pending) mirrors moment
 
+-- the same reply with its time
+abbrev pub rendered_at : List Mirror → List App → ℕ → Pending → Rendered
+rendered_at mirrors apps moment pending = record { moment = moment; reply = reply_by mirrors apps moment pending }
+
 -- a job ends with its reply, once each choice has its outcome
 abbrev pub sent : List Mirror → History → ℕ → Worker → Job → Pending → Worker
 sent mirrors history moment worker job pending =
     if is_decided pending
-    then without_job
-    (Some (record { moment = moment; reply = reply_by mirrors (content_at history job.number) moment pending })) job worker
+    then without_job (Some (rendered_at mirrors (content_at history job.number) moment pending)) job worker
     else worker
 
 -- the worker renders the reply of its job, if that is planned

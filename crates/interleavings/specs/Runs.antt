@@ -14,7 +14,7 @@ use Rattle.records.specs.declared.mirror.Mirror.{Mirror}
 use Rattle.theorems.specs.Asks.{check_in}
 use Rattle.interleavings.specs.Choices.{Tables}
 use Rattle.interleavings.specs.Events.{Drop, Enter, Event, Grant, Learn, Machine, Plan, Publish, Raise, Render, happens, service_after}
-use Rattle.interleavings.specs.Jobs.{EndedJob, Worker, new_worker}
+use Rattle.interleavings.specs.Jobs.{EndedJob, Rendered, Worker, new_worker}
 use Rattle.interleavings.specs.Services.{Service}
 
 abbrev pub small_mirrors : List Mirror
@@ -22,7 +22,13 @@ small_mirrors = record { name = codes "m0"; codebase = codes "http://m0/p/"; bud
 
 abbrev pub release_of : List ℕ → ℕ → Edit
 release_of version size =
-    edit.AddRelease (record { app = codes "mini"; version = version; name = version; size = size; sha256 = replicate 64 (48 + size) })
+    edit.AddRelease (record {
+      app = codes "mini";
+      version = version;
+      name = version;
+      size = size;
+      sha256 = replicate 64 (48 + size);
+    })
 
 -- batch 1
 abbrev pub small_batch : List Edit
@@ -81,9 +87,11 @@ status_of check.Other = []
 abbrev pub Outcome : Type 0
 Outcome = ℕ × Option (List (Option (List ℕ)))
 
+abbrev pub statuses_in : Rendered → List (Option (List ℕ))
+statuses_in rendered = map (λ (app : AppReply). option_map status_of (check_in app)) rendered.reply.apps
+
 abbrev pub outcome_of : EndedJob → Outcome
-outcome_of ended =
-    (ended.job.number, option_map (λ rendered. map (λ (app : AppReply). option_map status_of (check_in app)) rendered.reply.apps) ended.rendered)
+outcome_of ended = (ended.job.number, option_map statuses_in ended.rendered)
 
 abbrev pub outcomes_in : Service → List (List Outcome)
 outcomes_in service = map (λ (worker : Worker). map outcome_of worker.ended) service.workers
@@ -155,8 +163,8 @@ pub record BudgetRaised : Type 0 where
   pub total : (budget_raised.books 0).total ≡ 6
   pub budget : (budget_raised.books 0).budget ≡ 6
 
--- events whose conditions fail: a worker without a job plans, asks, renders and drops, or hears of what isn't published;
--- there is no worker 7; an edit is rejected
+-- events whose conditions fail: a worker without a job plans, asks, renders and drops, and hears of what isn't
+-- published; there is no worker 7; an edit is rejected
 abbrev pub nothing_happened : Service
 nothing_happened =
     small_run 1

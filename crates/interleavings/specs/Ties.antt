@@ -45,7 +45,8 @@ GrantsAreBooked =
     Grants (books mirror) new bytes → with_grant books mirror bytes mirror ≡ new
 
 -- a reply in bytes, and what was asked for it, are those of a reply in the making whose choices are all decided
-pub record IsOfPending (stock : Stock) (request : Request) (moment : ℕ) (before after : List Ask) (text : List ℕ) : Type 0 where
+pub record IsOfPending (stock : Stock) (request : Request) (moment : ℕ) (before after : List Ask)
+    (text : List ℕ) : Type 0 where
   pub pending : Pending
   pub reply : Reply
   pub requested : pending.request ≡ request

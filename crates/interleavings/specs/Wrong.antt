@@ -12,47 +12,44 @@ use Rattle.interleavings.specs.Choices.{Tables}
 use Rattle.interleavings.specs.Events.{Drop, Enter, Event, Grant, Learn, Machine, Plan, Publish, Raise, Render, asks, granted, happens, moved}
 use Rattle.interleavings.specs.Jobs.{EndedJob, Job, Pending, Rendered, Worker}
 use Rattle.interleavings.specs.Laws.{BatchesArePublishedWhole, JobsGoByWhatWasSeen, PublishedIsAccepted, RepliesAreOfOneCatalogue, SeenIsPublished, SharesAreOfJobs, TotalsAreWithinBudgets}
-use Rattle.interleavings.specs.Moves.{after_drop, after_entry, after_grant, begun, planned_by, reply_by, with_outcome, with_pending, without_job}
+use Rattle.interleavings.specs.Moves.{after_drop, after_entry, after_grant, begun, planned_by, rendered_at, with_outcome, with_pending, without_job}
 use Rattle.interleavings.specs.Services.{Service, changed_at, content_at, published, with_grant}
 
 -- a worker that has a job in the making ends it with a reply, whatever the outcomes
+abbrev pub ends_job_by : (Job → Pending → Rendered) → Worker → Job → Worker
+ends_job_by render worker job =
+    option_map_or (λ (pending : Pending). without_job (Some (render job pending)) job worker) job.pending worker
+
 abbrev pub ends_by : (Job → Pending → Rendered) → Worker → Worker
-ends_by render worker =
-    option_map_or
-    (λ (job : Job). option_map_or (λ (pending : Pending). without_job (Some (render job pending)) job worker) job.pending worker)
-    worker.job worker
+ends_by render worker = option_map_or (ends_job_by render worker) worker.job worker
+
+-- a worker's job changes
+abbrev pub with_job : (Job → Job) → Worker → Worker
+with_job change worker = record worker { job = option_map change worker.job }
 
 -- renders by the newest catalogue what was planned by an older one
 abbrev pub renders_by_the_newest : Machine
 renders_by_the_newest mirrors service (Render worker moment) =
-    moved worker
-    (ends_by (λ job pending. record { moment = moment; reply = reply_by mirrors (content_of service.history) moment pending }))
-    service
+    moved worker (ends_by (λ job. rendered_at mirrors (content_of service.history) moment)) service
 renders_by_the_newest mirrors service event = happens mirrors service event
 
 -- renders before all choices have their outcomes
 abbrev pub renders_undecided : Machine
 renders_undecided mirrors service (Render worker moment) =
-    moved worker
-    (ends_by (λ job pending. record { moment = moment; reply = reply_by mirrors (content_at service.history job.number) moment pending }))
-    service
+    moved worker (ends_by (λ job. rendered_at mirrors (content_at service.history job.number) moment)) service
 renders_undecided mirrors service event = happens mirrors service event
 
 -- plans by the newest catalogue a job that entered an older one
 abbrev pub plans_by_the_newest : Machine
 plans_by_the_newest mirrors service (Plan worker request tables) =
-    moved worker
-    (λ (w : Worker). record w { job = option_map (λ (job : Job). planned_by (content_of service.history) request tables job) w.job })
-    service
+    moved worker (with_job (planned_by (content_of service.history) request tables)) service
 plans_by_the_newest mirrors service event = happens mirrors service event
 
 -- plans by rows that nobody checked
 abbrev pub plans_by_any_rows : Machine
 plans_by_any_rows mirrors service (Plan worker request tables) =
     moved worker
-    (λ (w : Worker). record w {
-      job = option_map (λ (job : Job). record job { pending = Some (begun (content_at service.history job.number) request tables) }) w.job;
-    })
+    (with_job (λ job. record job { pending = Some (begun (content_at service.history job.number) request tables) }))
     service
 plans_by_any_rows mirrors service event = happens mirrors service event
 
@@ -76,7 +73,9 @@ grants_without_room mirrors service event = happens mirrors service event
 -- grants bytes and leaves the worker's share as it was
 abbrev pub leaves_the_share : Machine
 leaves_the_share mirrors service (Grant worker mirror bytes) =
-    record (moved worker (with_pending (with_outcome (Some mirror))) service) { books = with_grant service.books mirror bytes }
+    record (moved worker (with_pending (with_outcome (Some mirror))) service) {
+      books = with_grant service.books mirror bytes;
+    }
 leaves_the_share mirrors service event = happens mirrors service event
 
 -- cuts a budget below what was granted

@@ -55,9 +55,9 @@ pub fn publishing()
 /// States what each reply of every interleaving says of each app that wants an update, in the catalogue that its job
 /// entered.
 ///
-/// `noupdate` says that the client is at its target or that no chain of permitted payloads leads there, `error-internal`
-/// that no mirror granted the first payload of a chain of the least sum, and an offer is of that payload, from a mirror
-/// that granted its bytes.
+/// `noupdate` says that the client is at its target or that no chain of permitted payloads leads there,
+/// `error-internal` that no mirror granted the first payload of a chain of the least sum, and an offer is of that
+/// payload, from a mirror that granted its bytes.
 pub fn statuses()
     ensures { RepliesSayTrue happens }
 {
