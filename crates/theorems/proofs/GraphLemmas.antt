@@ -1,9 +1,9 @@
 -- The graph of a track of a valid app is one: its target and its releases are those of the app, and each of its
 -- differentials leads up to at most the target.
-use Rattle.std.proofs.Common.{◌≡◌, ℕ, ◌+◌, ◌<◌, ◌≤◌, inl, ◌&&◌, ◌||◌, not, Bool, true, false, cond, List, [], ◌∷◌, length, get_or, map, Option, None, Some, refl, sym, ap, ◌∙◌, subst, arith}
+use Rattle.std.proofs.Common.{◌≡◌, ℕ, ◌+◌, ◌<◌, ◌≤◌, inl, inr, ◌&&◌, ◌||◌, not, Bool, true, false, cond, List, [], ◌∷◌, length, get_or, map, Option, None, Some, refl, sym, ap, ◌∙◌, subst, arith}
 use Rattle.std.specs.List.{All, AllByRecursion, enumerate_from, filter, find, list_all, list_any, position, position_or_len, slice_get}
 use Rattle.std.specs.Option.{option_and_then, option_map, option_map_or}
-use Rattle.std.proofs.lemmas.Bool.{and_parts, cond_both, not-true}
+use Rattle.std.proofs.lemmas.Bool.{and_parts, cond_both, false≢true, not-true, or_cases}
 use Rattle.std.proofs.lemmas.List.{get_or-map, length-map}
 use Rattle.std.proofs.lemmas.List.Elements.{All-from_recursion}
 use Rattle.std.proofs.lemmas.List.FromFn.{get_or-enumerate_from, length-enumerate_from}
@@ -130,13 +130,14 @@ IsGoodDiff-valid releases diff valid =
 -- a version that a release has is found where the first such release is
 find-any : {A : Type 0} (test : A → Bool) (items : List A) → list_any test items ≡ true → Passes test (find test items)
 find-any test [] any = cc
-find-any {A} test (first ∷ items) any = cases (test first) refl any
-  where
-    cases :
-        (passed : Bool) → test first ≡ passed → (passed || list_any test items) ≡ true →
-        Passes test (cond passed (Some first) (find test items))
-    cases true passed any = record { item = first; is = refl; passed = passed }
-    cases false passed any = find-any test items any
+find-any {A} test (first ∷ items) any =
+    let rest = find-any test items in
+    cond_both (test first) (Some first) (find test items) (λ (o : Option A). Passes test o)
+    (λ passed. record { item = first; is = refl; passed = passed })
+    (λ failed. elim (or_cases (test first) (list_any test items) any) [
+      | inl passed ↦ absurd (false≢true (sym failed ∙ passed))
+      | inr later ↦ rest later
+    ])
 
 module _ (irreflexive : BelowIsIrreflexive) (transitive : BelowIsTransitive) (app : App) (cohort : Cohort) (key : TrackKey)
     (target : ℕ) (valid : IsValidApp app) (goal : Passes (λ (release : Release). true) (slice_get app.releases target)) where
