@@ -2,7 +2,7 @@
 use Rattle.std.proofs.Common.{◌≡◌, ℕ, ◌≤◌, inl, inr, List, [], ◌∷◌, ◌++◌, length, None, Some, sym, ap, ◌∙◌, subst}
 use Rattle.std.specs.List.{All, AllByRecursion, AllZip, Contains, sum_by}
 use Rattle.std.specs.Option.{option_map}
-use Rattle.std.proofs.lemmas.List.Elements.{All-contains_itself, All-from_recursion, recursion_from_All}
+use Rattle.std.proofs.lemmas.List.Elements.{All-contains_itself, All-from_recursion, Contains-append_right, recursion_from_All}
 use Rattle.std.proofs.lemmas.Option.{none-some}
 use Rattle.catalogue.specs.declared.edit.Edit.{Edit}
 use Rattle.catalogue_laws.specs.Histories.{HistoriesAreValid, HistoriesGrow, PrefixesAreAccepted}
@@ -106,5 +106,7 @@ module _ (quotes : CertifiedRowsQuote) (graphs : TrackGraphsAreGraphs) (growth :
       let given = batch ∷ batches_given events in
       let grows = (after mirrors batch workers events accepted).grows in
       let itself = recursion_from_All (Contains given) given (All-contains_itself given) in
-      subst (All (Contains given)) (sym grows.is)
-      (All-from_recursion (Contains given) (batch ∷ grows.rest) (itself.0, grows.among (Contains given) itself.1))
+      let added =
+      all-weaker (Contains (batches_given events)) (Contains given) grows.rest
+      (Contains-append_right (batch ∷ []) (batches_given events)) grows.among in
+      subst (All (Contains given)) (sym grows.is) (All-from_recursion (Contains given) (batch ∷ grows.rest) (itself.0, added))

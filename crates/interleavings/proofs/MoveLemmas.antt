@@ -84,7 +84,7 @@ module _ (mirrors : List Mirror) (history : History) (worker : Worker) (keeps : 
       let low = leb-true number (length history) (and_parts (is_none worker.job) (leb number (length history)) test).1 in
       record {
         kept = record { seen = omega arith; job = keeps.job; ended = keeps.ended; shares = keeps.shares };
-        goes = record { seen = omega arith; job = same.job; later = []; ended = same.ended; follow = tt };
+        goes = record { seen = omega arith; job = same.job; later = []; ended = sym (append-nil worker.ended); follow = tt };
         shares = λ mirror. omega arith;
       })
       (λ test. still)

@@ -1,7 +1,8 @@
 -- What holds after a list of events, of each machine step in turn.
 use Rattle.std.proofs.Common.{◌≡◌, ℕ, zero, suc, ◌≤◌, inl, inr, List, [], ◌∷◌, ◌++◌, length, replicate, Result, Ok, refl, sym, ap, ◌∙◌, append_assoc, subst, arith}
-use Rattle.std.specs.List.{AllByRecursion, AllZip, sum_by}
+use Rattle.std.specs.List.{AllByRecursion, AllZip, Contains, sum_by}
 use Rattle.std.proofs.lemmas.List.{append-nil}
+use Rattle.std.proofs.lemmas.List.Elements.{Contains-append_left, Contains-append_right, Contains-push}
 use Rattle.std.proofs.lemmas.List.Sums.{sum_by-cons}
 use Rattle.catalogue.specs.Batches.{outcome, run as run_batches, then_run}
 use Rattle.catalogue.specs.declared.edit.Edit.{Edit}
@@ -25,17 +26,20 @@ pub run-append :
 run-append machine mirrors [] more service = refl
 run-append machine mirrors (event ∷ events) more service = run-append machine mirrors events more (machine mirrors service event)
 
--- the batches that were added to a history are of some that were given
+-- the batches that were added to a history are some of those that were given
 pub record Grows (given : List (List Edit)) (old new : History) : Type 0 where
   pub rest : History
   pub is : new ≡ old ++ rest
-  pub among : (P : List Edit → Type 0) → AllByRecursion P given → AllByRecursion P rest
+  pub among : AllByRecursion (Contains given) rest
 
 Grows-Extends : (event : Event) (old new : History) → Extends event old new → Grows (batch_given event) old new
-Grows-Extends event old new (inl same) =
-    record { rest = []; is = same ∙ sym (append-nil old); among = λ P all. tt }
+Grows-Extends event old new (inl same) = record { rest = []; is = same ∙ sym (append-nil old); among = tt }
 Grows-Extends event old new (inr longer) =
-    record { rest = longer.0 ∷ []; is = longer.2; among = λ P all. subst (AllByRecursion P) longer.1 all }
+    record {
+      rest = longer.0 ∷ [];
+      is = longer.2;
+      among = (subst (λ (given : List (List Edit)). Contains given longer.0) (sym longer.1) (Contains-push [] longer.0), tt);
+    }
 
 Grows-through :
     (first second : List (List Edit)) (old middle new : History) →
@@ -44,16 +48,11 @@ Grows-through first second old middle new one two =
     record {
       rest = one.rest ++ two.rest;
       is = two.is ∙ ap (λ (h : History). h ++ two.rest) one.is ∙ append_assoc old one.rest two.rest;
-      among = λ P all.
-          let parts = split P first all in
-          all-append P one.rest two.rest (one.among P parts.0) (two.among P parts.1);
+      among =
+          all-append (Contains (first ++ second)) one.rest two.rest
+          (all-weaker (Contains first) (Contains (first ++ second)) one.rest (Contains-append_left first second) one.among)
+          (all-weaker (Contains second) (Contains (first ++ second)) two.rest (Contains-append_right first second) two.among);
     }
-  where
-    split : (P : List Edit → Type 0) (given : List (List Edit)) → AllByRecursion P (given ++ second) → AllByRecursion P given × AllByRecursion P second
-    split P [] all = (tt, all)
-    split P (batch ∷ given) all =
-        let rest = split P given all.1 in
-        ((all.0, rest.0), rest.1)
 
 -- what a list of events makes of a service
 pub record IsRun (mirrors : List Mirror) (events : List Event) (old new : Service) : Type 0 where
@@ -84,7 +83,7 @@ module _ (mirrors : List Mirror) (quotes : CertifiedRowsQuote) (graphs : TrackGr
       record {
         keeps = keeps;
         goes = zip-itself GoesOn service.workers GoesOn-same;
-        grows = record { rest = []; is = sym (append-nil service.history); among = λ P all. tt };
+        grows = record { rest = []; is = sym (append-nil service.history); among = tt };
         budgets = λ mirror. refl;
       }
   IsRun-events (event ∷ events) service keeps =

@@ -1,5 +1,5 @@
 -- What the replies of every interleaving say to their clients, and what follows for a client that takes an offer.
-use Rattle.std.specs.Prelude.{◌≡◌, ℕ, All, List, ◌∷◌, IfSome, MatchOption, Some}
+use Rattle.std.specs.Prelude.{◌≡◌, ℕ, All, List, ◌∷◌, IfSome, MatchOption, Option, Some}
 use Rattle.std.specs.List.{AllZip, zip}
 use Rattle.catalogue_laws.specs.Histories.{History}
 use Rattle.omaha_json.specs.declared.reply.AppReply.{AppReply}
