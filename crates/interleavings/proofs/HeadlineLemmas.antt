@@ -1,5 +1,5 @@
 -- What replies of one catalogue say, and where their offers lead.
-use Rattle.std.proofs.Common.{◌≡◌, ℕ, ◌<◌, ◌≤◌, List, [], ◌∷◌, map, take, Option, None, Some, refl, sym, ap, ◌∙◌, subst, arith}
+use Rattle.std.proofs.Common.{◌≡◌, ℕ, ◌<◌, ◌≤◌, List, [], ◌∷◌, length, map, take, Option, None, Some, refl, sym, ap, ◌∙◌, subst, arith}
 use Rattle.std.specs.List.{All, AllZip, zip}
 use Rattle.std.specs.Option.{IfSome, MatchOption, option_and_then, option_map}
 use Rattle.std.proofs.lemmas.List.Elements.{All-weaker}

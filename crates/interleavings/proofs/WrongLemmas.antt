@@ -1,9 +1,9 @@
 -- Each wrong machine breaks its law, in a run of the small service.
-use Rattle.std.proofs.Common.{◌≡◌, ℕ, zero, suc, ◌≤◌, ◌<◌, inl, inr, true, false, List, [], ◌∷◌, length, map, codes, Option, None, Some, Result, Ok, Err, refl, sym, ap, ◌∙◌, subst, arith}
+use Rattle.std.proofs.Common.{◌≡◌, ℕ, zero, suc, ◌≤◌, ◌<◌, inl, inr, true, false, eqb, List, [], ◌∷◌, length, map, codes, Option, None, Some, Result, Ok, Err, refl, sym, ap, ◌∙◌, subst, arith}
 use Rattle.std.specs.List.{All, sum_by}
 use Rattle.std.specs.Option.{option_map_or}
 use Rattle.std.specs.Result.{is_ok}
-use Rattle.std.proofs.lemmas.Bool.{false≢true}
+use Rattle.std.proofs.lemmas.Bool.{eq-eqb, false≢true}
 use Rattle.std.proofs.lemmas.List.Elements.{All-contains, All-from_recursion}
 use Rattle.hex.proofs.OnLiterals.{hex_on_literals}
 use Rattle.catalogue.specs.declared.edit.Edit.{Edit}
@@ -50,6 +50,10 @@ module _ (mirrors : List Mirror) (history : History) (job : Job) (rendered : Ren
   is-plan : IsPlan (content_at history job.number) pending.request pending.choices
   is-plan = subst (λ (p : Pending). IsPlan (content_at history job.number) p.request p.choices) same one.reply_is.planned
 
+-- two numbers that a test tells apart are not the same
+apart : (one other : ℕ) → eqb one other ≡ false → one ≡ other → ⊥
+apart one other differ same = false≢true (sym differ ∙ eq-eqb one other same)
+
 -- the bytes of the full packages that a reply offers
 abbrev sizes_in : Reply → ℕ
 sizes_in reply = sum_by (λ (app : AppReply). option_map_or (λ (offer : Offer). offer.full.size) (offer_in app) 0) reply.apps
@@ -72,8 +76,7 @@ newest_reply law =
     let within : 0 < 1 = omega arith in
     let events = begins 0 (Publish 1 (lower_release ∷ []) ∷ Grant 0 0 3 ∷ Render 0 86400 ∷ []) in
     let one = law small_mirrors small_batch 1 events small-accepted 0 new_worker within 0 no_job within in
-    let both : 2 ≡ 3 = ap sizes_in (is-reply _ _ _ _ one _ refl) in
-    absurd (omega arith)
+    apart 2 3 refl (ap sizes_in (is-reply _ _ _ _ one _ refl))
 
 pub undecided : ¬ (RepliesAreOfOneCatalogue renders_undecided)
 unfolding hex_on_literals version.version_of version.components_of version.lenient_version_of hash_of parsed
@@ -127,8 +130,7 @@ pub share : ¬ (TotalsAreWithinBudgets leaves_the_share)
 unfolding hex_on_literals version.version_of version.components_of version.lenient_version_of hash_of parsed
 share law =
     let book = law small_mirrors small_batch 1 (begins 0 (Grant 0 0 3 ∷ [])) small-accepted 0 in
-    let same : 3 ≡ 0 = book.adds_up in
-    absurd (omega arith)
+    apart 3 0 refl book.adds_up
 
 pub lowered : ¬ (TotalsAreWithinBudgets cuts_a_budget)
 unfolding hex_on_literals version.version_of version.components_of version.lenient_version_of hash_of parsed
@@ -141,8 +143,8 @@ pub forgotten : ¬ (SharesAreOfJobs forgets_dropped_jobs)
 unfolding hex_on_literals version.version_of version.components_of version.lenient_version_of hash_of parsed
 forgotten law =
     let within : 0 < 1 = omega arith in
-    let same : 3 ≡ 0 = law small_mirrors small_batch 1 (begins 0 (Grant 0 0 3 ∷ Drop 0 ∷ [])) small-accepted 0 0 new_worker within in
-    absurd (omega arith)
+    apart 3 0 refl
+    (law small_mirrors small_batch 1 (begins 0 (Grant 0 0 3 ∷ Drop 0 ∷ [])) small-accepted 0 0 new_worker within)
 
 pub half : ¬ (BatchesArePublishedWhole publishes_half_a_batch)
 unfolding hex_on_literals version.version_of version.components_of version.lenient_version_of hash_of parsed
