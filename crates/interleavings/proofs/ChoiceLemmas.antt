@@ -1,5 +1,5 @@
 -- What is chosen by certified rows is what is chosen by chains.
-use Rattle.std.proofs.Common.{◌≡◌, ℕ, ◌+◌, ◌<◌, inl, inr, ◌&&◌, Bool, true, eqb, ltb, List, [], ◌∷◌, length, map, Option, None, Some, refl, sym, ap, ◌∙◌, subst, arith}
+use Rattle.std.proofs.Common.{◌≡◌, ℕ, ◌+◌, inl, inr, Bool, true, eqb, ltb, List, [], ◌∷◌, length, map, Option, None, Some, refl, sym, ap, ◌∙◌, subst, arith}
 use Rattle.std.specs.List.{AllZip, list_all, position, position_or_len, range_with_len, slice_get}
 use Rattle.std.specs.Option.{is_none, option_and_then, option_map, option_map_or, MatchOption}
 use Rattle.std.proofs.lemmas.Bool.{and_parts, eqb-true, ltb-true}
@@ -119,7 +119,7 @@ module _ (quotes : CertifiedRowsQuote) (graphs : TrackGraphsAreGraphs) (apps : L
           net)
       by_graph None none passed =
           inr (λ payloads. no-chain client.app (key_of client) (place_of client.app.releases ask.fp ask.version) payloads
-              (no-target client.app (key_of client) none))
+          (no-target client.app (key_of client) none))
       by_graph (Some net) there passed =
           let key = key_of client in
           let place = place_of client.app.releases ask.fp ask.version in

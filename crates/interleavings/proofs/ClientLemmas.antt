@@ -1,20 +1,18 @@
 -- The client of an app that is asked for: its app is one of the content's, and it is on the track that it asked for.
-use Rattle.std.proofs.Common.{◌≡◌, ℕ, ◌==◌, ◌&&◌, not, Bool, true, false, eqb, if◌then◌else◌, List, [], ◌∷◌, length, Option, None, Some, refl, sym, ap, ◌∙◌, subst}
+use Rattle.std.proofs.Common.{◌≡◌, ℕ, ◌&&◌, not, Bool, true, false, eqb, List, [], ◌∷◌, length, Option, None, Some, refl, sym, ap, ◌∙◌, subst}
 use Rattle.std.specs.List.{position, slice_get}
-use Rattle.std.specs.Option.{option_and_then, option_map, option_map_or, unwrap_or}
+use Rattle.std.specs.Option.{option_map, option_map_or, unwrap_or}
 use Rattle.std.proofs.lemmas.Bool.{and_parts, cond_both, eqb-true}
 use Rattle.std.proofs.lemmas.List.Elements.{All-from_recursion}
 use Rattle.std.proofs.lemmas.Option.{get_or_from_slice_get, none-some, option_and_then_some, slice_get_within}
 use Rattle.cohorts.specs.Pins.{pin_of}
 use Rattle.cohorts.specs.Tracks.{asks_rollback, cohort_at, no_cohort, pin_asked, track_of}
-use Rattle.cohorts.specs.declared.pin.Pin.{Pin}
 use Rattle.cohorts.specs.declared.pin.Pin.TheVariants as pin
 use Rattle.cohorts.specs.declared.track.Track.{Track}
 use Rattle.omaha_json.specs.declared.request.AppAsk.{AppAsk}
 use Rattle.omaha_json.specs.declared.request.Check.{Check}
 use Rattle.payload_graph.specs.Chains.{cohort_target}
-use Rattle.payload_graph.specs.Net.{Net, net_in, net_of}
-use Rattle.payload_graph.specs.Permitted.{rolls_back}
+use Rattle.payload_graph.specs.Net.{Net, net_of}
 use Rattle.records.specs.Lookups.{is_app}
 use Rattle.records.specs.Validity.{IsValid, IsValidApp}
 use Rattle.records.specs.declared.content.App.{App}

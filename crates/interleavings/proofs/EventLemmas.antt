@@ -1,7 +1,6 @@
 -- Each event keeps what holds of a service, and its workers go on.
-use Rattle.std.proofs.Common.{◌≡◌, ℕ, ◌+◌, ◌≤◌, ◌⊎◌, inl, inr, ◌&&◌, max, Bool, true, false, eqb, leb, ltb, cond, List, [], ◌∷◌, ◌++◌, length, Option, None, Some, Result, Ok, Err, refl, sym, ap, ◌∙◌, subst, arith}
-use Rattle.std.specs.List.{AllByRecursion, AllZip, slice_get, sum_by}
-use Rattle.std.specs.Option.{option_map_or}
+use Rattle.std.proofs.Common.{◌≡◌, ℕ, ◌+◌, ◌≤◌, ◌⊎◌, inl, inr, ◌&&◌, max, true, eqb, ltb, List, [], ◌∷◌, ◌++◌, length, None, Some, Result, Ok, Err, refl, sym, ap, ◌∙◌, subst, arith}
+use Rattle.std.specs.List.{AllZip, slice_get, sum_by}
 use Rattle.std.specs.Result.{is_ok}
 use Rattle.std.proofs.lemmas.Bool.{and_parts, cond_both, eqb-true, leb-true, ltb-true}
 use Rattle.std.proofs.lemmas.List.{length-append}
@@ -19,10 +18,10 @@ use Rattle.records.specs.declared.mirror.Mirror.{Mirror}
 use Rattle.theorems.specs.Laws.{TrackGraphsAreGraphs}
 use Rattle.interleavings.specs.Events.{Drop, Enter, Event, Grant, Learn, Plan, Publish, Raise, Render, asks, decided, granted, happens, moved}
 use Rattle.interleavings.specs.Jobs.{Worker}
-use Rattle.interleavings.specs.Laws.{BeginsWith, batch_given, budget_after}
+use Rattle.interleavings.specs.Laws.{batch_given, budget_after}
 use Rattle.interleavings.specs.Moves.{after_drop, after_entry, after_grant, after_news, after_plan, after_rejection, after_rendering, is_asking, with_pending}
 use Rattle.interleavings.specs.Services.{Service, has_room, is_published, raised_budget, with_budget}
-use Rattle.interleavings.proofs.KeptLemmas.{GoesOn, GoesOn-same, Keeps, KeepsBook, KeepsWorker, KeepsWorker-longer, LeadsTo-content_at}
+use Rattle.interleavings.proofs.KeptLemmas.{GoesOn, GoesOn-same, Keeps, KeepsWorker, KeepsWorker-longer, LeadsTo-content_at}
 use Rattle.interleavings.proofs.ListLemmas.{Passes-option_map_or, all-at, all-changed, all-weaker, sum-changed, zip-changed, zip-itself}
 use Rattle.interleavings.proofs.MoveLemmas.{IsMove, drop, entry, grant, news, plan, rejection, rendering}
 

@@ -1,21 +1,18 @@
 -- What replies of one catalogue say, and where their offers lead.
-use Rattle.std.proofs.Common.{◌≡◌, ℕ, ◌<◌, ◌≤◌, List, [], ◌∷◌, length, map, take, Option, None, Some, refl, sym, ap, ◌∙◌, subst, arith}
+use Rattle.std.proofs.Common.{◌≡◌, ℕ, ◌<◌, ◌≤◌, List, [], ◌∷◌, length, map, take, Option, None, Some, refl, sym, ap, subst, arith}
 use Rattle.std.specs.List.{All, AllZip, zip}
 use Rattle.std.specs.Option.{IfSome, MatchOption, option_and_then, option_map}
 use Rattle.std.proofs.lemmas.List.Elements.{All-weaker}
-use Rattle.std.proofs.lemmas.Option.{IfSome_then, none-some, option_and_then_some}
-use Rattle.catalogue.specs.declared.edit.Edit.{Edit}
+use Rattle.std.proofs.lemmas.Option.{IfSome_then, none-some}
 use Rattle.catalogue_laws.specs.Histories.{History}
-use Rattle.editions.specs.Editions.{IsAccepted, content_of}
+use Rattle.editions.specs.Editions.{content_of}
 use Rattle.omaha_json.specs.declared.reply.AppReply.{AppReply}
-use Rattle.omaha_json.specs.declared.reply.AppState.{AppState}
 use Rattle.omaha_json.specs.declared.reply.CheckReply.{CheckReply}
 use Rattle.omaha_json.specs.declared.reply.CheckReply.TheVariants as check
 use Rattle.omaha_json.specs.declared.reply.KnownApp.{KnownApp}
 use Rattle.omaha_json.specs.declared.reply.Offer.{Offer}
 use Rattle.omaha_json.specs.declared.reply.Reply.{Reply}
 use Rattle.omaha_json.specs.declared.request.AppAsk.{AppAsk}
-use Rattle.records.specs.declared.content.App.{App}
 use Rattle.records.specs.declared.mirror.Mirror.{Mirror}
 use Rattle.replies.specs.Clients.{Client}
 use Rattle.replies.specs.Plans.{IsChosen, payload_in}
@@ -23,10 +20,10 @@ use Rattle.replies.specs.Replies.{IsOutcome, app_reply}
 use Rattle.replies.specs.declared.choices.Choice.{Choice}
 use Rattle.theorems.specs.Asks.{IsAskOf, IsGranted, IsReplyTo, ask_after, check_in, known_in, next_ask, offer_by, offer_in}
 use Rattle.theorems.specs.Laws.{OffersAreSteps, StatusesSay, WalksAreLeast, WalksExist}
-use Rattle.theorems.specs.Statuses.{IsOffered, Says}
+use Rattle.theorems.specs.Statuses.{Says}
 use Rattle.theorems.specs.Walks.{IsWalk}
-use Rattle.interleavings.specs.Events.{Event, happens, service_after}
-use Rattle.interleavings.specs.Headline.{AllReplies, LeadsToTarget, OfferLeads, OffersLead, OffersLeadToTargets, RepliesSayTrue, SayTrue, SaysTrue}
+use Rattle.interleavings.specs.Events.{happens, service_after}
+use Rattle.interleavings.specs.Headline.{AllReplies, OfferLeads, OffersLead, OffersLeadToTargets, RepliesSayTrue, SayTrue, SaysTrue}
 use Rattle.interleavings.specs.Jobs.{EndedJob, Job, Rendered, Worker, outcomes_of}
 use Rattle.interleavings.specs.Laws.{EndsWell, IsOfOneCatalogue, RepliesAreOfOneCatalogue}
 use Rattle.interleavings.specs.Services.{Service, content_at}

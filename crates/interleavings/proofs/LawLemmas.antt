@@ -1,6 +1,6 @@
 -- The laws of every interleaving.
-use Rattle.std.proofs.Common.{◌≡◌, ℕ, ◌≤◌, inl, inr, List, [], ◌∷◌, ◌++◌, length, None, Some, sym, ap, ◌∙◌, subst}
-use Rattle.std.specs.List.{All, AllByRecursion, AllZip, Contains, sum_by}
+use Rattle.std.proofs.Common.{◌≡◌, ℕ, ◌≤◌, inl, inr, List, [], ◌∷◌, ◌++◌, length, None, sym, ap, ◌∙◌, subst}
+use Rattle.std.specs.List.{All, Contains, sum_by}
 use Rattle.std.specs.Option.{option_map}
 use Rattle.std.proofs.lemmas.List.Elements.{All-contains_itself, All-from_recursion, Contains-append_right, recursion_from_All}
 use Rattle.std.proofs.lemmas.Option.{none-some}
@@ -10,7 +10,7 @@ use Rattle.editions.specs.Editions.{IsAccepted}
 use Rattle.quotes.specs.ByRows.{CertifiedRowsQuote}
 use Rattle.records.specs.declared.mirror.Mirror.{Mirror}
 use Rattle.theorems.specs.Laws.{TrackGraphsAreGraphs}
-use Rattle.interleavings.specs.Events.{Event, happens, run, service_after}
+use Rattle.interleavings.specs.Events.{Event, happens, service_after}
 use Rattle.interleavings.specs.Jobs.{EndedJob, Job, Worker, granted_for, jobs_of}
 use Rattle.interleavings.specs.Laws.{BatchesArePublishedWhole, EndsWell, JobsGoByWhatWasSeen, PublishedIsAccepted, PublishedStays, RepliesAreOfOneCatalogue, SeenIsPublished, SeenNeverFalls, SharesAreOfJobs, TotalsAreWithinBudgets, batches_given}
 use Rattle.interleavings.specs.Services.{Service, opened}

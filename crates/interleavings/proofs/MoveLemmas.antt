@@ -1,6 +1,6 @@
 -- Each move of a worker keeps what holds of it.
-use Rattle.std.proofs.Common.{◌≡◌, ℕ, ◌+◌, ◌≤◌, ◌&&◌, inl, inr, max, Bool, true, false, leb, List, [], ◌∷◌, ◌++◌, length, map, take, Option, None, Some, refl, sym, ap, ◌∙◌, subst, arith}
-use Rattle.std.specs.List.{AllByRecursion, slice_get, sum_by}
+use Rattle.std.proofs.Common.{◌≡◌, ℕ, ◌+◌, ◌≤◌, ◌&&◌, inl, inr, max, true, false, leb, List, [], ◌∷◌, ◌++◌, length, map, take, Option, None, Some, refl, sym, ap, ◌∙◌, subst, arith}
+use Rattle.std.specs.List.{sum_by}
 use Rattle.std.specs.Option.{IfSome, is_none, option_map, option_map_or, option_to_list}
 use Rattle.std.proofs.lemmas.Bool.{and_parts, cond_both, leb-true}
 use Rattle.std.proofs.lemmas.List.{append-nil, map-append}
@@ -9,11 +9,10 @@ use Rattle.catalogue_laws.specs.Histories.{HistoriesAreValid, History, LeadsTo}
 use Rattle.mirror_ledger.specs.Asks.{booked}
 use Rattle.omaha_json.specs.declared.request.Request.{Request}
 use Rattle.quotes.specs.ByRows.{CertifiedRowsQuote}
-use Rattle.records.specs.declared.content.App.{App}
 use Rattle.records.specs.declared.mirror.Mirror.{Mirror}
 use Rattle.theorems.specs.Laws.{TrackGraphsAreGraphs}
 use Rattle.interleavings.specs.Choices.{Tables, are_certified}
-use Rattle.interleavings.specs.Jobs.{EndedJob, Job, Pending, Rendered, Worker, bytes_asked, granted_for, granted_to, is_decided, jobs_of}
+use Rattle.interleavings.specs.Jobs.{EndedJob, Job, Pending, Rendered, Worker, granted_for, granted_to, is_decided}
 use Rattle.interleavings.specs.Laws.{EndsWell}
 use Rattle.interleavings.specs.Moves.{after_drop, after_entry, after_grant, after_news, after_plan, after_rejection, after_rendering, asks_next, begun, is_asking, planned_by, rendered_at, sent, with_outcome, with_pending, without_job}
 use Rattle.interleavings.specs.Services.{content_at}

@@ -1,6 +1,6 @@
 -- The tables of an edition certify each plan of its content.
-use Rattle.std.proofs.Common.{◌≡◌, ℕ, zero, suc, ◌+◌, ◌<◌, ◌&&◌, Bool, true, eqb, List, [], ◌∷◌, length, Option, None, Some, refl, sym, ap, ◌∙◌, subst, arith}
-use Rattle.std.specs.List.{list_all, range_with_len, slice_get}
+use Rattle.std.proofs.Common.{◌≡◌, ℕ, zero, suc, ◌+◌, ◌<◌, Bool, true, eqb, List, [], ◌∷◌, length, Option, None, Some, refl, ap, ◌∙◌, subst, arith}
+use Rattle.std.specs.List.{list_all, range_with_len}
 use Rattle.std.specs.Option.{is_none, option_and_then, option_map_or}
 use Rattle.std.proofs.lemmas.Bool.{and_from, eq-eqb}
 use Rattle.catalogue_laws.specs.Histories.{HistoriesAreValid}

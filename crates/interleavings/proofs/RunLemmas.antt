@@ -1,5 +1,5 @@
 -- What holds after a list of events, of each machine step in turn.
-use Rattle.std.proofs.Common.{◌≡◌, ℕ, zero, suc, ◌≤◌, inl, inr, List, [], ◌∷◌, ◌++◌, length, replicate, Result, Ok, refl, sym, ap, ◌∙◌, append_assoc, subst, arith}
+use Rattle.std.proofs.Common.{◌≡◌, ℕ, zero, suc, inl, inr, List, [], ◌∷◌, ◌++◌, replicate, refl, sym, ap, ◌∙◌, append_assoc, subst, arith}
 use Rattle.std.specs.List.{AllByRecursion, AllZip, Contains, sum_by}
 use Rattle.std.proofs.lemmas.List.{append-nil}
 use Rattle.std.proofs.lemmas.List.Elements.{Contains-append_left, Contains-append_right, Contains-push}
@@ -13,7 +13,7 @@ use Rattle.records.specs.declared.mirror.Mirror.{Mirror}
 use Rattle.theorems.specs.Laws.{TrackGraphsAreGraphs}
 use Rattle.interleavings.specs.Events.{Event, Machine, happens, run, service_after}
 use Rattle.interleavings.specs.Jobs.{Worker, new_worker}
-use Rattle.interleavings.specs.Laws.{BeginsWith, batch_given, batches_given, budget_by}
+use Rattle.interleavings.specs.Laws.{batch_given, batches_given, budget_by}
 use Rattle.interleavings.specs.Services.{Service, opened}
 use Rattle.interleavings.proofs.EventLemmas.{Extends, IsStep, Made, step}
 use Rattle.interleavings.proofs.KeptLemmas.{GoesOn, GoesOn-same, GoesOn-through, Keeps, KeepsWorker}

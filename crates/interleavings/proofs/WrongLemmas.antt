@@ -1,5 +1,5 @@
 -- Each wrong machine breaks its law, in a run of the small service.
-use Rattle.std.proofs.Common.{◌≡◌, ℕ, zero, suc, ◌≤◌, ◌<◌, inl, inr, true, false, eqb, List, [], ◌∷◌, length, map, codes, Option, None, Some, Result, Ok, Err, refl, sym, ap, ◌∙◌, subst, arith}
+use Rattle.std.proofs.Common.{◌≡◌, ℕ, ◌≤◌, ◌<◌, inl, inr, true, false, eqb, List, [], ◌∷◌, length, None, Some, Result, refl, sym, ap, ◌∙◌, subst, arith}
 use Rattle.std.specs.List.{All, sum_by}
 use Rattle.std.specs.Option.{option_map_or}
 use Rattle.std.specs.Result.{is_ok}
@@ -18,12 +18,11 @@ use Rattle.payload_graph.specs.declared.payload.Payload.TheVariants.{Full}
 use Rattle.records.specs.Forms.{hash_of}
 use Rattle.records.specs.declared.content.App.{App}
 use Rattle.records.specs.declared.mirror.Mirror.{Mirror}
-use Rattle.replies.specs.Plans.{IsPlan, payloads_of}
-use Rattle.replies.specs.Replies.{reply_of}
+use Rattle.replies.specs.Plans.{IsPlan}
 use Rattle.theorems.specs.Asks.{offer_in}
 use Rattle.version.specs.Versions as version
-use Rattle.interleavings.specs.Events.{Drop, Enter, Event, Grant, Learn, Plan, Publish, Raise, Render, service_after}
-use Rattle.interleavings.specs.Jobs.{EndedJob, Job, Pending, Rendered, Worker, is_decided, new_worker, outcomes_of}
+use Rattle.interleavings.specs.Events.{Drop, Enter, Grant, Learn, Plan, Publish, Raise, Render}
+use Rattle.interleavings.specs.Jobs.{EndedJob, Job, Pending, Rendered, Worker, is_decided, new_worker}
 use Rattle.interleavings.specs.Laws.{BatchesArePublishedWhole, IsOfOneCatalogue, JobsGoByWhatWasSeen, PublishedIsAccepted, RepliesAreOfOneCatalogue, SeenIsPublished, SharesAreOfJobs, TotalsAreWithinBudgets}
 use Rattle.interleavings.specs.Moves.{reply_by}
 use Rattle.interleavings.specs.Runs.{begins, lower_release, small_batch, small_mirrors, small_request, small_rows, unknown_release, withdrawal, wrong_rows}

@@ -10,7 +10,7 @@ use Rattle.records.specs.declared.mirror.Mirror.{Mirror}
 use Rattle.replies.specs.Plans.{payloads_of}
 use Rattle.replies.specs.Replies.{reply_of}
 use Rattle.interleavings.specs.Choices.{Tables, are_certified, choices_of}
-use Rattle.interleavings.specs.Jobs.{EndedJob, Job, Pending, Rendered, Worker, bytes_asked, is_decided, outcomes_of}
+use Rattle.interleavings.specs.Jobs.{Job, Pending, Rendered, Worker, bytes_asked, is_decided, outcomes_of}
 use Rattle.interleavings.specs.Services.{content_at}
 
 -- a worker without a job begins one at a number of batches, which it has then seen

@@ -3,8 +3,6 @@
 use Rattle.std.specs.Prelude.{◌≡◌, ℕ, ◌+◌, true, false, List, [], ◌∷◌, codes, map, replicate, Option, None, Some, option_map}
 use Rattle.catalogue.specs.declared.edit.Edit.{Edit}
 use Rattle.catalogue.specs.declared.edit.Edit.TheVariants as edit
-use Rattle.catalogue_laws.specs.Histories.{History}
-use Rattle.editions.specs.Editions.{IsAccepted}
 use Rattle.omaha_json.specs.declared.reply.AppReply.{AppReply}
 use Rattle.omaha_json.specs.declared.reply.CheckReply.{CheckReply}
 use Rattle.omaha_json.specs.declared.reply.CheckReply.TheVariants as check
@@ -13,7 +11,7 @@ use Rattle.price_cert.specs.declared.row.Row.TheVariants.{End, Nothing}
 use Rattle.records.specs.declared.mirror.Mirror.{Mirror}
 use Rattle.theorems.specs.Asks.{check_in}
 use Rattle.interleavings.specs.Choices.{Tables}
-use Rattle.interleavings.specs.Events.{Drop, Enter, Event, Grant, Learn, Machine, Plan, Publish, Raise, Render, happens, service_after}
+use Rattle.interleavings.specs.Events.{Drop, Enter, Event, Grant, Learn, Plan, Publish, Raise, Render, happens, service_after}
 use Rattle.interleavings.specs.Jobs.{EndedJob, Rendered, Worker, new_worker}
 use Rattle.interleavings.specs.Services.{Service}
 
@@ -116,8 +114,8 @@ abbrev pub published_between : Service
 published_between =
     small_run 2
     (begins 0 (
-      Publish 1 (withdrawal ∷ [])
-      ∷ begins 1 (Grant 0 0 3 ∷ Render 0 86400 ∷ Render 1 86400 ∷ [])
+    Publish 1 (withdrawal ∷ [])
+    ∷ begins 1 (Grant 0 0 3 ∷ Render 0 86400 ∷ Render 1 86400 ∷ [])
     ))
 
 pub record PublishBetween : Type 0 where

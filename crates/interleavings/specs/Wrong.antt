@@ -1,19 +1,12 @@
 -- Wrong machines, and the law that each of them breaks. Each differs from the machine of the service in one event.
-use Rattle.std.specs.Prelude.{ℕ, ◌+◌, ◌==◌, ◌&&◌, Bool, if◌then◌else◌, List, [], ◌∷◌, ◌++◌, is_none, is_ok, length, max, nat_lt, take, Option, None, Some, option_map}
+use Rattle.std.specs.Prelude.{if◌then◌else◌, [], ◌∷◌, ◌++◌, max, take, None, Some, option_map}
 use Rattle.std.specs.Option.{option_map_or}
-use Rattle.catalogue.specs.declared.edit.Edit.{Edit}
-use Rattle.catalogue_laws.specs.Histories.{History}
-use Rattle.editions.specs.Editions.{content_of, max_batches}
-use Rattle.mirror_ledger.specs.Budgets.{Account}
-use Rattle.omaha_json.specs.declared.request.Request.{Request}
-use Rattle.records.specs.declared.content.App.{App}
-use Rattle.records.specs.declared.mirror.Mirror.{Mirror}
-use Rattle.interleavings.specs.Choices.{Tables}
-use Rattle.interleavings.specs.Events.{Drop, Enter, Event, Grant, Learn, Machine, Plan, Publish, Raise, Render, asks, granted, happens, moved}
-use Rattle.interleavings.specs.Jobs.{EndedJob, Job, Pending, Rendered, Worker}
+use Rattle.editions.specs.Editions.{content_of}
+use Rattle.interleavings.specs.Events.{Drop, Enter, Grant, Learn, Machine, Plan, Publish, Raise, Render, asks, granted, happens, moved}
+use Rattle.interleavings.specs.Jobs.{Job, Pending, Rendered, Worker}
 use Rattle.interleavings.specs.Laws.{BatchesArePublishedWhole, JobsGoByWhatWasSeen, PublishedIsAccepted, RepliesAreOfOneCatalogue, SeenIsPublished, SharesAreOfJobs, TotalsAreWithinBudgets}
-use Rattle.interleavings.specs.Moves.{after_drop, after_entry, after_grant, begun, planned_by, rendered_at, with_outcome, with_pending, without_job}
-use Rattle.interleavings.specs.Services.{Service, changed_at, content_at, published, with_grant}
+use Rattle.interleavings.specs.Moves.{after_entry, begun, planned_by, rendered_at, with_outcome, with_pending, without_job}
+use Rattle.interleavings.specs.Services.{content_at, published, with_grant}
 
 -- a worker that has a job in the making ends it with a reply, whatever the outcomes
 abbrev pub ends_job_by : (Job → Pending → Rendered) → Worker → Job → Worker

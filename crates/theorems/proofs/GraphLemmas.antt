@@ -1,8 +1,8 @@
 -- The graph of a track of a valid app is one: its target and its releases are those of the app, and each of its
 -- differentials leads up to at most the target.
-use Rattle.std.proofs.Common.{◌≡◌, ℕ, ◌+◌, ◌<◌, ◌≤◌, inl, inr, ◌&&◌, ◌||◌, not, Bool, true, false, cond, List, [], ◌∷◌, length, get_or, map, Option, None, Some, refl, sym, ap, ◌∙◌, subst, arith}
-use Rattle.std.specs.List.{All, AllByRecursion, enumerate_from, filter, find, list_all, list_any, position, position_or_len, slice_get}
-use Rattle.std.specs.Option.{option_and_then, option_map, option_map_or}
+use Rattle.std.proofs.Common.{◌≡◌, ℕ, ◌+◌, ◌<◌, inl, inr, ◌&&◌, not, Bool, true, false, List, [], ◌∷◌, length, get_or, map, Option, None, Some, refl, sym, ap, ◌∙◌, subst, arith}
+use Rattle.std.specs.List.{All, AllByRecursion, enumerate_from, filter, find, list_all, list_any, position, slice_get}
+use Rattle.std.specs.Option.{option_map, option_map_or}
 use Rattle.std.proofs.lemmas.Bool.{and_parts, cond_both, false≢true, not-true, or_cases}
 use Rattle.std.proofs.lemmas.List.{get_or-map, length-map}
 use Rattle.std.proofs.lemmas.List.Elements.{All-from_recursion}
@@ -24,12 +24,12 @@ use Rattle.cohorts.specs.declared.pin.Pin.{Pin}
 use Rattle.payload_graph.specs.Chains.{cohort_target, index_of}
 use Rattle.payload_graph.specs.Net.{Net, differs_of, door_of, doors_of, edge_of, net_in, net_of, version_of_index}
 use Rattle.payload_graph.specs.Permitted.{end_of, is_offered_at, jumps_stone, leads_up, permits_differ}
-use Rattle.payload_graph.specs.Soundness.{AreNumbered, IsNearing, LeadsNearer, no_door}
+use Rattle.payload_graph.specs.Soundness.{AreNumbered, IsNearing, no_door}
 use Rattle.payload_graph.specs.declared.door.Door.{Door}
 use Rattle.payload_graph.specs.declared.edge.Edge.{Edge}
 use Rattle.payload_graph.specs.declared.payload.TrackKey.{TrackKey}
 use Rattle.price_cert.specs.Laws.{IsGraph}
-use Rattle.theorems.proofs.ItemLemmas.{Passes, Passes-option_map_or, find-position, list_all-slice_get, position-Passes}
+use Rattle.theorems.proofs.ItemLemmas.{Passes, Passes-option_map_or, find-position, position-Passes}
 use Rattle.theorems.proofs.OrderLemmas.{index-below, index-not_below}
 use Rattle.theorems.specs.Laws.{TrackGraphsAreGraphs}
 
