@@ -23,11 +23,11 @@ use Rattle.theorems.specs.Asks.{offer_in}
 use Rattle.version.specs.Versions as version
 use Rattle.interleavings.specs.Events.{Drop, Enter, Grant, Learn, Plan, Publish, Raise, Render}
 use Rattle.interleavings.specs.Jobs.{EndedJob, Job, Pending, Rendered, Worker, is_decided, new_worker}
-use Rattle.interleavings.specs.Laws.{BatchesArePublishedWhole, IsOfOneCatalogue, JobsGoByWhatWasSeen, PublishedIsAccepted, RepliesAreOfOneCatalogue, SeenIsPublished, SharesAreOfJobs, TotalsAreWithinBudgets}
+use Rattle.interleavings.specs.Laws.{BatchesArePublishedInTurn, BatchesArePublishedWhole, IsOfOneCatalogue, JobsGoByWhatWasSeen, PublishedIsAccepted, RepliesAreOfOneCatalogue, SeenIsPublished, SharesAreOfJobs, TotalsAreWithinBudgets}
 use Rattle.interleavings.specs.Moves.{reply_by}
 use Rattle.interleavings.specs.Runs.{begins, lower_release, small_batch, small_mirrors, small_request, small_rows, unknown_release, withdrawal, wrong_rows}
 use Rattle.interleavings.specs.Services.{content_at}
-use Rattle.interleavings.specs.Wrong.{believes_any_number, forgets_dropped_jobs, grants_without_room, keeps_the_first_catalogue, leaves_the_share, cuts_a_budget, plans_by_any_rows, plans_by_the_newest, publishes_half_a_batch, publishes_rejected_batches, renders_by_the_newest, renders_undecided}
+use Rattle.interleavings.specs.Wrong.{believes_any_number, cuts_a_budget, forgets_dropped_jobs, grants_without_room, keeps_the_first_catalogue, leaves_the_share, never_publishes, plans_by_any_rows, plans_by_the_newest, publishes_half_a_batch, publishes_late_batches, publishes_rejected_batches, renders_by_the_newest, renders_undecided}
 
 pub small-accepted : IsAccepted [] small_batch
 unfolding hex_on_literals version.version_of version.components_of version.lenient_version_of hash_of parsed
@@ -162,3 +162,11 @@ unfolding hex_on_literals version.version_of version.components_of version.lenie
 rejected law =
     let accepted = law small_mirrors small_batch 1 (Publish 1 (unknown_release ∷ []) ∷ []) small-accepted in
     false≢true (ap (λ (r : Result (List App) Refused). is_ok r) accepted.led)
+
+pub late : ¬ (BatchesArePublishedInTurn publishes_late_batches)
+unfolding hex_on_literals version.version_of version.components_of version.lenient_version_of hash_of parsed
+late law = apart 2 1 refl (ap (λ (h : History). length h) (law small_mirrors small_batch 1 [] small-accepted 0 (withdrawal ∷ [])))
+
+pub never : ¬ (BatchesArePublishedInTurn never_publishes)
+unfolding hex_on_literals version.version_of version.components_of version.lenient_version_of hash_of parsed
+never law = apart 1 2 refl (ap (λ (h : History). length h) (law small_mirrors small_batch 1 [] small-accepted 1 (withdrawal ∷ [])))

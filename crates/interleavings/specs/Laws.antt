@@ -18,7 +18,7 @@ use Rattle.replies.specs.declared.choices.Choice.{Choice}
 use Rattle.interleavings.specs.Choices.{IsByPrices}
 use Rattle.interleavings.specs.Events.{Event, Machine, Publish, Raise, service_after}
 use Rattle.interleavings.specs.Jobs.{EndedJob, Job, Pending, Rendered, Worker, granted_for, is_decided, jobs_of, outcomes_of}
-use Rattle.interleavings.specs.Services.{Service, content_at, raised_budget}
+use Rattle.interleavings.specs.Services.{Service, content_at, published, raised_budget}
 
 -- what holds of a service after every list of events since it opened with an accepted batch
 abbrev pub Always : Machine → (List Mirror → List Edit → List Event → Service → Type 0) → Type 0
@@ -163,7 +163,16 @@ abbrev pub BatchesArePublishedWhole : Machine → Type 0
 BatchesArePublishedWhole machine =
     Always machine
     (λ mirrors batch events service.
-    All (λ (published : List Edit). Contains (batch ∷ batches_given events) published) service.history)
+    All (λ (added : List Edit). Contains (batch ∷ batches_given events) added) service.history)
+
+-- whoever publishes next, of whatever batches they know, gets what the definition says: a batch that is accepted and in
+-- turn is published, and no other
+abbrev pub BatchesArePublishedInTurn : Machine → Type 0
+BatchesArePublishedInTurn machine =
+    Always machine
+    (λ mirrors batch events service.
+    (known : ℕ) (next : List Edit) →
+    (machine mirrors service (Publish known next)).history ≡ published service.history known next)
 
 -- each plan that an edition's program makes is one that a worker makes by certified rows: those of the edition's tables
 abbrev pub PlansAreByPrices : Type 0

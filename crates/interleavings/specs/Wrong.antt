@@ -1,10 +1,10 @@
 -- Wrong machines, and the law that each of them breaks. Each differs from the machine of the service in one event.
-use Rattle.std.specs.Prelude.{if◌then◌else◌, [], ◌∷◌, ◌++◌, max, take, None, Some, option_map}
+use Rattle.std.specs.Prelude.{if◌then◌else◌, [], ◌∷◌, ◌++◌, length, max, take, None, Some, option_map}
 use Rattle.std.specs.Option.{option_map_or}
 use Rattle.editions.specs.Editions.{content_of}
 use Rattle.interleavings.specs.Events.{Drop, Enter, Grant, Learn, Machine, Plan, Publish, Raise, Render, asks, granted, happens, moved}
 use Rattle.interleavings.specs.Jobs.{Job, Pending, Rendered, Worker}
-use Rattle.interleavings.specs.Laws.{BatchesArePublishedWhole, JobsGoByWhatWasSeen, PublishedIsAccepted, RepliesAreOfOneCatalogue, SeenIsPublished, SharesAreOfJobs, TotalsAreWithinBudgets}
+use Rattle.interleavings.specs.Laws.{BatchesArePublishedInTurn, BatchesArePublishedWhole, JobsGoByWhatWasSeen, PublishedIsAccepted, RepliesAreOfOneCatalogue, SeenIsPublished, SharesAreOfJobs, TotalsAreWithinBudgets}
 use Rattle.interleavings.specs.Moves.{after_entry, begun, planned_by, rendered_at, with_outcome, with_pending, without_job}
 use Rattle.interleavings.specs.Services.{content_at, published, with_grant}
 
@@ -94,6 +94,17 @@ publishes_rejected_batches mirrors service (Publish known batch) =
     record service { history = service.history ++ batch ∷ [] }
 publishes_rejected_batches mirrors service event = happens mirrors service event
 
+-- publishes a batch whose publisher did not know of the last one
+abbrev pub publishes_late_batches : Machine
+publishes_late_batches mirrors service (Publish known batch) =
+    record service { history = published service.history (length service.history) batch }
+publishes_late_batches mirrors service event = happens mirrors service event
+
+-- publishes nothing
+abbrev pub never_publishes : Machine
+never_publishes mirrors service (Publish known batch) = service
+never_publishes mirrors service event = happens mirrors service event
+
 -- each of them breaks a law
 pub record PlansAndRepliesBreak : Type 0 where
   pub newest_reply : ¬ (RepliesAreOfOneCatalogue renders_by_the_newest)
@@ -114,3 +125,5 @@ pub record GrantsBreak : Type 0 where
 pub record PublishesBreak : Type 0 where
   pub half : ¬ (BatchesArePublishedWhole publishes_half_a_batch)
   pub rejected : ¬ (PublishedIsAccepted publishes_rejected_batches)
+  pub late : ¬ (BatchesArePublishedInTurn publishes_late_batches)
+  pub never : ¬ (BatchesArePublishedInTurn never_publishes)

@@ -2,7 +2,7 @@
 
 ghost use Rattle.interleavings.specs.Events.{happens};
 ghost use Rattle.interleavings.specs.Headline.{OffersLeadToTargets, RepliesSayTrue};
-ghost use Rattle.interleavings.specs.Laws.{BatchesArePublishedWhole, JobsGoByWhatWasSeen, PlansAreByPrices, PublishedIsAccepted, PublishedStays, RepliesAreOfOneCatalogue, SeenIsPublished, SeenNeverFalls, SharesAreOfJobs, TotalsAreWithinBudgets};
+ghost use Rattle.interleavings.specs.Laws.{BatchesArePublishedInTurn, BatchesArePublishedWhole, JobsGoByWhatWasSeen, PlansAreByPrices, PublishedIsAccepted, PublishedStays, RepliesAreOfOneCatalogue, SeenIsPublished, SeenNeverFalls, SharesAreOfJobs, TotalsAreWithinBudgets};
 ghost use Rattle.interleavings.specs.Runs.{BudgetEnds, BudgetRaised, DropAfterGrant, FailedConditions, PublishBetween, StalePublish};
 ghost use Rattle.interleavings.specs.Ties.{AnswersAreOfPending, FullIsNotPublished, GrantsAreBooked, NextIsPublished, RejectedIsNotPublished, RoomIsTested};
 ghost use Rattle.interleavings.specs.Wrong.{EntriesBreak, GrantsBreak, PlansAndRepliesBreak, PublishesBreak};
@@ -37,12 +37,14 @@ pub fn every_interleaving()
 }
 
 // rule: Published history
-/// States that what is published is an accepted history of 1 to 4096 batches, that it stays so, and that each of its
-/// batches was given as a whole.
+/// States that what is published is an accepted history of 1 to 4096 batches, that it stays so, that each of its
+/// batches was given as a whole, and that a batch is published exactly if it is accepted, there is room, and its
+/// publisher knew of all batches before it.
 pub fn publishing()
     ensures accepted { PublishedIsAccepted happens }
     ensures stays { PublishedStays happens }
     ensures whole { BatchesArePublishedWhole happens }
+    ensures turn { BatchesArePublishedInTurn happens }
 {
     catalogue_laws::growth();
     catalogue_laws::prefixes();

@@ -76,14 +76,14 @@ IsBetween-permits app key place index permitted =
     let end = Passes-option_map_or (λ (to : Release). is_offered_at cohort key.pin diff.from to && leads_up releases target diff.from to.version)
     (end_of releases diff) parts.1 in
     let passes = find-passes (is_release diff.to) releases end.item end.is in
+    let to : destination_of app (Differ index) ≡ index_of releases diff.to =
+    ap (λ (o : Option Diff). option_map_or (λ (d : Diff). index_of releases d.to) o (length releases)) found.is in
     record {
       diff = diff;
       there = found.is;
       starts = starts-version releases place diff parts.0;
       end = end.item;
-      leads =
-          ap (λ (o : Option Diff). slice_get releases (option_map_or (λ (d : Diff). index_of releases d.to) o (length releases))) found.is
-          ∙ find-position (is_release diff.to) releases end.item end.is;
+      leads = ap (λ n. slice_get releases n) to ∙ find-position (is_release diff.to) releases end.item end.is;
       ends = (bytes_eq-Decides diff.to end.item.version).0 passes;
     }
 

@@ -1,3 +1,4 @@
+use Rattle.std.proofs.Common.{refl}
 use Rattle.interleavings.proofs.LawLemmas.{batches_are_published_whole, published_is_accepted, published_stays}
 use Rattle.interleavings.proofs.laws.publishing.Goals as goal
 
@@ -12,4 +13,5 @@ returns c =
       accepted = published_is_accepted quotes graphs growth prefixes valid;
       stays = published_stays quotes graphs growth prefixes valid;
       whole = batches_are_published_whole quotes graphs growth prefixes valid;
+      turn = λ mirrors batch workers events accepted known next. refl;
     }

@@ -1,4 +1,4 @@
-use Rattle.interleavings.proofs.WrongLemmas.{first, forgotten, half, lowered, newest_plan, newest_reply, no_room, rejected, share, unchecked, undecided, untrue}
+use Rattle.interleavings.proofs.WrongLemmas.{first, forgotten, half, late, lowered, never, newest_plan, newest_reply, no_room, rejected, share, unchecked, undecided, untrue}
 use Rattle.interleavings.proofs.laws.wrong_machines.Goals as goal
 
 pub returns : goal.returns
@@ -7,5 +7,5 @@ returns c =
       replies = record { newest_reply = newest_reply; undecided = undecided; newest_plan = newest_plan; unchecked = unchecked };
       entries = record { first = first; untrue = untrue };
       grants = record { no_room = no_room; share = share; lowered = lowered; forgotten = forgotten };
-      publishes = record { half = half; rejected = rejected };
+      publishes = record { half = half; rejected = rejected; late = late; never = never };
     }
