@@ -49,7 +49,7 @@ module _ (mirrors : List Mirror) (history : History) (job : Job) (rendered : Ren
   is-plan : IsPlan (content_at history job.number) pending.request pending.choices
   is-plan = subst (λ (p : Pending). IsPlan (content_at history job.number) p.request p.choices) same one.reply_is.planned
 
--- two numbers that a test tells apart are not the same
+-- two numbers that a test finds different are not the same
 apart : (one other : ℕ) → eqb one other ≡ false → one ≡ other → ⊥
 apart one other differ same = false≢true (sym differ ∙ eq-eqb one other same)
 
