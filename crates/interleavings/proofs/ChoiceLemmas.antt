@@ -40,7 +40,8 @@ no-chain :
 no-chain app key place [] none leads =
     let clash : None ≡ Some place = sym (ap (λ (o : Option ℕ). option_map (λ n. At n) o) none) ∙ leads in
     cc
-no-chain app key place (payload ∷ payloads) none leads = no-chain app key (At (destination_of app payload)) payloads none leads.1
+no-chain app key place (payload ∷ payloads) none leads = no-chain app key (At (destination_of app payload)) payloads
+    none leads.1
 
 -- and without a target there is no graph, nor the other way round
 no-target : (app : App) (key : TrackKey) → net_in app key ≡ None → target_index app key ≡ None
@@ -105,7 +106,8 @@ zip-mapped R test f (item ∷ items) holds all =
     let parts = and_parts (test item) (list_all test items) all in
     (holds item parts.0, zip-mapped R test f items holds parts.1)
 
-module _ (quotes : CertifiedRowsQuote) (graphs : TrackGraphsAreGraphs) (apps : List App) (valid : IsValid apps) (session : List ℕ) where
+module _ (quotes : CertifiedRowsQuote) (graphs : TrackGraphsAreGraphs) (apps : List App) (valid : IsValid apps)
+    (session : List ℕ) where
   IsClientChoice-rows :
       (ask : AppAsk) (rows : List Row) (client : Client) → client_to_update apps session ask ≡ Some client →
       are_rows_for rows client ≡ true → IsClientChoice client ask (choice_for ask rows client)
@@ -115,17 +117,20 @@ module _ (quotes : CertifiedRowsQuote) (graphs : TrackGraphsAreGraphs) (apps : L
           (net : Option Net) → graph_for client ≡ net → option_map_or (λ (n : Net). pass_check n rows) net true ≡ true →
           IsClientChoice client ask
           (option_and_then
-          (λ (n : Net). quoted_choice client.app (quote_by_rows client.app (key_of client) rows (place_of client.app.releases ask.fp ask.version)))
+          (λ (n : Net). quoted_choice client.app
+          (quote_by_rows client.app (key_of client) rows (place_of client.app.releases ask.fp ask.version)))
           net)
       by_graph None none passed =
-          inr (λ payloads. no-chain client.app (key_of client) (place_of client.app.releases ask.fp ask.version) payloads
+          inr (λ payloads. no-chain client.app (key_of client) (place_of client.app.releases ask.fp ask.version)
+          payloads
           (no-target client.app (key_of client) none))
       by_graph (Some net) there passed =
           let key = key_of client in
           let place = place_of client.app.releases ask.fp ask.version in
           let own = IsValidApp-client apps session ask client (Wants-client apps session ask client is) valid in
           IsChoice-quoted client.app key place (quote_by_rows client.app key rows place)
-          (quotes client.app key net rows place own there (graphs client.app key net own there) (AreCertified-passed net rows passed)
+          (quotes client.app key net rows place own there (graphs client.app key net own there)
+          (AreCertified-passed net rows passed)
           (IsWithin-place_of client.app.releases ask.fp ask.version))
 
   IsChosen-rows : (tables : Tables) (ask : AppAsk) → are_rows_of apps session tables ask ≡ true →
@@ -142,8 +147,10 @@ module _ (quotes : CertifiedRowsQuote) (graphs : TrackGraphsAreGraphs) (apps : L
 
 -- the choices by certified rows are a plan
 pub IsPlan-choices_of :
-    CertifiedRowsQuote → TrackGraphsAreGraphs → (apps : List App) → IsValid apps → (request : Request) (tables : Tables) →
+    CertifiedRowsQuote → TrackGraphsAreGraphs → (apps : List App) → IsValid apps → (request : Request)
+    (tables : Tables) →
     are_certified apps request tables ≡ true → IsPlan apps request (choices_of apps request tables)
 IsPlan-choices_of quotes graphs apps valid request tables passed =
-    zip-mapped (IsChosen apps request.session) (are_rows_of apps request.session tables) (choice_of apps request.session tables)
+    zip-mapped (IsChosen apps request.session) (are_rows_of apps request.session tables)
+    (choice_of apps request.session tables)
     request.apps (IsChosen-rows quotes graphs apps valid request.session tables) passed

@@ -39,17 +39,20 @@ module _ (apps : List App) (session : List ℕ) (ask : AppAsk) where
     pub track : client.track ≡ track_of client.app.releases client.app.cohorts ask session
     pub wants : wants_update ask ≡ true
 
-  Wants-client_of : (client : Client) → wants_update ask ≡ true → client_of apps session ask ≡ Some client → Wants client
+  Wants-client_of : (client : Client) → wants_update ask ≡ true → client_of apps session ask ≡ Some client → Wants
+      client
   Wants-client_of client wants known =
       option_and_then_some (client_at apps session ask) (position (is_app ask.appid) apps) client known
       (λ index found made.
-      let app = Mapped-Some (λ (app : App). record { index = index; app = app; track = track_of app.releases app.cohorts ask session })
+      let app = Mapped-Some
+      (λ (app : App). record { index = index; app = app; track = track_of app.releases app.cohorts ask session })
       (slice_get apps index) client made in
       subst (λ (c : Client). Wants c) app.same (record { there = app.is; track = refl; wants = wants }))
 
   pub Wants-client : (client : Client) → client_to_update apps session ask ≡ Some client → Wants client
   Wants-client client =
-      cond_both (wants_update ask) (client_of apps session ask) None (λ (o : Option Client). o ≡ Some client → Wants client)
+      cond_both (wants_update ask) (client_of apps session ask) None
+      (λ (o : Option Client). o ≡ Some client → Wants client)
       (λ wants known. Wants-client_of client wants known) (λ idle none. absurd (none-some client none))
 
   module _ (client : Client) (is : Wants client) where
@@ -77,12 +80,16 @@ module _ (apps : List App) (session : List ℕ) (ask : AppAsk) where
     -- the graph of its track leads down if the key does
     pub same-rollback : (net : Net) → graph_for client ≡ Some net → net.rollback ≡ (key_of client).rollback
     same-rollback net made =
-        option_and_then_some (λ (cohort : Cohort). option_map (net_of client.app (key_of client) cohort) (cohort_target client.app cohort (key_of client)))
+        option_and_then_some (λ (cohort : Cohort). option_map (net_of client.app (key_of client) cohort)
+        (cohort_target client.app cohort (key_of client)))
         (slice_get client.app.cohorts (key_of client).cohort) net made
         (λ cohort there graph.
-        let target = Mapped-Some (net_of client.app (key_of client) cohort) (cohort_target client.app cohort (key_of client)) net graph in
-        let own : cohort_at client.app.cohorts client.track.cohort ≡ cohort = ap (λ (o : Option Cohort). unwrap_or o no_cohort) there in
-        let rolls : client.track.rollback ≡ ((cohort_at client.app.cohorts client.track.cohort).rollback && asks_rollback ask) =
+        let target = Mapped-Some (net_of client.app (key_of client) cohort)
+        (cohort_target client.app cohort (key_of client)) net graph in
+        let own : cohort_at client.app.cohorts client.track.cohort ≡ cohort = ap
+        (λ (o : Option Cohort). unwrap_or o no_cohort) there in
+        let rolls : client.track.rollback ≡ ((cohort_at client.app.cohorts
+        client.track.cohort).rollback && asks_rollback ask) =
         ap (λ (t : Track). t.rollback) is.track
         ∙ sym (ap (λ (t : Track). (cohort_at client.app.cohorts t.cohort).rollback && asks_rollback ask) is.track) in
         let both : client.track.rollback ≡ (cohort.rollback && asks_rollback ask) =

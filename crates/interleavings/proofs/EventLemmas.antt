@@ -27,7 +27,8 @@ use Rattle.interleavings.proofs.MoveLemmas.{IsMove, drop, entry, grant, news, pl
 
 -- the history is longer by what the event gave, or as it was
 abbrev pub Extends : Event → History → History → Type 0
-Extends event old new = (new ≡ old) ⊎ ((batch : List Edit) × (batch_given event ≡ batch ∷ []) × (new ≡ old ++ batch ∷ []))
+Extends event old new =
+    (new ≡ old) ⊎ ((batch : List Edit) × (batch_given event ≡ batch ∷ []) × (new ≡ old ++ batch ∷ []))
 
 -- what an event makes of a service
 pub record IsStep (mirrors : List Mirror) (event : Event) (old new : Service) : Type 0 where
@@ -54,12 +55,14 @@ within-grant books mirror granting bytes room within =
 -- no budget falls
 raised-rises : (raised bytes mirror budget : ℕ) → budget ≤ raised_budget raised bytes mirror budget
 raised-rises raised bytes mirror budget =
-    cond_both (eqb raised mirror) (max budget bytes) budget (λ new. budget ≤ new) (λ same. omega arith) (λ other. omega arith)
+    cond_both (eqb raised mirror) (max budget bytes) budget (λ new. budget ≤ new) (λ same. omega arith)
+    (λ other. omega arith)
 
 module _ (mirrors : List Mirror) (service : Service) (keeps : Keeps mirrors service) where
   -- nothing happens
   unchanged :
-      (event : Event) → ((mirror budget : ℕ) → budget ≡ budget_after mirror event budget) → IsStep mirrors event service service
+      (event : Event) → ((mirror budget : ℕ) → budget ≡ budget_after mirror event budget) → IsStep mirrors event
+      service service
   unchanged event same =
       record {
         keeps = keeps;
@@ -101,7 +104,8 @@ module _ (mirrors : List Mirror) (service : Service) (keeps : Keeps mirrors serv
           let new =
           sum-changed (λ (worker : Worker). worker.share mirror) move 0 index service.workers
           (λ worker there.
-          (steps worker there (all-at (KeepsWorker mirrors service.history) service.workers index worker there keeps.workers)).shares mirror)
+          (steps worker there (all-at (KeepsWorker mirrors service.history) service.workers index worker there
+          keeps.workers)).shares mirror)
           (λ none. refl) in
           omega arith
 
@@ -115,9 +119,11 @@ module _ (mirrors : List Mirror) (service : Service) (keeps : Keeps mirrors serv
       let found = Passes-option_map_or (is_asking mirrors granting bytes) (slice_get service.workers index) asking in
       let fits = leb-true ((service.books granting).total + bytes) (service.books granting).budget room in
       let more = λ (mirror : ℕ). booked mirror bytes (Some granting) in
-      let steps = λ (worker : Worker) (there : slice_get service.workers index ≡ Some worker) (kept : KeepsWorker mirrors history worker).
+      let steps = λ (worker : Worker) (there : slice_get service.workers index ≡ Some worker)
+      (kept : KeepsWorker mirrors history worker).
       grant mirrors history worker kept granting bytes
-      (subst (λ (w : Worker). is_asking mirrors granting bytes w ≡ true) (same_Some found.item worker (sym found.is ∙ there)) found.passed) in
+      (subst (λ (w : Worker). is_asking mirrors granting bytes w ≡ true)
+      (same_Some found.item worker (sym found.is ∙ there)) found.passed) in
       record {
         keeps = record {
           accepted = keeps.accepted;
@@ -129,14 +135,16 @@ module _ (mirrors : List Mirror) (service : Service) (keeps : Keeps mirrors serv
               record {
                 adds_up =
                     ap (λ n. n + more mirror) book.adds_up
-                    ∙ sym (sum-changed (λ (worker : Worker). worker.share mirror) (after_grant granting bytes) (more mirror) index service.workers
+                    ∙ sym (sum-changed (λ (worker : Worker). worker.share mirror) (after_grant granting bytes)
+                    (more mirror) index service.workers
                     (λ worker there. refl)
                     (λ none. absurd (let clash : None ≡ Some found.item = sym none ∙ found.is in cc)));
                 within = within-grant service.books mirror granting bytes fits book.within;
               };
         };
         goes =
-            zip-changed (KeepsWorker mirrors history) GoesOn (after_grant granting bytes) index service.workers GoesOn-same
+            zip-changed (KeepsWorker mirrors history) GoesOn (after_grant granting bytes) index service.workers
+            GoesOn-same
             (λ worker there kept. (steps worker there kept).goes) keeps.workers;
         history = inl refl;
         budgets = λ mirror. refl;
@@ -145,16 +153,19 @@ module _ (mirrors : List Mirror) (service : Service) (keeps : Keeps mirrors serv
   -- or has no room for them
   refuses :
       (index refusing bytes : ℕ) → asks mirrors service index refusing bytes ≡ true →
-      IsStep mirrors (Grant index refusing bytes) service (moved index (with_pending (after_rejection mirrors refusing)) service)
+      IsStep mirrors (Grant index refusing bytes) service
+      (moved index (with_pending (after_rejection mirrors refusing)) service)
   refuses index refusing bytes asking =
       let found = Passes-option_map_or (is_asking mirrors refusing bytes) (slice_get service.workers index) asking in
       moves (Grant index refusing bytes) index (with_pending (after_rejection mirrors refusing)) (λ mirror budget. refl)
       (λ worker there kept.
       rejection mirrors service.history worker kept refusing bytes
-      (subst (λ (w : Worker). is_asking mirrors refusing bytes w ≡ true) (same_Some found.item worker (sym found.is ∙ there)) found.passed))
+      (subst (λ (w : Worker). is_asking mirrors refusing bytes w ≡ true)
+      (same_Some found.item worker (sym found.is ∙ there)) found.passed))
 
   -- a mirror's budget is raised
-  raises : (raised bytes : ℕ) → IsStep mirrors (Raise raised bytes) service (record service { books = with_budget service.books raised bytes })
+  raises : (raised bytes : ℕ) → IsStep mirrors (Raise raised bytes) service
+      (record service { books = with_budget service.books raised bytes })
   raises raised bytes =
       record {
         keeps = record {
@@ -171,7 +182,8 @@ module _ (mirrors : List Mirror) (service : Service) (keeps : Keeps mirrors serv
         budgets = λ mirror. refl;
       }
 
-  module _ (quotes : CertifiedRowsQuote) (graphs : TrackGraphsAreGraphs) (growth : HistoriesGrow) (prefixes : PrefixesAreAccepted) (are_valid : HistoriesAreValid) where
+  module _ (quotes : CertifiedRowsQuote) (graphs : TrackGraphsAreGraphs) (growth : HistoriesGrow)
+      (prefixes : PrefixesAreAccepted) (are_valid : HistoriesAreValid) where
     -- a batch is published
     publishes :
         (known : ℕ) (batch : List Edit) → is_published service.history known batch ≡ true →
@@ -180,10 +192,12 @@ module _ (mirrors : List Mirror) (service : Service) (keeps : Keeps mirrors serv
         let history = service.history in
         let old = keeps.accepted in
         let some = old.some in
-        let parts = and_parts (eqb known (length history)) (ltb (length history) max_batches && is_ok (outcome_after history batch)) test in
+        let parts = and_parts (eqb known (length history))
+        (ltb (length history) max_batches && is_ok (outcome_after history batch)) test in
         let rest = and_parts (ltb (length history) max_batches) (is_ok (outcome_after history batch)) parts.1 in
         let room = ltb-true (length history) max_batches rest.0 in
-        let made = Made (outcome batch old.content) (subst (λ (r : Result (List App) Refused). is_ok (then_run (outcome batch) r) ≡ true) old.led rest.1) in
+        let made = Made (outcome batch old.content)
+        (subst (λ (r : Result (List App) Refused). is_ok (then_run (outcome batch) r) ≡ true) old.led rest.1) in
         let sized = length-append history (batch ∷ []) in
         record {
           keeps = record {
@@ -234,5 +248,6 @@ module _ (mirrors : List Mirror) (service : Service) (keeps : Keeps mirrors serv
         rendering mirrors service.history worker kept
         (λ number. LeadsTo-content_at prefixes service.history number keeps.accepted.content keeps.accepted.led) moment)
     step (Drop index) =
-        moves (Drop index) index after_drop (λ mirror budget. refl) (λ worker there kept. drop mirrors service.history worker kept)
+        moves (Drop index) index after_drop (λ mirror budget. refl)
+        (λ worker there kept. drop mirrors service.history worker kept)
     step (Raise mirror bytes) = raises mirror bytes

@@ -32,7 +32,8 @@ use Rattle.interleavings.specs.Services.{Service, content_at}
 AllReplies-well :
     (mirrors : List Mirror) (service : Service) (Holds : Job → Rendered → Type 0) →
     ((job : Job) (rendered : Rendered) → IsOfOneCatalogue mirrors service.history job rendered → Holds job rendered) →
-    All (λ (worker : Worker). All (EndsWell mirrors service.history) worker.ended) service.workers → AllReplies Holds service
+    All (λ (worker : Worker). All (EndsWell mirrors service.history) worker.ended) service.workers → AllReplies Holds
+    service
 AllReplies-well mirrors service Holds holds well =
     All-weaker (λ (worker : Worker). All (EndsWell mirrors service.history) worker.ended)
     (λ (worker : Worker). All (λ (ended : EndedJob). IfSome ended.rendered (Holds ended.job)) worker.ended)
@@ -47,7 +48,8 @@ module _ (history : History) (mirrors : List Mirror) (session : List ℕ) where
   reply_to ask choice outcome = app_reply (content_of history) session mirrors (ask, (payload_in choice, outcome))
 
   abbrev replies_to : List AppAsk → List (Option Choice) → List (Option ℕ) → List AppReply
-  replies_to asks plan outcomes = map (app_reply (content_of history) session mirrors) (zip asks (zip (map payload_in plan) outcomes))
+  replies_to asks plan outcomes = map (app_reply (content_of history) session mirrors)
+      (zip asks (zip (map payload_in plan) outcomes))
 
   module _ (statuses : StatusesSay) where
     each-says :
@@ -71,34 +73,42 @@ module _ (history : History) (mirrors : List Mirror) (session : List ℕ) where
         IsOutcome mirrors choice outcome → offer_in (reply_to ask choice outcome) ≡ Some offer →
         IsGranted mirrors choice outcome × (1 ≤ length mirrors)
     IsGranted-offer client ask choice outcome offer asks chosen decided made =
-        by_check (check_in (reply_to ask choice outcome)) (statuses history mirrors session client ask choice outcome asks chosen decided) made
+        by_check (check_in (reply_to ask choice outcome))
+        (statuses history mirrors session client ask choice outcome asks chosen decided) made
       where
-        granted : (choice : Option Choice) (outcome : Option ℕ) (mirror : ℕ) → IsOutcome mirrors choice outcome → outcome ≡ Some mirror →
+        granted : (choice : Option Choice) (outcome : Option ℕ) (mirror : ℕ) → IsOutcome mirrors choice outcome →
+            outcome ≡ Some mirror →
             mirror < length mirrors → IsGranted mirrors choice outcome × (1 ≤ length mirrors)
         granted choice None mirror decided is within = absurd (none-some mirror is)
         granted None (Some other) mirror decided is within = absurd (let clash = decided.0 in cc)
         granted (Some choice) (Some other) mirror decided is within = (decided.1, omega arith)
 
         by_check :
-            (said : Option CheckReply) → MatchOption said ⊥ (Says mirrors client ask outcome) → option_and_then offer_by said ≡ Some offer →
+            (said : Option CheckReply) → MatchOption said ⊥ (Says mirrors client ask outcome) → option_and_then
+            offer_by said ≡ Some offer →
             IsGranted mirrors choice outcome × (1 ≤ length mirrors)
         by_check None says made = absurd says
         by_check (Some check.NoUpdate) says made = absurd (none-some offer made)
         by_check (Some check.Internal) says made = absurd (none-some offer made)
-        by_check (Some (check.Offered own)) says made = granted choice outcome says.mirror decided says.granted says.within
+        by_check (Some (check.Offered own)) says made = granted choice outcome says.mirror decided says.granted
+            says.within
         by_check (Some check.Other) says made = absurd (none-some offer made)
 
   -- a reply that makes an offer has a next ask
-  next-offer : (ask : AppAsk) (reply : AppReply) (offer : Offer) → offer_in reply ≡ Some offer → (next : AppAsk) × (next_ask ask reply ≡ Some next)
+  next-offer : (ask : AppAsk) (reply : AppReply) (offer : Offer) → offer_in reply ≡ Some offer →
+      (next : AppAsk) × (next_ask ask reply ≡ Some next)
   next-offer ask reply offer made = by_known (known_in reply.state) made
     where
-      by_offer : (known : KnownApp) (o : Option Offer) → o ≡ Some offer → (next : AppAsk) × (option_map (ask_after ask known) o ≡ Some next)
+      by_offer : (known : KnownApp) (o : Option Offer) → o ≡ Some offer →
+          (next : AppAsk) × (option_map (ask_after ask known) o ≡ Some next)
       by_offer known None made = absurd (none-some offer made)
       by_offer known (Some own) made = (ask_after ask known own, refl)
 
       by_known :
-          (known : Option KnownApp) → option_and_then offer_by (option_and_then (λ (k : KnownApp). k.check) known) ≡ Some offer →
-          (next : AppAsk) × (option_and_then (λ (k : KnownApp). option_map (ask_after ask k) (option_and_then offer_by k.check)) known ≡ Some next)
+          (known : Option KnownApp) → option_and_then offer_by
+          (option_and_then (λ (k : KnownApp). k.check) known) ≡ Some offer →
+          (next : AppAsk) × (option_and_then
+          (λ (k : KnownApp). option_map (ask_after ask k) (option_and_then offer_by k.check)) known ≡ Some next)
       by_known None made = absurd (none-some offer made)
       by_known (Some known) made = by_offer known (option_and_then offer_by known.check) made
 
@@ -121,9 +131,11 @@ module _ (history : History) (mirrors : List Mirror) (session : List ℕ) where
           rest = on.0;
           walk = (
             replied,
-            subst (λ (o : Option AppAsk). MatchOption o (on.0 ≡ []) (λ (n : AppAsk). IsWalk apps mirrors session n on.0)) (sym next.1) on.1,
+            subst (λ (o : Option AppAsk). MatchOption o (on.0 ≡ [])
+                (λ (n : AppAsk). IsWalk apps mirrors session n on.0)) (sym next.1) on.1,
           );
-          least = λ others walk. least history mirrors session client ask (reply ∷ others) chain.chain asks walk chain.leads;
+          least = λ others walk. least history mirrors session client ask (reply ∷ others) chain.chain asks walk
+              chain.leads;
         }
 
     each-leads :
@@ -142,9 +154,11 @@ module _ (history : History) (mirrors : List Mirror) (session : List ℕ) where
 
 -- the replies to the apps, as the plan and the outcomes give them
 same-apps :
-    (mirrors : List Mirror) (history : History) (job : Job) (rendered : Rendered) (one : IsOfOneCatalogue mirrors history job rendered) →
+    (mirrors : List Mirror) (history : History) (job : Job) (rendered : Rendered)
+    (one : IsOfOneCatalogue mirrors history job rendered) →
     rendered.reply.apps
-    ≡ replies_to (take job.number history) mirrors one.pending.request.session one.pending.request.apps one.pending.choices (outcomes_of one.pending)
+    ≡ replies_to (take job.number history) mirrors one.pending.request.session one.pending.request.apps
+    one.pending.choices (outcomes_of one.pending)
 same-apps mirrors history job rendered one = ap (λ (r : Reply). r.apps) one.reply_is.is
 
 pub replies_say_true : RepliesAreOfOneCatalogue happens → StatusesSay → RepliesSayTrue happens
@@ -158,15 +172,18 @@ replies_say_true of_one statuses mirrors batch workers events accepted =
       planned = one.planned;
       each =
           subst
-          (AllZip (SaysTrue (content_at service.history job.number) mirrors pending.request.session) (zip pending.request.apps (outcomes_of pending)))
+          (AllZip (SaysTrue (content_at service.history job.number) mirrors pending.request.session)
+          (zip pending.request.apps (outcomes_of pending)))
           (sym (same-apps mirrors service.history job rendered one))
-          (each-says (take job.number service.history) mirrors pending.request.session statuses pending.request.apps pending.choices
+          (each-says (take job.number service.history) mirrors pending.request.session statuses pending.request.apps
+          pending.choices
           (outcomes_of pending) one.reply_is.planned one.reply_is.decided);
     })
     (of_one mirrors batch workers events accepted)
 
 pub offers_lead_to_targets :
-    RepliesAreOfOneCatalogue happens → StatusesSay → OffersAreSteps → WalksExist → WalksAreLeast → OffersLeadToTargets happens
+    RepliesAreOfOneCatalogue happens → StatusesSay → OffersAreSteps → WalksExist → WalksAreLeast → OffersLeadToTargets
+    happens
 offers_lead_to_targets of_one statuses steps exists least mirrors batch workers events accepted =
     let service = service_after happens mirrors batch workers events in
     AllReplies-well mirrors service (OffersLead mirrors service.history)
@@ -176,9 +193,11 @@ offers_lead_to_targets of_one statuses steps exists least mirrors batch workers 
       pending = pending;
       planned = one.planned;
       each =
-          subst (AllZip (OfferLeads (content_at service.history job.number) mirrors pending.request.session) pending.request.apps)
+          subst (AllZip (OfferLeads (content_at service.history job.number) mirrors pending.request.session)
+          pending.request.apps)
           (sym (same-apps mirrors service.history job rendered one))
-          (each-leads (take job.number service.history) mirrors pending.request.session statuses steps exists least pending.request.apps
+          (each-leads (take job.number service.history) mirrors pending.request.session statuses steps exists least
+          pending.request.apps
           pending.choices (outcomes_of pending) one.reply_is.planned one.reply_is.decided);
     })
     (of_one mirrors batch workers events accepted)

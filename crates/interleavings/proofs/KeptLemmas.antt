@@ -67,7 +67,14 @@ IsAfter-own worker = cases worker.job refl
 
 pub GoesOn-same : (worker : Worker) → GoesOn worker worker
 GoesOn-same worker =
-    record { seen = omega arith; job = IsAfter-own worker; later = []; ended = sym (append-nil worker.ended); follow = tt }
+    record {
+      seen = omega arith;
+      job = IsAfter-own worker;
+      later = [];
+      ended = sym (append-nil worker.ended);
+      follow =
+          tt;
+    }
 
 module _ (old middle : Worker) (goes : GoesOn old middle) where
   IsAfter-later : (number : ℕ) → IsAfter middle number → IsAfter old number
@@ -92,10 +99,12 @@ module _ (old middle : Worker) (goes : GoesOn old middle) where
         seen = omega arith;
         job = IfSome_then new.job further.job (λ job after. IsAfter-later job.number after);
         later = goes.later ++ further.later;
-        ended = further.ended ∙ ap (λ (es : List EndedJob). es ++ further.later) goes.ended ∙ append_assoc old.ended goes.later further.later;
+        ended = further.ended ∙ ap (λ (es : List EndedJob). es ++ further.later) goes.ended ∙ append_assoc old.ended
+            goes.later further.later;
         follow =
             all-append (λ (e : EndedJob). IsAfter old e.job.number) goes.later further.later goes.follow
-            (all-weaker (λ (e : EndedJob). IsAfter middle e.job.number) (λ (e : EndedJob). IsAfter old e.job.number) further.later
+            (all-weaker (λ (e : EndedJob). IsAfter middle e.job.number) (λ (e : EndedJob). IsAfter old e.job.number)
+            further.later
             (λ e after. IsAfter-later e.job.number after) further.follow);
       }
 
@@ -122,7 +131,8 @@ LeadsTo-content_at prefixes history number content led =
 
 -- a longer history has the editions of a shorter one
 module _ (mirrors : List Mirror) (history more : History) where
-  same-content : (number : ℕ) → number ≤ length history → content_at history number ≡ content_at (history ++ more) number
+  same-content : (number : ℕ) → number ≤ length history → content_at history number ≡ content_at (history ++ more)
+      number
   same-content number within = ap content_of (sym (take-append-le number history more within))
 
   IsOfOneCatalogue-longer :
@@ -134,7 +144,8 @@ module _ (mirrors : List Mirror) (history more : History) where
       record {
         some = is.some;
         published = omega arith;
-        led = subst (λ (h : History). LeadsTo h (content_of h)) (sym (take-append-le job.number history more low)) is.led;
+        led = subst (λ (h : History). LeadsTo h (content_of h)) (sym (take-append-le job.number history more low))
+            is.led;
         pending = is.pending;
         planned = is.planned;
         decided = is.decided;
@@ -156,16 +167,19 @@ module _ (mirrors : List Mirror) (history more : History) where
         some = keeps.some;
         published = omega arith;
         pending =
-            subst (λ (apps : List App). IfSome job.pending (KeepsPending mirrors apps)) (same-content job.number low) keeps.pending;
+            subst (λ (apps : List App). IfSome job.pending (KeepsPending mirrors apps)) (same-content job.number low)
+            keeps.pending;
       }
 
-  pub KeepsWorker-longer : (worker : Worker) → KeepsWorker mirrors history worker → KeepsWorker mirrors (history ++ more) worker
+  pub KeepsWorker-longer : (worker : Worker) → KeepsWorker mirrors history worker → KeepsWorker mirrors
+      (history ++ more) worker
   KeepsWorker-longer worker keeps =
       let low = keeps.seen in
       let sized = length-append history more in
       record {
         seen = omega arith;
         job = IfSome_then worker.job keeps.job KeepsJob-longer;
-        ended = all-weaker (EndsWell mirrors history) (EndsWell mirrors (history ++ more)) worker.ended EndsWell-longer keeps.ended;
+        ended = all-weaker (EndsWell mirrors history) (EndsWell mirrors (history ++ more)) worker.ended
+            EndsWell-longer keeps.ended;
         shares = keeps.shares;
       }

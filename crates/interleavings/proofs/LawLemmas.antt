@@ -24,7 +24,8 @@ low-after worker number idle (inl own) =
     absurd (none-some number (sym (ap (λ o. option_map (λ (job : Job). job.number) o) idle) ∙ own))
 low-after worker number idle (inr low) = low
 
-module _ (quotes : CertifiedRowsQuote) (graphs : TrackGraphsAreGraphs) (growth : HistoriesGrow) (prefixes : PrefixesAreAccepted) (are_valid : HistoriesAreValid) where
+module _ (quotes : CertifiedRowsQuote) (graphs : TrackGraphsAreGraphs) (growth : HistoriesGrow)
+    (prefixes : PrefixesAreAccepted) (are_valid : HistoriesAreValid) where
   after :
       (mirrors : List Mirror) (batch : List Edit) (workers : ℕ) (events : List Event) → IsAccepted [] batch →
       IsRun mirrors events (opened mirrors batch workers) (service_after happens mirrors batch workers events)
@@ -34,18 +35,21 @@ module _ (quotes : CertifiedRowsQuote) (graphs : TrackGraphsAreGraphs) (growth :
   -- and after more events
   further :
       (mirrors : List Mirror) (batch : List Edit) (workers : ℕ) (events more : List Event) → IsAccepted [] batch →
-      IsRun mirrors more (service_after happens mirrors batch workers events) (service_after happens mirrors batch workers (events ++ more))
+      IsRun mirrors more (service_after happens mirrors batch workers events)
+      (service_after happens mirrors batch workers (events ++ more))
   further mirrors batch workers events more accepted =
       let before = service_after happens mirrors batch workers events in
       subst (IsRun mirrors more before) (sym (run-append happens mirrors events more (opened mirrors batch workers)))
-      (IsRun-events mirrors quotes graphs growth prefixes are_valid more before (after mirrors batch workers events accepted).keeps)
+      (IsRun-events mirrors quotes graphs growth prefixes are_valid more before
+      (after mirrors batch workers events accepted).keeps)
 
   -- what holds of each worker
   each :
       (P : Worker → Type 0) (mirrors : List Mirror) (service : Service) → Keeps mirrors service →
       ((worker : Worker) → KeepsWorker mirrors service.history worker → P worker) → All P service.workers
   each P mirrors service keeps holds =
-      All-from_recursion P service.workers (all-weaker (KeepsWorker mirrors service.history) P service.workers holds keeps.workers)
+      All-from_recursion P service.workers
+      (all-weaker (KeepsWorker mirrors service.history) P service.workers holds keeps.workers)
 
   pub replies_are_of_one_catalogue : RepliesAreOfOneCatalogue happens
   replies_are_of_one_catalogue mirrors batch workers events accepted =
@@ -58,13 +62,15 @@ module _ (quotes : CertifiedRowsQuote) (graphs : TrackGraphsAreGraphs) (growth :
   jobs_go_by_what_was_seen mirrors batch workers events more accepted index before later at_before at_later idle =
       let run = further mirrors batch workers events more accepted in
       let goes = zip-at GoesOn (service_after happens mirrors batch workers events).workers
-      (service_after happens mirrors batch workers (events ++ more)).workers index before later run.goes at_before at_later in
+      (service_after happens mirrors batch workers (events ++ more)).workers index before later run.goes at_before
+      at_later in
       record {
         later = goes.later;
         ended = goes.ended;
         follow =
             All-from_recursion (λ (ended : EndedJob). before.seen ≤ ended.job.number) goes.later
-            (all-weaker (λ (ended : EndedJob). IsAfter before ended.job.number) (λ (ended : EndedJob). before.seen ≤ ended.job.number) goes.later
+            (all-weaker (λ (ended : EndedJob). IsAfter before ended.job.number)
+            (λ (ended : EndedJob). before.seen ≤ ended.job.number) goes.later
             (λ ended is. low-after before ended.job.number idle is) goes.follow);
       }
 
@@ -77,7 +83,8 @@ module _ (quotes : CertifiedRowsQuote) (graphs : TrackGraphsAreGraphs) (growth :
   pub seen_is_published : SeenIsPublished happens
   seen_is_published mirrors batch workers events accepted index =
       let service = service_after happens mirrors batch workers events in
-      all-reads (KeepsWorker mirrors service.history) (λ (worker : Worker). worker.seen) (length service.history) service.workers index
+      all-reads (KeepsWorker mirrors service.history) (λ (worker : Worker). worker.seen) (length service.history)
+      service.workers index
       (λ worker kept. kept.seen) (after mirrors batch workers events accepted).keeps.workers
 
   pub totals_are_within_budgets : TotalsAreWithinBudgets happens
@@ -93,7 +100,8 @@ module _ (quotes : CertifiedRowsQuote) (graphs : TrackGraphsAreGraphs) (growth :
       (after mirrors batch workers events accepted).keeps (λ worker kept. kept.shares mirror)
 
   pub published_is_accepted : PublishedIsAccepted happens
-  published_is_accepted mirrors batch workers events accepted = (after mirrors batch workers events accepted).keeps.accepted
+  published_is_accepted mirrors batch workers events accepted =
+      (after mirrors batch workers events accepted).keeps.accepted
 
   pub published_stays : PublishedStays happens
   published_stays mirrors batch workers events more accepted =
@@ -109,4 +117,5 @@ module _ (quotes : CertifiedRowsQuote) (graphs : TrackGraphsAreGraphs) (growth :
       let added =
       all-weaker (Contains (batches_given events)) (Contains given) grows.rest
       (Contains-append_right (batch ∷ []) (batches_given events)) grows.among in
-      subst (All (Contains given)) (sym grows.is) (All-from_recursion (Contains given) (batch ∷ grows.rest) (itself.0, added))
+      subst (All (Contains given)) (sym grows.is)
+      (All-from_recursion (Contains given) (batch ∷ grows.rest) (itself.0, added))

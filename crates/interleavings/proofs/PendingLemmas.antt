@@ -32,7 +32,8 @@ AreOutcomes-by_app mirrors (Some choice ∷ choices) (Some mirror ∷ outcomes) 
 -- what a mirror granted of the asks of all apps, it granted of those that have an outcome
 granted-decided :
     (mirror : ℕ) (choices : List (Option Choice)) (outcomes : List (Option ℕ)) →
-    granted_at mirror (asks_of choices (outcomes_by_app choices outcomes)) ≡ granted_at mirror (zip (bytes_asked choices) outcomes)
+    granted_at mirror (asks_of choices (outcomes_by_app choices outcomes)) ≡ granted_at mirror
+    (zip (bytes_asked choices) outcomes)
 granted-decided mirror [] outcomes = refl
 granted-decided mirror (None ∷ choices) outcomes = granted-decided mirror choices outcomes
 granted-decided mirror (Some choice ∷ choices) [] =
@@ -47,7 +48,8 @@ granted-decided mirror (Some choice ∷ choices) (outcome ∷ outcomes) =
     ∙ sym (sum_by-cons part (choice.bytes, outcome) (zip (bytes_asked choices) outcomes))
 
 -- nothing is granted for a plan of which nothing was asked
-pub granted-begun : (mirror : ℕ) (apps : List App) (request : Request) (tables : Tables) → granted_to mirror (begun apps request tables) ≡ 0
+pub granted-begun : (mirror : ℕ) (apps : List App) (request : Request) (tables : Tables) → granted_to mirror
+    (begun apps request tables) ≡ 0
 granted-begun mirror apps request tables =
     let choices = (begun apps request tables).choices in
     granted-decided mirror choices [] ∙ ap (granted_at mirror) (pairs-nil (bytes_asked choices))
@@ -62,7 +64,8 @@ pub AsksNext-passed :
     asks_next mirrors mirror bytes pending ≡ true → AsksNext mirrors mirror bytes pending
 AsksNext-passed mirrors mirror bytes pending passed =
     let there = slice_get (bytes_asked pending.choices) (length pending.outcomes) in
-    let parts = and_parts (option_map_or (λ (size : ℕ). eqb size bytes) there false) (eqb mirror pending.tried && ltb mirror (length mirrors)) passed in
+    let parts = and_parts (option_map_or (λ (size : ℕ). eqb size bytes) there false)
+    (eqb mirror pending.tried && ltb mirror (length mirrors)) passed in
     let size = Passes-option_map_or (λ (size : ℕ). eqb size bytes) there parts.0 in
     let mirror_is = and_parts (eqb mirror pending.tried) (ltb mirror (length mirrors)) parts.1 in
     record {
@@ -82,7 +85,8 @@ module _ (mirrors : List Mirror) (apps : List App) where
       }
 
   pub KeepsPending-rejection :
-      (mirror : ℕ) (pending : Pending) → KeepsPending mirrors apps pending → KeepsPending mirrors apps (after_rejection mirrors mirror pending)
+      (mirror : ℕ) (pending : Pending) → KeepsPending mirrors apps pending → KeepsPending mirrors apps
+      (after_rejection mirrors mirror pending)
   KeepsPending-rejection mirror pending keeps =
       cond_both (eqb (mirror + 1) (length mirrors)) (with_outcome None pending) (record pending { tried = mirror + 1 })
       (KeepsPending mirrors apps) (λ last. KeepsPending-outcome None pending tt keeps)
@@ -105,6 +109,7 @@ pub granted-rejection :
     slice_get (bytes_asked pending.choices) (length pending.outcomes) ≡ Some bytes →
     granted_to mirror (after_rejection mirrors refusing pending) ≡ granted_to mirror pending + 0
 granted-rejection mirrors mirror refusing bytes pending next =
-    cond_both (eqb (refusing + 1) (length mirrors)) (with_outcome None pending) (record pending { tried = refusing + 1 })
+    cond_both (eqb (refusing + 1) (length mirrors)) (with_outcome None pending)
+    (record pending { tried = refusing + 1 })
     (λ (p : Pending). granted_to mirror p ≡ granted_to mirror pending + 0)
     (λ last. granted-outcome mirror bytes None pending next) (λ other. omega arith)

@@ -37,10 +37,13 @@ passed-AreCertified : (net : Net) (rows : List Row) → AreCertified net rows �
 passed-AreCertified net rows certified =
     let count = length net.doors in
     let unbroken = λ (from : ℕ). is_none (broken_at net rows from) in
-    and_from (eqb (length rows) count) (list_all unbroken (range_with_len 0 count)) (eq-eqb (length rows) count certified.sized)
-    (all-range unbroken 0 count (λ from within. ap (λ (o : Option Rule). is_none o) (certified.right from (omega arith))))
+    and_from (eqb (length rows) count) (list_all unbroken (range_with_len 0 count))
+    (eq-eqb (length rows) count certified.sized)
+    (all-range unbroken 0 count
+    (λ from within. ap (λ (o : Option Rule). is_none o) (certified.right from (omega arith))))
 
-module _ (tracks : TracksHaveTables) (apps : List App) (tables : List Certificate) (are : AreTables apps tables) (session : List ℕ) where
+module _ (tracks : TracksHaveTables) (apps : List App) (tables : List Certificate) (are : AreTables apps tables)
+    (session : List ℕ) where
   -- rows for an app
   record HasRows (ask : AppAsk) : Type 0 where
     rows : List Row
@@ -52,12 +55,15 @@ module _ (tracks : TracksHaveTables) (apps : List App) (tables : List Certificat
     pass : are_rows_for rows client ≡ true
 
   HasRowsFor-table :
-      (ask : AppAsk) (client : Client) (net : Net) → client_to_update apps session ask ≡ Some client → graph_for client ≡ Some net →
+      (ask : AppAsk) (client : Client) (net : Net) → client_to_update apps session ask ≡ Some client → graph_for
+      client ≡ Some net →
       HasRowsFor client
   HasRowsFor-table ask client net is made =
       let wants = Wants-client apps session ask client is in
-      let among = ap (λ (o : Option App). option_and_then (λ (app : App). net_in app (key_of client)) o) wants.there ∙ made in
-      let found = tracks apps tables (key_of client) net are among (same-rollback apps session ask client wants net made)
+      let among = ap (λ (o : Option App). option_and_then (λ (app : App). net_in app (key_of client)) o) wants.there ∙
+      made in
+      let found = tracks apps tables (key_of client) net are among
+      (same-rollback apps session ask client wants net made)
       (no-pin-key apps session ask client wants) in
       let table = found.1 in
       let own = subst IsTable found.3 (are.certified found.0 table found.2) in
@@ -68,7 +74,8 @@ module _ (tracks : TracksHaveTables) (apps : List App) (tables : List Certificat
             ∙ passed-AreCertified net table.rows (subst (λ (n : Net). AreCertified n table.rows) found.4 own.certified);
       }
 
-  HasRowsFor-client : (ask : AppAsk) (client : Client) → client_to_update apps session ask ≡ Some client → HasRowsFor client
+  HasRowsFor-client : (ask : AppAsk) (client : Client) → client_to_update apps session ask ≡ Some client → HasRowsFor
+      client
   HasRowsFor-client ask client is = by_graph (graph_for client) refl
     where
       by_graph : (net : Option Net) → graph_for client ≡ net → HasRowsFor client
@@ -84,7 +91,11 @@ module _ (tracks : TracksHaveTables) (apps : List App) (tables : List Certificat
           record { rows = []; pass = ap (λ (o : Option Client). option_map_or (are_rows_for []) o true) is }
       by_client (Some client) is =
           let has = HasRowsFor-client ask client is in
-          record { rows = has.rows; pass = ap (λ (o : Option Client). option_map_or (are_rows_for has.rows) o true) is ∙ has.pass }
+          record {
+            rows = has.rows;
+            pass = ap (λ (o : Option Client). option_map_or (are_rows_for has.rows) o true) is
+                ∙ has.pass;
+          }
 
   rows_of : Tables
   rows_of ask = (HasRows-ask ask).rows
@@ -96,7 +107,8 @@ module _ (tracks : TracksHaveTables) (apps : List App) (tables : List Certificat
   all-pass : (asks : List AppAsk) → list_all (are_rows_of apps session rows_of) asks ≡ true
   all-pass [] = refl
   all-pass (ask ∷ asks) =
-      and_from (are_rows_of apps session rows_of ask) (list_all (are_rows_of apps session rows_of) asks) (pass-rows_of ask) (all-pass asks)
+      and_from (are_rows_of apps session rows_of ask) (list_all (are_rows_of apps session rows_of) asks)
+      (pass-rows_of ask) (all-pass asks)
 
 pub plans_are_by_prices :
     HistoriesAreValid → CertifiedRowsQuote → TrackGraphsAreGraphs → TracksHaveTables → PlansAreOne → PlansAreByPrices

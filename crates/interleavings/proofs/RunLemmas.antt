@@ -24,7 +24,8 @@ pub run-append :
     (machine : Machine) (mirrors : List Mirror) (events more : List Event) (service : Service) →
     run machine mirrors service (events ++ more) ≡ run machine mirrors (run machine mirrors service events) more
 run-append machine mirrors [] more service = refl
-run-append machine mirrors (event ∷ events) more service = run-append machine mirrors events more (machine mirrors service event)
+run-append machine mirrors (event ∷ events) more service = run-append machine mirrors events more
+    (machine mirrors service event)
 
 -- the batches that were added to a history are some of those that were given
 pub record Grows (given : List (List Edit)) (old new : History) : Type 0 where
@@ -38,7 +39,11 @@ Grows-Extends event old new (inr longer) =
     record {
       rest = longer.0 ∷ [];
       is = longer.2;
-      among = (subst (λ (given : List (List Edit)). Contains given longer.0) (sym longer.1) (Contains-push [] longer.0), tt);
+      among = (
+        subst (λ (given : List (List Edit)). Contains given longer.0) (sym longer.1)
+            (Contains-push [] longer.0),
+        tt,
+      );
     }
 
 Grows-through :
@@ -50,8 +55,10 @@ Grows-through first second old middle new one two =
       is = two.is ∙ ap (λ (h : History). h ++ two.rest) one.is ∙ append_assoc old one.rest two.rest;
       among =
           all-append (Contains (first ++ second)) one.rest two.rest
-          (all-weaker (Contains first) (Contains (first ++ second)) one.rest (Contains-append_left first second) one.among)
-          (all-weaker (Contains second) (Contains (first ++ second)) two.rest (Contains-append_right first second) two.among);
+          (all-weaker (Contains first) (Contains (first ++ second)) one.rest (Contains-append_left first second)
+          one.among)
+          (all-weaker (Contains second) (Contains (first ++ second)) two.rest (Contains-append_right first second)
+          two.among);
     }
 
 -- what a list of events makes of a service
@@ -76,9 +83,11 @@ IsRun-then mirrors event events old middle new first rest =
       budgets = λ mirror. rest.budgets mirror ∙ ap (budget_by mirror events) (first.budgets mirror);
     }
 
-module _ (mirrors : List Mirror) (quotes : CertifiedRowsQuote) (graphs : TrackGraphsAreGraphs) (growth : HistoriesGrow) (prefixes : PrefixesAreAccepted) (are_valid : HistoriesAreValid) where
+module _ (mirrors : List Mirror) (quotes : CertifiedRowsQuote) (graphs : TrackGraphsAreGraphs)
+    (growth : HistoriesGrow) (prefixes : PrefixesAreAccepted) (are_valid : HistoriesAreValid) where
   pub IsRun-events :
-      (events : List Event) (service : Service) → Keeps mirrors service → IsRun mirrors events service (run happens mirrors service events)
+      (events : List Event) (service : Service) → Keeps mirrors service → IsRun mirrors events service
+      (run happens mirrors service events)
   IsRun-events [] service keeps =
       record {
         keeps = keeps;
@@ -89,10 +98,12 @@ module _ (mirrors : List Mirror) (quotes : CertifiedRowsQuote) (graphs : TrackGr
   IsRun-events (event ∷ events) service keeps =
       let next = happens mirrors service event in
       let first = step mirrors service keeps quotes graphs growth prefixes are_valid event in
-      IsRun-then mirrors event events service next (run happens mirrors next events) first (IsRun-events events next first.keeps)
+      IsRun-then mirrors event events service next (run happens mirrors next events) first
+      (IsRun-events events next first.keeps)
 
   -- at the opening
-  pub Keeps-opened : (batch : List Edit) (workers : ℕ) → IsAccepted [] batch → Keeps mirrors (opened mirrors batch workers)
+  pub Keeps-opened : (batch : List Edit) (workers : ℕ) → IsAccepted [] batch → Keeps mirrors
+      (opened mirrors batch workers)
   Keeps-opened batch workers accepted =
       let made = Made (outcome batch []) accepted in
       record {
@@ -108,9 +119,11 @@ module _ (mirrors : List Mirror) (quotes : CertifiedRowsQuote) (graphs : TrackGr
     where
       all_new : (count : ℕ) → AllByRecursion (KeepsWorker mirrors (batch ∷ [])) (replicate count new_worker)
       all_new zero = tt
-      all_new (suc count) = (record { seen = omega arith; job = tt; ended = tt; shares = λ mirror. refl }, all_new count)
+      all_new (suc count) =
+          (record { seen = omega arith; job = tt; ended = tt; shares = λ mirror. refl }, all_new count)
 
-      no_shares : (mirror count : ℕ) → sum_by (λ (worker : Worker). worker.share mirror) (replicate count new_worker) ≡ 0
+      no_shares : (mirror count : ℕ) → sum_by (λ (worker : Worker). worker.share mirror)
+          (replicate count new_worker) ≡ 0
       no_shares mirror zero = refl
       no_shares mirror (suc count) =
           let rest = no_shares mirror count in

@@ -19,7 +19,8 @@ use Rattle.interleavings.specs.Services.{is_published, published}
 use Rattle.interleavings.specs.Ties.{AnswersAreOfPending, FullIsNotPublished, GrantsAreBooked, NextIsPublished, RejectedIsNotPublished, RoomIsTested}
 
 module _ (history : History) (batch : List Edit) where
-  taken : is_published history (length history) batch ≡ true → published history (length history) batch ≡ history ++ batch ∷ []
+  taken : is_published history (length history) batch ≡ true → published history (length history)
+      batch ≡ history ++ batch ∷ []
   taken test = cond-true (is_published history (length history) batch) (history ++ batch ∷ []) history test
 
   left : is_published history (length history) batch ≡ false → published history (length history) batch ≡ history
@@ -39,7 +40,8 @@ rejected_is_not_published history batch refused rejected =
     let count = length history in
     let accepted = is_ok (outcome_after history batch) in
     let none : accepted ≡ false = ap (λ (r : Result (List App) Refused). is_ok r) rejected in
-    left history batch (and_right (eqb count count) (ltb count max_batches && accepted) (and_right (ltb count max_batches) accepted none))
+    left history batch (and_right (eqb count count) (ltb count max_batches && accepted)
+    (and_right (ltb count max_batches) accepted none))
 
 pub full_is_not_published : FullIsNotPublished
 full_is_not_published history batch full =
@@ -47,7 +49,8 @@ full_is_not_published history batch full =
     let accepted = is_ok (outcome_after history batch) in
     let same = full.1 in
     let room : ltb count max_batches ≡ false = le-ltb count max_batches (omega arith) in
-    left history batch (and_right (eqb count count) (ltb count max_batches && accepted) (and_left (ltb count max_batches) accepted room))
+    left history batch (and_right (eqb count count) (ltb count max_batches && accepted)
+    (and_left (ltb count max_batches) accepted room))
 
 pub room_is_tested : RoomIsTested
 room_is_tested account bytes =
@@ -104,5 +107,6 @@ answers_are_of_pending stock request moment before after text reply =
       };
       asked = reply.asked.asked ∙ ap (λ (os : List (Option ℕ)). before ++ asks_of reply.plan os) (sym has.is);
       written = reply.written
-          ∙ ap (λ (os : List (Option ℕ)). reply_bytes (reply_of stock.content request (payloads_of reply.plan) os stock.mirrors moment)) (sym has.is);
+          ∙ ap (λ (os : List (Option ℕ)). reply_bytes
+          (reply_of stock.content request (payloads_of reply.plan) os stock.mirrors moment)) (sym has.is);
     }

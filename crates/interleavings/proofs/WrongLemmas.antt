@@ -34,7 +34,8 @@ unfolding hex_on_literals version.version_of version.components_of version.lenie
 small-accepted = refl
 
 -- what a reply of one catalogue is, of a job whose reply in the making is known
-module _ (mirrors : List Mirror) (history : History) (job : Job) (rendered : Rendered) (one : IsOfOneCatalogue mirrors history job rendered)
+module _ (mirrors : List Mirror) (history : History) (job : Job) (rendered : Rendered)
+    (one : IsOfOneCatalogue mirrors history job rendered)
     (pending : Pending) (is : job.pending ≡ Some pending) where
   same : one.pending ≡ pending
   same = let both : Some one.pending ≡ Some pending = sym one.planned ∙ is in cc
@@ -44,10 +45,12 @@ module _ (mirrors : List Mirror) (history : History) (job : Job) (rendered : Ren
 
   is-reply : rendered.reply ≡ reply_by mirrors (content_at history job.number) rendered.moment pending
   is-reply =
-      subst (λ (p : Pending). rendered.reply ≡ reply_by mirrors (content_at history job.number) rendered.moment p) same one.reply_is.is
+      subst (λ (p : Pending). rendered.reply ≡ reply_by mirrors (content_at history job.number) rendered.moment p)
+      same one.reply_is.is
 
   is-plan : IsPlan (content_at history job.number) pending.request pending.choices
-  is-plan = subst (λ (p : Pending). IsPlan (content_at history job.number) p.request p.choices) same one.reply_is.planned
+  is-plan = subst (λ (p : Pending). IsPlan (content_at history job.number) p.request p.choices) same
+      one.reply_is.planned
 
 -- two numbers that a test finds different are not the same
 apart : (one other : ℕ) → eqb one other ≡ false → one ≡ other → ⊥
@@ -55,7 +58,8 @@ apart one other differ same = false≢true (sym differ ∙ eq-eqb one other same
 
 -- the bytes of the full packages that a reply offers
 abbrev sizes_in : Reply → ℕ
-sizes_in reply = sum_by (λ (app : AppReply). option_map_or (λ (offer : Offer). offer.full.size) (offer_in app) 0) reply.apps
+sizes_in reply = sum_by (λ (app : AppReply). option_map_or (λ (offer : Offer). offer.full.size) (offer_in app) 0)
+    reply.apps
 
 -- an ended job, where a list has none
 abbrev no_job : EndedJob
@@ -81,7 +85,8 @@ pub undecided : ¬ (RepliesAreOfOneCatalogue renders_undecided)
 unfolding hex_on_literals version.version_of version.components_of version.lenient_version_of hash_of parsed
 undecided law =
     let within : 0 < 1 = omega arith in
-    let one = law small_mirrors small_batch 1 (begins 0 (Render 0 86400 ∷ [])) small-accepted 0 new_worker within 0 no_job within in
+    let one = law small_mirrors small_batch 1 (begins 0 (Render 0 86400 ∷ [])) small-accepted 0 new_worker within 0
+    no_job within in
     false≢true (all-decided _ _ _ _ one _ refl)
 
 pub newest_plan : ¬ (RepliesAreOfOneCatalogue plans_by_the_newest)
@@ -107,7 +112,8 @@ first law =
     let ended : EndedJob = record { job = record { number = 1; pending = None }; rendered = None } in
     let before : Worker = record new_worker { seen = 2 } in
     let after : Worker = record new_worker { ended = ended ∷ [] } in
-    let ends = law small_mirrors small_batch 1 (Publish 1 (withdrawal ∷ []) ∷ Learn 0 2 ∷ []) (Enter 0 ∷ Drop 0 ∷ []) small-accepted
+    let ends = law small_mirrors small_batch 1 (Publish 1 (withdrawal ∷ []) ∷ Learn 0 2 ∷ []) (Enter 0 ∷ Drop 0 ∷ [])
+    small-accepted
     0 before after refl refl refl in
     let all = subst (All (λ (e : EndedJob). 2 ≤ e.job.number)) (sym ends.ended) ends.follow in
     let low : 2 ≤ 1 = all 0 ended within in
@@ -121,7 +127,8 @@ untrue law =
 pub no_room : ¬ (TotalsAreWithinBudgets grants_without_room)
 unfolding hex_on_literals version.version_of version.components_of version.lenient_version_of hash_of parsed
 no_room law =
-    let book = law small_mirrors small_batch 2 (begins 0 (begins 1 (Grant 0 0 3 ∷ Grant 1 0 3 ∷ []))) small-accepted 0 in
+    let book = law small_mirrors small_batch 2 (begins 0 (begins 1 (Grant 0 0 3 ∷ Grant 1 0 3 ∷ []))) small-accepted
+    0 in
     let low : 6 ≤ 5 = book.within in
     absurd (omega arith)
 
@@ -165,8 +172,10 @@ rejected law =
 
 pub late : ¬ (BatchesArePublishedInTurn publishes_late_batches)
 unfolding hex_on_literals version.version_of version.components_of version.lenient_version_of hash_of parsed
-late law = apart 2 1 refl (ap (λ (h : History). length h) (law small_mirrors small_batch 1 [] small-accepted 0 (withdrawal ∷ [])))
+late law = apart 2 1 refl
+    (ap (λ (h : History). length h) (law small_mirrors small_batch 1 [] small-accepted 0 (withdrawal ∷ [])))
 
 pub never : ¬ (BatchesArePublishedInTurn never_publishes)
 unfolding hex_on_literals version.version_of version.components_of version.lenient_version_of hash_of parsed
-never law = apart 1 2 refl (ap (λ (h : History). length h) (law small_mirrors small_batch 1 [] small-accepted 1 (withdrawal ∷ [])))
+never law = apart 1 2 refl
+    (ap (λ (h : History). length h) (law small_mirrors small_batch 1 [] small-accepted 1 (withdrawal ∷ [])))

@@ -50,7 +50,8 @@ Beats-self sums to own is sum found =
 
 -- a way of a smaller or equal sum to a higher release beats what another one does
 Beats-smaller :
-    (sums : ℕ → Option ℕ) (old new : Best) (to : ℕ) → new.sum ≤ old.sum → to ≤ new.to → Beats sums old to → Beats sums new to
+    (sums : ℕ → Option ℕ) (old new : Best) (to : ℕ) → new.sum ≤ old.sum → to ≤ new.to → Beats sums old to → Beats sums
+    new to
 Beats-smaller sums old new to low high beats sum found = elim (beats sum found) [
   | inl less ↦ inl (omega arith)
   | inr tie ↦
@@ -71,17 +72,20 @@ module _ (sums : ℕ → Option ℕ) (count : ℕ) where
         within = omega arith;
         is = is.is;
         least = λ to sum inside found.
-            one_more (Beats sums best) count (λ k less other there. is.least k other less there) (Beats-none sums best count none) to inside sum found;
+            one_more (Beats sums best) count (λ k less other there. is.least k other less there)
+            (Beats-none sums best count none) to inside sum found;
       }
 
-  IsBest-only : (sum : ℕ) → sums count ≡ Some sum → IsBest sums count None → IsBest sums (count + 1) (Some (record { to = count; sum = sum }))
+  IsBest-only : (sum : ℕ) → sums count ≡ Some sum → IsBest sums count None → IsBest sums (count + 1)
+      (Some (record { to = count; sum = sum }))
   IsBest-only sum own is =
       let way : Best = record { to = count; sum = sum } in
       record {
         within = omega arith;
         is = own;
         least = λ to other inside found.
-            one_more (Beats sums way) count (λ k less. Beats-none sums way k (is k less)) (Beats-self sums count sum own) to inside other found;
+            one_more (Beats sums way) count (λ k less. Beats-none sums way k (is k less))
+            (Beats-self sums count sum own) to inside other found;
       }
 
   IsBest-smaller :
@@ -115,7 +119,8 @@ module _ (sums : ℕ → Option ℕ) (count : ℕ) where
             (Beats-self sums count sum own) to inside other found;
       })
 
-  IsBest-beside : (best : Option Best) (sum : Option ℕ) → sums count ≡ sum → IsBest sums count best → IsBest sums (count + 1) (beside best count sum)
+  IsBest-beside : (best : Option Best) (sum : Option ℕ) → sums count ≡ sum → IsBest sums count best → IsBest sums
+      (count + 1) (beside best count sum)
   IsBest-beside best None own is = IsBest-without best own is
   IsBest-beside None (Some sum) own is = IsBest-only sum own is
   IsBest-beside (Some best) (Some sum) own is = IsBest-smaller best sum own is
@@ -140,7 +145,8 @@ module _ (irreflexive : BelowIsIrreflexive) (fulls : FullsArePermitted) (differs
       quote-best app key at.cohort at.target is.release is.track rows
       (λ from within. prices_are_least_on_tracks irreflexive fulls differs app key net rows from valid there are within)
       version (best_way sums (length app.releases)) (IsBest-best_way sums (length app.releases)) in
-      let cohort = ap (λ (o : Option Cohort). option_map_or (quote_in_cohort app key rows version) o NoChain) at.cohort_there in
+      let cohort = ap (λ (o : Option Cohort). option_map_or (quote_in_cohort app key rows version) o NoChain)
+      at.cohort_there in
       let target =
       ap (λ (o : Option (List ℕ)). option_map_or
       (λ (v : List ℕ). best_quote (best_way (sum_into app.releases at.cohort key v version rows) (length app.releases)))
@@ -149,6 +155,7 @@ module _ (irreflexive : BelowIsIrreflexive) (fulls : FullsArePermitted) (differs
 
   pub certified_rows_quote : CertifiedPricesAreLeast → CertifiedRowsQuote
   certified_rows_quote least app key net rows (At release) valid there graph certified within =
-      quote-served irreflexive fulls differs app key net rows valid there certified (least net rows graph certified) release within
+      quote-served irreflexive fulls differs app key net rows valid there certified (least net rows graph certified)
+      release within
   certified_rows_quote least app key net rows (Outside version) valid there graph certified within =
       quote-from_outside app key net rows version valid there (least net rows graph certified)

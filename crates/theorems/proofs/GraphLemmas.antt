@@ -74,7 +74,8 @@ an_item (item ∷ items) index within = item
 module _ (cohort : Cohort) (pin : Pin) (releases : List Release) where
   doors-length : length (doors_of cohort pin releases) ≡ length releases
   doors-length =
-      length-map (enumerate_from 0 releases) (λ (numbered : ℕ × Release). door_of cohort pin releases numbered.0 numbered.1)
+      length-map (enumerate_from 0 releases)
+      (λ (numbered : ℕ × Release). door_of cohort pin releases numbered.0 numbered.1)
       ∙ length-enumerate_from 0 releases
 
   door-at :
@@ -83,7 +84,8 @@ module _ (cohort : Cohort) (pin : Pin) (releases : List Release) where
   door-at index d release within =
       let sized = length-enumerate_from 0 releases in
       let own : 0 + index ≡ index = omega arith in
-      get_or-map (λ (numbered : ℕ × Release). door_of cohort pin releases numbered.0 numbered.1) (enumerate_from 0 releases) index
+      get_or-map (λ (numbered : ℕ × Release). door_of cohort pin releases numbered.0 numbered.1)
+      (enumerate_from 0 releases) index
       (index, release) d (omega arith)
       ∙ ap (λ (numbered : ℕ × Release). door_of cohort pin releases numbered.0 numbered.1)
       (get_or-enumerate_from 0 releases index (index, release) within)
@@ -104,18 +106,24 @@ module _ (cohort : Cohort) (pin : Pin) (releases : List Release) where
       let default = an_item releases index there in
       let release = get_or releases index default in
       let good = AllPass-from_list_all (is_valid_release cohorts) releases valid index default there in
-      let hashed = (and_parts (spells release.spelled release.version && is_package_name release.name && is_size release.size && is_hash release.hash)
+      let hashed = (and_parts
+      (spells release.spelled release.version && is_package_name release.name && is_size release.size && is_hash
+      release.hash)
       (is_valid_audience cohorts release.audience) good).0 in
-      let sized = (and_parts (spells release.spelled release.version && is_package_name release.name && is_size release.size) (is_hash release.hash) hashed).0 in
+      let sized = (and_parts
+      (spells release.spelled release.version && is_package_name release.name && is_size release.size)
+      (is_hash release.hash) hashed).0 in
       ap (λ (door : Door). is_size door.bytes) (door-at index d default there)
-      ∙ (and_parts (spells release.spelled release.version && is_package_name release.name) (is_size release.size) sized).1
+      ∙ (and_parts (spells release.spelled release.version && is_package_name release.name) (is_size release.size)
+      sized).1
 
 -- what a valid differential is between, and its bytes
 record IsGoodDiff (releases : List Release) (diff : Diff) : Type 0 where
   start : has_release releases diff.from ≡ true
   sized : is_size diff.size ≡ true
 
-IsGoodDiff-valid : (releases : List Release) (diff : Diff) → is_valid_diff releases diff ≡ true → IsGoodDiff releases diff
+IsGoodDiff-valid : (releases : List Release) (diff : Diff) → is_valid_diff releases diff ≡ true → IsGoodDiff releases
+    diff
 IsGoodDiff-valid releases diff valid =
     let below = is_below diff.from diff.to in
     let start = has_release releases diff.from in
@@ -139,8 +147,10 @@ find-any {A} test (first ∷ items) any =
       | inr later ↦ rest later
     ])
 
-module _ (irreflexive : BelowIsIrreflexive) (transitive : BelowIsTransitive) (app : App) (cohort : Cohort) (key : TrackKey)
-    (target : ℕ) (valid : IsValidApp app) (goal : Passes (λ (release : Release). true) (slice_get app.releases target)) where
+module _ (irreflexive : BelowIsIrreflexive) (transitive : BelowIsTransitive) (app : App) (cohort : Cohort)
+    (key : TrackKey)
+    (target : ℕ) (valid : IsValidApp app)
+    (goal : Passes (λ (release : Release). true) (slice_get app.releases target)) where
   -- a permitted differential leads nearer the target
   diff-nearing :
       (diff : Diff) → IsGoodDiff app.releases diff →
@@ -149,22 +159,28 @@ module _ (irreflexive : BelowIsIrreflexive) (transitive : BelowIsTransitive) (ap
   diff-nearing diff good permitted =
       let releases = app.releases in
       let version = version_of_index releases target in
-      let aimed : version ≡ goal.item.version = ap (λ (o : Option Release). option_map_or (λ (r : Release). r.version) o []) goal.is in
+      let aimed : version ≡ goal.item.version = ap
+      (λ (o : Option Release). option_map_or (λ (r : Release). r.version) o []) goal.is in
       let found = find-any (is_release diff.from) releases good.start in
       let start = find-position (is_release diff.from) releases found.item found.is in
       let from : diff.from ≡ found.item.version = (bytes_eq-Decides diff.from found.item.version).0 found.passed in
-      let end = Passes-option_map_or (λ (to : Release). is_offered_at cohort key.pin diff.from to && leads_up releases version diff.from to.version)
+      let end = Passes-option_map_or
+      (λ (to : Release). is_offered_at cohort key.pin diff.from to && leads_up releases version diff.from to.version)
       (end_of releases diff) permitted in
       let there = find-position (is_release diff.to) releases end.item end.is in
-      let up = (and_parts (is_offered_at cohort key.pin diff.from end.item) (leads_up releases version diff.from end.item.version) end.passed).1 in
-      let parts = and_parts (is_below diff.from end.item.version) (not (is_below version end.item.version) && not (jumps_stone releases diff.from end.item.version)) up in
-      let low = (and_parts (not (is_below version end.item.version)) (not (jumps_stone releases diff.from end.item.version)) parts.1).0 in
+      let up = (and_parts (is_offered_at cohort key.pin diff.from end.item)
+      (leads_up releases version diff.from end.item.version) end.passed).1 in
+      let parts = and_parts (is_below diff.from end.item.version)
+      (not (is_below version end.item.version) && not (jumps_stone releases diff.from end.item.version)) up in
+      let low = (and_parts (not (is_below version end.item.version))
+      (not (jumps_stone releases diff.from end.item.version)) parts.1).0 in
       let rises : is_below found.item.version end.item.version ≡ true =
       ap (λ (v : List ℕ). is_below v end.item.version) (sym from) ∙ parts.0 in
       let within : is_below goal.item.version end.item.version ≡ false =
       ap (λ (v : List ℕ). is_below v end.item.version) (sym aimed) ∙ not-true (is_below version end.item.version) low in
       inl (
-        index-below irreflexive transitive releases valid.releases_ascend (index_of releases diff.from) (index_of releases diff.to)
+        index-below irreflexive transitive releases valid.releases_ascend (index_of releases diff.from)
+            (index_of releases diff.to)
             found.item end.item start there rises,
         index-not_below irreflexive transitive releases valid.releases_ascend target (index_of releases diff.to)
             goal.item end.item goal.is there within,
@@ -174,9 +190,11 @@ module _ (irreflexive : BelowIsIrreflexive) (transitive : BelowIsTransitive) (ap
   edges-hold :
       (P : Edge → Type 0) (diffs : List Diff) → list_all (is_valid_diff app.releases) diffs ≡ true →
       ((diff : Diff) → IsGoodDiff app.releases diff →
-      permits_differ app.releases cohort key.pin (version_of_index app.releases target) diff ≡ true → P (edge_of app.releases diff)) →
+      permits_differ app.releases cohort key.pin (version_of_index app.releases target) diff ≡ true → P
+      (edge_of app.releases diff)) →
       AllByRecursion P
-      (map (edge_of app.releases) (filter (permits_differ app.releases cohort key.pin (version_of_index app.releases target)) diffs))
+      (map (edge_of app.releases)
+      (filter (permits_differ app.releases cohort key.pin (version_of_index app.releases target)) diffs))
   edges-hold P [] all holds = tt
   edges-hold P (diff ∷ diffs) all holds =
       let parts = and_parts (is_valid_diff app.releases diff) (list_all (is_valid_diff app.releases) diffs) all in
@@ -196,13 +214,15 @@ module _ (irreflexive : BelowIsIrreflexive) (transitive : BelowIsTransitive) (ap
       record {
         within = omega arith;
         numbered = doors-numbered cohort key.pin app.releases;
-        nearing = All-from_recursion (IsNearing target) differs (edges-hold (IsNearing target) app.diffs valid.diffs_valid diff-nearing);
+        nearing = All-from_recursion (IsNearing target) differs
+            (edges-hold (IsNearing target) app.diffs valid.diffs_valid diff-nearing);
         bounded = record {
           few = omega arith;
           doors_sized = doors-sized cohort key.pin app.releases app.cohorts valid.releases_valid;
           differs_sized =
               All-from_recursion (λ (edge : Edge). is_size edge.bytes ≡ true) differs
-              (edges-hold (λ (edge : Edge). is_size edge.bytes ≡ true) app.diffs valid.diffs_valid (λ diff good permitted. good.sized));
+              (edges-hold (λ (edge : Edge). is_size edge.bytes ≡ true) app.diffs valid.diffs_valid
+              (λ diff good permitted. good.sized));
         };
       }
 
@@ -210,4 +230,5 @@ pub track_graphs_are_graphs : BelowIsIrreflexive → BelowIsTransitive → Track
 track_graphs_are_graphs irreflexive transitive app key net valid made =
     let has = HasGraph-net_in app key net made in
     subst IsGraph has.is
-    (net-IsGraph irreflexive transitive app has.cohort key has.target valid (target-there app has.cohort key has.target has.targeted))
+    (net-IsGraph irreflexive transitive app has.cohort key has.target valid
+    (target-there app has.cohort key has.target has.targeted))

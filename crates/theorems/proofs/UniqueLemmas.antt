@@ -64,16 +64,20 @@ IsBetween-permits :
     permits app key place (Differ index) ≡ true → IsBetween app place index
 IsBetween-permits app key place index permitted =
     let releases = app.releases in
-    let served = Passes-option_map_or (λ (cohort : Cohort). permits_in app cohort key place (Differ index)) (slice_get app.cohorts key.cohort) permitted in
+    let served = Passes-option_map_or (λ (cohort : Cohort). permits_in app cohort key place (Differ index))
+    (slice_get app.cohorts key.cohort) permitted in
     let cohort = served.item in
     let aimed = Passes-option_map_or (λ (target : List ℕ). permits_from app cohort key target place (Differ index))
     (track_target releases cohort key.lane key.pin) served.passed in
     let target = aimed.item in
-    let found = Passes-option_map_or (λ (diff : Diff). starts_at releases place diff && permits_differ releases cohort key.pin target diff)
+    let found = Passes-option_map_or
+    (λ (diff : Diff). starts_at releases place diff && permits_differ releases cohort key.pin target diff)
     (slice_get app.diffs index) aimed.passed in
     let diff = found.item in
-    let parts = and_parts (starts_at releases place diff) (permits_differ releases cohort key.pin target diff) found.passed in
-    let end = Passes-option_map_or (λ (to : Release). is_offered_at cohort key.pin diff.from to && leads_up releases target diff.from to.version)
+    let parts = and_parts (starts_at releases place diff) (permits_differ releases cohort key.pin target diff)
+    found.passed in
+    let end = Passes-option_map_or
+    (λ (to : Release). is_offered_at cohort key.pin diff.from to && leads_up releases target diff.from to.version)
     (end_of releases diff) parts.1 in
     let passes = find-passes (is_release diff.to) releases end.item end.is in
     let to : destination_of app (Differ index) ≡ index_of releases diff.to =
@@ -87,7 +91,8 @@ IsBetween-permits app key place index permitted =
       ends = (bytes_eq-Decides diff.to end.item.version).0 passes;
     }
 
-module _ (irreflexive : BelowIsIrreflexive) (transitive : BelowIsTransitive) (app : App) (valid : IsValidApp app) (key : TrackKey) (place : Place) where
+module _ (irreflexive : BelowIsIrreflexive) (transitive : BelowIsTransitive) (app : App) (valid : IsValidApp app)
+    (key : TrackKey) (place : Place) where
   -- no differential comes before one of the same pair
   same_pair-before :
       (one other : Diff) → one.from ≡ other.from → one.to ≡ other.to → is_diff_before one other ≡ true → ⊥
@@ -113,10 +118,12 @@ module _ (irreflexive : BelowIsIrreflexive) (transitive : BelowIsTransitive) (ap
         | inl same ↦ same
         | inr (inl less) ↦
             absurd (same_pair-before left.diff right.diff from to
-            (ascend-slice_get is_diff_before app.diffs one other left.diff right.diff valid.diffs_ascend less left.there right.there))
+            (ascend-slice_get is_diff_before app.diffs one other left.diff right.diff valid.diffs_ascend less
+            left.there right.there))
         | inr (inr more) ↦
             absurd (same_pair-before right.diff left.diff (sym from) (sym to)
-            (ascend-slice_get is_diff_before app.diffs other one right.diff left.diff valid.diffs_ascend more right.there left.there))
+            (ascend-slice_get is_diff_before app.diffs other one right.diff left.diff valid.diffs_ascend more
+            right.there left.there))
       ]
 
   -- what yields leads no higher, and lower if it yields to no tie
@@ -170,7 +177,8 @@ module _ (irreflexive : BelowIsIrreflexive) (transitive : BelowIsTransitive) (ap
   -- where something is offered, nothing is no choice
   none-offer : (choice : Choice) → IsChoice app key place None → IsOffer app key place choice → ⊥
   none-offer choice (inl at) offer =
-      away-permits irreflexive transitive app valid.releases_ascend key place choice.payload offer.first.begins.permitted at
+      away-permits irreflexive transitive app valid.releases_ascend key place choice.payload
+      offer.first.begins.permitted at
   none-offer choice (inr none) offer = none offer.first.least.chain offer.first.least.leads
 
   pub one-choice : (one other : Option Choice) → IsChoice app key place one → IsChoice app key place other → one ≡ other
@@ -179,7 +187,8 @@ module _ (irreflexive : BelowIsIrreflexive) (transitive : BelowIsTransitive) (ap
   one-choice (Some one) None first second = absurd (none-offer one second first)
   one-choice (Some one) (Some other) first second = ap (λ (c : Choice). Some c) (one-offer one other first second)
 
-module _ (irreflexive : BelowIsIrreflexive) (transitive : BelowIsTransitive) (apps : List App) (valid : IsValid apps) (session : List ℕ) where
+module _ (irreflexive : BelowIsIrreflexive) (transitive : BelowIsTransitive) (apps : List App) (valid : IsValid apps)
+    (session : List ℕ) where
   -- the app of a client is valid
   IsValidApp-client :
       (ask : AppAsk) (client : Client) → client_to_update apps session ask ≡ Some client → IsValidApp client.app
@@ -192,7 +201,8 @@ module _ (irreflexive : BelowIsIrreflexive) (transitive : BelowIsTransitive) (ap
       (λ idle none. absurd (none-some client none))
 
   one-chosen :
-      (ask : AppAsk) (one other : Option Choice) → IsChosen apps session ask one → IsChosen apps session ask other → one ≡ other
+      (ask : AppAsk) (one other : Option Choice) → IsChosen apps session ask one → IsChosen apps session ask other →
+      one ≡ other
   one-chosen ask one other first second = cases (client_to_update apps session ask) refl first second
     where
       cases :
