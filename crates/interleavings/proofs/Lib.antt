@@ -8,6 +8,7 @@ mod ListLemmas
 mod MoveLemmas
 mod PendingLemmas
 mod PlanLemmas
+mod RequestLemmas
 mod RunLemmas
 mod TieLemmas
 mod WrongLemmas

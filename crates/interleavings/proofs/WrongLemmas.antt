@@ -1,6 +1,6 @@
 -- Each wrong machine breaks its law, in a run of the small service.
 use Rattle.std.proofs.Common.{◌≡◌, ℕ, ◌≤◌, ◌<◌, inl, inr, true, false, eqb, List, [], ◌∷◌, length, None, Some, Result, refl, sym, ap, ◌∙◌, subst, arith}
-use Rattle.std.specs.List.{All, sum_by}
+use Rattle.std.specs.List.{All, Contains, sum_by}
 use Rattle.std.specs.Option.{option_map_or}
 use Rattle.std.specs.Result.{is_ok}
 use Rattle.std.proofs.lemmas.Bool.{eq-eqb, false≢true}
@@ -27,7 +27,8 @@ use Rattle.interleavings.specs.Laws.{BatchesArePublishedInTurn, BatchesArePublis
 use Rattle.interleavings.specs.Moves.{reply_by}
 use Rattle.interleavings.specs.Runs.{begins, lower_release, small_batch, small_mirrors, small_request, small_rows, unknown_release, withdrawal, wrong_rows}
 use Rattle.interleavings.specs.Services.{content_at}
-use Rattle.interleavings.specs.Wrong.{believes_any_number, cuts_a_budget, forgets_dropped_jobs, grants_without_room, keeps_the_first_catalogue, leaves_the_share, never_publishes, plans_by_any_rows, plans_by_the_newest, publishes_half_a_batch, publishes_late_batches, publishes_rejected_batches, renders_by_the_newest, renders_undecided}
+use Rattle.interleavings.specs.Requests.{RepliesAreToGivenRequests}
+use Rattle.interleavings.specs.Wrong.{believes_any_number, cuts_a_budget, forgets_dropped_jobs, grants_without_room, keeps_the_first_catalogue, leaves_the_share, never_publishes, plans_by_any_rows, plans_by_the_newest, plans_for_another, publishes_half_a_batch, publishes_late_batches, publishes_rejected_batches, renders_by_the_newest, renders_for_another_time, renders_undecided}
 
 pub small-accepted : IsAccepted [] small_batch
 unfolding hex_on_literals version.version_of version.components_of version.lenient_version_of hash_of parsed
@@ -104,6 +105,31 @@ unchecked law =
     let events = Enter 0 ∷ Plan 0 small_request wrong_rows ∷ Render 0 86400 ∷ [] in
     let one = law small_mirrors small_batch 1 events small-accepted 0 new_worker within 0 no_job within in
     no-plan (is-plan _ _ _ _ one _ refl)
+
+-- an empty list contains nothing
+nothing-in : {A : Type 0} (item : A) → Contains [] item → ⊥
+nothing-in item there =
+    let low : there.0 < 0 = there.1 in
+    absurd (omega arith)
+
+pub another : ¬ (RepliesAreToGivenRequests plans_for_another)
+unfolding hex_on_literals version.version_of version.components_of version.lenient_version_of hash_of parsed
+another law =
+    let within : 0 < 1 = omega arith in
+    let events = Enter 1 ∷ Plan 0 small_request small_rows ∷ Grant 1 0 3 ∷ Render 1 86400 ∷ [] in
+    let given = law small_mirrors small_batch 2 events small-accepted 1 _ refl 0 no_job within in
+    nothing-in given.pending.request given.request
+
+pub another_time : ¬ (RepliesAreToGivenRequests renders_for_another_time)
+unfolding hex_on_literals version.version_of version.components_of version.lenient_version_of hash_of parsed
+another_time law =
+    let within : 0 < 1 = omega arith in
+    let events = begins 0 (Grant 0 0 3 ∷ Render 0 86400 ∷ []) in
+    let given = law small_mirrors small_batch 1 events small-accepted 0 _ refl 0 no_job within in
+    let only : All (λ (n : ℕ). n ≤ 86400) (86400 ∷ []) = All-from_recursion (λ (n : ℕ). n ≤ 86400) (86400 ∷ [])
+    (omega arith, tt) in
+    let low : 172800 ≤ 86400 = All-contains (λ (n : ℕ). n ≤ 86400) (86400 ∷ []) 172800 only given.moment in
+    absurd (omega arith)
 
 pub first : ¬ (JobsGoByWhatWasSeen keeps_the_first_catalogue)
 unfolding hex_on_literals version.version_of version.components_of version.lenient_version_of hash_of parsed

@@ -4,6 +4,7 @@ pub mod Headline
 pub mod Jobs
 pub mod Laws
 pub mod Moves
+pub mod Requests
 pub mod Runs
 pub mod Services
 pub mod Ties

@@ -1,11 +1,12 @@
 -- Wrong machines, and the law that each of them breaks. Each differs from the machine of the service in one event.
-use Rattle.std.specs.Prelude.{if◌then◌else◌, [], ◌∷◌, ◌++◌, length, max, take, None, Some, option_map}
+use Rattle.std.specs.Prelude.{◌+◌, if◌then◌else◌, [], ◌∷◌, ◌++◌, length, max, take, None, Some, option_map}
 use Rattle.std.specs.Option.{option_map_or}
 use Rattle.editions.specs.Editions.{content_of}
 use Rattle.interleavings.specs.Events.{Drop, Enter, Grant, Learn, Machine, Plan, Publish, Raise, Render, asks, granted, happens, moved}
 use Rattle.interleavings.specs.Jobs.{Job, Pending, Rendered, Worker}
 use Rattle.interleavings.specs.Laws.{BatchesArePublishedInTurn, BatchesArePublishedWhole, JobsGoByWhatWasSeen, PublishedIsAccepted, RepliesAreOfOneCatalogue, SeenIsPublished, SharesAreOfJobs, TotalsAreWithinBudgets}
-use Rattle.interleavings.specs.Moves.{after_entry, begun, planned_by, rendered_at, with_outcome, with_pending, without_job}
+use Rattle.interleavings.specs.Moves.{after_entry, after_plan, after_rendering, begun, planned_by, rendered_at, with_outcome, with_pending, without_job}
+use Rattle.interleavings.specs.Requests.{RepliesAreToGivenRequests}
 use Rattle.interleavings.specs.Services.{content_at, published, with_grant}
 
 -- a worker that has a job in the making ends it with a reply, whatever the outcomes
@@ -45,6 +46,18 @@ plans_by_any_rows mirrors service (Plan worker request tables) =
     (with_job (λ job. record job { pending = Some (begun (content_at service.history job.number) request tables) }))
     service
 plans_by_any_rows mirrors service event = happens mirrors service event
+
+-- gives a request to another worker
+abbrev pub plans_for_another : Machine
+plans_for_another mirrors service (Plan worker request tables) =
+    moved (worker + 1) (after_plan service.history request tables) service
+plans_for_another mirrors service event = happens mirrors service event
+
+-- renders for another time
+abbrev pub renders_for_another_time : Machine
+renders_for_another_time mirrors service (Render worker moment) =
+    moved worker (after_rendering mirrors service.history (moment + 86400)) service
+renders_for_another_time mirrors service event = happens mirrors service event
 
 -- keeps to the first catalogue, whatever was seen
 abbrev pub keeps_the_first_catalogue : Machine
@@ -111,6 +124,8 @@ pub record PlansAndRepliesBreak : Type 0 where
   pub undecided : ¬ (RepliesAreOfOneCatalogue renders_undecided)
   pub newest_plan : ¬ (RepliesAreOfOneCatalogue plans_by_the_newest)
   pub unchecked : ¬ (RepliesAreOfOneCatalogue plans_by_any_rows)
+  pub another : ¬ (RepliesAreToGivenRequests plans_for_another)
+  pub another_time : ¬ (RepliesAreToGivenRequests renders_for_another_time)
 
 pub record EntriesBreak : Type 0 where
   pub first : ¬ (JobsGoByWhatWasSeen keeps_the_first_catalogue)

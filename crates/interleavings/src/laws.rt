@@ -3,6 +3,7 @@
 ghost use Rattle.interleavings.specs.Events.{happens};
 ghost use Rattle.interleavings.specs.Headline.{OffersLeadToTargets, RepliesSayTrue};
 ghost use Rattle.interleavings.specs.Laws.{BatchesArePublishedInTurn, BatchesArePublishedWhole, JobsGoByWhatWasSeen, PlansAreByPrices, PublishedIsAccepted, PublishedStays, RepliesAreOfOneCatalogue, SeenIsPublished, SeenNeverFalls, SharesAreOfJobs, TotalsAreWithinBudgets};
+ghost use Rattle.interleavings.specs.Requests.{RepliesAreToGivenRequests};
 ghost use Rattle.interleavings.specs.Runs.{BudgetEnds, BudgetRaised, DropAfterGrant, FailedConditions, PublishBetween, StalePublish};
 ghost use Rattle.interleavings.specs.Ties.{AnswersAreOfPending, FullIsNotPublished, GrantsAreBooked, NextIsPublished, RejectedIsNotPublished, RoomIsTested};
 ghost use Rattle.interleavings.specs.Wrong.{EntriesBreak, GrantsBreak, PlansAndRepliesBreak, PublishesBreak};
@@ -52,6 +53,12 @@ pub fn publishing()
     quotes::laws::rows();
     theorems::laws::graphs();
 }
+
+/// States that each reply of a worker is to a request that this worker was given to plan, at a time at which it was to
+/// render.
+pub fn requests()
+    ensures { RepliesAreToGivenRequests happens }
+{}
 
 // rule: Statuses of every interleaving
 /// States what each reply of every interleaving says of each app that wants an update, in the catalogue that its job
