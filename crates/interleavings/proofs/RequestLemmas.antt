@@ -16,7 +16,7 @@ use Rattle.interleavings.specs.Events.{Drop, Enter, Event, Grant, Learn, Plan, P
 use Rattle.interleavings.specs.Jobs.{EndedJob, Job, Pending, Rendered, Worker, is_decided, new_worker}
 use Rattle.interleavings.specs.Laws.{worker_at}
 use Rattle.interleavings.specs.Moves.{after_drop, after_entry, after_grant, after_news, after_plan, after_rejection, after_rendering, begun, planned_by, rendered_at, sent, with_outcome, with_pending, without_job}
-use Rattle.interleavings.specs.Requests.{IsGiven, RepliesAreToGivenRequests, moment_given, moments_given, request_given, requests_given}
+use Rattle.interleavings.specs.Requests.{IsGiven, RepliesAreToGivenRequests, time_given, times_given, request_given, requests_given}
 use Rattle.interleavings.specs.Services.{Service, changed_at, content_at, has_room, opened}
 use Rattle.interleavings.proofs.ListLemmas.{all-append, all-weaker}
 
@@ -63,7 +63,7 @@ KeepsGiven-longer index events more worker keeps =
             pending = is.pending;
             planned = is.planned;
             request = given-longer (request_given index) events more is.pending.request is.request;
-            moment = given-longer (moment_given index) events more r.moment is.moment;
+            moment = given-longer (time_given index) events more r.moment is.moment;
           }))
           keeps.ended;
     }
@@ -130,7 +130,7 @@ module _ (index : ℕ) (given : List Event) (worker : Worker) (keeps : KeepsGive
           (record job { pending = Some (begun apps request tables) }) job
           (IsAskedIn index given) (λ test. there) (λ test. asked)
 
-  rendering : (mirrors : List Mirror) (history : History) (moment : ℕ) → Contains (moments_given index given) moment →
+  rendering : (mirrors : List Mirror) (history : History) (moment : ℕ) → Contains (times_given index given) moment →
       Is (after_rendering mirrors history moment worker)
   rendering mirrors history moment there = by_job worker.job keeps.job
     where
@@ -244,7 +244,7 @@ module _ (mirrors : List Mirror) (events : List Event) (service : Service) (all 
       moves event changed (after_rendering mirrors service.history moment)
       (λ worker keeps.
       rendering changed (events ++ event ∷ []) worker keeps mirrors service.history moment
-      (given-last (moment_given changed) events event moment
+      (given-last (time_given changed) events event moment
       (subst (λ (moments : List ℕ). Contains moments moment)
       (sym (cond-true (eqb changed changed) (moment ∷ []) [] (eq-eqb changed changed refl)))
       (Contains-push [] moment))))

@@ -15,20 +15,20 @@ abbrev pub requests_given : ℕ → List Event → List Request
 requests_given index events = flat_map (request_given index) events
 
 -- the time at which an event has it render
-abbrev pub moment_given : ℕ → Event → List ℕ
-moment_given index (Render worker moment) = if worker == index then moment ∷ [] else []
-moment_given index event = []
+abbrev pub time_given : ℕ → Event → List ℕ
+time_given index (Render worker moment) = if worker == index then moment ∷ [] else []
+time_given index event = []
 
 -- the times at which some events had it render
-abbrev pub moments_given : ℕ → List Event → List ℕ
-moments_given index events = flat_map (moment_given index) events
+abbrev pub times_given : ℕ → List Event → List ℕ
+times_given index events = flat_map (time_given index) events
 
 -- a job's reply is to a request that its worker was given, at a time at which it was to render
 pub record IsGiven (index : ℕ) (events : List Event) (job : Job) (rendered : Rendered) : Type 0 where
   pub pending : Pending
   pub planned : job.pending ≡ Some pending
   pub request : Contains (requests_given index events) pending.request
-  pub moment : Contains (moments_given index events) rendered.moment
+  pub moment : Contains (times_given index events) rendered.moment
 
 -- each reply of each worker is
 abbrev pub RepliesAreToGivenRequests : Machine → Type 0
