@@ -148,7 +148,13 @@ module _ (mirrors : List Mirror) (history : History) (worker : Worker) (keeps : 
                 ∙ ap (sum_by (granted_for mirror))
                 (sym jobs ∙ sym (append-nil (map (λ (e : EndedJob). e.job) (worker.ended ++ e ∷ []))));
           };
-          goes = record { seen = omega arith; job = tt; later = e ∷ []; ended = refl; follow = (own-number job is, tt) };
+          goes = record {
+            seen = omega arith;
+            job = tt;
+            later = e ∷ [];
+            ended = refl;
+            follow = (own-number job is, tt);
+          };
           shares = λ mirror. omega arith;
         }
 
