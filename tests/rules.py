@@ -29,16 +29,25 @@ INDEX = os.path.join(HEADINGS, "README.md")
 # Rules that no edit shows, and why.
 NO_EDIT = {
     "App of a profile": "its parts are rules of their own",
+    "Choice by prices": "a law's, and no code of this repository",
     "Edit of a script": "its readers are those of a table",
+    "Event": "a law's; `laws::wrong_machines` has wrong ones",
+    "Every interleaving": "a law; `laws::wrong_machines` has machines that break it",
     "Faults of a script": "its parts are rules of their own",
+    "Interleaving": "a law's, and no code of this repository",
     "Next ask": "a client's, and no code of this repository",
+    "Published history": "a law's; `laws::wrong_machines` has wrong ones",
+    "Quote by rows": "a law's, and no code of this repository",
     "Reply to an ask": "its parts are rules of their own",
+    "Service": "a law's, and no code of this repository",
     "Status of an update check": "its parts are rules of their own",
+    "Statuses of every interleaving": "a law, and no code of this repository",
     "Tables of a profile": "its parts are rules of their own",
     "Tables of a script": "its parts are rules of their own",
     "TOML of a profile": "the reading is that of the crate toml",
     "Walk": "a client's, and no code of this repository",
     "Walk over one catalogue": "a law, and no code of this repository",
+    "Worker": "a law's, and no code of this repository",
 }
 
 # Whether each rule must have the mark of a test; False as long as the crates of tests have no marks.
@@ -46,9 +55,18 @@ TESTS_ARE_MARKED = True
 
 # Rules that no test shows, and why.
 NO_TEST = {
+    "Choice by prices": "the runs of `laws::runs` are worked by the prover",
     "Entries of a trace": "contracts alone see them",
+    "Event": "the runs of `laws::runs` are worked by the prover",
+    "Every interleaving": "the runs of `laws::runs` are worked by the prover",
+    "Interleaving": "the runs of `laws::runs` are worked by the prover",
+    "Published history": "the runs of `laws::runs` are worked by the prover",
+    "Quote by rows": "a law's, and no code of this repository",
     "Reply to an ask": "its parts are rules of their own",
+    "Service": "the runs of `laws::runs` are worked by the prover",
     "Settled rows": "they are of a table that is not full yet, which no caller sees",
+    "Statuses of every interleaving": "a law, and no code of this repository",
+    "Worker": "the runs of `laws::runs` are worked by the prover",
 }
 
 MARK = re.compile(r"^\s*(?:--|//|#) rule: (.+?)\s*$")

@@ -1,5 +1,6 @@
 mod AmongLemmas
 mod BestLemmas
+mod ByRowLemmas
 mod ChainLemmas
 mod MemberLemmas
 mod NamedLemmas

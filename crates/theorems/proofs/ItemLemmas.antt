@@ -2,7 +2,7 @@
 use Rattle.std.proofs.Common.{◌≡◌, ℕ, zero, suc, ◌<◌, Bool, true, false, List, [], ◌∷◌, get_or, Option, None, Some, refl, sym, ap, ◌∙◌, arith}
 use Rattle.std.specs.List.{AllByRecursion, find, list_all, position, position_or_len, slice_get}
 use Rattle.std.specs.Option.{option_map_or}
-use Rattle.std.proofs.lemmas.Bool.{and_parts, false≢true}
+use Rattle.std.proofs.lemmas.Bool.{and_parts, cond_both, false≢true}
 use Rattle.std.proofs.lemmas.List.Folds.{find_at}
 use Rattle.std.proofs.lemmas.List.Quantifiers.{position-Some}
 use Rattle.std.proofs.lemmas.Option.{slice_get-get_or}
@@ -62,6 +62,16 @@ pub find-position :
     {A : Type 0} (test : A → Bool) (items : List A) (item : A) →
     find test items ≡ Some item → slice_get items (position_or_len test items) ≡ Some item
 find-position test items item found = sym (find_at test items) ∙ found
+
+pub find-passes : {A : Type 0} (test : A → Bool) (items : List A) (item : A) → find test items ≡ Some item → test item ≡ true
+find-passes test [] item found = cc
+find-passes {A} test (first ∷ items) item found =
+    let rest = find-passes test items item in
+    cond_both (test first) (Some first) (find test items) (λ (o : Option A). o ≡ Some item → test item ≡ true)
+    (λ passed is.
+    let same : first ≡ item = cc in
+    sym (ap test same) ∙ passed)
+    (λ failed is. rest is) found
 
 pub position-Passes :
     {A : Type 0} (test : A → Bool) (items : List A) (index : ℕ) →

@@ -78,7 +78,7 @@ Leads-full app cohort key target place to permitted =
     }
 
 -- a differential starts at a release of its version
-starts-version :
+pub starts-version :
     (releases : List Release) (place : Place) (diff : Diff) →
     starts_at releases place diff ≡ true → version_at releases place ≡ Some diff.from
 starts-version releases (Outside version) diff starts = absurd (false≢true starts)

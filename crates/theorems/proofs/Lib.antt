@@ -3,6 +3,7 @@ mod ChainLemmas
 mod ChoiceLemmas
 mod EndLemmas
 mod FollowLemmas
+mod GraphLemmas
 mod HeardLemmas
 pub mod HistoryLemmas
 mod ItemLemmas
@@ -21,5 +22,6 @@ mod SoundLemmas
 mod StepLemmas
 mod StringLemmas
 mod TrackLemmas
+mod UniqueLemmas
 mod WalkLemmas
 mod YieldLemmas

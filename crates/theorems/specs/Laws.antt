@@ -2,6 +2,7 @@
 -- batches leads to.
 use Rattle.std.specs.Prelude.{◌≡◌, ◌≤◌, ◌++◌, All, ℕ, List, [], ◌∷◌, length, map, Option, Some, MatchOption}
 use Rattle.std.specs.List.{AllZip}
+use Rattle.records.specs.Validity.{IsValidApp}
 use Rattle.records.specs.declared.content.App.{App}
 use Rattle.records.specs.declared.mirror.Mirror.{Mirror}
 use Rattle.catalogue_laws.specs.Histories.{History}
@@ -12,8 +13,11 @@ use Rattle.omaha_json.specs.declared.reply.Offer.{Offer}
 use Rattle.omaha_json.specs.declared.request.AppAsk.{AppAsk}
 use Rattle.omaha_json.specs.declared.request.Request.{Request}
 use Rattle.payload_graph.specs.Chains.{IsAtTarget, IsChain, bytes_of, destination_of}
+use Rattle.payload_graph.specs.Net.{Net, net_in}
 use Rattle.payload_graph.specs.declared.payload.Payload.{Payload}
+use Rattle.payload_graph.specs.declared.payload.TrackKey.{TrackKey}
 use Rattle.payload_graph.specs.declared.place.Place.TheVariants.{At}
+use Rattle.price_cert.specs.Laws.{IsGraph}
 use Rattle.quotes.specs.Sums.{HasNoChain, IsLeast}
 use Rattle.editions.specs.Editions.{content_of}
 use Rattle.replies.specs.Clients.{Client, client_of, key_of}
@@ -61,6 +65,17 @@ StatusesSay =
     IsOutcome mirrors choice outcome →
     MatchOption (check_in (app_reply (content_of history) session mirrors (ask, (payload_in choice, outcome)))) ⊥
     (Says mirrors client ask outcome)
+
+-- a request has one plan by each content
+abbrev pub PlansAreOne : Type 0
+PlansAreOne =
+    (history : History) (request : Request) (one other : List (Option Choice)) →
+    IsPlan (content_of history) request one → IsPlan (content_of history) request other → one ≡ other
+
+-- the graph of a track of a valid app is one: its target and its releases are those of the app, and its payloads lead
+-- nearer the target and have valid sizes
+abbrev pub TrackGraphsAreGraphs : Type 0
+TrackGraphsAreGraphs = (app : App) (key : TrackKey) (net : Net) → IsValidApp app → net_in app key ≡ Some net → IsGraph net
 
 -- a step of a walk: the client is the same, in its app and on its track, and it goes by what leads it on
 -- to the release that this payload leads to

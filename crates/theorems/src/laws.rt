@@ -2,7 +2,7 @@
 //! function.
 
 ghost use Rattle.theorems.specs.Examples.{ExampleIsWorked};
-ghost use Rattle.theorems.specs.Laws.{AsksGetReplies, OffersAreSteps, RepliesAreWhole, StatusesSay, WalksAreLeast, WalksAreShort, WalksEnd, WalksExist, WalksKeepTracks, WalksNeedChains};
+ghost use Rattle.theorems.specs.Laws.{AsksGetReplies, OffersAreSteps, PlansAreOne, RepliesAreWhole, StatusesSay, TrackGraphsAreGraphs, WalksAreLeast, WalksAreShort, WalksEnd, WalksExist, WalksKeepTracks, WalksNeedChains};
 ghost use Rattle.theorems.specs.ServedLaws.{ServedWalksAreLeast, ServedWalksAreWalks};
 
 use update_client::Link;
@@ -14,6 +14,21 @@ pub fn replies()
     ensures each { AsksGetReplies }
     ensures whole { RepliesAreWhole }
 {}
+
+/// States that a request has one plan by each content that a history leads to.
+pub fn plans()
+    ensures { PlansAreOne }
+{
+    version::laws::order();
+    catalogue_laws::validity();
+}
+
+/// States that the graph of a track of a valid app is one, as `price_cert` checks tables against.
+pub fn graphs()
+    ensures { TrackGraphsAreGraphs }
+{
+    version::laws::order();
+}
 
 // rule: Status of an update check
 /// States what the status of an update check says: `noupdate` that the client is at its target or that no

@@ -1,0 +1,121 @@
+-- The laws of every interleaving.
+use Rattle.std.proofs.Common.{◌≡◌, ℕ, ◌≤◌, inl, inr, List, [], ◌∷◌, ◌++◌, length, None, sym, ap, ◌∙◌, subst}
+use Rattle.std.specs.List.{All, Contains, sum_by}
+use Rattle.std.specs.Option.{option_map}
+use Rattle.std.proofs.lemmas.List.Elements.{All-contains_itself, All-from_recursion, Contains-append_right, recursion_from_All}
+use Rattle.std.proofs.lemmas.Option.{none-some}
+use Rattle.catalogue.specs.declared.edit.Edit.{Edit}
+use Rattle.catalogue_laws.specs.Histories.{HistoriesAreValid, HistoriesGrow, PrefixesAreAccepted}
+use Rattle.editions.specs.Editions.{IsAccepted}
+use Rattle.quotes.specs.ByRows.{CertifiedRowsQuote}
+use Rattle.records.specs.declared.mirror.Mirror.{Mirror}
+use Rattle.theorems.specs.Laws.{TrackGraphsAreGraphs}
+use Rattle.interleavings.specs.Events.{Event, happens, service_after}
+use Rattle.interleavings.specs.Jobs.{EndedJob, Job, Worker, granted_for, jobs_of}
+use Rattle.interleavings.specs.Laws.{BatchesArePublishedWhole, EndsWell, JobsGoByWhatWasSeen, PublishedIsAccepted, PublishedStays, RepliesAreOfOneCatalogue, SeenIsPublished, SeenNeverFalls, SharesAreOfJobs, TotalsAreWithinBudgets, batches_given}
+use Rattle.interleavings.specs.Services.{Service, opened}
+use Rattle.interleavings.proofs.KeptLemmas.{GoesOn, IsAfter, Keeps, KeepsWorker}
+use Rattle.interleavings.proofs.ListLemmas.{all-reads, all-weaker, zip-at, zip-reads}
+use Rattle.interleavings.proofs.RunLemmas.{IsRun, IsRun-events, IsRun-opened, run-append}
+
+-- a worker without a job goes on by no fewer batches than it has seen
+low-after : (worker : Worker) (number : ℕ) → worker.job ≡ None → IsAfter worker number → worker.seen ≤ number
+low-after worker number idle (inl own) =
+    absurd (none-some number (sym (ap (λ o. option_map (λ (job : Job). job.number) o) idle) ∙ own))
+low-after worker number idle (inr low) = low
+
+module _ (quotes : CertifiedRowsQuote) (graphs : TrackGraphsAreGraphs) (growth : HistoriesGrow)
+    (prefixes : PrefixesAreAccepted) (are_valid : HistoriesAreValid) where
+  after :
+      (mirrors : List Mirror) (batch : List Edit) (workers : ℕ) (events : List Event) → IsAccepted [] batch →
+      IsRun mirrors events (opened mirrors batch workers) (service_after happens mirrors batch workers events)
+  after mirrors batch workers events accepted =
+      IsRun-opened mirrors quotes graphs growth prefixes are_valid batch workers events accepted
+
+  -- and after more events
+  further :
+      (mirrors : List Mirror) (batch : List Edit) (workers : ℕ) (events more : List Event) → IsAccepted [] batch →
+      IsRun mirrors more (service_after happens mirrors batch workers events)
+      (service_after happens mirrors batch workers (events ++ more))
+  further mirrors batch workers events more accepted =
+      let before = service_after happens mirrors batch workers events in
+      subst (IsRun mirrors more before) (sym (run-append happens mirrors events more (opened mirrors batch workers)))
+      (IsRun-events mirrors quotes graphs growth prefixes are_valid more before
+      (after mirrors batch workers events accepted).keeps)
+
+  -- what holds of each worker
+  each :
+      (P : Worker → Type 0) (mirrors : List Mirror) (service : Service) → Keeps mirrors service →
+      ((worker : Worker) → KeepsWorker mirrors service.history worker → P worker) → All P service.workers
+  each P mirrors service keeps holds =
+      All-from_recursion P service.workers
+      (all-weaker (KeepsWorker mirrors service.history) P service.workers holds keeps.workers)
+
+  pub replies_are_of_one_catalogue : RepliesAreOfOneCatalogue happens
+  replies_are_of_one_catalogue mirrors batch workers events accepted =
+      let service = service_after happens mirrors batch workers events in
+      each (λ (worker : Worker). All (EndsWell mirrors service.history) worker.ended) mirrors service
+      (after mirrors batch workers events accepted).keeps
+      (λ worker kept. All-from_recursion (EndsWell mirrors service.history) worker.ended kept.ended)
+
+  pub jobs_go_by_what_was_seen : JobsGoByWhatWasSeen happens
+  jobs_go_by_what_was_seen mirrors batch workers events more accepted index before later at_before at_later idle =
+      let run = further mirrors batch workers events more accepted in
+      let goes = zip-at GoesOn (service_after happens mirrors batch workers events).workers
+      (service_after happens mirrors batch workers (events ++ more)).workers index before later run.goes at_before
+      at_later in
+      record {
+        later = goes.later;
+        ended = goes.ended;
+        follow =
+            All-from_recursion (λ (ended : EndedJob). before.seen ≤ ended.job.number) goes.later
+            (all-weaker (λ (ended : EndedJob). IsAfter before ended.job.number)
+            (λ (ended : EndedJob). before.seen ≤ ended.job.number) goes.later
+            (λ ended is. low-after before ended.job.number idle is) goes.follow);
+      }
+
+  pub seen_never_falls : SeenNeverFalls happens
+  seen_never_falls mirrors batch workers events more accepted index =
+      zip-reads GoesOn (λ (worker : Worker). worker.seen) (service_after happens mirrors batch workers events).workers
+      (service_after happens mirrors batch workers (events ++ more)).workers index
+      (λ old new goes. goes.seen) (further mirrors batch workers events more accepted).goes
+
+  pub seen_is_published : SeenIsPublished happens
+  seen_is_published mirrors batch workers events accepted index =
+      let service = service_after happens mirrors batch workers events in
+      all-reads (KeepsWorker mirrors service.history) (λ (worker : Worker). worker.seen) (length service.history)
+      service.workers index
+      (λ worker kept. kept.seen) (after mirrors batch workers events accepted).keeps.workers
+
+  pub totals_are_within_budgets : TotalsAreWithinBudgets happens
+  totals_are_within_budgets mirrors batch workers events accepted mirror =
+      let run = after mirrors batch workers events accepted in
+      let book = run.keeps.books mirror in
+      record { adds_up = book.adds_up; within = book.within; budget = run.budgets mirror }
+
+  pub shares_are_of_jobs : SharesAreOfJobs happens
+  shares_are_of_jobs mirrors batch workers events accepted mirror =
+      let service = service_after happens mirrors batch workers events in
+      each (λ (worker : Worker). worker.share mirror ≡ sum_by (granted_for mirror) (jobs_of worker)) mirrors service
+      (after mirrors batch workers events accepted).keeps (λ worker kept. kept.shares mirror)
+
+  pub published_is_accepted : PublishedIsAccepted happens
+  published_is_accepted mirrors batch workers events accepted =
+      (after mirrors batch workers events accepted).keeps.accepted
+
+  pub published_stays : PublishedStays happens
+  published_stays mirrors batch workers events more accepted =
+      let grows = (further mirrors batch workers events more accepted).grows in
+      (grows.rest, grows.is)
+
+  pub batches_are_published_whole : BatchesArePublishedWhole happens
+  batches_are_published_whole mirrors batch workers events accepted =
+      let service = service_after happens mirrors batch workers events in
+      let given = batch ∷ batches_given events in
+      let grows = (after mirrors batch workers events accepted).grows in
+      let itself = recursion_from_All (Contains given) given (All-contains_itself given) in
+      let added =
+      all-weaker (Contains (batches_given events)) (Contains given) grows.rest
+      (Contains-append_right (batch ∷ []) (batches_given events)) grows.among in
+      subst (All (Contains given)) (sym grows.is)
+      (All-from_recursion (Contains given) (batch ∷ grows.rest) (itself.0, added))

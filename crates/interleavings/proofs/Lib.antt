@@ -1,0 +1,14 @@
+mod ChoiceLemmas
+mod ClientLemmas
+mod EventLemmas
+mod HeadlineLemmas
+mod KeptLemmas
+mod LawLemmas
+mod ListLemmas
+mod MoveLemmas
+mod PendingLemmas
+mod PlanLemmas
+mod RequestLemmas
+mod RunLemmas
+mod TieLemmas
+mod WrongLemmas

@@ -1,0 +1,112 @@
+-- The contracts of the program's functions as events.
+use Rattle.std.proofs.Common.{◌≡◌, ℕ, suc, ◌+◌, ◌&&◌, Bool, true, false, eqb, ltb, cond, List, [], ◌∷◌, ◌++◌, length, Option, None, Some, Result, refl, sym, ap, ◌∙◌, subst, arith}
+use Rattle.std.specs.Result.{is_ok}
+use Rattle.std.proofs.lemmas.Bool.{and_from, and_left, and_right, cond-false, cond-true, eq-eqb, false≢true, le-leb, le-ltb, leb-true, lt-ltb}
+use Rattle.catalogue.specs.declared.edit.Edit.{Edit}
+use Rattle.catalogue.specs.declared.fault.Refused.{Refused}
+use Rattle.catalogue_laws.specs.Histories.{History}
+use Rattle.editions.specs.Editions.{max_batches, outcome_after}
+use Rattle.mirror_ledger.specs.Budgets.{Account}
+use Rattle.omaha_json.specs.ReplyWriting.{reply_bytes}
+use Rattle.records.specs.declared.content.App.{App}
+use Rattle.records.specs.declared.mirror.Mirror.{Mirror}
+use Rattle.replies.specs.Plans.{payloads_of}
+use Rattle.replies.specs.Replies.{AreOutcomes, reply_of}
+use Rattle.replies.specs.declared.choices.Choice.{Choice}
+use Rattle.update_desk.specs.Asking.{asks_of}
+use Rattle.interleavings.specs.Jobs.{Pending, bytes_asked, outcomes_by_app, outcomes_of}
+use Rattle.interleavings.specs.Services.{is_published, published}
+use Rattle.interleavings.specs.Ties.{AnswersAreOfPending, FullIsNotPublished, GrantsAreBooked, NextIsPublished, RejectedIsNotPublished, RoomIsTested}
+
+module _ (history : History) (batch : List Edit) where
+  taken : is_published history (length history) batch ≡ true → published history (length history)
+      batch ≡ history ++ batch ∷ []
+  taken test = cond-true (is_published history (length history) batch) (history ++ batch ∷ []) history test
+
+  left : is_published history (length history) batch ≡ false → published history (length history) batch ≡ history
+  left test = cond-false (is_published history (length history) batch) (history ++ batch ∷ []) history test
+
+pub next_is_published : NextIsPublished
+next_is_published history batch next continues =
+    let count = length history in
+    let accepted = is_ok (outcome_after history batch) in
+    taken history batch
+    (and_from (eqb count count) (ltb count max_batches && accepted) (eq-eqb count count refl)
+    (and_from (ltb count max_batches) accepted (lt-ltb count max_batches continues.1) continues.0))
+    ∙ sym continues.2
+
+pub rejected_is_not_published : RejectedIsNotPublished
+rejected_is_not_published history batch refused rejected =
+    let count = length history in
+    let accepted = is_ok (outcome_after history batch) in
+    let none : accepted ≡ false = ap (λ (r : Result (List App) Refused). is_ok r) rejected in
+    left history batch (and_right (eqb count count) (ltb count max_batches && accepted)
+    (and_right (ltb count max_batches) accepted none))
+
+pub full_is_not_published : FullIsNotPublished
+full_is_not_published history batch full =
+    let count = length history in
+    let accepted = is_ok (outcome_after history batch) in
+    let same = full.1 in
+    let room : ltb count max_batches ≡ false = le-ltb count max_batches (omega arith) in
+    left history batch (and_right (eqb count count) (ltb count max_batches && accepted)
+    (and_left (ltb count max_batches) accepted room))
+
+pub room_is_tested : RoomIsTested
+room_is_tested account bytes =
+    (leb-true (account.total + bytes) account.budget, le-leb (account.total + bytes) account.budget)
+
+pub grants_are_booked : GrantsAreBooked
+grants_are_booked books mirror bytes new grants =
+    let own = ap (λ (b : Bool). (books mirror).total + cond b bytes 0) (eq-eqb mirror mirror refl) in
+    same-account (record (books mirror) { total = (books mirror).total + cond (eqb mirror mirror) bytes 0 }) new
+    (own ∙ sym grants.total) (sym grants.budget)
+  where
+    same-account : (one other : Account) → one.total ≡ other.total → one.budget ≡ other.budget → one ≡ other
+    same-account one other total budget =
+        ap (λ (n : ℕ). record { budget = one.budget; total = n }) total
+        ∙ ap (λ (n : ℕ). record { budget = n; total = other.total }) budget
+
+-- the outcomes of a plan, without those of apps that nothing was chosen for
+record HasOutcomes (plan : List (Option Choice)) (outcomes : List (Option ℕ)) : Type 0 where
+  chosen : List (Option ℕ)
+  is : outcomes_by_app plan chosen ≡ outcomes
+  all : length chosen ≡ length (bytes_asked plan)
+
+HasOutcomes-plan :
+    (mirrors : List Mirror) (plan : List (Option Choice)) (outcomes : List (Option ℕ)) →
+    AreOutcomes mirrors plan outcomes → HasOutcomes plan outcomes
+HasOutcomes-plan mirrors [] [] decided = record { chosen = []; is = refl; all = refl }
+HasOutcomes-plan mirrors [] (outcome ∷ outcomes) decided = absurd decided
+HasOutcomes-plan mirrors (choice ∷ plan) [] decided = absurd decided
+HasOutcomes-plan mirrors (None ∷ plan) (None ∷ outcomes) decided =
+    let rest = HasOutcomes-plan mirrors plan outcomes decided.1 in
+    record { chosen = rest.chosen; is = ap (λ (os : List (Option ℕ)). None ∷ os) rest.is; all = rest.all }
+HasOutcomes-plan mirrors (None ∷ plan) (Some mirror ∷ outcomes) decided = absurd (false≢true decided.0.0)
+HasOutcomes-plan mirrors (Some choice ∷ plan) (outcome ∷ outcomes) decided =
+    let rest = HasOutcomes-plan mirrors plan outcomes decided.1 in
+    record {
+      chosen = outcome ∷ rest.chosen;
+      is = ap (λ (os : List (Option ℕ)). outcome ∷ os) rest.is;
+      all = ap (λ n. suc n) rest.all;
+    }
+
+pub answers_are_of_pending : AnswersAreOfPending
+answers_are_of_pending stock request moment before after text reply =
+    let has = HasOutcomes-plan stock.mirrors reply.plan reply.outcomes reply.asked.decided in
+    let pending : Pending = record { request = request; choices = reply.plan; outcomes = has.chosen; tried = 0 } in
+    record {
+      pending = pending;
+      reply = reply_of stock.content request (payloads_of reply.plan) (outcomes_of pending) stock.mirrors moment;
+      requested = refl;
+      decided = eq-eqb (length has.chosen) (length (bytes_asked reply.plan)) has.all;
+      is = record {
+        planned = reply.planned;
+        decided = subst (AreOutcomes stock.mirrors reply.plan) (sym has.is) reply.asked.decided;
+        is = refl;
+      };
+      asked = reply.asked.asked ∙ ap (λ (os : List (Option ℕ)). before ++ asks_of reply.plan os) (sym has.is);
+      written = reply.written
+          ∙ ap (λ (os : List (Option ℕ)). reply_bytes
+          (reply_of stock.content request (payloads_of reply.plan) os stock.mirrors moment)) (sym has.is);
+    }

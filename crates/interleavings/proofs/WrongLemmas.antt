@@ -1,0 +1,207 @@
+-- Each wrong machine breaks its law, in a run of the small service.
+use Rattle.std.proofs.Common.{◌≡◌, ℕ, ◌≤◌, ◌<◌, inl, inr, true, false, eqb, List, [], ◌∷◌, length, None, Some, Result, refl, sym, ap, ◌∙◌, subst, arith}
+use Rattle.std.specs.List.{All, Contains, sum_by}
+use Rattle.std.specs.Option.{option_map_or}
+use Rattle.std.specs.Result.{is_ok}
+use Rattle.std.proofs.lemmas.Bool.{eq-eqb, false≢true}
+use Rattle.std.proofs.lemmas.List.Elements.{All-contains, All-from_recursion}
+use Rattle.hex.proofs.OnLiterals.{hex_on_literals}
+use Rattle.catalogue.specs.declared.edit.Edit.{Edit}
+use Rattle.catalogue.specs.declared.fault.Refused.{Refused}
+use Rattle.catalogue_laws.specs.Histories.{History}
+use Rattle.cohorts.specs.CohortTexts.{parsed}
+use Rattle.editions.specs.Editions.{IsAccepted, content_of}
+use Rattle.omaha_json.specs.declared.reply.AppReply.{AppReply}
+use Rattle.omaha_json.specs.declared.reply.Offer.{Offer}
+use Rattle.omaha_json.specs.declared.reply.Reply.{Reply}
+use Rattle.payload_graph.specs.declared.payload.Payload.TheVariants.{Full}
+use Rattle.records.specs.Forms.{hash_of}
+use Rattle.records.specs.declared.content.App.{App}
+use Rattle.records.specs.declared.mirror.Mirror.{Mirror}
+use Rattle.replies.specs.Plans.{IsPlan}
+use Rattle.theorems.specs.Asks.{offer_in}
+use Rattle.version.specs.Versions as version
+use Rattle.interleavings.specs.Events.{Drop, Enter, Grant, Learn, Plan, Publish, Raise, Render}
+use Rattle.interleavings.specs.Jobs.{EndedJob, Job, Pending, Rendered, Worker, is_decided, new_worker}
+use Rattle.interleavings.specs.Laws.{BatchesArePublishedInTurn, BatchesArePublishedWhole, IsOfOneCatalogue, JobsGoByWhatWasSeen, PublishedIsAccepted, RepliesAreOfOneCatalogue, SeenIsPublished, SharesAreOfJobs, TotalsAreWithinBudgets}
+use Rattle.interleavings.specs.Moves.{reply_by}
+use Rattle.interleavings.specs.Runs.{begins, lower_release, small_batch, small_mirrors, small_request, small_rows, unknown_release, withdrawal, wrong_rows}
+use Rattle.interleavings.specs.Services.{content_at}
+use Rattle.interleavings.specs.Requests.{RepliesAreToGivenRequests}
+use Rattle.interleavings.specs.Wrong.{believes_any_number, cuts_a_budget, forgets_dropped_jobs, grants_without_room, keeps_the_first_catalogue, leaves_the_share, never_publishes, plans_by_any_rows, plans_by_the_newest, plans_for_another, publishes_half_a_batch, publishes_late_batches, publishes_rejected_batches, renders_by_the_newest, renders_for_another_time, renders_undecided}
+
+pub small-accepted : IsAccepted [] small_batch
+unfolding hex_on_literals version.version_of version.components_of version.lenient_version_of hash_of parsed
+small-accepted = refl
+
+-- what a reply of one catalogue is, of a job whose reply in the making is known
+module _ (mirrors : List Mirror) (history : History) (job : Job) (rendered : Rendered)
+    (one : IsOfOneCatalogue mirrors history job rendered)
+    (pending : Pending) (is : job.pending ≡ Some pending) where
+  same : one.pending ≡ pending
+  same = let both : Some one.pending ≡ Some pending = sym one.planned ∙ is in cc
+
+  all-decided : is_decided pending ≡ true
+  all-decided = subst (λ (p : Pending). is_decided p ≡ true) same one.decided
+
+  is-reply : rendered.reply ≡ reply_by mirrors (content_at history job.number) rendered.moment pending
+  is-reply =
+      subst (λ (p : Pending). rendered.reply ≡ reply_by mirrors (content_at history job.number) rendered.moment p)
+      same one.reply_is.is
+
+  is-plan : IsPlan (content_at history job.number) pending.request pending.choices
+  is-plan = subst (λ (p : Pending). IsPlan (content_at history job.number) p.request p.choices) same
+      one.reply_is.planned
+
+-- two numbers that a test finds different are not the same
+apart : (one other : ℕ) → eqb one other ≡ false → one ≡ other → ⊥
+apart one other differ same = false≢true (sym differ ∙ eq-eqb one other same)
+
+-- the bytes of the full packages that a reply offers
+abbrev sizes_in : Reply → ℕ
+sizes_in reply = sum_by (λ (app : AppReply). option_map_or (λ (offer : Offer). offer.full.size) (offer_in app) 0)
+    reply.apps
+
+-- an ended job, where a list has none
+abbrev no_job : EndedJob
+no_job = record { job = record { number = 0; pending = None }; rendered = None }
+
+-- in the first catalogue a chain leads the client to its target, so that nothing is no choice for it
+no-plan : ¬ (IsPlan (content_of (small_batch ∷ [])) small_request (None ∷ []))
+unfolding hex_on_literals version.version_of version.components_of version.lenient_version_of hash_of parsed
+no-plan plan = elim (plan.0) [
+  | inl at ↦ cc
+  | inr none ↦ none (Full 0 ∷ []) (refl, refl)
+]
+
+pub newest_reply : ¬ (RepliesAreOfOneCatalogue renders_by_the_newest)
+unfolding hex_on_literals version.version_of version.components_of version.lenient_version_of hash_of parsed
+newest_reply law =
+    let within : 0 < 1 = omega arith in
+    let events = begins 0 (Publish 1 (lower_release ∷ []) ∷ Grant 0 0 3 ∷ Render 0 86400 ∷ []) in
+    let one = law small_mirrors small_batch 1 events small-accepted 0 new_worker within 0 no_job within in
+    apart 2 3 refl (ap sizes_in (is-reply _ _ _ _ one _ refl))
+
+pub undecided : ¬ (RepliesAreOfOneCatalogue renders_undecided)
+unfolding hex_on_literals version.version_of version.components_of version.lenient_version_of hash_of parsed
+undecided law =
+    let within : 0 < 1 = omega arith in
+    let one = law small_mirrors small_batch 1 (begins 0 (Render 0 86400 ∷ [])) small-accepted 0 new_worker within 0
+    no_job within in
+    false≢true (all-decided _ _ _ _ one _ refl)
+
+pub newest_plan : ¬ (RepliesAreOfOneCatalogue plans_by_the_newest)
+unfolding hex_on_literals version.version_of version.components_of version.lenient_version_of hash_of parsed
+newest_plan law =
+    let within : 0 < 1 = omega arith in
+    let events = Enter 0 ∷ Publish 1 (withdrawal ∷ []) ∷ Plan 0 small_request small_rows ∷ Render 0 86400 ∷ [] in
+    let one = law small_mirrors small_batch 1 events small-accepted 0 new_worker within 0 no_job within in
+    no-plan (is-plan _ _ _ _ one _ refl)
+
+pub unchecked : ¬ (RepliesAreOfOneCatalogue plans_by_any_rows)
+unfolding hex_on_literals version.version_of version.components_of version.lenient_version_of hash_of parsed
+unchecked law =
+    let within : 0 < 1 = omega arith in
+    let events = Enter 0 ∷ Plan 0 small_request wrong_rows ∷ Render 0 86400 ∷ [] in
+    let one = law small_mirrors small_batch 1 events small-accepted 0 new_worker within 0 no_job within in
+    no-plan (is-plan _ _ _ _ one _ refl)
+
+-- an empty list contains nothing
+nothing-in : {A : Type 0} (item : A) → Contains [] item → ⊥
+nothing-in item there =
+    let low : there.0 < 0 = there.1 in
+    absurd (omega arith)
+
+pub another : ¬ (RepliesAreToGivenRequests plans_for_another)
+unfolding hex_on_literals version.version_of version.components_of version.lenient_version_of hash_of parsed
+another law =
+    let within : 0 < 1 = omega arith in
+    let events = Enter 1 ∷ Plan 0 small_request small_rows ∷ Grant 1 0 3 ∷ Render 1 86400 ∷ [] in
+    let given = law small_mirrors small_batch 2 events small-accepted 1 _ refl 0 no_job within in
+    nothing-in given.pending.request given.request
+
+pub another_time : ¬ (RepliesAreToGivenRequests renders_for_another_time)
+unfolding hex_on_literals version.version_of version.components_of version.lenient_version_of hash_of parsed
+another_time law =
+    let within : 0 < 1 = omega arith in
+    let events = begins 0 (Grant 0 0 3 ∷ Render 0 86400 ∷ []) in
+    let given = law small_mirrors small_batch 1 events small-accepted 0 _ refl 0 no_job within in
+    let only : All (λ (n : ℕ). n ≤ 86400) (86400 ∷ []) = All-from_recursion (λ (n : ℕ). n ≤ 86400) (86400 ∷ [])
+    (omega arith, tt) in
+    let low : 172800 ≤ 86400 = All-contains (λ (n : ℕ). n ≤ 86400) (86400 ∷ []) 172800 only given.moment in
+    absurd (omega arith)
+
+pub first : ¬ (JobsGoByWhatWasSeen keeps_the_first_catalogue)
+unfolding hex_on_literals version.version_of version.components_of version.lenient_version_of hash_of parsed
+first law =
+    let within : 0 < 1 = omega arith in
+    let ended : EndedJob = record { job = record { number = 1; pending = None }; rendered = None } in
+    let before : Worker = record new_worker { seen = 2 } in
+    let after : Worker = record new_worker { ended = ended ∷ [] } in
+    let ends = law small_mirrors small_batch 1 (Publish 1 (withdrawal ∷ []) ∷ Learn 0 2 ∷ []) (Enter 0 ∷ Drop 0 ∷ [])
+    small-accepted
+    0 before after refl refl refl in
+    let all = subst (All (λ (e : EndedJob). 2 ≤ e.job.number)) (sym ends.ended) ends.follow in
+    let low : 2 ≤ 1 = all 0 ended within in
+    absurd (omega arith)
+
+pub untrue : ¬ (SeenIsPublished believes_any_number)
+untrue law =
+    let low : 7 ≤ 1 = law small_mirrors small_batch 1 (Learn 0 7 ∷ []) small-accepted 0 in
+    absurd (omega arith)
+
+pub no_room : ¬ (TotalsAreWithinBudgets grants_without_room)
+unfolding hex_on_literals version.version_of version.components_of version.lenient_version_of hash_of parsed
+no_room law =
+    let book = law small_mirrors small_batch 2 (begins 0 (begins 1 (Grant 0 0 3 ∷ Grant 1 0 3 ∷ []))) small-accepted
+    0 in
+    let low : 6 ≤ 5 = book.within in
+    absurd (omega arith)
+
+pub share : ¬ (TotalsAreWithinBudgets leaves_the_share)
+unfolding hex_on_literals version.version_of version.components_of version.lenient_version_of hash_of parsed
+share law =
+    let book = law small_mirrors small_batch 1 (begins 0 (Grant 0 0 3 ∷ [])) small-accepted 0 in
+    apart 3 0 refl book.adds_up
+
+pub lowered : ¬ (TotalsAreWithinBudgets cuts_a_budget)
+unfolding hex_on_literals version.version_of version.components_of version.lenient_version_of hash_of parsed
+lowered law =
+    let book = law small_mirrors small_batch 1 (begins 0 (Grant 0 0 3 ∷ Raise 0 2 ∷ [])) small-accepted 0 in
+    let low : 3 ≤ 2 = book.within in
+    absurd (omega arith)
+
+pub forgotten : ¬ (SharesAreOfJobs forgets_dropped_jobs)
+unfolding hex_on_literals version.version_of version.components_of version.lenient_version_of hash_of parsed
+forgotten law =
+    let within : 0 < 1 = omega arith in
+    apart 3 0 refl
+    (law small_mirrors small_batch 1 (begins 0 (Grant 0 0 3 ∷ Drop 0 ∷ [])) small-accepted 0 0 new_worker within)
+
+pub half : ¬ (BatchesArePublishedWhole publishes_half_a_batch)
+unfolding hex_on_literals version.version_of version.components_of version.lenient_version_of hash_of parsed
+half law =
+    let within : 1 < 2 = omega arith in
+    let batch = withdrawal ∷ lower_release ∷ [] in
+    let given = small_batch ∷ batch ∷ [] in
+    let whole = law small_mirrors small_batch 1 (Publish 1 batch ∷ []) small-accepted 1 [] within in
+    let long : All (λ (b : List Edit). 2 ≤ length b) given =
+    All-from_recursion (λ (b : List Edit). 2 ≤ length b) given (omega arith, (omega arith, tt)) in
+    let low : 2 ≤ 1 = All-contains (λ (b : List Edit). 2 ≤ length b) given (withdrawal ∷ []) long whole in
+    absurd (omega arith)
+
+pub rejected : ¬ (PublishedIsAccepted publishes_rejected_batches)
+unfolding hex_on_literals version.version_of version.components_of version.lenient_version_of hash_of parsed
+rejected law =
+    let accepted = law small_mirrors small_batch 1 (Publish 1 (unknown_release ∷ []) ∷ []) small-accepted in
+    false≢true (ap (λ (r : Result (List App) Refused). is_ok r) accepted.led)
+
+pub late : ¬ (BatchesArePublishedInTurn publishes_late_batches)
+unfolding hex_on_literals version.version_of version.components_of version.lenient_version_of hash_of parsed
+late law = apart 2 1 refl
+    (ap (λ (h : History). length h) (law small_mirrors small_batch 1 [] small-accepted 0 (withdrawal ∷ [])))
+
+pub never : ¬ (BatchesArePublishedInTurn never_publishes)
+unfolding hex_on_literals version.version_of version.components_of version.lenient_version_of hash_of parsed
+never law = apart 1 2 refl
+    (ap (λ (h : History). length h) (law small_mirrors small_batch 1 [] small-accepted 1 (withdrawal ∷ [])))

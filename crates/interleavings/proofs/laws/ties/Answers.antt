@@ -1,0 +1,13 @@
+use Rattle.interleavings.proofs.TieLemmas.{answers_are_of_pending, full_is_not_published, grants_are_booked, next_is_published, rejected_is_not_published, room_is_tested}
+use Rattle.interleavings.proofs.laws.ties.Goals as goal
+
+pub returns : goal.returns
+returns c =
+    record {
+      next = next_is_published;
+      rejected = rejected_is_not_published;
+      full = full_is_not_published;
+      room = room_is_tested;
+      grants = grants_are_booked;
+      answers = answers_are_of_pending;
+    }

@@ -1,0 +1,183 @@
+-- What holds of a service after every list of events: every interleaving of publishers, workers and operators. Each
+-- law is said of a machine, so that wrong machines can be held against it.
+use Rattle.std.specs.Prelude.{◌≡◌, ℕ, ◌≤◌, true, All, Contains, List, [], ◌∷◌, ◌++◌, IfSome, length, slice_get, sum_by, take, Option, None, Some}
+use Rattle.std.specs.Option.{option_map_or}
+use Rattle.catalogue.specs.declared.edit.Edit.{Edit}
+use Rattle.catalogue_laws.specs.Histories.{History, LeadsTo}
+use Rattle.editions.specs.Editions.{IsAccepted, content_of, max_batches}
+use Rattle.mirror_ledger.specs.Named.{budget_at}
+use Rattle.omaha_json.specs.declared.reply.Reply.{Reply}
+use Rattle.omaha_json.specs.declared.request.Request.{Request}
+use Rattle.par_tables.specs.Tables.{AreTables}
+use Rattle.price_cert.specs.Tables.{Certificate}
+use Rattle.records.specs.declared.content.App.{App}
+use Rattle.records.specs.declared.mirror.Mirror.{Mirror}
+use Rattle.replies.specs.Plans.{IsPlan, payloads_of}
+use Rattle.replies.specs.Replies.{AreOutcomes, reply_of}
+use Rattle.replies.specs.declared.choices.Choice.{Choice}
+use Rattle.interleavings.specs.Choices.{IsByPrices}
+use Rattle.interleavings.specs.Events.{Event, Machine, Publish, Raise, service_after}
+use Rattle.interleavings.specs.Jobs.{EndedJob, Job, Pending, Rendered, Worker, granted_for, is_decided, jobs_of, outcomes_of}
+use Rattle.interleavings.specs.Services.{Service, content_at, published, raised_budget}
+
+-- what holds of a service after every list of events since it opened with an accepted batch
+abbrev pub Always : Machine → (List Mirror → List Edit → List Event → Service → Type 0) → Type 0
+Always machine Holds =
+    (mirrors : List Mirror) (batch : List Edit) (workers : ℕ) (events : List Event) →
+    IsAccepted [] batch →
+    Holds mirrors batch events (service_after machine mirrors batch workers events)
+
+-- what holds of such a service and of the same one after more events
+abbrev pub Onward : Machine → (Service → Service → Type 0) → Type 0
+Onward machine Holds =
+    (mirrors : List Mirror) (batch : List Edit) (workers : ℕ) (events more : List Event) →
+    IsAccepted [] batch →
+    Holds (service_after machine mirrors batch workers events)
+    (service_after machine mirrors batch workers (events ++ more))
+
+-- the reply to a request by one content: by a plan of first payloads of least chains, and by an outcome for each app;
+-- no price is in it
+pub record IsReplyOf (apps : List App) (mirrors : List Mirror) (request : Request) (plan : List (Option Choice))
+    (outcomes : List (Option ℕ)) (moment : ℕ) (reply : Reply) : Type 0 where
+  pub planned : IsPlan apps request plan
+  pub decided : AreOutcomes mirrors plan outcomes
+  pub is : reply ≡ reply_of apps request (payloads_of plan) outcomes mirrors moment
+
+-- a rendered reply is that of one published catalogue: of the first batches, of the number that its job entered
+pub record IsOfOneCatalogue (mirrors : List Mirror) (history : History) (job : Job) (rendered : Rendered) : Type 0 where
+  pub some : 1 ≤ job.number
+  pub published : job.number ≤ length history
+  pub led : LeadsTo (take job.number history) (content_at history job.number)
+  pub pending : Pending
+  pub planned : job.pending ≡ Some pending
+  pub decided : is_decided pending ≡ true
+  pub reply_is :
+      IsReplyOf (content_at history job.number) mirrors pending.request pending.choices (outcomes_of pending)
+      rendered.moment rendered.reply
+
+-- so is the reply of a job, if it ended with one
+abbrev pub EndsWell : List Mirror → History → EndedJob → Type 0
+EndsWell mirrors history ended = IfSome ended.rendered (IsOfOneCatalogue mirrors history ended.job)
+
+-- rule: Every interleaving
+-- each reply is that of one published catalogue
+abbrev pub RepliesAreOfOneCatalogue : Machine → Type 0
+RepliesAreOfOneCatalogue machine =
+    Always machine
+    (λ mirrors batch events service.
+    All (λ (worker : Worker). All (EndsWell mirrors service.history) worker.ended) service.workers)
+
+-- the worker at an index, if there is one
+abbrev pub worker_at : Service → ℕ → Option Worker
+worker_at service index = slice_get service.workers index
+
+-- the jobs that a worker ended stay, and each that it ends later goes by at least so many batches
+pub record EndsLater (number : ℕ) (before after : Worker) : Type 0 where
+  pub later : List EndedJob
+  pub ended : after.ended ≡ before.ended ++ later
+  pub follow : All (λ (ended : EndedJob). number ≤ ended.job.number) later
+
+-- a job goes by no fewer batches than its worker had seen or heard of before it began
+abbrev pub JobsGoByWhatWasSeen : Machine → Type 0
+JobsGoByWhatWasSeen machine =
+    Onward machine
+    (λ service later.
+    (index : ℕ) (before after : Worker) →
+    worker_at service index ≡ Some before → worker_at later index ≡ Some after →
+    before.job ≡ None → EndsLater before.seen before after)
+
+-- what the worker at an index has seen
+abbrev pub seen_by : Service → ℕ → ℕ
+seen_by service index = option_map_or (λ (worker : Worker). worker.seen) (worker_at service index) 0
+
+-- what a worker has seen never falls
+abbrev pub SeenNeverFalls : Machine → Type 0
+SeenNeverFalls machine = Onward machine (λ service later. (index : ℕ) → seen_by service index ≤ seen_by later index)
+
+-- and is published
+abbrev pub SeenIsPublished : Machine → Type 0
+SeenIsPublished machine =
+    Always machine (λ mirrors batch events service. (index : ℕ) → seen_by service index ≤ length service.history)
+
+-- the budget of a mirror after an event
+abbrev pub budget_after : ℕ → Event → ℕ → ℕ
+budget_after mirror (Raise raised bytes) budget = raised_budget raised bytes mirror budget
+budget_after mirror event budget = budget
+
+-- the budget of a mirror after some events: the highest one that it was given
+abbrev pub budget_by : ℕ → List Event → ℕ → ℕ
+budget_by mirror [] budget = budget
+budget_by mirror (event ∷ events) budget = budget_by mirror events (budget_after mirror event budget)
+
+-- the book of a mirror: its total is the sum of the workers' shares and within its current budget
+pub record IsBooked (mirrors : List Mirror) (events : List Event) (service : Service) (mirror : ℕ) : Type 0 where
+  pub adds_up : (service.books mirror).total ≡ sum_by (λ (worker : Worker). worker.share mirror) service.workers
+  pub within : (service.books mirror).total ≤ (service.books mirror).budget
+  pub budget : (service.books mirror).budget ≡ budget_by mirror events (budget_at mirrors mirror)
+
+-- so is each book
+abbrev pub TotalsAreWithinBudgets : Machine → Type 0
+TotalsAreWithinBudgets machine =
+    Always machine (λ mirrors batch events service. (mirror : ℕ) → IsBooked mirrors events service mirror)
+
+-- a worker's share of a mirror is what the mirror granted for its jobs: for those that ended, with a reply or without
+-- one, and for the one that it has
+abbrev pub SharesAreOfJobs : Machine → Type 0
+SharesAreOfJobs machine =
+    Always machine
+    (λ mirrors batch events service.
+    (mirror : ℕ) →
+    All (λ (worker : Worker). worker.share mirror ≡ sum_by (granted_for mirror) (jobs_of worker)) service.workers)
+
+-- an accepted history with a batch, and not too long
+pub record IsAcceptedHistory (history : History) : Type 0 where
+  pub content : List App
+  pub led : LeadsTo history content
+  pub some : 1 ≤ length history
+  pub few : length history ≤ max_batches
+
+-- what is published is accepted
+abbrev pub PublishedIsAccepted : Machine → Type 0
+PublishedIsAccepted machine = Always machine (λ mirrors batch events service. IsAcceptedHistory service.history)
+
+-- a history begins with another one
+abbrev pub BeginsWith : History → History → Type 0
+BeginsWith history begin = (rest : History) × (history ≡ begin ++ rest)
+
+-- what is published stays so
+abbrev pub PublishedStays : Machine → Type 0
+PublishedStays machine = Onward machine (λ service later. BeginsWith later.history service.history)
+
+-- the batch that an event publishes, if it is published
+abbrev pub batch_given : Event → List (List Edit)
+batch_given (Publish known batch) = batch ∷ []
+batch_given event = []
+
+-- the batches that some events publish, if they are published
+abbrev pub batches_given : List Event → List (List Edit)
+batches_given [] = []
+batches_given (event ∷ events) = batch_given event ++ batches_given events
+
+-- each published batch was given so, as a whole
+abbrev pub BatchesArePublishedWhole : Machine → Type 0
+BatchesArePublishedWhole machine =
+    Always machine
+    (λ mirrors batch events service.
+    All (λ (added : List Edit). Contains (batch ∷ batches_given events) added) service.history)
+
+-- whoever publishes next, of whatever batches they know, gets what the definition says: a batch that is accepted and in
+-- turn is published, and no other
+abbrev pub BatchesArePublishedInTurn : Machine → Type 0
+BatchesArePublishedInTurn machine =
+    Always machine
+    (λ mirrors batch events service.
+    (known : ℕ) (next : List Edit) →
+    (machine mirrors service (Publish known next)).history ≡ published service.history known next)
+
+-- each plan that an edition's program makes is one that a worker makes by certified rows: those of the edition's tables
+abbrev pub PlansAreByPrices : Type 0
+PlansAreByPrices =
+    (history : History) (tables : List Certificate) (request : Request) (plan : List (Option Choice)) →
+    AreTables (content_of history) tables →
+    IsPlan (content_of history) request plan →
+    IsByPrices (content_of history) request plan

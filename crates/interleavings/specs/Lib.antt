@@ -1,0 +1,11 @@
+pub mod Choices
+pub mod Events
+pub mod Headline
+pub mod Jobs
+pub mod Laws
+pub mod Moves
+pub mod Requests
+pub mod Runs
+pub mod Services
+pub mod Ties
+pub mod Wrong

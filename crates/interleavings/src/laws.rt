@@ -1,0 +1,128 @@
+//! What holds after every interleaving of publishers, workers and operators, each law as a clause of a function.
+
+ghost use Rattle.interleavings.specs.Events.{happens};
+ghost use Rattle.interleavings.specs.Headline.{OffersLeadToTargets, RepliesSayTrue};
+ghost use Rattle.interleavings.specs.Laws.{BatchesArePublishedInTurn, BatchesArePublishedWhole, JobsGoByWhatWasSeen, PlansAreByPrices, PublishedIsAccepted, PublishedStays, RepliesAreOfOneCatalogue, SeenIsPublished, SeenNeverFalls, SharesAreOfJobs, TotalsAreWithinBudgets};
+ghost use Rattle.interleavings.specs.Requests.{RepliesAreToGivenRequests};
+ghost use Rattle.interleavings.specs.Runs.{BudgetEnds, BudgetRaised, DropAfterGrant, FailedConditions, PublishBetween, StalePublish};
+ghost use Rattle.interleavings.specs.Ties.{AnswersAreOfPending, FullIsNotPublished, GrantsAreBooked, NextIsPublished, RejectedIsNotPublished, RoomIsTested};
+ghost use Rattle.interleavings.specs.Wrong.{EntriesBreak, GrantsBreak, PlansAndRepliesBreak, PublishesBreak};
+
+// rule: Service
+// rule: Worker
+// rule: Event
+// rule: Interleaving
+// rule: Every interleaving
+/// States what holds of a service after every list of events since it opened with an accepted batch, for any number
+/// of workers, mirrors and batches.
+///
+/// Each rendered reply is the reply to its request at its time, by its outcomes and by the first batches that are
+/// published, of the number that its job entered; its job goes by no fewer batches than its worker had seen or heard
+/// of before. What a worker has seen never falls, and is published. Each mirror's total is the sum of the workers'
+/// shares and within its current budget, which is the highest one that it was given. Each share is the sum of
+/// what the mirror granted for the worker's jobs: for those that ended with a reply, for those that were dropped, and
+/// for the one that it has.
+pub fn every_interleaving()
+    ensures replies { RepliesAreOfOneCatalogue happens }
+    ensures later { JobsGoByWhatWasSeen happens }
+    ensures seen { SeenNeverFalls happens }
+    ensures published { SeenIsPublished happens }
+    ensures budgets { TotalsAreWithinBudgets happens }
+    ensures shares { SharesAreOfJobs happens }
+{
+    catalogue_laws::growth();
+    catalogue_laws::prefixes();
+    catalogue_laws::validity();
+    quotes::laws::rows();
+    theorems::laws::graphs();
+}
+
+// rule: Published history
+/// States that what is published is an accepted history of 1 to 4096 batches, that it stays so, that each of its
+/// batches was given as a whole, and that a batch is published exactly if it is accepted, there is room, and its
+/// publisher knew of all batches before it.
+pub fn publishing()
+    ensures accepted { PublishedIsAccepted happens }
+    ensures stays { PublishedStays happens }
+    ensures whole { BatchesArePublishedWhole happens }
+    ensures turn { BatchesArePublishedInTurn happens }
+{
+    catalogue_laws::growth();
+    catalogue_laws::prefixes();
+    catalogue_laws::validity();
+    quotes::laws::rows();
+    theorems::laws::graphs();
+}
+
+/// States that each reply of a worker is to a request that this worker was given to plan, at a time at which it was to
+/// render.
+pub fn requests()
+    ensures { RepliesAreToGivenRequests happens }
+{}
+
+// rule: Statuses of every interleaving
+/// States what each reply of every interleaving says of each app that wants an update, in the catalogue that its job
+/// entered.
+///
+/// `noupdate` says that the client is at its target or that no chain of permitted payloads leads there,
+/// `error-internal` that no mirror granted the first payload of a chain of the least sum, and an offer is of that
+/// payload, from a mirror that granted its bytes.
+pub fn statuses()
+    ensures { RepliesSayTrue happens }
+{
+    crate::laws::every_interleaving();
+    theorems::laws::statuses();
+}
+
+/// States where the offers of every interleaving lead: a client that takes one can go on, while the catalogue stays as
+/// it was for the reply and mirrors grant what is asked, and then comes to its target for the least sum of bytes.
+pub fn following()
+    ensures { OffersLeadToTargets happens }
+{
+    crate::laws::every_interleaving();
+    theorems::laws::statuses();
+    theorems::laws::steps();
+    theorems::laws::walk();
+}
+
+// rule: Choice by prices
+/// States that each plan by a history's content is what a worker chooses by certified rows, if there are tables of the
+/// content, as an edition has them.
+pub fn plans()
+    ensures { PlansAreByPrices }
+{
+    catalogue_laws::validity();
+    quotes::laws::rows();
+    par_tables::laws::tracks();
+    theorems::laws::graphs();
+    theorems::laws::plans();
+}
+
+/// States which events the contracts of `Edition::next`, `Book::grant` and `update_desk::answer` are.
+pub fn ties()
+    ensures next { NextIsPublished }
+    ensures rejected { RejectedIsNotPublished }
+    ensures full { FullIsNotPublished }
+    ensures room { RoomIsTested }
+    ensures grants { GrantsAreBooked }
+    ensures answers { AnswersAreOfPending }
+{}
+
+/// Shows small runs, worked by hand: a publish between the plan of one worker and its reply, a dropped job, a publisher
+/// that is too late, a budget that ends between two workers, one that is raised, and events whose conditions fail.
+pub fn runs()
+    ensures publish { PublishBetween }
+    ensures drop { DropAfterGrant }
+    ensures stale { StalePublish }
+    ensures ends { BudgetEnds }
+    ensures raised { BudgetRaised }
+    ensures failed { FailedConditions }
+{}
+
+/// Shows machines that are wrong in one event each, with the law that each of them breaks.
+pub fn wrong_machines()
+    ensures replies { PlansAndRepliesBreak }
+    ensures entries { EntriesBreak }
+    ensures grants { GrantsBreak }
+    ensures publishes { PublishesBreak }
+{}
