@@ -4,6 +4,7 @@ use Rattle.catalogue_laws.specs.Histories.{History}
 use Rattle.publisher.specs.declared.told.Told.{Told}
 use Rattle.publisher.specs.declared.told.Told.TheVariants as told
 
+-- rule: Told history
 -- the histories that were heard, with the one that was told
 abbrev pub heard_with : Told → List History → List History
 heard_with told.Nothing heard = heard

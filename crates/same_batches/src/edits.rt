@@ -107,7 +107,6 @@ fn is_same_open(one: &SetOpen, other: &SetOpen) -> bool
 }
 
 /// Whether two edits are of one kind and have the same fields.
-// rule: Same batch
 pub(crate) fn is_same_edit(one: &Edit, other: &Edit) -> bool
     ensures { IsTrue result ↔ (one.now ≡ other.now) }
 {

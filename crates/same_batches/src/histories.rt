@@ -9,16 +9,15 @@ use catalogue::Batch;
 use std::sync::Arc;
 
 /// Whether two batches have the same edits in the same order.
-// rule: Same batch
 pub fn is_same(one: &Batch, other: &Batch) -> bool
     ensures { IsTrue result ↔ (one.now ≡ other.now) }
 {
-    let (one, other) = (one.edits(), other.edits());
-    if one.len() != other.len() {
+    let (edits, others) = (one.edits(), other.edits());
+    if edits.len() != others.len() {
         return false;
     }
-    for index in 0..one.len() {
-        if !is_same_edit(&one[index], &other[index]) {
+    for index in 0..edits.len() {
+        if !is_same_edit(&edits[index], &others[index]) {
             return false;
         }
     }
