@@ -1,9 +1,10 @@
 -- Histories that begin with those that were heard.
-use Rattle.std.proofs.Common.{◌≡◌, ℕ, ◌≤◌, max, List, [], ◌∷◌, ◌++◌, length, refl, sym, ap, ◌∙◌, append_assoc, arith, omega, subst, le_trans}
-use Rattle.std.proofs.lemmas.List.{append-nil, length-append}
+use Rattle.std.proofs.Common.{◌≡◌, ◌≤◌, List, [], ◌∷◌, ◌++◌, length, sym, ap, ◌∙◌, take, drop, append_assoc, arith, subst}
+use Rattle.std.proofs.lemmas.List.{append-nil, length-append, take-append-drop, take-append-le}
+use Rattle.std.proofs.Math.Seq.{take-append_seam}
 use Rattle.catalogue_laws.specs.Histories.{History}
 use Rattle.same_batches.specs.Beginnings.{StartsWith}
-use Rattle.publisher.specs.Heard.{GoesOn, newest}
+use Rattle.publisher.specs.Heard.{GoesOn, IsLinked, newest}
 
 pub starts_with-self : (now : History) → StartsWith now now
 starts_with-self now = ([], sym (append-nil now))
@@ -33,3 +34,19 @@ newest-le now (first ∷ others) all =
     let one : length first ≤ length now = starts_with-length now first all.0 in
     let rest : newest others ≤ length now = newest-le now others all.1 in
     omega arith
+
+-- of two beginnings of one history the longer begins with the shorter
+starts_with-longer : (now one other : History) → StartsWith now one → StartsWith now other → length one ≤ length other → StartsWith other one
+starts_with-longer now one other from_one from_other longer =
+    let start : take (length one) other ≡ one =
+    sym (take-append-le (length one) other from_other.0 longer)
+    ∙ ap (take (length one)) (sym from_other.1 ∙ from_one.1)
+    ∙ take-append_seam one from_one.0
+    in (
+      drop (length one) other,
+      sym (take-append-drop (length one) other) ∙ ap (λ (first : History). first ++ drop (length one) other) start,
+    )
+
+pub beginnings-linked : (now one other : History) → StartsWith now one → StartsWith now other → IsLinked one other
+beginnings-linked now one other from_one from_other =
+    (starts_with-longer now one other from_one from_other, starts_with-longer now other one from_other from_one)

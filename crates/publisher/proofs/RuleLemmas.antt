@@ -35,7 +35,7 @@ pub turns : (seat : ℕ) (heard : List History) (x y : Shown) → StartsWith (ar
 turns seat heard x y on views keeps at =
     let now : History = arc_value y.edition in
     let all : Keeps now views = keeps-later now (arc_value x.edition) views on keeps in
-    (now ∷ [], (keeps-set now views seat (now ∷ []) all (starts_with-self now, tt), (refl, all seat heard at)))
+    (now ∷ [], keeps-set now views seat (now ∷ []) all (starts_with-self now, tt), (refl, all seat heard at))
 
 pub forks : (seat : ℕ) (heard : List History) → Forks (λ (x : Shown). Keeps (arc_value x.edition)) seat heard heard heard
 forks seat heard x views keeps at other_seat other there =
@@ -50,11 +50,11 @@ pub merges : (seat : ℕ) (heard : List History) (other : ℕ) (note : List Hist
 merges seat heard other note x views keeps at apart there =
     let now : History = arc_value x.edition in
     let noted : GoesOn now note =
-        ⊎_elim
-        (λ (t : (other ≡ seat) × (heard ++ note ≡ note)). absurd (apart t.0))
-        (λ (t : (other ≢ seat) × (get_elem? views other ≡ some note)). keeps other note t.1)
-        (at_set views seat other (heard ++ note) note there)
-        in
+    ⊎_elim
+    (λ (t : (other ≡ seat) × (heard ++ note ≡ note)). absurd (apart t.0))
+    (λ (t : (other ≢ seat) × (get_elem? views other ≡ some note)). keeps other note t.1)
+    (at_set views seat other (heard ++ note) note there)
+    in
     let both = keeps-set now views seat (heard ++ note) keeps (goes_on-append now heard note (keeps seat heard at) noted) in
     keeps-set now (set views seat (heard ++ note)) other [] both tt
 

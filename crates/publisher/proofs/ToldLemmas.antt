@@ -1,12 +1,10 @@
 -- What was told, beside what was heard.
-use Rattle.std.proofs.Common.{◌≡◌, ℕ, ◌≤◌, max, List, [], ◌∷◌, ◌++◌, length, arith, omega, le_refl, le_trans}
-use Rattle.std.proofs.lemmas.List.{take-append-drop, length-append}
+use Rattle.std.proofs.Common.{List, []}
 use Rattle.catalogue_laws.specs.Histories.{History}
-use Rattle.same_batches.specs.Beginnings.{StartsWith}
 use Rattle.publisher.specs.declared.told.Told.{Told}
 use Rattle.publisher.specs.declared.told.Told.TheVariants as told
-use Rattle.publisher.specs.Heard.{GoesOn, newest}
-use Rattle.publisher.specs.Told.{heard_with, is_lost}
+use Rattle.publisher.specs.Heard.{GoesOn}
+use Rattle.publisher.specs.Told.{heard_with}
 
 -- an edition that begins with what was heard and with what was told
 pub goes_on-told : (now : History) (what : Told) (heard : List History) → GoesOn now (heard_with what []) → GoesOn now heard → GoesOn now (heard_with what heard)

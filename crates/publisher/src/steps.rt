@@ -76,7 +76,7 @@ pub(crate) fn views_of(
     ensures shown { writer.new.desk.shown ≡ writer.old.desk.shown }
 {
     let mut views = Vec::new(alloc);
-    for _reader in 0..readers {
+    for _index in 0..readers {
         let Some(reader) = told_reader(writer) else {
             return Err(OpenError::NoPlace);
         };

@@ -56,7 +56,7 @@ impl Told {
         ensures told { (now : History) (heard : List History) → is_lost result ≡ false → GoesOn now (heard_with result heard)
             → (is_lost self ≡ false) × GoesOn now (heard_with self heard) × StartsWith now (arc_value edition.now) }
         ensures longer { (heard : List History) → is_lost result ≡ false
-            → (newest (heard_with self heard) ≤ newest (heard_with result heard))
+            → (is_lost self ≡ false) × (newest (heard_with self heard) ≤ newest (heard_with result heard))
             × (length (arc_value edition.now) ≤ newest (heard_with result heard)) }
     {
         match self {

@@ -10,6 +10,7 @@ use crate::rule::{Sees, ViewReader, ViewReading};
 use crate::told::Told;
 use editions::Edition;
 use std::marker::Model;
+use std::mem::replace;
 use std::sync::Arc;
 
 /// A worker's view of the published editions: what it has seen, and what it was told.
@@ -100,7 +101,7 @@ impl View {
         ensures seen { self.new.seen ≡ max self.old.seen (length (arc_value edition.now)) }
         ensures told { (now : History) → Allows self.new now → Allows self.old now × StartsWith now (arc_value edition.now) }
     {
-        let told = core::mem::replace(&mut self.told, Told::Lost);
+        let told = replace(&mut self.told, Told::Lost);
         self.told = told.with(edition);
         self.seen = self.seen.max(edition.number());
     }
@@ -138,8 +139,9 @@ impl Entered {
         ensures { result ≡ fresh self }
     {
         let seen = self.edition().number();
+        let Entered { reading } = self;
         View {
-            reader: self.reading.leave(),
+            reader: reading.leave(),
             seen,
             told: Told::Nothing,
         }
