@@ -1,3 +1,3 @@
 mod HeardLemmas
 mod RuleLemmas
-mod ToldLemmas
+mod LearntLemmas

@@ -3,4 +3,4 @@ pub mod Heard
 pub mod Publishing
 pub mod Rule
 pub mod Sights
-pub mod Told
+pub mod Learnt

@@ -12,7 +12,7 @@ use Rattle.publisher.specs.declared.fault.PublishError.TheVariants as publishing
 
 -- rule: Publishing
 -- rule: Stale base
--- what publishing a batch on a base comes to: the history with the batch at its end, of which the receipt tells; or,
+-- what publishing a batch on a base comes to: the history with the batch at its end, which the receipt has; or,
 -- with the history as before, a receipt of the history if its number is not the base, then the error of the next
 -- edition, or out of memory
 abbrev pub Publishes : History → ℕ → List Edit → Result History PublishError → History → Type 0

@@ -1,9 +1,9 @@
--- What a view has seen or was told; this project's profile.
+-- What a view has seen or learnt; this project's profile.
 use Rattle.std.specs.Prelude.{◌≡◌, ℕ, Bool, false, List, [], ◌∷◌, length}
 use Rattle.catalogue_laws.specs.Histories.{History}
 use Rattle.publisher.specs.Heard.{GoesOn}
 
--- a view: the histories that it has seen or was told, whether no history begins with all that it was told, and the
+-- a view: the histories that it has seen or learnt, whether no history begins with all that it has learnt, and the
 -- greatest number of them
 pub record Sight : Type 0 where
   pub heard : List History
@@ -11,7 +11,7 @@ pub record Sight : Type 0 where
   pub seen : ℕ
 
 -- rule: Entry of a view
--- a view may enter an edition of the history: it begins with all that the view has seen or was told
+-- a view may enter an edition of the history: it begins with all that the view has seen or learnt
 abbrev pub Allows : Sight → History → Type 0
 Allows sight now = (sight.lost ≡ false) × GoesOn now sight.heard
 

@@ -7,7 +7,7 @@ ghost use Rattle.publisher.specs.Sights.{Allows, fresh};
 use crate::press::Press;
 use crate::view::View;
 
-/// Tells a view of the press's history, and has it enter and leave one edition.
+/// Notes a view of the press's history, and has it enter and leave one edition.
 ///
 /// Returns the view, with the number that it had seen before and the number of the published edition. If there is no
 /// entry, it returns `None` in place of the numbers, and the view has learnt the press's history.
@@ -17,7 +17,7 @@ pub fn meet(press: &Press, view: View) -> (View, Option<(u64, u64)>)
     ensures met { IfSome result.1 (λ _. (h : History) × (result.0 ≡ fresh h) × Allows view h × StartsWith h press.now) }
     ensures linked { IfSome result.1 (λ _. (seen : History) → view ≡ fresh seen → IsLinked seen press.now) }
 
-    ensures told { IfNone result.1 ((now : History) → Allows result.0 now → Allows view now × StartsWith now press.now) }
+    ensures learnt { IfNone result.1 ((now : History) → Allows result.0 now → Allows view now × StartsWith now press.now) }
     ensures kept { IfNone result.1 (result.0.seen ≡ max view.seen (length press.now)) }
 {
     let mut view = view;

@@ -41,16 +41,16 @@ impl Outcome<Shown, Heard> for Sees {
     ghost then = { λ v _ y w. Meets v (arc_value y.edition) w };
 }
 
-/// The writer's note, by which a new reader hears what the writer has heard.
-pub struct Tells;
+/// What the writer has heard, for a new reader.
+pub struct Notes;
 
-impl Split<Heard> for Tells {
+impl Split<Heard> for Notes {
     ghost left = { λ v. v };
 
     ghost right = { λ v. v };
 }
 
-impl Join<Heard> for Tells {
+impl Join<Heard> for Notes {
     ghost both = { λ v w. v ++ w };
 
     ghost spent = { [] };

@@ -8,7 +8,7 @@ ghost use Rattle.publisher.specs.Sights.{fresh};
 ghost use Rattle.publisher.specs.declared.fault.OpenError.TheVariants.{Memory, NoPlace};
 
 use crate::fault::OpenError;
-use crate::rule::{PressWriter, Sees, Tells, ViewReader};
+use crate::rule::{PressWriter, Sees, Notes, ViewReader};
 use crate::shown::Shown;
 use crate::view::View;
 use editions::Edition;
@@ -49,7 +49,7 @@ pub(crate) fn show<R: Wait>(
 }
 
 // A reader that has heard what the writer has; `None` if there is no place for one.
-fn told_reader(writer: &mut PressWriter) -> Option<ViewReader>
+fn new_reader(writer: &mut PressWriter) -> Option<ViewReader>
     ensures reader { IfSome result (λ r. heard_by r.place ≡ heard_by writer.old.desk.place) }
     ensures heard { heard_by writer.new.desk.place ≡ heard_by writer.old.desk.place }
     ensures shown { writer.new.desk.shown ≡ writer.old.desk.shown }
@@ -58,7 +58,7 @@ fn told_reader(writer: &mut PressWriter) -> Option<ViewReader>
         Ok(reader) => reader,
         Err(_) => return None,
     };
-    reader.learn::<Tells>(writer.tell::<Tells>());
+    reader.learn::<Notes>(writer.tell::<Notes>());
     Some(reader)
 }
 
@@ -77,7 +77,7 @@ pub(crate) fn views_of(
 {
     let mut views = Vec::new(alloc);
     for _index in 0..readers {
-        let Some(reader) = told_reader(writer) else {
+        let Some(reader) = new_reader(writer) else {
             return Err(OpenError::NoPlace);
         };
         let view = View::new(reader, &writer.published().edition);

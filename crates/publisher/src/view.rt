@@ -7,20 +7,20 @@ ghost use Rattle.publisher.specs.Sights.{Allows, fresh};
 
 use crate::receipt::Receipt;
 use crate::rule::{Sees, ViewReader, ViewReading};
-use crate::told::Told;
+use crate::learnt::Learnt;
 use editions::Edition;
 use std::marker::Model;
 use std::mem::replace;
 use std::sync::Arc;
 
-/// A worker's view of the published editions: what it has seen, and what it was told.
+/// A worker's view of the published editions: what it has seen, and what it has learnt.
 ///
 /// It may be moved to another thread.
 #[derive(Drop)]
 pub struct View {
     reader: ViewReader,
     seen: u64,
-    told: Told,
+    learnt: Learnt,
 }
 
 impl Model for View {
@@ -28,13 +28,13 @@ impl Model for View {
     ghost use Rattle.left_right.specs.Sides.{view as heard_by};
     ghost use Rattle.publisher.specs.Heard.{newest};
     ghost use Rattle.publisher.specs.Sights.{Sight};
-    ghost use Rattle.publisher.specs.Told.{heard_with, is_lost};
+    ghost use Rattle.publisher.specs.Learnt.{heard_with, is_lost};
 
     ghost Value = { Sight };
 
-    ghost view = { λ v. record { heard = heard_with v.told (heard_by v.reader.place); lost = is_lost v.told; seen = v.seen } };
+    ghost view = { λ v. record { heard = heard_with v.learnt (heard_by v.reader.place); lost = is_lost v.learnt; seen = v.seen } };
 
-    ghost invariant = { λ v. is_lost v.told ≡ false → v.seen ≤ newest (heard_with v.told (heard_by v.reader.place)) };
+    ghost invariant = { λ v. is_lost v.learnt ≡ false → v.seen ≤ newest (heard_with v.learnt (heard_by v.reader.place)) };
 }
 
 /// A view that has entered an edition. It is not `Drop`: end it by `leave`.
@@ -66,14 +66,14 @@ impl View {
         View {
             reader,
             seen: edition.number(),
-            told: Told::Nothing,
+            learnt: Learnt::Nothing,
         }
     }
 
     /// Enters the published edition, without waiting for the publisher and without memory.
     ///
-    /// Its history begins with all that the view has seen or was told. Returns the view if there is no entry: as it
-    /// was if the press has ended; else lost, which lets it never enter again, since what it was told fits no edition.
+    /// Its history begins with all that the view has seen or learnt. Returns the view if there is no entry: as it
+    /// was if the press has ended; else lost, which lets it never enter again, since what it has learnt fits no edition.
     // rule: Entry of a view
     pub fn enter(self) -> Result<Entered, View>
         ensures entered { IfOk result (λ e. Allows self e) }
@@ -81,43 +81,43 @@ impl View {
 
         ensures back { IfErr result (λ v. (v ≡ self) ⊎ ((v.lost ≡ true) × (v.seen ≡ self.seen))) }
     {
-        let View { reader, seen, told } = self;
+        let View { reader, seen, learnt } = self;
         let reading = match reader.enter_as::<Sees>() {
             Ok(reading) => reading,
-            Err(reader) => return Err(View { reader, seen, told }),
+            Err(reader) => return Err(View { reader, seen, learnt }),
         };
-        if told.fits(&reading.get().edition) {
+        if learnt.fits(&reading.get().edition) {
             return Ok(Entered { reading });
         }
         Err(View {
             reader: reading.leave(),
             seen,
-            told: Told::Lost,
+            learnt: Learnt::Lost,
         })
     }
 
-    // Tells the view of an edition.
+    // Notes the view of an edition.
     pub(crate) fn hear(&mut self, edition: &Arc<Edition>)
         ensures seen { self.new.seen ≡ max self.old.seen (length (arc_value edition.now)) }
-        ensures told { (now : History) → Allows self.new now → Allows self.old now × StartsWith now (arc_value edition.now) }
+        ensures learnt { (now : History) → Allows self.new now → Allows self.old now × StartsWith now (arc_value edition.now) }
     {
-        let told = replace(&mut self.told, Told::Lost);
-        self.told = told.with(edition);
+        let learnt = replace(&mut self.learnt, Learnt::Lost);
+        self.learnt = learnt.with(edition);
         self.seen = self.seen.max(edition.number());
     }
 
-    /// Tells the view what was published: each later entry's history begins with the receipt's.
+    /// Notes the view what was published: each later entry's history begins with the receipt's.
     ///
     /// Meant for a receipt of the same `open`. After one of another, the view is mostly lost: it enters nothing more.
-    // rule: Told history
+    // rule: Learnt history
     pub fn learn(&mut self, receipt: &Receipt)
         ensures seen { self.new.seen ≡ max self.old.seen (length receipt.now) }
-        ensures told { (now : History) → Allows self.new now → Allows self.old now × StartsWith now receipt.now }
+        ensures learnt { (now : History) → Allows self.new now → Allows self.old now × StartsWith now receipt.now }
     {
         self.hear(receipt.shared());
     }
 
-    /// Returns the greatest number of an edition that the view has seen or was told.
+    /// Returns the greatest number of an edition that the view has seen or learnt.
     pub fn seen(&self) -> u64
         ensures { result ≡ self.now.seen }
     {
@@ -143,7 +143,7 @@ impl Entered {
         View {
             reader: reading.leave(),
             seen,
-            told: Told::Nothing,
+            learnt: Learnt::Nothing,
         }
     }
 }

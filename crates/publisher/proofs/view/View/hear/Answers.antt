@@ -2,21 +2,21 @@ use Rattle.std.proofs.Common.{◌≡◌, arith, false, subst}
 use Rattle.left_right.specs.Sides.{view as heard_by}
 use Rattle.publisher.specs.Heard.{GoesOn}
 use Rattle.publisher.specs.Sights.{Allows, Sight}
-use Rattle.publisher.specs.Told.{heard_with, is_lost}
-use Rattle.publisher.specs.declared.told.Told.{Told}
+use Rattle.publisher.specs.Learnt.{heard_with, is_lost}
+use Rattle.publisher.specs.declared.learnt.Learnt.{Learnt}
 use Rattle.publisher.proofs.view.View.hear.Goals as goal
 
 pub invariant_of-self : goal.invariant_of-self
 invariant_of-self c fits =
     let longer = c.with.ensures.longer (heard_by c.self.inside.reader.place) fits in
-    let known = c.self.invariant (subst (λ (what : Told). is_lost what ≡ false) c.replace-told.ensures.value longer.0) in
-    grind (arith, known, c.replace-told.ensures.value, longer.1, longer.2, c.max-self-inside.ensures, c.number.ensures.count, c.deref.ensures)
+    let known = c.self.invariant (subst (λ (what : Learnt). is_lost what ≡ false) c.replace-learnt.ensures.value longer.0) in
+    grind (arith, known, c.replace-learnt.ensures.value, longer.1, longer.2, c.max-self-inside.ensures, c.number.ensures.count, c.deref.ensures)
 
-pub returns-clause-told : goal.returns-clause-told
-returns-clause-told c now allows =
+pub returns-clause-learnt : goal.returns-clause-learnt
+returns-clause-learnt c now allows =
     let heard = heard_by c.self.inside.reader.place in
-    let kept = c.with.ensures.told now heard allows.0 allows.1 in
+    let kept = c.with.ensures.learnt now heard allows.0 allows.1 in
     let before =
-    subst (λ (what : Told). (is_lost what ≡ false) × GoesOn now (heard_with what heard)) c.replace-told.ensures.value (kept.0, kept.1)
+    subst (λ (what : Learnt). (is_lost what ≡ false) × GoesOn now (heard_with what heard)) c.replace-learnt.ensures.value (kept.0, kept.1)
     in
     (subst (λ (sight : Sight). Allows sight now) c.self.view_is before, kept.2)

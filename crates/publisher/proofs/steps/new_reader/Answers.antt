@@ -1,5 +1,5 @@
 use Rattle.publisher.proofs.RuleLemmas.{admits, forks, merges}
-use Rattle.publisher.proofs.steps.told_reader.Goals as goal
+use Rattle.publisher.proofs.steps.new_reader.Goals as goal
 
 pub reader-requires : goal.reader-requires
 reader-requires c = admits

@@ -2,18 +2,18 @@ ghost use Rattle.std.specs.Prelude.{◌≡◌, ◌≤◌, ◌⊎◌, ◌↔◌, 
 ghost use Rattle.std.specs.Arc.{arc_value};
 ghost use Rattle.catalogue_laws.specs.Histories.{History};
 ghost use Rattle.same_batches.specs.Beginnings.{StartsWith};
-ghost use Rattle.publisher.specs.declared.told.Told.TheVariants.{Lost, Of};
+ghost use Rattle.publisher.specs.declared.learnt.Learnt.TheVariants.{Lost, Of};
 ghost use Rattle.publisher.specs.Heard.{GoesOn, newest};
-ghost use Rattle.publisher.specs.Told.{heard_with, is_lost};
+ghost use Rattle.publisher.specs.Learnt.{heard_with, is_lost};
 
 use crate::receipt::Receipt;
 use editions::Edition;
 use same_batches::starts_with;
 use std::sync::Arc;
 
-/// What a view was told and has not seen since.
+/// What a view has learnt and not seen since.
 #[derive(Drop)]
-pub enum Told {
+pub enum Learnt {
     /// Nothing.
     Nothing,
     /// The history of a receipt.
@@ -22,58 +22,58 @@ pub enum Told {
     Lost,
 }
 
-// The longer of a told history and an edition's, if it begins with the other.
-fn joined(receipt: Receipt, edition: &Arc<Edition>) -> Told
-    ensures told { (now : History) (heard : List History) → is_lost result ≡ false → GoesOn now (heard_with result heard)
+// The longer of a learnt history and an edition's, if it begins with the other.
+fn joined(receipt: Receipt, edition: &Arc<Edition>) -> Learnt
+    ensures learnt { (now : History) (heard : List History) → is_lost result ≡ false → GoesOn now (heard_with result heard)
         → GoesOn now heard × StartsWith now receipt × StartsWith now (arc_value edition.now) }
     ensures longer { (heard : List History) → is_lost result ≡ false
         → (newest heard ≤ newest (heard_with result heard)) × (length receipt ≤ newest (heard_with result heard))
         × (length (arc_value edition.now) ≤ newest (heard_with result heard)) }
 {
-    let told = receipt.shared();
-    if starts_with(edition.batches(), told.batches()) {
-        return Told::shared(edition);
+    let learnt = receipt.shared();
+    if starts_with(edition.batches(), learnt.batches()) {
+        return Learnt::shared(edition);
     }
-    if starts_with(told.batches(), edition.batches()) {
-        return Told::Of(receipt);
+    if starts_with(learnt.batches(), edition.batches()) {
+        return Learnt::Of(receipt);
     }
-    Told::Lost
+    Learnt::Lost
 }
 
-impl Told {
+impl Learnt {
     // `Lost` if the edition has 2^63 owners.
-    fn shared(edition: &Arc<Edition>) -> Told
+    fn shared(edition: &Arc<Edition>) -> Learnt
         ensures { (result ≡ Of (arc_value edition.now)) ⊎ (result ≡ Lost) }
     {
         match Receipt::of(edition) {
-            Ok(receipt) => Told::Of(receipt),
-            Err(_) => Told::Lost,
+            Ok(receipt) => Learnt::Of(receipt),
+            Err(_) => Learnt::Lost,
         }
     }
 
-    /// Adds the history of an edition to what was told.
-    pub(crate) fn with(self, edition: &Arc<Edition>) -> Told
-        ensures told { (now : History) (heard : List History) → is_lost result ≡ false → GoesOn now (heard_with result heard)
+    /// Adds the history of an edition to what was learnt.
+    pub(crate) fn with(self, edition: &Arc<Edition>) -> Learnt
+        ensures learnt { (now : History) (heard : List History) → is_lost result ≡ false → GoesOn now (heard_with result heard)
             → (is_lost self ≡ false) × GoesOn now (heard_with self heard) × StartsWith now (arc_value edition.now) }
         ensures longer { (heard : List History) → is_lost result ≡ false
             → (is_lost self ≡ false) × (newest (heard_with self heard) ≤ newest (heard_with result heard))
             × (length (arc_value edition.now) ≤ newest (heard_with result heard)) }
     {
         match self {
-            Told::Nothing => Told::shared(edition),
-            Told::Of(receipt) => joined(receipt, edition),
-            Told::Lost => Told::Lost,
+            Learnt::Nothing => Learnt::shared(edition),
+            Learnt::Of(receipt) => joined(receipt, edition),
+            Learnt::Lost => Learnt::Lost,
         }
     }
 
-    /// Whether an edition begins with all that was told.
+    /// Whether an edition begins with all that was learnt.
     pub(crate) fn fits(&self, edition: &Edition) -> bool
         ensures { IsTrue result ↔ ((is_lost self.now ≡ false) × GoesOn edition.now (heard_with self.now [])) }
     {
         match self {
-            Told::Nothing => true,
-            Told::Of(receipt) => starts_with(edition.batches(), receipt.shared().batches()),
-            Told::Lost => false,
+            Learnt::Nothing => true,
+            Learnt::Of(receipt) => starts_with(edition.batches(), receipt.shared().batches()),
+            Learnt::Lost => false,
         }
     }
 }
