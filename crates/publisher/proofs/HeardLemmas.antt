@@ -9,7 +9,8 @@ use Rattle.publisher.specs.Heard.{GoesOn, IsLinked, newest}
 pub starts_with-self : (now : History) → StartsWith now now
 starts_with-self now = ([], sym (append-nil now))
 
-pub starts_with-trans : (later now before : History) → StartsWith later now → StartsWith now before → StartsWith later before
+pub starts_with-trans : (later now before : History) → StartsWith later now → StartsWith now before
+    → StartsWith later before
 starts_with-trans later now before on from =
     (from.0 ++ on.0, on.1 ∙ ap (λ (start : History). start ++ on.0) from.1 ∙ append_assoc before from.0 on.0)
 
@@ -18,12 +19,14 @@ starts_with-length now before from =
     subst (λ (all : History). length before ≤ length all) (sym from.1)
     (grind (arith, length-append))
 
-pub goes_on-later : (later now : History) → StartsWith later now → (heard : List History) → GoesOn now heard → GoesOn later heard
+pub goes_on-later : (later now : History) → StartsWith later now → (heard : List History) → GoesOn now heard
+    → GoesOn later heard
 goes_on-later later now on [] all = tt
 goes_on-later later now on (first ∷ others) all =
     (starts_with-trans later now first on all.0, goes_on-later later now on others all.1)
 
-pub goes_on-append : (now : History) (one other : List History) → GoesOn now one → GoesOn now other → GoesOn now (one ++ other)
+pub goes_on-append : (now : History) (one other : List History) → GoesOn now one → GoesOn now other
+    → GoesOn now (one ++ other)
 goes_on-append now [] other of_one of_other = of_other
 goes_on-append now (first ∷ others) other of_one of_other =
     (of_one.0, goes_on-append now others other of_one.1 of_other)
@@ -36,7 +39,8 @@ newest-le now (first ∷ others) all =
     omega arith
 
 -- of two beginnings of one history the longer begins with the shorter
-starts_with-longer : (now one other : History) → StartsWith now one → StartsWith now other → length one ≤ length other → StartsWith other one
+starts_with-longer : (now one other : History) → StartsWith now one → StartsWith now other → length one ≤ length other
+    → StartsWith other one
 starts_with-longer now one other from_one from_other longer =
     let start : take (length one) other ≡ one =
     sym (take-append-le (length one) other from_other.0 longer)

@@ -20,7 +20,8 @@ keeps-set now views changed heard keeps goes_on seat other at =
     (λ (t : (seat ≢ changed) × (get_elem? views seat ≡ some other)). keeps seat other t.1)
     (at_set views changed seat heard other at)
 
-keeps-later : (later now : History) (views : List (List History)) → StartsWith later now → Keeps now views → Keeps later views
+keeps-later : (later now : History) (views : List (List History)) → StartsWith later now → Keeps now views
+    → Keeps later views
 keeps-later later now views on keeps seat heard at = goes_on-later later now on heard (keeps seat heard at)
 
 pub admits : Admits (λ (x : Shown). Keeps (arc_value x.edition)) []
@@ -37,7 +38,8 @@ turns seat heard x y on views keeps at =
     let all : Keeps now views = keeps-later now (arc_value x.edition) views on keeps in
     (now ∷ [], keeps-set now views seat (now ∷ []) all (starts_with-self now, tt), (refl, all seat heard at))
 
-pub forks : (seat : ℕ) (heard : List History) → Forks (λ (x : Shown). Keeps (arc_value x.edition)) seat heard heard heard
+pub forks : (seat : ℕ) (heard : List History)
+    → Forks (λ (x : Shown). Keeps (arc_value x.edition)) seat heard heard heard
 forks seat heard x views keeps at other_seat other there =
     let now : History = arc_value x.edition in
     ⊎_elim
@@ -55,7 +57,8 @@ merges seat heard other note x views keeps at apart there =
     (λ (t : (other ≢ seat) × (get_elem? views other ≡ some note)). keeps other note t.1)
     (at_set views seat other (heard ++ note) note there)
     in
-    let both = keeps-set now views seat (heard ++ note) keeps (goes_on-append now heard note (keeps seat heard at) noted) in
+    let all = goes_on-append now heard note (keeps seat heard at) noted in
+    let both = keeps-set now views seat (heard ++ note) keeps all in
     keeps-set now (set views seat (heard ++ note)) other [] both tt
 
 -- of whole editions that follow each other, the last one counts

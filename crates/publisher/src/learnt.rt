@@ -1,10 +1,8 @@
-ghost use Rattle.std.specs.Prelude.{◌≡◌, ◌≤◌, ◌⊎◌, ◌↔◌, false, IsTrue, List, [], length};
+ghost use Rattle.std.specs.Prelude.{◌≡◌, ◌⊎◌, ◌↔◌, false, IsTrue, []};
 ghost use Rattle.std.specs.Arc.{arc_value};
-ghost use Rattle.catalogue_laws.specs.Histories.{History};
-ghost use Rattle.same_batches.specs.Beginnings.{StartsWith};
 ghost use Rattle.publisher.specs.declared.learnt.Learnt.TheVariants.{Lost, Of};
-ghost use Rattle.publisher.specs.Heard.{GoesOn, newest};
-ghost use Rattle.publisher.specs.Learnt.{heard_with, is_lost};
+ghost use Rattle.publisher.specs.Heard.{GoesOn};
+ghost use Rattle.publisher.specs.Learnt.{IsLonger, Joins, heard_with, is_lost};
 
 use crate::receipt::Receipt;
 use editions::Edition;
@@ -24,11 +22,8 @@ pub enum Learnt {
 
 // The longer of a learnt history and an edition's, if it begins with the other.
 fn joined(receipt: Receipt, edition: &Arc<Edition>) -> Learnt
-    ensures learnt { (now : History) (heard : List History) → is_lost result ≡ false → GoesOn now (heard_with result heard)
-        → GoesOn now heard × StartsWith now receipt × StartsWith now (arc_value edition.now) }
-    ensures longer { (heard : List History) → is_lost result ≡ false
-        → (newest heard ≤ newest (heard_with result heard)) × (length receipt ≤ newest (heard_with result heard))
-        × (length (arc_value edition.now) ≤ newest (heard_with result heard)) }
+    ensures learnt { Joins (Of receipt) (arc_value edition.now) result }
+    ensures longer { IsLonger (Of receipt) (arc_value edition.now) result }
 {
     let learnt = receipt.shared();
     if starts_with(edition.batches(), learnt.batches()) {
@@ -53,11 +48,8 @@ impl Learnt {
 
     /// Adds the history of an edition to what was learnt.
     pub(crate) fn with(self, edition: &Arc<Edition>) -> Learnt
-        ensures learnt { (now : History) (heard : List History) → is_lost result ≡ false → GoesOn now (heard_with result heard)
-            → (is_lost self ≡ false) × GoesOn now (heard_with self heard) × StartsWith now (arc_value edition.now) }
-        ensures longer { (heard : List History) → is_lost result ≡ false
-            → (is_lost self ≡ false) × (newest (heard_with self heard) ≤ newest (heard_with result heard))
-            × (length (arc_value edition.now) ≤ newest (heard_with result heard)) }
+        ensures learnt { Joins self (arc_value edition.now) result }
+        ensures longer { IsLonger self (arc_value edition.now) result }
     {
         match self {
             Learnt::Nothing => Learnt::shared(edition),

@@ -2,7 +2,7 @@ ghost use Rattle.std.specs.Prelude.{◌≡◌, max, length, IfNone, IfSome};
 ghost use Rattle.catalogue_laws.specs.Histories.{History};
 ghost use Rattle.same_batches.specs.Beginnings.{StartsWith};
 ghost use Rattle.publisher.specs.Heard.{IsLinked};
-ghost use Rattle.publisher.specs.Sights.{Allows, fresh};
+ghost use Rattle.publisher.specs.Sights.{Allows, Learns, fresh};
 
 use crate::press::Press;
 use crate::view::View;
@@ -17,7 +17,7 @@ pub fn meet(press: &Press, view: View) -> (View, Option<(u64, u64)>)
     ensures met { IfSome result.1 (λ _. (h : History) × (result.0 ≡ fresh h) × Allows view h × StartsWith h press.now) }
     ensures linked { IfSome result.1 (λ _. (seen : History) → view ≡ fresh seen → IsLinked seen press.now) }
 
-    ensures learnt { IfNone result.1 ((now : History) → Allows result.0 now → Allows view now × StartsWith now press.now) }
+    ensures learnt { IfNone result.1 (Learns view press.now result.0) }
     ensures kept { IfNone result.1 (result.0.seen ≡ max view.seen (length press.now)) }
 {
     let mut view = view;

@@ -35,7 +35,8 @@ impl Model for Press {
 
     ghost view = { λ p. option_map_or (λ w. arc_value w.desk.shown.value.edition) p.writer [] };
 
-    ghost invariant = { λ p. IsSomeAnd p.writer (λ w. heard_by w.desk.place ≡ arc_value w.desk.shown.value.edition ∷ []) };
+    ghost invariant = { λ p.
+        IsSomeAnd p.writer (λ w. heard_by w.desk.place ≡ arc_value w.desk.shown.value.edition ∷ []) };
 }
 
 // The edition after another with one more batch.

@@ -1,9 +1,7 @@
 ghost use Rattle.std.specs.Prelude.{◌≡◌, ◌≤◌, ◌⊎◌, [], ◌∷◌, max, true, length, IfOk, IfErr};
 ghost use Rattle.std.specs.Arc.{arc_value};
 ghost use Rattle.left_right.specs.Sides.{view as heard_by};
-ghost use Rattle.catalogue_laws.specs.Histories.{History};
-ghost use Rattle.same_batches.specs.Beginnings.{StartsWith};
-ghost use Rattle.publisher.specs.Sights.{Allows, fresh};
+ghost use Rattle.publisher.specs.Sights.{Allows, Learns, fresh};
 
 use crate::receipt::Receipt;
 use crate::rule::{Sees, ViewReader, ViewReading};
@@ -32,9 +30,11 @@ impl Model for View {
 
     ghost Value = { Sight };
 
-    ghost view = { λ v. record { heard = heard_with v.learnt (heard_by v.reader.place); lost = is_lost v.learnt; seen = v.seen } };
+    ghost view = { λ v.
+        record { heard = heard_with v.learnt (heard_by v.reader.place); lost = is_lost v.learnt; seen = v.seen } };
 
-    ghost invariant = { λ v. is_lost v.learnt ≡ false → v.seen ≤ newest (heard_with v.learnt (heard_by v.reader.place)) };
+    ghost invariant = { λ v.
+        is_lost v.learnt ≡ false → v.seen ≤ newest (heard_with v.learnt (heard_by v.reader.place)) };
 }
 
 /// A view that has entered an edition. It is not `Drop`: end it by `leave`.
@@ -73,7 +73,8 @@ impl View {
     /// Enters the published edition, without waiting for the publisher and without memory.
     ///
     /// Its history begins with all that the view has seen or learnt. Returns the view if there is no entry: as it
-    /// was if the press has ended; else lost, which lets it never enter again, since what it has learnt fits no edition.
+    /// was if the press has ended; else lost, since the edition does not begin with what it has learnt. A lost view
+    /// never enters again.
     // rule: Entry of a view
     pub fn enter(self) -> Result<Entered, View>
         ensures entered { IfOk result (λ e. Allows self e) }
@@ -96,10 +97,10 @@ impl View {
         })
     }
 
-    // Notes the view of an edition.
+    // Lets the view learn the history of an edition.
     pub(crate) fn hear(&mut self, edition: &Arc<Edition>)
         ensures seen { self.new.seen ≡ max self.old.seen (length (arc_value edition.now)) }
-        ensures learnt { (now : History) → Allows self.new now → Allows self.old now × StartsWith now (arc_value edition.now) }
+        ensures learnt { Learns self.old (arc_value edition.now) self.new }
     {
         let learnt = replace(&mut self.learnt, Learnt::Lost);
         self.learnt = learnt.with(edition);
@@ -112,7 +113,7 @@ impl View {
     // rule: Learnt history
     pub fn learn(&mut self, receipt: &Receipt)
         ensures seen { self.new.seen ≡ max self.old.seen (length receipt.now) }
-        ensures learnt { (now : History) → Allows self.new now → Allows self.old now × StartsWith now receipt.now }
+        ensures learnt { Learns self.old receipt.now self.new }
     {
         self.hear(receipt.shared());
     }

@@ -62,7 +62,7 @@ fn learns<R: Wait>(rt: &R, alloc: Global, press: &mut Press, view: View) -> bool
     is_before && is_after && numbers == Some((2, 2)) && view.seen() == 2
 }
 
-// The number that a stale batch is told of, 0 if it is not stale.
+// The number that is published if a batch is stale, else 0.
 fn stale_at<R: Wait>(rt: &R, alloc: Global, press: &mut Press, base: u64, edits: &str) -> u64 {
     match publish_edits(rt, alloc, press, base, edits) {
         Err(PublishError::Stale(receipt)) => receipt.edition(),
@@ -82,7 +82,7 @@ fn learns_and_is_stale<R: Wait>(rt: &R, alloc: Global) -> Option<bool> {
 
 // rule: Publishing
 // rule: Stale base
-// rule: Told history
+// rule: Learnt history
 // rule: Entry of a view
 #[test]
 fn enters_what_it_learnt_and_rejects_the_same_batch_again(rt: HostRuntime) {
@@ -114,14 +114,21 @@ fn is_full<R: Wait>(rt: &R, alloc: Global, press: &mut Press) -> bool {
     }
 }
 
+// The press of an empty catalogue, whose histories grow fast.
+fn open_empty<R: Wait>(rt: &R, alloc: Global) -> Option<Press> {
+    match open_edits(rt, alloc, "", 1) {
+        Ok((press, _views)) => Some(press),
+        Err(_) => None,
+    }
+}
+
 fn rejects<R: Wait>(rt: &R, alloc: Global) -> Option<bool> {
-    let (mut press, _view) = open_one(rt, alloc, MINI)?;
-    let other = "set_target other stable 2.0 -";
-    let is_rejected = is_refused(rt, alloc, &mut press, 1, other);
-    let is_stale = stale_at(rt, alloc, &mut press, 2, other) == 1;
+    let mut press = open_empty(rt, alloc)?;
+    let is_rejected = is_refused(rt, alloc, &mut press, 1, TARGET);
+    let is_stale = stale_at(rt, alloc, &mut press, 2, TARGET) == 1;
     fill(rt, alloc, &mut press, 4096);
-    let is_last = is_full(rt, alloc, &mut press) && is_refused(rt, alloc, &mut press, 4096, other);
-    let is_first = stale_at(rt, alloc, &mut press, 1, other) == 4096;
+    let is_last = is_full(rt, alloc, &mut press) && is_refused(rt, alloc, &mut press, 4096, TARGET);
+    let is_first = stale_at(rt, alloc, &mut press, 1, TARGET) == 4096;
     press.end(rt);
     Some(is_rejected && is_stale && is_last && is_first)
 }

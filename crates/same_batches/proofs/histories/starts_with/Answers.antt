@@ -8,13 +8,19 @@ pub returns-then-not-is_same : goal.returns-then-not-is_same
 returns-then-not-is_same c =
     let later = c.args.later.now in
     let earlier = c.args.earlier.now in
-    let in_later : c.loop-index.index < length later = omega (arith, c.loop-index-test.true, c.if-later-earlier.false) in (
+    let index = c.loop-index.index in
+    let one = c.index-later-index.result in
+    let other = c.index-earlier-index.result in
+    let in_later : index < length later = omega (arith, c.loop-index-test.true, c.if-later-earlier.false) in
+    let in_earlier = c.loop-index-test.true in
+    let of_one = c.index-later-index.is in
+    let of_other = c.index-earlier-index.is in
+    let differ = c.if-not-is_same.true in
+    (
       (λ is_true. search rules),
       (λ starts.
-          let same = value-beginning arc_value later earlier starts.0 c.loop-index.index c.index-later-index.result c.index-earlier-index.result starts.1
-          in_later c.loop-index-test.true c.index-later-index.is c.index-earlier-index.is
-          in
-          grind (arith, same, c.deref.ensures, c.deref-in-loop-index.ensures, c.is_same.ensures, c.if-not-is_same.true)),
+          let same = value-beginning arc_value later earlier starts.0 index one other starts.1 in_later in_earlier of_one of_other in
+          grind (arith, same, c.deref.ensures, c.deref-in-loop-index.ensures, c.is_same.ensures, differ)),
     )
 
 pub loop-index-preserved : goal.loop-index-preserved
@@ -25,7 +31,10 @@ loop-index-preserved c =
     let other = c.index-earlier-index.result in
     let index = c.loop-index.index in
     let in_later : index < length later = omega (arith, c.loop-index-test.true, c.if-later-earlier.false) in
-    let same : arc_value one ≡ arc_value other = grind (arith, c.deref.ensures, c.deref-in-loop-index.ensures, c.is_same.ensures, c.if-not-is_same.false) in
+    let equal = c.if-not-is_same.false in
+    let same : arc_value one ≡ arc_value other =
+        grind (arith, c.deref.ensures, c.deref-in-loop-index.ensures, c.is_same.ensures, equal)
+        in
     take-more_same (map arc_value later) (map arc_value earlier) index (arc_value one)
     (rw (length-map later arc_value) in_later)
     (rw (length-map earlier arc_value) c.loop-index-test.true)

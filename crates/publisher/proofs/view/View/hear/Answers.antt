@@ -9,14 +9,15 @@ use Rattle.publisher.proofs.view.View.hear.Goals as goal
 pub invariant_of-self : goal.invariant_of-self
 invariant_of-self c fits =
     let longer = c.with.ensures.longer (heard_by c.self.inside.reader.place) fits in
-    let known = c.self.invariant (subst (λ (what : Learnt). is_lost what ≡ false) c.replace-learnt.ensures.value longer.0) in
-    grind (arith, known, c.replace-learnt.ensures.value, longer.1, longer.2, c.max-self-inside.ensures, c.number.ensures.count, c.deref.ensures)
+    let same = c.replace-learnt.ensures.value in
+    let known = c.self.invariant (subst (λ (what : Learnt). is_lost what ≡ false) same longer.0) in
+    let number = c.number.ensures.count in
+    grind (arith, known, same, longer.1, longer.2, c.max-self-inside.ensures, number, c.deref.ensures)
 
 pub returns-clause-learnt : goal.returns-clause-learnt
 returns-clause-learnt c now allows =
     let heard = heard_by c.self.inside.reader.place in
     let kept = c.with.ensures.learnt now heard allows.0 allows.1 in
-    let before =
-    subst (λ (what : Learnt). (is_lost what ≡ false) × GoesOn now (heard_with what heard)) c.replace-learnt.ensures.value (kept.0, kept.1)
-    in
+    let same = c.replace-learnt.ensures.value in
+    let before = subst (λ (what : Learnt). (is_lost what ≡ false) × GoesOn now (heard_with what heard)) same (kept.0, kept.1) in
     (subst (λ (sight : Sight). Allows sight now) c.self.view_is before, kept.2)
