@@ -8,9 +8,9 @@ pub publish_as-requires : goal.publish_as-requires
 publish_as-requires g c next is =
     let before = c.append.new.self.desk.shown.value in
     let earlier = drop c.args.writer.behind c.args.writer.log.items in
-    let applied = λ (_ : History) edition. arc_value {Z = Global} edition in
+    let pending = c.in-Ok.ensures.pending in
     let shown : arc_value next.edition ≡ arc_value c.args.next =
-    is ∙ ap (fold applied (arc_value before.edition)) c.in-Ok.ensures.pending
+    is ∙ ap (fold (λ (_ : History) edition. arc_value {Z = Global} edition) (arc_value before.edition)) pending
     ∙ fold-last (arc_value {Z = Global}) (arc_value before.edition) earlier c.args.next
     in
     turns _ _ before next

@@ -1,4 +1,4 @@
-use Rattle.std.proofs.Common.{◌≡◌, ◌≤◌, [], ap, subst, le_trans, length, ◌∙◌}
+use Rattle.std.proofs.Common.{◌≡◌, ◌≤◌, [], rules, ap, subst, le_trans, length, ◌∙◌}
 use Rattle.std.specs.Arc.{arc_value}
 use Rattle.left_right.specs.Sides.{view as heard_by}
 use Rattle.catalogue_laws.specs.Histories.{History}
@@ -12,6 +12,9 @@ use Rattle.publisher.proofs.view.View.enter.Goals as goal
 
 pub enter_as-requires : goal.enter_as-requires
 enter_as-requires c x = turns _ _ x x (starts_with-self _)
+
+pub returns-then-fits-clause-entered : goal.returns-then-fits-clause-entered
+returns-then-fits-clause-entered c = search rules
 
 pub returns-then-fits-clause-rises : goal.returns-then-fits-clause-rises
 returns-then-fits-clause-rises c =
