@@ -110,6 +110,13 @@ impl Edition {
         self.batches.len() as u64
     }
 
+    /// Borrows the batches in order, each shared with the editions before and after this one.
+    pub fn batches(&self) -> &[Arc<Batch>]
+        ensures { map arc_value result.now ≡ self.now }
+    {
+        &self.batches
+    }
+
     /// Borrows the catalogue that the batches lead to.
     pub fn catalogue(&self) -> &Catalogue
         ensures { LeadsTo self.now result.now }

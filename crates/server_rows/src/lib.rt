@@ -1,7 +1,7 @@
 //! Worked rows of what a server decides: clients with their tracks, requests with their replies, histories of
-//! batches, budgets, the desk of update checks, and files of packages.
+//! batches, what is published of them, budgets, the desk of update checks, and files of packages.
 //!
-//! It has tests alone, so that `cohorts`, `editions`, `replies`, `mirror_ledger`, `update_desk` and
+//! It has tests alone, so that `cohorts`, `editions`, `publisher`, `replies`, `mirror_ledger`, `update_desk` and
 //! `package_files` are proved once. A row is a line; that of a reply has the reply, a bar, and what is asked.
 
 #![tactic(auto)]
@@ -47,6 +47,8 @@ mod pins;
 #[cfg(test)]
 mod plans;
 #[cfg(test)]
+mod press_tests;
+#[cfg(test)]
 mod publishing;
 #[cfg(test)]
 mod rows;
@@ -56,3 +58,5 @@ mod shelf;
 mod tracks;
 #[cfg(test)]
 mod two_threads;
+#[cfg(test)]
+mod view_tests;

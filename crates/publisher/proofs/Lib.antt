@@ -1,0 +1,3 @@
+mod HeardLemmas
+mod RuleLemmas
+mod LearntLemmas

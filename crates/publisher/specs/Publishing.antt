@@ -1,0 +1,44 @@
+-- What opening and publishing come to; this project's profile.
+use Rattle.std.specs.Prelude.{◌≡◌, ◌≢◌, ℕ, List, [], ◌∷◌, All, length, Result, Ok, Err, Vec}
+use Rattle.catalogue.specs.declared.edit.Edit.{Edit}
+use Rattle.catalogue_laws.specs.Histories.{History}
+use Rattle.editions.specs.Editions.{Continues, IsAccepted}
+use Rattle.editions.specs.declared.fault.NextError.TheVariants as next
+use Rattle.publisher.specs.Sights.{Sight, fresh}
+use Rattle.publisher.specs.declared.fault.OpenError.{OpenError}
+use Rattle.publisher.specs.declared.fault.OpenError.TheVariants as opening
+use Rattle.publisher.specs.declared.fault.PublishError.{PublishError}
+use Rattle.publisher.specs.declared.fault.PublishError.TheVariants as publishing
+
+-- rule: Publishing
+-- rule: Stale base
+-- what publishing a batch on a base comes to: the history with the batch at its end, which the receipt has; or,
+-- with the history as before, a receipt of the history if its number is not the base, then the error of the next
+-- edition, or out of memory
+abbrev pub Publishes : History → ℕ → List Edit → Result History PublishError → History → Type 0
+Publishes before base batch (Ok receipt) after =
+    (base ≡ length before) × Continues before batch (Ok after) × (receipt ≡ after)
+Publishes before base batch (Err (publishing.Stale now)) after =
+    (base ≢ length before) × (now ≡ before) × (after ≡ before)
+Publishes before base batch (Err (publishing.Refused refused)) after =
+    (base ≡ length before) × Continues before batch (Err (next.Refused refused)) × (after ≡ before)
+Publishes before base batch (Err publishing.HistoryFull) after =
+    (base ≡ length before) × Continues before batch (Err next.HistoryFull) × (after ≡ before)
+Publishes before base batch (Err publishing.Memory) after = after ≡ before
+
+-- why nothing was opened: an edit of the first batch is rejected; there is no place for a reader, although the batch
+-- is accepted; or out of memory
+abbrev pub FailsToOpen : List Edit → OpenError → Type 0
+FailsToOpen batch (opening.Refused refused) = Continues [] batch (Err (next.Refused refused))
+FailsToOpen batch opening.NoPlace = IsAccepted [] batch
+FailsToOpen batch opening.Memory = Unit {0}
+
+-- rule: Opening
+-- what opening with a first batch comes to: a press of edition 1 and as many views that have seen it, or an error
+abbrev pub Opens : {Z : Type 0} → List Edit → ℕ → Result (History × Vec Sight Z) OpenError → Type 0
+Opens batch readers (Ok made) =
+    IsAccepted [] batch
+    × (made.0 ≡ batch ∷ [])
+    × (length made.1.items ≡ readers)
+    × All (λ sight. sight ≡ fresh (batch ∷ [])) made.1.items
+Opens batch readers (Err error) = FailsToOpen batch error

@@ -1,0 +1,69 @@
+use crate::receipt::Receipt;
+use catalogue::Refused;
+use editions::NextError;
+use std::alloc::AllocError;
+
+/// Why nothing was opened.
+///
+/// The errors are in the order in which they are looked for; `Memory` may come before any of them.
+#[derive(Drop)]
+pub enum OpenError {
+    /// An edit of the batch was rejected.
+    Refused(Refused),
+    /// There is no place for one of the readers.
+    NoPlace,
+    /// An allocation failed.
+    Memory,
+}
+
+/// Why a batch was not published. The published edition is then as before.
+///
+/// The errors are in the order in which they are looked for; `Memory` may come before any of them.
+#[derive(Drop)]
+pub enum PublishError {
+    /// Another edition than the batch's base is published: this one.
+    Stale(Receipt),
+    /// An edit of the batch was rejected.
+    Refused(Refused),
+    /// The published edition holds 4096 batches, as many as it may.
+    HistoryFull,
+    /// An allocation failed.
+    Memory,
+}
+
+impl From<NextError> for PublishError {
+    ghost use Rattle.std.specs.Prelude.{◌≡◌};
+    ghost use Rattle.publisher.specs.Errors.{publish_error_of};
+
+    ghost from_gives = { λ error e. e ≡ publish_error_of error };
+
+    fn from(error: NextError) -> PublishError {
+        match error {
+            NextError::Refused(refused) => PublishError::Refused(refused),
+            NextError::HistoryFull => PublishError::HistoryFull,
+            NextError::Memory => PublishError::Memory,
+        }
+    }
+}
+
+impl From<AllocError> for PublishError {
+    ghost use Rattle.std.specs.Prelude.{◌≡◌};
+    ghost use Rattle.publisher.specs.declared.fault.PublishError.TheVariants.{Memory};
+
+    ghost from_gives = { λ _ e. e ≡ Memory };
+
+    fn from(_refused: AllocError) -> PublishError {
+        PublishError::Memory
+    }
+}
+
+impl From<AllocError> for OpenError {
+    ghost use Rattle.std.specs.Prelude.{◌≡◌};
+    ghost use Rattle.publisher.specs.declared.fault.OpenError.TheVariants.{Memory};
+
+    ghost from_gives = { λ _ e. e ≡ Memory };
+
+    fn from(_refused: AllocError) -> OpenError {
+        OpenError::Memory
+    }
+}
