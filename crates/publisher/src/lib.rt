@@ -13,13 +13,13 @@
 #![tactic(auto)]
 
 mod fault;
+mod learnt;
 mod meeting;
 mod press;
 mod receipt;
 mod rule;
 mod shown;
 mod steps;
-mod learnt;
 mod view;
 
 pub use crate::fault::{OpenError, PublishError};

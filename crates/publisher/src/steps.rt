@@ -8,7 +8,7 @@ ghost use Rattle.publisher.specs.Sights.{fresh};
 ghost use Rattle.publisher.specs.declared.fault.OpenError.TheVariants.{Memory, NoPlace};
 
 use crate::fault::OpenError;
-use crate::rule::{PressWriter, Sees, Notes, ViewReader};
+use crate::rule::{Notes, PressWriter, Sees, ViewReader};
 use crate::shown::Shown;
 use crate::view::View;
 use editions::Edition;

@@ -3,9 +3,9 @@ ghost use Rattle.std.specs.Arc.{arc_value};
 ghost use Rattle.left_right.specs.Sides.{view as heard_by};
 ghost use Rattle.publisher.specs.Sights.{Allows, Learns, fresh};
 
+use crate::learnt::Learnt;
 use crate::receipt::Receipt;
 use crate::rule::{Sees, ViewReader, ViewReading};
-use crate::learnt::Learnt;
 use editions::Edition;
 use std::marker::Model;
 use std::mem::replace;
@@ -82,10 +82,18 @@ impl View {
 
         ensures back { IfErr result (λ v. (v ≡ self) ⊎ ((v.lost ≡ true) × (v.seen ≡ self.seen))) }
     {
-        let View { reader, seen, learnt } = self;
+        let View {
+            reader,
+            seen,
+            learnt,
+        } = self;
         let reading = match reader.enter_as::<Sees>() {
             Ok(reading) => reading,
-            Err(reader) => return Err(View { reader, seen, learnt }),
+            Err(reader) => return Err(View {
+                reader,
+                seen,
+                learnt,
+            }),
         };
         if learnt.fits(&reading.get().edition) {
             return Ok(Entered { reading });

@@ -15,8 +15,7 @@ returns-then-not-is_same c =
     let in_earlier = c.loop-index-test.true in
     let of_one = c.index-later-index.is in
     let of_other = c.index-earlier-index.is in
-    let differ = c.if-not-is_same.true in
-    (
+    let differ = c.if-not-is_same.true in (
       (λ is_true. search rules),
       (λ starts.
           let same = value-beginning arc_value later earlier starts.0 index one other starts.1 in_later in_earlier of_one of_other in
@@ -33,8 +32,8 @@ loop-index-preserved c =
     let in_later : index < length later = omega (arith, c.loop-index-test.true, c.if-later-earlier.false) in
     let equal = c.if-not-is_same.false in
     let same : arc_value one ≡ arc_value other =
-        grind (arith, c.deref.ensures, c.deref-in-loop-index.ensures, c.is_same.ensures, equal)
-        in
+    grind (arith, c.deref.ensures, c.deref-in-loop-index.ensures, c.is_same.ensures, equal)
+    in
     take-more_same (map arc_value later) (map arc_value earlier) index (arc_value one)
     (rw (length-map later arc_value) in_later)
     (rw (length-map earlier arc_value) c.loop-index-test.true)
