@@ -21,7 +21,7 @@ import sys
 import tempfile
 
 TOP = pathlib.Path(__file__).resolve().parent.parent
-LINE = "publisher_times: publisher editions catalogue values\n"
+LINE = "publisher_times: publisher par_tables editions catalogue values\n"
 MODES = (
     ("enter alone", "enter", 200),
     ("enter beside a publisher", "enter_beside", 400),
@@ -34,6 +34,7 @@ PROGRAM = r"""//! Enters editions and publishes batches again and again.
 #![tactic(auto)]
 
 use catalogue::{AddApp, AddCohort, AddRelease, Batch, Edit, SetTarget};
+use par_tables::Free;
 use publisher::{Press, View, open};
 use std::alloc::{AllocError, Global};
 use std::io;
@@ -149,11 +150,11 @@ fn enter_until(view: View, done: &AtomicU64) -> u64 {
 }
 
 // Publishes so many empty batches; how many were published.
-fn publish_often<R: Wait>(rt: &R, alloc: Global, press: &mut Press, times: u64) -> u64 {
+fn publish_often<R: Threads + Sync + Wait>(rt: &R, alloc: Global, press: &mut Press, times: u64) -> u64 {
     let mut published = 0u64;
     for _turn in 0..times {
         let base = press.edition().number();
-        if press.publish(rt, alloc, base, empty(alloc)).is_ok() {
+        if press.publish(rt, alloc, base, empty(alloc), 1, &Free).is_ok() {
             published = published.wrapping_add(1);
         }
     }
@@ -161,14 +162,14 @@ fn publish_often<R: Wait>(rt: &R, alloc: Global, press: &mut Press, times: u64) 
 }
 
 // Publishes empty batches until the flag is set.
-fn publish_until<R: Wait>(rt: &R, alloc: Global, press: &mut Press, done: &AtomicU64) -> u64 {
+fn publish_until<R: Threads + Sync + Wait>(rt: &R, alloc: Global, press: &mut Press, done: &AtomicU64) -> u64 {
     let mut published = 0u64;
     for _turn in 0..u64::MAX {
         if done.load(Ordering::SeqCst) == 1 {
             return published;
         }
         let base = press.edition().number();
-        if press.publish(rt, alloc, base, empty(alloc)).is_ok() {
+        if press.publish(rt, alloc, base, empty(alloc), 1, &Free).is_ok() {
             published = published.wrapping_add(1);
         }
     }
@@ -227,11 +228,11 @@ fn publish_beside<R: Threads + Wait + Sync>(
 }
 
 // Publishes up to 4096, and has a view learn the last receipt and enter: the nanoseconds of the entry.
-fn learn<R: Wait + Clock>(rt: &R, alloc: Global, press: &mut Press, view: View) -> u64 {
+fn learn<R: Threads + Sync + Wait + Clock>(rt: &R, alloc: Global, press: &mut Press, view: View) -> u64 {
     let mut view = view;
     publish_often(rt, alloc, press, 4094);
     let base = press.edition().number();
-    if let Ok(receipt) = press.publish(rt, alloc, base, empty(alloc)) {
+    if let Ok(receipt) = press.publish(rt, alloc, base, empty(alloc), 1, &Free) {
         view.learn(&receipt);
     }
     let start = Instant::now(rt);
@@ -256,7 +257,7 @@ fn main(rt: HostRuntime) -> io::Result<()> {
         let Ok(batch) = first_batch(alloc, apps) else {
             return Ok(());
         };
-        let Ok((press, views)) = open(&rt, alloc, batch, 2) else {
+        let Ok((press, views)) = open(&rt, alloc, batch, 2, 1, &Free) else {
             return Ok(());
         };
         let mut press = press;

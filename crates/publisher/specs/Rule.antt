@@ -5,7 +5,7 @@ use lib.ListN.{get_elem?}
 use Rattle.catalogue_laws.specs.Histories.{History}
 use Rattle.publisher.specs.Heard.{GoesOn}
 
--- rule: Published history
+-- rule: History of the published edition
 -- the published history begins with each history that any reader, or the writer, has heard
 abbrev pub Keeps : History → List (List History) → Type 0
 Keeps now views = (seat : ℕ) (heard : List History) → get_elem? views seat ≡ some heard → GoesOn now heard

@@ -14,9 +14,11 @@ use crate::steps::{new_writer, show, views_of};
 use crate::view::View;
 use catalogue::Batch;
 use editions::{Edition, NextError};
+use par_tables::Gate;
 use std::alloc::{AllocError, Global};
 use std::marker::Model;
 use std::sync::{Arc, Wait};
+use std::thread::Threads;
 
 /// What publishes editions, which contracts see as the published history. It is not `Drop`: end it by `end`.
 pub struct Press {
@@ -40,12 +42,20 @@ impl Model for Press {
 }
 
 // The edition after another with one more batch.
-fn next_of(alloc: Global, edition: &Edition, batch: Batch) -> Result<Arc<Edition>, NextError>
+fn next_of<R: Threads + Sync, G: Gate + Sync>(
+    rt: &R,
+    alloc: Global,
+    edition: &Edition,
+    batch: Batch,
+    workers: usize,
+    gate: &G,
+) -> Result<Arc<Edition>, NextError>
+    requires { (1 ≤ workers) × (workers ≤ 16) }
     ensures { MatchResult result
         (λ next. Continues edition.now batch (Ok (arc_value next)))
         (λ error. Continues edition.now batch (Err error)) }
 {
-    let next = edition.next(batch)?;
+    let next = edition.next_with(rt, batch, workers, gate)?;
     Ok(Arc::new(alloc, next)?)
 }
 
@@ -83,23 +93,27 @@ impl Press {
     /// Publishes a batch on the base, the number of the edition that it was made for.
     ///
     /// Returns `Stale` if another edition is published, then the error of `Edition::next`; the published edition is
-    /// then as before. A batch is published whole or not at all. It waits for views that still read the edition
-    /// before the published one.
+    /// then as before. A batch is published whole or not at all. The tables of the apps that it names are made in
+    /// `workers` pieces, from 1 to 16, under `gate`, as `Edition::next_with` does. Then it waits for views that still
+    /// read the edition before the published one.
     // rule: Publishing
     // rule: Stale base
-    pub fn publish<R: Wait>(
+    pub fn publish<R: Threads + Sync + Wait, G: Gate + Sync>(
         &mut self,
         rt: &R,
         alloc: Global,
         base: u64,
         batch: Batch,
+        workers: usize,
+        gate: &G,
     ) -> Result<Receipt, PublishError>
+        requires { (1 ≤ workers) × (workers ≤ 16) }
         ensures { Publishes self.old base batch result self.new }
     {
         if self.edition().number() != base {
             return Err(PublishError::Stale(Receipt::of(self.published())?));
         }
-        let next = next_of(alloc, self.edition(), batch)?;
+        let next = next_of(rt, alloc, self.edition(), batch, workers, gate)?;
         let receipt = Receipt::of(&next)?;
         self.show(rt, next)?;
         Ok(receipt)
@@ -115,10 +129,17 @@ impl Press {
 }
 
 // The first edition, of one batch.
-fn first_of(alloc: Global, batch: Batch) -> Result<Arc<Edition>, OpenError>
+fn first_of<R: Threads + Sync, G: Gate + Sync>(
+    rt: &R,
+    alloc: Global,
+    batch: Batch,
+    workers: usize,
+    gate: &G,
+) -> Result<Arc<Edition>, OpenError>
+    requires { (1 ≤ workers) × (workers ≤ 16) }
     ensures { MatchResult result (λ first. Continues [] batch (Ok (arc_value first))) (FailsToOpen batch) }
 {
-    match next_of(alloc, &Edition::empty(alloc), batch) {
+    match next_of(rt, alloc, &Edition::empty(alloc), batch, workers, gate) {
         Ok(first) => Ok(first),
         Err(NextError::Refused(refused)) => Err(OpenError::Refused(refused)),
         Err(NextError::HistoryFull) => unreachable!(),
@@ -156,18 +177,22 @@ fn opened<R: Wait>(
 
 /// Publishes edition 1, of one batch, and makes a press and so many views that have seen it.
 ///
-/// Returns the batch's first rejected edit, then `NoPlace` if there is no place for a view.
+/// There are 1 to 8 views. The tables are made in `workers` pieces, from 1 to 16, under `gate`, as
+/// `Edition::next_with` does. Returns the batch's first rejected edit, then `NoPlace` if there is no place for a view.
 // rule: Opening
-pub fn open<R: Wait>(
+pub fn open<R: Threads + Sync + Wait, G: Gate + Sync>(
     rt: &R,
     alloc: Global,
     batch: Batch,
     readers: usize,
+    workers: usize,
+    gate: &G,
 ) -> Result<(Press, Vec<View>), OpenError>
-    requires { (0 < readers) × (readers ≤ 8) }
+    requires readers { (0 < readers) × (readers ≤ 8) }
+    requires workers { (1 ≤ workers) × (workers ≤ 16) }
     ensures { Opens batch readers result }
 {
-    let first = first_of(alloc, batch)?;
+    let first = first_of(rt, alloc, batch, workers, gate)?;
     let writer = new_writer(alloc, readers)?;
     let (writer, shown) = show(writer, rt, first);
     if shown.is_err() {

@@ -24,7 +24,7 @@ pub type ViewReader = Reader<Shown, Heard, Published>;
 /// A reader that is reading.
 pub type ViewReading = Reading<Shown, Heard, Published>;
 
-// rule: Published history
+// rule: History of the published edition
 /// The published history begins with each history that was heard.
 pub struct Published;
 

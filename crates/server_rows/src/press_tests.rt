@@ -8,6 +8,7 @@ use fixtures::{CHAINED, open_edits, open_profile, publish_edits};
 use publisher::{OpenError, Press, PublishError, Receipt, View, meet};
 use std::alloc::Global;
 use std::sync::Wait;
+use std::thread::Threads;
 
 const WITHDRAWAL: &str = "set_withdrawn demo 3.0 on";
 
@@ -16,7 +17,7 @@ const BEFORE: &str = "differential 0 for 300 | 1,stable:0,false";
 const AFTER: &str = "differential 3 for 500 | 2,stable:0,false";
 
 // A press of a profile, with its one view.
-fn open_one<R: Wait>(rt: &R, alloc: Global, profile: &str) -> Option<(Press, View)> {
+fn open_one<R: Threads + Sync + Wait>(rt: &R, alloc: Global, profile: &str) -> Option<(Press, View)> {
     let Ok((press, views)) = open_profile(rt, alloc, profile, 1) else {
         return None;
     };
@@ -52,7 +53,7 @@ fn learn(alloc: Global, view: View, receipt: &Receipt) -> (View, bool) {
 }
 
 // Whether a view enters the first edition, and the second one after it learnt its receipt.
-fn learns<R: Wait>(rt: &R, alloc: Global, press: &mut Press, view: View) -> bool {
+fn learns<R: Threads + Sync + Wait>(rt: &R, alloc: Global, press: &mut Press, view: View) -> bool {
     let (view, is_before) = enter(alloc, view, 1, BEFORE);
     let Ok(receipt) = publish_edits(rt, alloc, press, 1, WITHDRAWAL) else {
         return false;
@@ -63,14 +64,14 @@ fn learns<R: Wait>(rt: &R, alloc: Global, press: &mut Press, view: View) -> bool
 }
 
 // The number that is published if a batch is stale, else 0.
-fn stale_at<R: Wait>(rt: &R, alloc: Global, press: &mut Press, base: u64, edits: &str) -> u64 {
+fn stale_at<R: Threads + Sync + Wait>(rt: &R, alloc: Global, press: &mut Press, base: u64, edits: &str) -> u64 {
     match publish_edits(rt, alloc, press, base, edits) {
         Err(PublishError::Stale(receipt)) => receipt.edition(),
         _ => 0,
     }
 }
 
-fn learns_and_is_stale<R: Wait>(rt: &R, alloc: Global) -> Option<bool> {
+fn learns_and_is_stale<R: Threads + Sync + Wait>(rt: &R, alloc: Global) -> Option<bool> {
     let (mut press, view) = open_one(rt, alloc, CHAINED)?;
     let is_learnt = learns(rt, alloc, &mut press, view);
     let is_stale = stale_at(rt, alloc, &mut press, 1, WITHDRAWAL) == 2;
@@ -90,7 +91,7 @@ fn enters_what_it_learnt_and_rejects_the_same_batch_again(rt: HostRuntime) {
 }
 
 // Whether a batch on a base is rejected with its first edit's fault, and nothing is published.
-fn is_refused<R: Wait>(rt: &R, alloc: Global, press: &mut Press, base: u64, edits: &str) -> bool {
+fn is_refused<R: Threads + Sync + Wait>(rt: &R, alloc: Global, press: &mut Press, base: u64, edits: &str) -> bool {
     let before = press.edition().number();
     match publish_edits(rt, alloc, press, base, edits) {
         Err(PublishError::Refused(refused)) => {
@@ -101,13 +102,13 @@ fn is_refused<R: Wait>(rt: &R, alloc: Global, press: &mut Press, base: u64, edit
 }
 
 // Publishes empty batches up to a number.
-fn fill<R: Wait>(rt: &R, alloc: Global, press: &mut Press, number: u64) {
+fn fill<R: Threads + Sync + Wait>(rt: &R, alloc: Global, press: &mut Press, number: u64) {
     for base in 1..number {
         let _receipt = publish_edits(rt, alloc, press, base, "");
     }
 }
 
-fn is_full<R: Wait>(rt: &R, alloc: Global, press: &mut Press) -> bool {
+fn is_full<R: Threads + Sync + Wait>(rt: &R, alloc: Global, press: &mut Press) -> bool {
     match publish_edits(rt, alloc, press, 4096, "") {
         Err(PublishError::HistoryFull) => press.edition().number() == 4096,
         _ => false,
@@ -115,14 +116,14 @@ fn is_full<R: Wait>(rt: &R, alloc: Global, press: &mut Press) -> bool {
 }
 
 // The press of an empty catalogue, whose histories grow fast.
-fn open_empty<R: Wait>(rt: &R, alloc: Global) -> Option<Press> {
+fn open_empty<R: Threads + Sync + Wait>(rt: &R, alloc: Global) -> Option<Press> {
     match open_edits(rt, alloc, "", 1) {
         Ok((press, _views)) => Some(press),
         Err(_) => None,
     }
 }
 
-fn rejects<R: Wait>(rt: &R, alloc: Global) -> Option<bool> {
+fn rejects<R: Threads + Sync + Wait>(rt: &R, alloc: Global) -> Option<bool> {
     let mut press = open_empty(rt, alloc)?;
     let is_rejected = is_refused(rt, alloc, &mut press, 1, TARGET);
     let is_stale = stale_at(rt, alloc, &mut press, 2, TARGET) == 1;
@@ -140,7 +141,7 @@ fn rejects_stale_batches_and_then_edits_and_then_a_full_history(rt: HostRuntime)
     assert!(rt; rejects(&rt, rt.alloc()) == Some(true));
 }
 
-fn is_rejected<R: Wait>(rt: &R, alloc: Global) -> bool {
+fn is_rejected<R: Threads + Sync + Wait>(rt: &R, alloc: Global) -> bool {
     match open_edits(rt, alloc, TARGET, 1) {
         Ok((press, _views)) => {
             press.end(rt);
@@ -152,7 +153,7 @@ fn is_rejected<R: Wait>(rt: &R, alloc: Global) -> bool {
 }
 
 // Whether each of so many views has seen edition 1 and enters it.
-fn opens<R: Wait>(rt: &R, alloc: Global, count: usize) -> bool
+fn opens<R: Threads + Sync + Wait>(rt: &R, alloc: Global, count: usize) -> bool
     requires { (0 < count) × (count ≤ 8) }
 {
     let Ok((press, views)) = open_profile(rt, alloc, CHAINED, count) else {
@@ -189,7 +190,7 @@ fn is_lost(view: View, other: &Press) -> bool {
     }
 }
 
-fn is_lost_between<R: Wait>(rt: &R, alloc: Global) -> Option<bool> {
+fn is_lost_between<R: Threads + Sync + Wait>(rt: &R, alloc: Global) -> Option<bool> {
     let (press, view) = open_one(rt, alloc, CHAINED)?;
     let Some((other, _view)) = open_one(rt, alloc, MINI) else {
         press.end(rt);
@@ -202,7 +203,7 @@ fn is_lost_between<R: Wait>(rt: &R, alloc: Global) -> Option<bool> {
 }
 
 // Whether a view enters nothing after its press has ended, and has seen what it had seen.
-fn is_ended<R: Wait>(rt: &R, alloc: Global) -> Option<bool> {
+fn is_ended<R: Threads + Sync + Wait>(rt: &R, alloc: Global) -> Option<bool> {
     let (press, view) = open_one(rt, alloc, CHAINED)?;
     press.end(rt);
     match view.enter() {

@@ -45,7 +45,7 @@ fn enter_often(alloc: Global, view: View, times: u32) -> Entries {
 }
 
 // Publishes so many empty batches in turn: the last receipt.
-fn publish_often<R: Wait>(rt: &R, alloc: Global, press: &mut Press, times: u64) -> Option<Receipt> {
+fn publish_often<R: Threads + Sync + Wait>(rt: &R, alloc: Global, press: &mut Press, times: u64) -> Option<Receipt> {
     let mut last = None;
     for base in 1..=times {
         last = publish_edits(rt, alloc, press, base, "").ok();
@@ -114,7 +114,7 @@ fn rises<R: Threads + Wait + Sync>(rt: &R, alloc: Global) -> bool {
     are_met
 }
 
-// rule: Published history
+// rule: History of the published edition
 // rule: Entry of a view
 // rule: Meeting of a press and a view
 #[test]
