@@ -10,7 +10,10 @@ clock of the machine; of each figure the least of the runs counts.
 
 `enter` is an entry, a look at the edition's number, and leaving: `alone`, and `beside` a thread that publishes empty
 batches without a pause. `publish` is a publish of an empty batch: `alone`, and `beside` two threads that enter without
-a pause. `learnt` is the entry after a receipt of edition 4096.
+a pause. `entry after a receipt` is the first one after a view has learnt the receipt of edition 4096.
+
+The aims: an entry in at most 200 ns, and at most twice that beside a publisher; a publish in at most 2 ms, and at most
+three times that of `alone` beside two readers.
 """
 
 import argparse
@@ -23,11 +26,11 @@ import tempfile
 TOP = pathlib.Path(__file__).resolve().parent.parent
 LINE = "publisher_times: publisher par_tables editions catalogue values\n"
 MODES = (
-    ("enter alone", "enter", 200),
-    ("enter beside a publisher", "enter_beside", 400),
-    ("publish alone", "publish", 2_000_000),
-    ("publish beside two readers", "publish_beside", 6_000_000),
-    ("entry after a receipt", "learnt", None),
+    ("enter alone", "enter"),
+    ("enter beside a publisher", "enter_beside"),
+    ("publish alone", "publish"),
+    ("publish beside two readers", "publish_beside"),
+    ("entry after a receipt", "learnt"),
 )
 PROGRAM = r"""//! Enters editions and publishes batches again and again.
 
@@ -320,12 +323,12 @@ def main():
     asked = options.parse_args()
     with tempfile.TemporaryDirectory() as made:
         program = build(pathlib.Path(asked.keep or made))
-        for name, mode, aim in MODES:
+        for name, mode in MODES:
             turns = asked.publishes if mode.startswith("publish") else asked.turns
             runs = [run_once(program, mode, 64, turns) for _ in range(asked.runs)]
-            passed, entered, published = min(runs)
+            passed, _, published = min(runs)
             each = passed / turns if mode != "learnt" else min(run[1] for run in runs)
-            print(f"{name}: {each:,.0f} ns, {published} publishes" + (f"; at most {aim:,} ns are aimed at" if aim else ""))
+            print(f"{name:<28}{each:>12,.0f} ns{published:>8} publishes")
 
 
 if __name__ == "__main__":
