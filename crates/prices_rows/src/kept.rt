@@ -149,7 +149,7 @@ fn pieces_are_made_at_once(rt: HostRuntime) {
     assert!(rt; run_at_once(&rt, rt.alloc()) == Some(true));
 }
 
-// The edition after a batch, and how many tables the gate was told of.
+// The edition after a batch, and how many tables its gate counted.
 fn next_of<R: Threads + Sync>(
     rt: &R,
     alloc: Global,

@@ -136,7 +136,7 @@ fn word_of_wrong(alloc: Global, wrong: Option<Wrong>) -> Result<String, AllocErr
     Ok(words)
 }
 
-// Whether a row is as it says: the index of a row of the table, what stands in its place, and what is found.
+// Whether a row is as it says: the index of a row of the table, what is put in its place, and what is found.
 fn is_found<R: Threads + Sync>(rt: &R, alloc: Global, script: &str, row: &str) -> Option<bool> {
     let (change, wanted) = row.split_once('|')?;
     let (index, word) = change.split_once(' ')?;
