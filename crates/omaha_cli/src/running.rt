@@ -19,6 +19,7 @@ use omaha_server::Host;
 use package_files::Folders;
 use std::alloc::Global;
 use std::sync::Wait;
+use std::thread::Threads;
 use streams::{Disk, ReadWhole, WriteWhole, offer};
 use values::Text;
 
@@ -97,7 +98,7 @@ fn end_without_command<W: WriteWhole>(error: ArgumentError, writer: &mut W) -> E
 
 // Does what a command asks for.
 fn obey<
-    R: Disk + Folders + Host + Connector + AllocGlobal + Wait,
+    R: Disk + Folders + Host + Connector + AllocGlobal + Threads + Wait + Sync,
     I: ReadWhole,
     W: WriteWhole,
     F: WriteWhole,
@@ -121,7 +122,7 @@ fn obey<
 
 // Carries out what the arguments ask for.
 fn carry_out<
-    R: Disk + Folders + Host + Connector + AllocGlobal + Wait,
+    R: Disk + Folders + Host + Connector + AllocGlobal + Threads + Wait + Sync,
     I: ReadWhole,
     W: WriteWhole,
     F: WriteWhole,
@@ -174,7 +175,7 @@ fn report<F: WriteWhole>(alloc: Global, ending: &Ending, errors: &mut F)
 /// after one line on `errors`; and 2 if the arguments are invalid, after `clap`'s message on `errors`. With `--log -` a
 /// server also logs its replies there.
 pub fn run<
-    R: Disk + Folders + Host + Connector + AllocGlobal + Wait,
+    R: Disk + Folders + Host + Connector + AllocGlobal + Threads + Wait + Sync,
     I: ReadWhole,
     W: WriteWhole,
     F: WriteWhole,
