@@ -42,26 +42,8 @@ TOP = pathlib.Path(__file__).resolve().parent.parent
 CRATES = ["values", "version", "records", "omaha_json", "catalogue", "cohorts", "payload_graph", "price_cert", "solver", "par_tables"]
 LINE = "graph_times: par_tables solver price_cert payload_graph catalogue cohorts values\n"
 PATTERNS = ("none", "one", "second", "before", "8th", "64th", "half", "worst", "down", "above")
-PROGRAM = r"""//! Makes the graph or the table of a track again and again.
-
-#![tactic(auto)]
-
-ghost use Rattle.std.specs.Prelude.{◌<◌, length};
-
-use catalogue::{
-    AddApp, AddCohort, AddDiff, AddRelease, Batch, Catalogue, Edit, Refused, SetFloor,
-    SetRollback, SetShare, SetTarget,
-};
-use cohorts::{Lane, Pin};
-use par_tables::{TrackTables, tables};
-use payload_graph::{Differentials, Graph};
-use payload_graph::TrackKey;
-use solver::solve;
-use std::alloc::{AllocError, Global};
-use std::io;
-use values::{ReadError, Text};
-
-fn id_of(alloc: Global, app: u64) -> Result<Text, AllocError> {
+# functions that make edits, which another benchmark uses, too
+EDITS = r"""fn id_of(alloc: Global, app: u64) -> Result<Text, AllocError> {
     Ok(Text::new(format!(in alloc; "demo{app}")?))
 }
 
@@ -187,9 +169,10 @@ fn target_set(alloc: Global, app: u64, cohort: u64, index: u64) -> Result<Edit, 
     }))
 }
 
-fn push_diffs(alloc: Global, edits: &mut Vec<Edit>, app: u64, from: u64, releases: u64) -> Result<(), AllocError> {
-    for ahead in 1..33u64 {
-        let to = from.saturating_add(ahead);
+// Differentials from a release to each of so many that follow.
+fn push_diffs(alloc: Global, edits: &mut Vec<Edit>, app: u64, from: u64, releases: u64, next: u64) -> Result<(), AllocError> {
+    for ahead in 0..next {
+        let to = from.saturating_add(ahead).saturating_add(1);
         if to < releases {
             edits.push(added_diff(alloc, app, from, to)?)?;
         }
@@ -197,12 +180,12 @@ fn push_diffs(alloc: Global, edits: &mut Vec<Edit>, app: u64, from: u64, release
     Ok(())
 }
 
-fn push_releases(alloc: Global, edits: &mut Vec<Edit>, app: u64, releases: u64, pattern: &str) -> Result<(), AllocError> {
+fn push_releases(alloc: Global, edits: &mut Vec<Edit>, app: u64, releases: u64, next: u64, pattern: &str) -> Result<(), AllocError> {
     for index in 0..releases {
         edits.push(added_release(alloc, app, index, size_of(pattern, index, releases))?)?;
     }
     for from in 0..releases {
-        push_diffs(alloc, edits, app, from, releases)?;
+        push_diffs(alloc, edits, app, from, releases, next)?;
     }
     Ok(())
 }
@@ -217,18 +200,49 @@ fn push_cohorts(alloc: Global, edits: &mut Vec<Edit>, app: u64, cohorts: u64, re
     Ok(())
 }
 
-fn batch_of(alloc: Global, apps: u64, cohorts: u64, releases: u64, pattern: &str) -> Result<Batch, AllocError> {
+fn batch_of(alloc: Global, apps: u64, cohorts: u64, releases: u64, next: u64, pattern: &str) -> Result<Batch, AllocError> {
     let mut edits = Vec::new(alloc);
     for app in 0..apps {
         edits.push(added_app(alloc, app)?)?;
-        push_releases(alloc, &mut edits, app, releases, pattern)?;
+        push_releases(alloc, &mut edits, app, releases, next, pattern)?;
         push_cohorts(alloc, &mut edits, app, cohorts, releases)?;
     }
     push_floors(alloc, &mut edits, pattern, releases)?;
     Ok(Batch::new(edits))
 }
 
-fn key() -> TrackKey {
+fn share_set(alloc: Global) -> Result<Edit, AllocError> {
+    let app = id_of(alloc, 0)?;
+    let cohort = cohort_of(alloc, 0)?;
+    Ok(Edit::SetShare(SetShare {
+        app,
+        cohort,
+        share: 500,
+    }))
+}
+
+"""
+PROGRAM = r"""//! Makes the graph or the table of a track again and again.
+
+#![tactic(auto)]
+
+ghost use Rattle.std.specs.Prelude.{◌<◌, length};
+
+use catalogue::{
+    AddApp, AddCohort, AddDiff, AddRelease, Batch, Catalogue, Edit, Refused, SetFloor,
+    SetRollback, SetShare, SetTarget,
+};
+use cohorts::{Lane, Pin};
+use par_tables::{TrackTables, tables};
+use payload_graph::{Differentials, Graph};
+use payload_graph::TrackKey;
+use solver::solve;
+use std::alloc::{AllocError, Global};
+use std::io;
+use values::{ReadError, Text};
+
+"""
+PROGRAM += EDITS + r"""fn key() -> TrackKey {
     TrackKey {
         app: 0,
         cohort: 0,
@@ -323,18 +337,8 @@ fn listed(alloc: Global, catalogue: &Catalogue, turns: u64) -> Result<u64, Alloc
 }
 
 fn catalogue_of(alloc: Global, apps: u64, cohorts: u64, releases: u64, pattern: &str) -> Result<Catalogue, ReadError<Refused>> {
-    let batch = batch_of(alloc, apps, cohorts, releases, pattern)?;
+    let batch = batch_of(alloc, apps, cohorts, releases, 32, pattern)?;
     Catalogue::empty(alloc).applied(&batch)
-}
-
-fn share_set(alloc: Global) -> Result<Edit, AllocError> {
-    let app = id_of(alloc, 0)?;
-    let cohort = cohort_of(alloc, 0)?;
-    Ok(Edit::SetShare(SetShare {
-        app,
-        cohort,
-        share: 500,
-    }))
 }
 
 // One edit: a share, or one more release of the first app.

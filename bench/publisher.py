@@ -284,24 +284,24 @@ def crates_below(name, lines):
     return found
 
 
-def build(folder):
-    """The program, built over copies of the crates."""
-    program = folder / "crates/publisher_times/out/publisher_times"
+def build(folder, name, below, line, source):
+    """The program of a name, of a line of `crates.txt` and a source, built over copies of the crates that one needs."""
+    program = folder / f"crates/{name}/out/{name}"
     if not program.exists():
         text = (TOP / "crates.txt").read_text()
-        lines = dict(line.split(":", 1) for line in text.splitlines() if ":" in line and not line.startswith("#"))
-        names = crates_below("publisher", lines)
-        for name in names:
-            if not (folder / "crates" / name).exists():
+        lines = dict(each.split(":", 1) for each in text.splitlines() if ":" in each and not each.startswith("#"))
+        names = crates_below(below, lines)
+        for each in names:
+            if not (folder / "crates" / each).exists():
                 ignored = shutil.ignore_patterns("out", "must-fail")
-                shutil.copytree(TOP / "crates" / name, folder / "crates" / name, ignore=ignored)
+                shutil.copytree(TOP / "crates" / each, folder / "crates" / each, ignore=ignored)
         shutil.copy(TOP / "HANDLES", folder / "HANDLES")
-        (folder / "crates.txt").write_text("".join(f"{name}:{lines[name]}\n" for name in sorted(names)) + LINE)
-        (folder / "crates/publisher_times/src").mkdir(parents=True, exist_ok=True)
-        (folder / "crates/publisher_times/specs").mkdir(parents=True, exist_ok=True)
-        (folder / "crates/publisher_times/specs/Lib.antt").write_text("")
-        (folder / "crates/publisher_times/src/main.rt").write_text(PROGRAM)
-        subprocess.run(["rt", "run", "--jobs", "1"], cwd=folder / "crates/publisher_times", input=b"", check=True)
+        (folder / "crates.txt").write_text("".join(f"{each}:{lines[each]}\n" for each in sorted(names)) + line)
+        (folder / f"crates/{name}/src").mkdir(parents=True, exist_ok=True)
+        (folder / f"crates/{name}/specs").mkdir(parents=True, exist_ok=True)
+        (folder / f"crates/{name}/specs/Lib.antt").write_text("")
+        (folder / f"crates/{name}/src/main.rt").write_text(source)
+        subprocess.run(["rt", "run", "--jobs", "1"], cwd=folder / f"crates/{name}", input=b"", check=True)
     return program
 
 
@@ -322,7 +322,7 @@ def main():
     options.add_argument("--keep", help="a folder for the program, kept for the next time")
     asked = options.parse_args()
     with tempfile.TemporaryDirectory() as made:
-        program = build(pathlib.Path(asked.keep or made))
+        program = build(pathlib.Path(asked.keep or made), "publisher_times", "publisher", LINE, PROGRAM)
         for name, mode in MODES:
             turns = asked.publishes if mode.startswith("publish") else asked.turns
             runs = [run_once(program, mode, 64, turns) for _ in range(asked.runs)]

@@ -1,0 +1,195 @@
+#!/usr/bin/env python3
+"""Times the tables of a catalogue by several threads, and a publish of one edit.
+
+    bench/editions.py [--apps N] [--releases N] [--next N] [--workers N ..] [--runs N] [--keep FOLDER]
+
+It copies the crates that an edition depends on to a folder, adds a program, and proves and builds it by `rt run`,
+which takes some minutes; `--keep` keeps the folder for the next time. The catalogue has N apps of N releases and 4
+cohorts, each of which has both targets; from each release there are differentials to each of the `--next` releases
+that follow. The program prints milliseconds by the clock of the machine; of each figure the least of the runs counts.
+
+`tables` is all tables of the catalogue, by each number of workers. `publish` is the next edition after a batch that
+sets the share of one cohort, beside `of the app`, which is all tables of a catalogue of one such app. `KiB` is by how
+much the peak memory grows for an edition that is kept beside the one before it.
+"""
+
+import argparse
+import os
+import pathlib
+import shutil
+import sys
+import tempfile
+
+import graphs
+import publisher
+
+LINE = "edition_times: editions par_tables catalogue values\n"
+HEAD = r"""//! Makes the tables of catalogues, and editions.
+
+#![tactic(auto)]
+
+use catalogue::{
+    AddApp, AddCohort, AddDiff, AddRelease, Batch, Catalogue, Edit, Refused, SetFloor,
+    SetRollback, SetShare, SetTarget,
+};
+use editions::{Edition, NextError};
+use par_tables::{Free, build};
+use std::alloc::{AllocError, Global};
+use std::io;
+use std::rt::Clock;
+use std::thread::Threads;
+use std::time::Instant;
+use values::{ReadError, Text};
+
+"""
+BODY = r"""
+// The nanoseconds since a start, 0 if the clock could not be read.
+fn passed_since<R: Clock>(rt: &R, start: io::Result<Instant>) -> u64 {
+    let Ok(start) = start else {
+        return 0;
+    };
+    match start.elapsed(rt) {
+        Ok(passed) => u64::try_from(passed.as_nanos()).unwrap_or(0),
+        Err(_) => 0,
+    }
+}
+
+fn catalogue_of(alloc: Global, apps: u64, releases: u64, next: u64) -> Result<Catalogue, ReadError<Refused>> {
+    let batch = batch_of(alloc, apps, 4, releases, next, "none")?;
+    Catalogue::empty(alloc).applied(&batch)
+}
+
+// The nanoseconds in which all tables are made by 1, 2, 3, 4, 8 or 16 workers, and how many there are.
+fn built<R: Threads + Sync + Clock>(rt: &R, alloc: Global, catalogue: &Catalogue, workers: u64) -> Result<(u64, u64), AllocError> {
+    let start = Instant::now(rt);
+    let tables = match workers {
+        2 => build(rt, alloc, catalogue, 2, &Free)?,
+        3 => build(rt, alloc, catalogue, 3, &Free)?,
+        4 => build(rt, alloc, catalogue, 4, &Free)?,
+        8 => build(rt, alloc, catalogue, 8, &Free)?,
+        16 => build(rt, alloc, catalogue, 16, &Free)?,
+        _ => build(rt, alloc, catalogue, 1, &Free)?,
+    };
+    Ok((passed_since(rt, start), tables.len() as u64))
+}
+
+fn run_build<R: Threads + Sync + Clock>(rt: &R, alloc: Global, apps: u64, releases: u64, next: u64, workers: u64) -> Result<(u64, u64), ReadError<Refused>> {
+    let catalogue = catalogue_of(alloc, apps, releases, next)?;
+    Ok(built(rt, alloc, &catalogue, workers)?)
+}
+
+fn change_of(alloc: Global) -> Result<Batch, AllocError> {
+    let mut edits = Vec::new(alloc);
+    edits.push(share_set(alloc)?)?;
+    Ok(Batch::new(edits))
+}
+
+// The nanoseconds of the last of so many publishes, each of one edit, and the number of the last edition.
+fn published<R: Clock>(rt: &R, alloc: Global, batch: Batch, turns: u64) -> Result<(u64, u64), NextError> {
+    let mut edition = Edition::empty(alloc).next(batch)?;
+    let mut passed = 0;
+    for _turn in 0..turns {
+        let change = change_of(alloc)?;
+        let start = Instant::now(rt);
+        let next = edition.next(change)?;
+        passed = passed_since(rt, start);
+        edition = next;
+    }
+    Ok((passed, edition.number()))
+}
+
+// The same with the edition before each one kept until the end.
+fn kept<R: Clock>(rt: &R, alloc: Global, batch: Batch) -> Result<(u64, u64), NextError> {
+    let edition = Edition::empty(alloc).next(batch)?;
+    let change = change_of(alloc)?;
+    let start = Instant::now(rt);
+    let next = edition.next(change)?;
+    let passed = passed_since(rt, start);
+    Ok((passed, edition.number().saturating_add(next.number())))
+}
+
+fn run_publish<R: Clock>(rt: &R, alloc: Global, mode: &str, apps: u64, releases: u64, next: u64, turns: u64) -> Result<(u64, u64), NextError> {
+    let batch = batch_of(alloc, apps, 4, releases, next, "none")?;
+    match mode {
+        "kept" => kept(rt, alloc, batch),
+        _ => published(rt, alloc, batch, turns),
+    }
+}
+
+fn run<R: Threads + Sync + Clock>(rt: &R, alloc: Global, mode: &str, apps: u64, releases: u64, next: u64, count: u64) -> Option<(u64, u64)> {
+    match mode {
+        "build" => run_build(rt, alloc, apps, releases, next, count).ok(),
+        _ => run_publish(rt, alloc, mode, apps, releases, next, count).ok(),
+    }
+}
+
+// Each line of the input: `build`, `publish` or `kept`, the apps, the releases, the differentials from each, and the
+// workers or the publishes. It prints nanoseconds, and how many tables there are, or the number of the edition.
+fn main(rt: HostRuntime) -> io::Result<()> {
+    let alloc = rt.alloc();
+    for line in rt.lines(alloc) {
+        let line = line?;
+        let mut words = line.as_str().split(' ');
+        let mode = words.next().unwrap_or("");
+        let apps = words.next().unwrap_or("").parse().unwrap_or(0);
+        let releases = words.next().unwrap_or("").parse().unwrap_or(0);
+        let next = words.next().unwrap_or("").parse().unwrap_or(0);
+        let count = words.next().unwrap_or("").parse().unwrap_or(0);
+        match run(&rt, alloc, mode, apps, releases, next, count) {
+            Some((passed, number)) => println!(rt; "{passed} {number}")?,
+            None => println!(rt; "failed")?,
+        }
+    }
+    Ok(())
+}
+"""
+
+
+def run_once(program, *words):
+    """The nanoseconds and the number that the program prints, and its peak memory in KiB."""
+    read, write = os.pipe()
+    os.write(write, (" ".join(map(str, words)) + "\n").encode())
+    os.close(write)
+    with tempfile.TemporaryFile() as output:
+        child = graphs.subprocess.Popen([program], stdin=read, stdout=output)
+        _, status, usage = os.wait4(child.pid, 0)
+        os.close(read)
+        output.seek(0)
+        printed = output.read().decode().split()
+    if status != 0 or len(printed) != 2:
+        sys.exit(f"{program} {words}: status {status}: {printed}")
+    return int(printed[0]), int(printed[1]), usage.ru_maxrss
+
+
+def least(program, runs, *words):
+    return min(run_once(program, *words) for _ in range(runs))
+
+
+def main():
+    options = argparse.ArgumentParser(description=__doc__, formatter_class=argparse.RawDescriptionHelpFormatter)
+    options.add_argument("--apps", type=int, default=64, help="apps [default: 64]")
+    options.add_argument("--releases", type=int, default=512, help="releases of an app [default: 512]")
+    options.add_argument("--next", type=int, default=32, help="differentials from each release [default: 32]")
+    options.add_argument("--workers", type=int, nargs="+", default=[1, 2, 4], help="of 1, 2, 3, 4, 8, 16 [default: 1 2 4]")
+    options.add_argument("--runs", type=int, default=3, help="runs of each figure [default: 3]")
+    options.add_argument("--keep", help="a folder for the program, kept for the next time")
+    asked = options.parse_args()
+    folder = pathlib.Path(asked.keep or tempfile.mkdtemp()).resolve()
+    try:
+        program = publisher.build(folder, "edition_times", "editions", LINE, HEAD + graphs.EDITS + BODY)
+        for workers in asked.workers:
+            passed, tables, _ = least(program, asked.runs, "build", asked.apps, asked.releases, asked.next, workers)
+            print(f"tables by {workers:2} workers  {passed / 1e6:10.2f} ms  {tables} tables", flush=True)
+        passed, _, one = least(program, asked.runs, "publish", asked.apps, asked.releases, asked.next, 3)
+        own, tables, _ = least(program, asked.runs, "build", 1, asked.releases, asked.next, 1)
+        print(f"publish of one edit   {passed / 1e6:10.2f} ms, of the app {own / 1e6:.2f} ms for {tables} tables", flush=True)
+        none = least(program, asked.runs, "publish", asked.apps, asked.releases, asked.next, 0)[2]
+        kept = least(program, asked.runs, "kept", asked.apps, asked.releases, asked.next, 1)[2]
+        print(f"memory                {none:10,} KiB, {kept - none:,} KiB more for a kept edition", flush=True)
+    finally:
+        if not asked.keep:
+            shutil.rmtree(folder)
+
+
+if __name__ == "__main__":
+    main()
