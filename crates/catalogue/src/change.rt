@@ -95,10 +95,7 @@ fn place(releases: &mut SharedItems<Release>, release: Release) -> Result<(), Al
     releases.insert(index, release)
 }
 
-fn place_diff(
-    diffs: &mut SharedItems<Shared<Diff>>,
-    diff: Shared<Diff>,
-) -> Result<(), AllocError>
+fn place_diff(diffs: &mut SharedItems<Shared<Diff>>, diff: Shared<Diff>) -> Result<(), AllocError>
     requires { ascend is_diff_before diffs.old ≡ true }
     ensures { OnOk result (diffs.new ≡ placed_diff diff diffs.old) }
 {

@@ -99,11 +99,7 @@ pub fn has_diff(diffs: &[Shared<Diff>], from: &Version, to: &Version) -> bool
 }
 
 /// The index of the differential of a pair among differentials by ascending pair.
-pub fn index_of_diff(
-    diffs: &[Shared<Diff>],
-    from: &Version,
-    to: &Version,
-) -> Option<usize>
+pub fn index_of_diff(diffs: &[Shared<Diff>], from: &Version, to: &Version) -> Option<usize>
     requires { ascend is_diff_before diffs.now ≡ true }
     ensures { result ≡ position (is_diff (from.now, to.now)) diffs.now }
 {

@@ -17,7 +17,11 @@ const BEFORE: &str = "differential 0 for 300 | 1,stable:0,false";
 const AFTER: &str = "differential 3 for 500 | 2,stable:0,false";
 
 // A press of a profile, with its one view.
-fn open_one<R: Threads + Sync + Wait>(rt: &R, alloc: Global, profile: &str) -> Option<(Press, View)> {
+fn open_one<R: Threads + Sync + Wait>(
+    rt: &R,
+    alloc: Global,
+    profile: &str,
+) -> Option<(Press, View)> {
     let Ok((press, views)) = open_profile(rt, alloc, profile, 1) else {
         return None;
     };
@@ -64,7 +68,13 @@ fn learns<R: Threads + Sync + Wait>(rt: &R, alloc: Global, press: &mut Press, vi
 }
 
 // The number that is published if a batch is stale, else 0.
-fn stale_at<R: Threads + Sync + Wait>(rt: &R, alloc: Global, press: &mut Press, base: u64, edits: &str) -> u64 {
+fn stale_at<R: Threads + Sync + Wait>(
+    rt: &R,
+    alloc: Global,
+    press: &mut Press,
+    base: u64,
+    edits: &str,
+) -> u64 {
     match publish_edits(rt, alloc, press, base, edits) {
         Err(PublishError::Stale(receipt)) => receipt.edition(),
         _ => 0,
@@ -91,7 +101,13 @@ fn enters_what_it_learnt_and_rejects_the_same_batch_again(rt: HostRuntime) {
 }
 
 // Whether a batch on a base is rejected with its first edit's fault, and nothing is published.
-fn is_refused<R: Threads + Sync + Wait>(rt: &R, alloc: Global, press: &mut Press, base: u64, edits: &str) -> bool {
+fn is_refused<R: Threads + Sync + Wait>(
+    rt: &R,
+    alloc: Global,
+    press: &mut Press,
+    base: u64,
+    edits: &str,
+) -> bool {
     let before = press.edition().number();
     match publish_edits(rt, alloc, press, base, edits) {
         Err(PublishError::Refused(refused)) => {

@@ -45,7 +45,12 @@ fn enter_often(alloc: Global, view: View, times: u32) -> Entries {
 }
 
 // Publishes so many empty batches in turn: the last receipt.
-fn publish_often<R: Threads + Sync + Wait>(rt: &R, alloc: Global, press: &mut Press, times: u64) -> Option<Receipt> {
+fn publish_often<R: Threads + Sync + Wait>(
+    rt: &R,
+    alloc: Global,
+    press: &mut Press,
+    times: u64,
+) -> Option<Receipt> {
     let mut last = None;
     for base in 1..=times {
         last = publish_edits(rt, alloc, press, base, "").ok();
