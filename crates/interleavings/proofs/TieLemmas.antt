@@ -1,13 +1,14 @@
 -- The contracts of the program's functions as events.
-use Rattle.std.proofs.Common.{◌≡◌, ℕ, suc, ◌+◌, ◌&&◌, Bool, true, false, eqb, ltb, cond, List, [], ◌∷◌, ◌++◌, length, Option, None, Some, Result, refl, sym, ap, ◌∙◌, subst, arith}
+use Rattle.std.proofs.Common.{◌≡◌, ℕ, suc, ◌+◌, ◌&&◌, Bool, true, false, eqb, ltb, cond, List, [], ◌∷◌, ◌++◌, length, Option, None, Some, Result, Ok, Err, inl, inr, refl, sym, ap, ◌∙◌, subst, arith}
 use Rattle.std.specs.Result.{is_ok}
-use Rattle.std.proofs.lemmas.Bool.{and_from, and_left, and_right, cond-false, cond-true, eq-eqb, false≢true, le-leb, le-ltb, leb-true, lt-ltb}
+use Rattle.std.proofs.lemmas.Bool.{and_from, and_left, and_right, cond-false, cond-true, eq-eqb, false≢true, le-leb, le-ltb, leb-true, lt-ltb, ne_eqb}
 use Rattle.catalogue.specs.declared.edit.Edit.{Edit}
 use Rattle.catalogue.specs.declared.fault.Refused.{Refused}
 use Rattle.catalogue_laws.specs.Histories.{History}
 use Rattle.editions.specs.Editions.{max_batches, outcome_after}
 use Rattle.mirror_ledger.specs.Budgets.{Account}
 use Rattle.omaha_json.specs.ReplyWriting.{reply_bytes}
+use Rattle.publisher.specs.declared.fault.PublishError.TheVariants as publishing
 use Rattle.records.specs.declared.content.App.{App}
 use Rattle.records.specs.declared.mirror.Mirror.{Mirror}
 use Rattle.replies.specs.Plans.{payloads_of}
@@ -16,7 +17,7 @@ use Rattle.replies.specs.declared.choices.Choice.{Choice}
 use Rattle.update_desk.specs.Asking.{asks_of}
 use Rattle.interleavings.specs.Jobs.{Pending, bytes_asked, outcomes_by_app, outcomes_of}
 use Rattle.interleavings.specs.Services.{is_published, published}
-use Rattle.interleavings.specs.Ties.{AnswersAreOfPending, FullIsNotPublished, GrantsAreBooked, NextIsPublished, RejectedIsNotPublished, RoomIsTested}
+use Rattle.interleavings.specs.Ties.{AnswersAreOfPending, FullIsNotPublished, GrantsAreBooked, NextIsPublished, PressPublishes, RejectedIsNotPublished, RoomIsTested}
 
 module _ (history : History) (batch : List Edit) where
   taken : is_published history (length history) batch ≡ true → published history (length history)
@@ -51,6 +52,26 @@ full_is_not_published history batch full =
     let room : ltb count max_batches ≡ false = le-ltb count max_batches (omega arith) in
     left history batch (and_right (eqb count count) (ltb count max_batches && accepted)
     (and_left (ltb count max_batches) accepted room))
+
+-- who knows of all batches publishes as the next edition is made
+at-base : (history : History) (base : ℕ) (batch : List Edit) (after : History) → base ≡ length history →
+    published history (length history) batch ≡ after → after ≡ published history base batch
+at-base history base batch after known next =
+    sym (ap (λ (count : ℕ). published history count batch) known ∙ next)
+
+pub press_publishes : PressPublishes
+press_publishes before base batch (Ok receipt) after publishes =
+    inl (at-base before base batch after publishes.0 (next_is_published before batch after publishes.1))
+press_publishes before base batch (Err (publishing.Stale now)) after stale =
+    let late : is_published before base batch ≡ false =
+    ap (λ (b : Bool). b && (ltb (length before) max_batches && is_ok (outcome_after before batch)))
+    (ne_eqb base (length before) stale.0) in
+    inl (stale.2 ∙ sym (cond-false (is_published before base batch) (before ++ batch ∷ []) before late))
+press_publishes before base batch (Err (publishing.Refused refused)) after rejected =
+    inl (rejected.2 ∙ at-base before base batch before rejected.0 (rejected_is_not_published before batch refused rejected.1))
+press_publishes before base batch (Err publishing.HistoryFull) after full =
+    inl (full.2 ∙ at-base before base batch before full.0 (full_is_not_published before batch full.1))
+press_publishes before base batch (Err publishing.Memory) after refused = inr (refl, refused)
 
 pub room_is_tested : RoomIsTested
 room_is_tested account bytes =

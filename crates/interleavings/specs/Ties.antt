@@ -1,5 +1,5 @@
 -- Which events the contracts of the program's functions are: each law reads one contract as an event.
-use Rattle.std.specs.Prelude.{◌≡◌, ◌↔◌, ℕ, true, List, ◌++◌, length, Ok, Err}
+use Rattle.std.specs.Prelude.{◌≡◌, ◌⊎◌, ◌↔◌, ℕ, true, List, ◌++◌, length, Result, Ok, Err}
 use Rattle.catalogue.specs.declared.edit.Edit.{Edit}
 use Rattle.catalogue.specs.declared.fault.Refused.{Refused}
 use Rattle.catalogue_laws.specs.Histories.{History}
@@ -10,6 +10,9 @@ use Rattle.mirror_ledger.specs.Budgets.{Account, Grants, HasRoom}
 use Rattle.omaha_json.specs.ReplyWriting.{reply_bytes}
 use Rattle.omaha_json.specs.declared.reply.Reply.{Reply}
 use Rattle.omaha_json.specs.declared.request.Request.{Request}
+use Rattle.publisher.specs.Publishing.{Publishes}
+use Rattle.publisher.specs.declared.fault.PublishError.{PublishError}
+use Rattle.publisher.specs.declared.fault.PublishError.TheVariants as publishing
 use Rattle.update_desk.specs.Answering.{IsReply, Stock}
 use Rattle.update_desk.specs.Asking.{asks_of}
 use Rattle.interleavings.specs.Jobs.{Pending, is_decided, outcomes_of}
@@ -33,6 +36,14 @@ abbrev pub FullIsNotPublished : Type 0
 FullIsNotPublished =
     (history : History) (batch : List Edit) →
     Continues history batch (Err error.HistoryFull) → published history (length history) batch ≡ history
+
+-- `Press::publish` is a publish by somebody who knows of as many batches as its base says, or memory ran out and nothing
+-- is published
+abbrev pub PressPublishes : Type 0
+PressPublishes =
+    (before : History) (base : ℕ) (batch : List Edit) (result : Result History PublishError) (after : History) →
+    Publishes before base batch result after →
+    (after ≡ published before base batch) ⊎ ((result ≡ Err publishing.Memory) × (after ≡ before))
 
 -- `Book::grant` succeeds exactly if the book has room
 abbrev pub RoomIsTested : Type 0

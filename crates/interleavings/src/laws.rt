@@ -5,7 +5,7 @@ ghost use Rattle.interleavings.specs.Headline.{OffersLeadToTargets, RepliesSayTr
 ghost use Rattle.interleavings.specs.Laws.{BatchesArePublishedInTurn, BatchesArePublishedWhole, JobsGoByWhatWasSeen, PlansAreByPrices, PublishedIsAccepted, PublishedStays, RepliesAreOfOneCatalogue, SeenIsPublished, SeenNeverFalls, SharesAreOfJobs, TotalsAreWithinBudgets};
 ghost use Rattle.interleavings.specs.Requests.{RepliesAreToGivenRequests};
 ghost use Rattle.interleavings.specs.Runs.{BudgetEnds, BudgetRaised, DropAfterGrant, FailedConditions, PublishBetween, StalePublish};
-ghost use Rattle.interleavings.specs.Ties.{AnswersAreOfPending, FullIsNotPublished, GrantsAreBooked, NextIsPublished, RejectedIsNotPublished, RoomIsTested};
+ghost use Rattle.interleavings.specs.Ties.{AnswersAreOfPending, FullIsNotPublished, GrantsAreBooked, NextIsPublished, PressPublishes, RejectedIsNotPublished, RoomIsTested};
 ghost use Rattle.interleavings.specs.Wrong.{EntriesBreak, GrantsBreak, PlansAndRepliesBreak, PublishesBreak};
 
 // rule: Service
@@ -98,11 +98,12 @@ pub fn plans()
     theorems::laws::plans();
 }
 
-/// States which events the contracts of `Edition::next`, `Book::grant` and `update_desk::answer` are.
+/// States which events the contracts of `Edition::next`, `Press::publish`, `Book::grant` and `update_desk::answer` are.
 pub fn ties()
     ensures next { NextIsPublished }
     ensures rejected { RejectedIsNotPublished }
     ensures full { FullIsNotPublished }
+    ensures press { PressPublishes }
     ensures room { RoomIsTested }
     ensures grants { GrantsAreBooked }
     ensures answers { AnswersAreOfPending }

@@ -1,4 +1,4 @@
-use Rattle.interleavings.proofs.TieLemmas.{answers_are_of_pending, full_is_not_published, grants_are_booked, next_is_published, rejected_is_not_published, room_is_tested}
+use Rattle.interleavings.proofs.TieLemmas.{answers_are_of_pending, full_is_not_published, grants_are_booked, next_is_published, press_publishes, rejected_is_not_published, room_is_tested}
 use Rattle.interleavings.proofs.laws.ties.Goals as goal
 
 pub returns : goal.returns
@@ -7,6 +7,7 @@ returns c =
       next = next_is_published;
       rejected = rejected_is_not_published;
       full = full_is_not_published;
+      press = press_publishes;
       room = room_is_tested;
       grants = grants_are_booked;
       answers = answers_are_of_pending;
