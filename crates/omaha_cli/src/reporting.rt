@@ -11,12 +11,11 @@ use crate::printing::print;
 use omaha_arguments::{Question, Report};
 use omaha_server::Service;
 use reports::{certify, summary, verify};
-use std::thread::Threads;
 use streams::{Disk, ReadFailure, WriteWhole};
 use values::Text;
 
 // That the certificate in a file is valid.
-fn verify_file<R: Disk + AllocGlobal + Threads + Sync>(
+fn verify_file<R: Disk + AllocGlobal>(
     rt: &R,
     service: &Service,
     path: &Text,
@@ -29,12 +28,12 @@ fn verify_file<R: Disk + AllocGlobal + Threads + Sync>(
         Err(ReadFailure::Memory) => return Err(Failure::Memory),
         Err(_) => return Err(Failure::File(path.clone()?)),
     };
-    verify(rt, rt.alloc(), &service.edition, bytes.as_slice())?;
+    verify(rt.alloc(), &service.edition, bytes.as_slice())?;
     Ok(Vec::from_slice(rt.alloc(), b"certified\n")?)
 }
 
 // What is found for a question about a service's edition.
-fn find<R: Disk + AllocGlobal + Threads + Sync>(
+fn find<R: Disk + AllocGlobal>(
     rt: &R,
     service: &Service,
     question: &Question,
@@ -50,10 +49,7 @@ fn find<R: Disk + AllocGlobal + Threads + Sync>(
 }
 
 // What a report finds.
-fn report_bytes<R: Disk + AllocGlobal + Threads + Sync>(
-    rt: &R,
-    report: &Report,
-) -> Result<Vec<u8>, Failure>
+fn report_bytes<R: Disk + AllocGlobal>(rt: &R, report: &Report) -> Result<Vec<u8>, Failure>
     ensures ok { IfOk result (λ text. IsReported (R.file_at rt.now) report.now (Ok text.items)) }
     ensures err { IfErr result (λ failure. IsReported (R.file_at rt.now) report.now (Err failure)) }
 {
@@ -69,7 +65,7 @@ fn report_bytes<R: Disk + AllocGlobal + Threads + Sync>(
 /// Fails, in this order, with the profile's file, its first fault, its first rejected edit, and what the
 /// question finds; each time nothing is written. If the writer fails, a first part of the report is written,
 /// and not all of it.
-pub fn report_on<R: Disk + AllocGlobal + Threads + Sync, W: WriteWhole>(
+pub fn report_on<R: Disk + AllocGlobal, W: WriteWhole>(
     rt: &R,
     asked: &Report,
     writer: &mut W,

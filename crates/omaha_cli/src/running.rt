@@ -19,7 +19,6 @@ use omaha_server::Host;
 use package_files::Folders;
 use std::alloc::Global;
 use std::sync::Wait;
-use std::thread::Threads;
 use streams::{Disk, ReadWhole, WriteWhole, offer};
 use values::Text;
 
@@ -98,7 +97,7 @@ fn end_without_command<W: WriteWhole>(error: ArgumentError, writer: &mut W) -> E
 
 // Does what a command asks for.
 fn obey<
-    R: Disk + Folders + Host + Connector + AllocGlobal + Threads + Wait + Sync,
+    R: Disk + Folders + Host + Connector + AllocGlobal + Wait,
     I: ReadWhole,
     W: WriteWhole,
     F: WriteWhole,
@@ -122,7 +121,7 @@ fn obey<
 
 // Carries out what the arguments ask for.
 fn carry_out<
-    R: Disk + Folders + Host + Connector + AllocGlobal + Threads + Wait + Sync,
+    R: Disk + Folders + Host + Connector + AllocGlobal + Wait,
     I: ReadWhole,
     W: WriteWhole,
     F: WriteWhole,
@@ -175,7 +174,7 @@ fn report<F: WriteWhole>(alloc: Global, ending: &Ending, errors: &mut F)
 /// after one line on `errors`; and 2 if the arguments are invalid, after `clap`'s message on `errors`. With `--log -` a
 /// server also logs its replies there.
 pub fn run<
-    R: Disk + Folders + Host + Connector + AllocGlobal + Threads + Wait + Sync,
+    R: Disk + Folders + Host + Connector + AllocGlobal + Wait,
     I: ReadWhole,
     W: WriteWhole,
     F: WriteWhole,

@@ -8,7 +8,6 @@ use std::io::{ErrorKind, Read};
 use std::net::{Net, TcpListener, TcpStream};
 use std::rt::Files;
 use std::sync::Wait;
-use std::thread::Threads;
 use std::time::Clock;
 
 #[test]
@@ -30,13 +29,7 @@ fn rejects_an_input_that_breaks_off(rt: HostRuntime) {
 
 // Whether a run over a request with so many spaces after it ends so.
 fn ends_after_spaces<
-    R: Net<Listener = TcpListener, Stream = TcpStream>
-        + Clock
-        + Files
-        + Threads
-        + Wait
-        + AllocGlobal
-        + Sync,
+    R: Net<Listener = TcpListener, Stream = TcpStream> + Clock + Files + Wait + AllocGlobal,
 >(rt: &R, left: usize, wanted: Ending<'_>) -> bool {
     ends_over(rt, &[], &mut OLD.as_bytes().chain(Blank { left }), wanted)
 }
@@ -59,13 +52,7 @@ fn rejects_an_input_that_is_too_long(rt: HostRuntime) {
 
 // Whether a run reports that it couldn't write its reply to a writer that takes so many bytes.
 fn reports_write<
-    R: Net<Listener = TcpListener, Stream = TcpStream>
-        + Clock
-        + Files
-        + Threads
-        + Wait
-        + AllocGlobal
-        + Sync,
+    R: Net<Listener = TcpListener, Stream = TcpStream> + Clock + Files + Wait + AllocGlobal,
 >(rt: &R, left: usize) -> bool {
     let words = Vec::new(rt.alloc());
     let mut told = Vec::new(rt.alloc());

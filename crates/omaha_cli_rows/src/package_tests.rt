@@ -5,7 +5,6 @@ use std::net::{Net, TcpListener, TcpStream};
 use std::rt::Files;
 use std::sync::Wait;
 use std::test::Fail;
-use std::thread::Threads;
 use std::time::Clock;
 use std::{env, fs, io, process};
 
@@ -87,15 +86,13 @@ fn make_folder(rt: &HostRuntime, end: &str) -> Option<String> {
 }
 
 // Whether `check` ends so with a profile of a folder and the packages of another.
-fn checks<
-    R: Net<Listener = TcpListener, Stream = TcpStream>
-        + Clock
-        + Files
-        + Threads
-        + Wait
-        + AllocGlobal
-        + Sync,
->(rt: &R, folder: &str, profile: &str, packages: &str, wanted: Ending<'_>) -> Option<bool> {
+fn checks<R: Net<Listener = TcpListener, Stream = TcpStream> + Clock + Files + Wait + AllocGlobal>(
+    rt: &R,
+    folder: &str,
+    profile: &str,
+    packages: &str,
+    wanted: Ending<'_>,
+) -> Option<bool> {
     let profile = format!(in rt.alloc(); "{folder}/{profile}").ok()?;
     let words = ["check", profile.as_str(), "--packages", packages];
     Some(ends(rt, &words, "{", wanted))
@@ -128,13 +125,7 @@ fn compares_the_packages_of_a_profile(rt: HostRuntime) -> Result<(), Fail> {
 
 // Whether `check` ends so with a profile of a folder and the packages of one that there isn't.
 fn checks_elsewhere<
-    R: Net<Listener = TcpListener, Stream = TcpStream>
-        + Clock
-        + Files
-        + Threads
-        + Wait
-        + AllocGlobal
-        + Sync,
+    R: Net<Listener = TcpListener, Stream = TcpStream> + Clock + Files + Wait + AllocGlobal,
 >(rt: &R, folder: &str, profile: &str, wanted: Ending<'_>) -> Option<bool> {
     let elsewhere = format!(in rt.alloc(); "{folder}/elsewhere").ok()?;
     checks(rt, folder, profile, elsewhere.as_str(), wanted)
@@ -158,13 +149,7 @@ fn finds_no_package_in_another_folder(rt: HostRuntime) -> Result<(), Fail> {
 
 // Whether `describe` of a folder's first package ends so.
 fn describes<
-    R: Net<Listener = TcpListener, Stream = TcpStream>
-        + Clock
-        + Files
-        + Threads
-        + Wait
-        + AllocGlobal
-        + Sync,
+    R: Net<Listener = TcpListener, Stream = TcpStream> + Clock + Files + Wait + AllocGlobal,
 >(rt: &R, folder: &str) -> Option<bool> {
     let first = format!(in rt.alloc(); "{folder}/mini-1.0.bin").ok()?;
     let words = ["describe", first.as_str()];
@@ -173,13 +158,7 @@ fn describes<
 
 // Whether `describe` of a folder's first package and another file ends so.
 fn describes_both<
-    R: Net<Listener = TcpListener, Stream = TcpStream>
-        + Clock
-        + Files
-        + Threads
-        + Wait
-        + AllocGlobal
-        + Sync,
+    R: Net<Listener = TcpListener, Stream = TcpStream> + Clock + Files + Wait + AllocGlobal,
 >(rt: &R, folder: &str, second: &str, wanted: Ending<'_>) -> Option<bool> {
     let first = format!(in rt.alloc(); "{folder}/mini-1.0.bin").ok()?;
     let second = format!(in rt.alloc(); "{folder}/{second}").ok()?;
@@ -189,13 +168,7 @@ fn describes_both<
 
 // Whether `describe` reports that a folder has no such file.
 fn describes_no_file<
-    R: Net<Listener = TcpListener, Stream = TcpStream>
-        + Clock
-        + Files
-        + Threads
-        + Wait
-        + AllocGlobal
-        + Sync,
+    R: Net<Listener = TcpListener, Stream = TcpStream> + Clock + Files + Wait + AllocGlobal,
 >(rt: &R, folder: &str) -> Option<bool> {
     let line = format!(in rt.alloc(); "omaha: file {folder}/none.bin: missing\n").ok()?;
     describes_both(rt, folder, "none.bin", failed(line.as_str()))

@@ -6,7 +6,6 @@ use std::net::{Net, TcpListener, TcpStream};
 use std::rt::Files;
 use std::str;
 use std::sync::Wait;
-use std::thread::Threads;
 use std::time::Clock;
 
 // A string of a row: `_` is a space, `~` a line feed, and `^` is left out, so that `^` alone is empty.
@@ -48,13 +47,7 @@ fn is_printed(told: &[u8], wanted: &str) -> bool {
 // Whether a run over the input `{` reads and writes nothing, and ends as wanted: its status, and what it prints on
 // standard error.
 fn fails_so<
-    R: Net<Listener = TcpListener, Stream = TcpStream>
-        + Clock
-        + Files
-        + Threads
-        + Wait
-        + AllocGlobal
-        + Sync,
+    R: Net<Listener = TcpListener, Stream = TcpStream> + Clock + Files + Wait + AllocGlobal,
 >(files: &R, words: &[String], wanted: &str) -> bool {
     let mut reader = b"{".as_slice();
     let mut written = Vec::new(files.alloc());
@@ -68,15 +61,11 @@ fn fails_so<
 }
 
 // Whether a run ends as wanted.
-fn ends_as<
-    R: Net<Listener = TcpListener, Stream = TcpStream>
-        + Clock
-        + Files
-        + Threads
-        + Wait
-        + AllocGlobal
-        + Sync,
->(files: &R, words: &str, wanted: &str) -> bool {
+fn ends_as<R: Net<Listener = TcpListener, Stream = TcpStream> + Clock + Files + Wait + AllocGlobal>(
+    files: &R,
+    words: &str,
+    wanted: &str,
+) -> bool {
     match arguments(files.alloc(), words) {
         Ok(words) => fails_so(files, &words, wanted),
         Err(_) => false,
@@ -86,13 +75,7 @@ fn ends_as<
 /// Whether a run ends as its row says, and reads and writes nothing: it prints the wanted line, and after it nothing
 /// or the usage.
 pub(crate) fn ends_as_wanted<
-    R: Net<Listener = TcpListener, Stream = TcpStream>
-        + Clock
-        + Files
-        + Threads
-        + Wait
-        + AllocGlobal
-        + Sync,
+    R: Net<Listener = TcpListener, Stream = TcpStream> + Clock + Files + Wait + AllocGlobal,
 >(files: &R, row: &str) -> Option<bool> {
     let (wanted, words) = row.split_once(" | ")?;
     let wanted = unescaped(files.alloc(), wanted).ok()?;

@@ -5,18 +5,11 @@ use std::net::{Net, TcpListener, TcpStream};
 use std::rt::Files;
 use std::sync::Wait;
 use std::test::Fail;
-use std::thread::Threads;
 use std::time::Clock;
 
 // Whether a run over the built-in catalogue ends so, without arguments and with `once`.
 fn replies_with<
-    R: Net<Listener = TcpListener, Stream = TcpStream>
-        + Clock
-        + Files
-        + Threads
-        + Wait
-        + AllocGlobal
-        + Sync,
+    R: Net<Listener = TcpListener, Stream = TcpStream> + Clock + Files + Wait + AllocGlobal,
 >(rt: &R, input: &str, wanted: Ending<'_>) -> bool {
     ends(rt, &[], input, wanted) && ends(rt, &["once"], input, wanted)
 }

@@ -7,7 +7,6 @@ use std::net::{Net, TcpListener, TcpStream};
 use std::rt::Files;
 use std::sync::Wait;
 use std::test::Fail;
-use std::thread::Threads;
 use std::time::Clock;
 use std::{env, fs, io, process};
 
@@ -113,13 +112,7 @@ fn strings(alloc: Global, words: &[&str]) -> Result<Vec<String>, AllocError> {
 
 /// Runs the program with an output that takes so many bytes, and returns its status, its output and what it reports.
 pub(crate) fn run_within<
-    R: Net<Listener = TcpListener, Stream = TcpStream>
-        + Clock
-        + Files
-        + Threads
-        + Wait
-        + AllocGlobal
-        + Sync,
+    R: Net<Listener = TcpListener, Stream = TcpStream> + Clock + Files + Wait + AllocGlobal,
 >(rt: &R, words: &[&str], left: usize) -> Option<String> {
     let alloc = rt.alloc();
     let words = strings(alloc, words).ok()?;
@@ -136,26 +129,14 @@ pub(crate) fn run_within<
 
 /// Runs the program with an output that takes all bytes.
 pub(crate) fn run_program<
-    R: Net<Listener = TcpListener, Stream = TcpStream>
-        + Clock
-        + Files
-        + Threads
-        + Wait
-        + AllocGlobal
-        + Sync,
+    R: Net<Listener = TcpListener, Stream = TcpStream> + Clock + Files + Wait + AllocGlobal,
 >(rt: &R, words: &[&str]) -> Option<String> {
     run_within(rt, words, usize::MAX)
 }
 
 /// Serves a site with more arguments.
 pub(crate) fn serve_with<
-    R: Net<Listener = TcpListener, Stream = TcpStream>
-        + Clock
-        + Files
-        + Threads
-        + Wait
-        + AllocGlobal
-        + Sync,
+    R: Net<Listener = TcpListener, Stream = TcpStream> + Clock + Files + Wait + AllocGlobal,
 >(rt: &R, site: &Site, more: &[&str]) -> Option<String> {
     let mut words = Vec::new(rt.alloc());
     let first = [
@@ -174,26 +155,14 @@ pub(crate) fn serve_with<
 
 /// Serves so many sessions of a site.
 pub(crate) fn serve<
-    R: Net<Listener = TcpListener, Stream = TcpStream>
-        + Clock
-        + Files
-        + Threads
-        + Wait
-        + AllocGlobal
-        + Sync,
+    R: Net<Listener = TcpListener, Stream = TcpStream> + Clock + Files + Wait + AllocGlobal,
 >(rt: &R, site: &Site, sessions: &str) -> Option<String> {
     serve_with(rt, site, &["--sessions", sessions, "--timeout", "20"])
 }
 
 /// The same with a log.
 pub(crate) fn serve_logged<
-    R: Net<Listener = TcpListener, Stream = TcpStream>
-        + Clock
-        + Files
-        + Threads
-        + Wait
-        + AllocGlobal
-        + Sync,
+    R: Net<Listener = TcpListener, Stream = TcpStream> + Clock + Files + Wait + AllocGlobal,
 >(rt: &R, site: &Site, sessions: &str, log: &str) -> Option<String> {
     serve_with(
         rt,

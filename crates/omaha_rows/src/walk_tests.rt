@@ -5,7 +5,7 @@ use std::net::{Net, TcpListener, TcpStream};
 use std::rt::Files;
 use std::sync::Wait;
 use std::test::Fail;
-use std::thread::{Threads, join};
+use std::thread::join;
 use std::time::Clock;
 
 // The fingerprint of the first release.
@@ -13,13 +13,7 @@ const FIRST: &str = "1.ba7816bf8f01cfea414140de5dae2223b00361a396177a9cb410ff61f
 
 // Walks as a client at a version, once the server listens, which takes a connection. The output takes so many bytes.
 fn walk_within<
-    R: Net<Listener = TcpListener, Stream = TcpStream>
-        + Clock
-        + Files
-        + Threads
-        + Wait
-        + AllocGlobal
-        + Sync,
+    R: Net<Listener = TcpListener, Stream = TcpStream> + Clock + Files + Wait + AllocGlobal,
 >(rt: &R, site: &Site, app: &str, version: &str, fp: &str, left: usize) -> Option<String> {
     connect(rt, site.host.as_str())?;
     let words = [
@@ -39,15 +33,13 @@ fn walk_within<
 }
 
 // Walks as such a client, with an output that takes all bytes.
-fn walk<
-    R: Net<Listener = TcpListener, Stream = TcpStream>
-        + Clock
-        + Files
-        + Threads
-        + Wait
-        + AllocGlobal
-        + Sync,
->(rt: &R, site: &Site, app: &str, version: &str, fp: &str) -> Option<String> {
+fn walk<R: Net<Listener = TcpListener, Stream = TcpStream> + Clock + Files + Wait + AllocGlobal>(
+    rt: &R,
+    site: &Site,
+    app: &str,
+    version: &str,
+    fp: &str,
+) -> Option<String> {
     walk_within(rt, site, app, version, fp, usize::MAX)
 }
 

@@ -12,11 +12,10 @@ use crate::fault::CertificateError;
 use crate::tables::table_of;
 use catalogue::Catalogue;
 use editions::Edition;
-use parallel_check::check_parallel;
 use payload_graph::{Graph, TrackKey};
+use price_cert::check;
 use price_certificates::{read_key, read_prices};
 use std::alloc::{AllocError, Global};
-use std::thread::Threads;
 use values::{ReadError, Text};
 
 // The version of a release, as it was added.
@@ -48,8 +47,7 @@ fn graph_of(alloc: Global, edition: &Edition, key: &TrackKey) -> Result<Option<G
 }
 
 // What a certificate is found to be, of the graph of its track.
-fn judge<R: Threads + Sync>(
-    rt: &R,
+fn judge(
     alloc: Global,
     catalogue: &Catalogue,
     graph: &Graph,
@@ -66,7 +64,7 @@ fn judge<R: Threads + Sync>(
         Err(ReadError::Memory) => return Err(CertificateError::Memory),
         Err(ReadError::Fault(fault)) => return Err(CertificateError::Line(fault)),
     };
-    match check_parallel(rt, graph, prices) {
+    match check(graph, prices) {
         Ok(_) => Ok(()),
         Err((wrong, _)) => {
             let release = spelled_at(alloc, catalogue, app, wrong.row)?;
@@ -80,13 +78,8 @@ fn judge<R: Threads + Sync>(
 ///
 /// Fails, in this order, with the first wrong line among the first five; `NoTrack` if the edition has no
 /// table of that track; the first wrong line of the others; and the first wrong row from the highest
-/// version, with the first rule that it breaks. As many threads as there are processors look for a wrong row.
-pub fn verify<R: Threads + Sync>(
-    rt: &R,
-    alloc: Global,
-    edition: &Edition,
-    text: &[u8],
-) -> Result<(), CertificateError>
+/// version, with the first rule that it breaks.
+pub fn verify(alloc: Global, edition: &Edition, text: &[u8]) -> Result<(), CertificateError>
     ensures ok { IfOk result (λ done. Verifies (content_of edition.now) text.now (Ok done)) }
     ensures err { IfErr result (λ error. Verifies (content_of edition.now) text.now (Err error)) }
 {
@@ -96,7 +89,7 @@ pub fn verify<R: Threads + Sync>(
         Err(fault) => return Err(CertificateError::Line(fault)),
     };
     match graph_of(alloc, edition, &key)? {
-        Some(graph) => judge(rt, alloc, catalogue, &graph, text),
+        Some(graph) => judge(alloc, catalogue, &graph, text),
         None => Err(CertificateError::NoTrack),
     }
 }
