@@ -80,7 +80,7 @@ fn push_app(lines: &mut String, app: &App) -> Result<(), AllocError> {
         push_release(lines, release)?;
     }
     for diff in app.diffs.as_slice() {
-        push_diff(lines, diff)?;
+        push_diff(lines, diff.get())?;
     }
     Ok(())
 }

@@ -36,7 +36,8 @@ fn push_differs(
     key: &TrackKey,
 ) -> Result<(), AllocError> {
     for from in 0..app.releases.as_slice().len() {
-        for (index, diff) in app.diffs.as_slice().iter().enumerate() {
+        for (index, shared) in app.diffs.as_slice().iter().enumerate() {
+            let diff = shared.get();
             if permits(catalogue, key, &Place::At(from), &Payload::Differ(index)) {
                 edges.push(Edge {
                     from,
