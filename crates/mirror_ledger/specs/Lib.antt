@@ -2,4 +2,5 @@ pub mod Asks
 pub mod Budgets
 pub mod Named
 pub mod Order
+pub mod Running
 pub mod Tills

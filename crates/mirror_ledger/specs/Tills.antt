@@ -1,5 +1,6 @@
 -- Tills that are opened for work and closed after it; this project's profile.
-use Rattle.std.specs.Prelude.{◌≡◌, ℕ, ◌<◌, ◌≤◌, All, List, [], length, slice_index, sum_by}
+use Rattle.std.specs.Prelude.{◌≡◌, ℕ, ◌<◌, ◌≤◌, All, Bool, true, List, [], length, map, slice_index, sum_by, Result, Ok, Err}
+use Rattle.std.specs.List.{AllZip}
 use Rattle.records.specs.declared.mirror.Mirror.{Mirror}
 use Rattle.mirror_ledger.specs.Asks.{Ask, granted_at}
 use Rattle.mirror_ledger.specs.Named.{budget_at, totals_of}
@@ -20,3 +21,25 @@ granted_by workers index = sum_by (λ (asks : List Ask). granted_at index asks) 
 pub record AreTotalsOf (mirrors : List Mirror) (workers : List (List Ask)) (totals : List ℕ) : Type 0 where
   pub sums : totals ≡ totals_of mirrors (granted_by workers 0) (granted_by workers 1) (granted_by workers 2) (granted_by workers 3)
   pub within : (index : ℕ) → index < length mirrors → slice_index totals index ≤ budget_at mirrors index
+
+-- a till of these mirrors that has asked for nothing yet, and has no other beside it if it is single
+pub record IsFresh {T : Type 0} (mirrors_of : T → List Mirror) (asks_of : T → List Ask) (Alone : T → Type 0)
+    (single : Bool) (mirrors : List Mirror) (till : T) : Type 0 where
+  pub mirrored : mirrors_of till ≡ mirrors
+  pub unused : asks_of till ≡ []
+  pub alone : single ≡ true → Alone till
+
+-- rule: Jobs with tills
+-- a worker's job came to this end, with what it asked its till for; or it did not begin, asked for nothing and is
+-- given back
+abbrev pub WorksAs : {J E : Type 0} → (J → List Ask → E → Type 0) → J → List Ask → Result E J → Type 0
+WorksAs comes_to job asks (Ok end) = comes_to job asks end
+WorksAs comes_to job asks (Err back) = (back ≡ job) × (asks ≡ [])
+
+-- what became of each job, in order, and the asks of each
+pub record HaveWorked {J E : Type 0} (comes_to : J → List Ask → E → Type 0) (jobs : List J) (workers : List (List Ask))
+    (ends : List (Result E J)) : Type 0 where
+  pub worked : List (List Ask × Result E J)
+  pub each : AllZip (λ job done. WorksAs comes_to job done.0 done.1) jobs worked
+  pub asked : workers ≡ map (λ (done : List Ask × Result E J). done.0) worked
+  pub ended : ends ≡ map (λ (done : List Ask × Result E J). done.1) worked

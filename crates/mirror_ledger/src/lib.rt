@@ -4,9 +4,9 @@
 //! `Shares::grant_first` grants bytes on the first mirror that has room for them; `close` gathers all
 //! shares and returns each mirror's total, which is the sum of its shares and within its budget. A `Hand`
 //! is a `Till` over the books: what serves update checks knows its till alone. `work_with_tills` does all
-//! this for a `Work`, and hides the names of the ledgers. Read `specs/Budgets.antt` for what a grant does,
-//! `specs/Asks.antt` for how shares follow from the asks of a worker, and `specs/Tills.antt` for what work
-//! comes to.
+//! this for a `Work`, and hides the names of the ledgers; `run_with_tills` does it for jobs in threads. Read
+//! `specs/Budgets.antt` for what a grant does, `specs/Asks.antt` for how shares follow from the asks of a worker, and
+//! `specs/Tills.antt` for what work comes to.
 //!
 //! It does not measure downloads: a mirror's total counts what clients were offered.
 
@@ -16,7 +16,9 @@ mod asks;
 mod book;
 mod books;
 mod closing;
+mod job;
 mod opening;
+mod running;
 mod till;
 mod working;
 
@@ -24,6 +26,8 @@ pub use crate::asks::AskList;
 pub use crate::book::{Book, BudgetName, NoRoom, Share};
 pub use crate::books::{Books, Shares};
 pub use crate::closing::close;
+pub use crate::job::TillJob;
 pub use crate::opening::{Blanks, open_books};
+pub use crate::running::{Ran, run_with_tills};
 pub use crate::till::{Hand, Till};
 pub use crate::working::{Work, work_with_tills};

@@ -32,8 +32,8 @@ pub trait Work<R> {
             → comes_to self.old self.new mirrors (map T.asks tills.new.items) result };
 }
 
-// A till for each worker's shares of the books, which are those of the ledgers.
-fn tills_of<'a, A: BudgetName, B: BudgetName, C: BudgetName, D: BudgetName>(
+/// A till for each worker's shares of the books, which are those of the ledgers.
+pub(crate) fn tills_of<'a, A: BudgetName, B: BudgetName, C: BudgetName, D: BudgetName>(
     alloc: Global,
     books: &'a Books<A, B, C, D>,
     shares: Vec<Shares<A, B, C, D>>,

@@ -1,0 +1,41 @@
+//! Jobs with a till each.
+
+ghost use Rattle.std.specs.Prelude.{◌≡◌, [], Bool, List, true};
+ghost use Rattle.records.specs.declared.mirror.Mirror.{Mirror};
+ghost use Rattle.mirror_ledger.specs.Asks.{Ask};
+
+use crate::till::Till;
+use worker_threads::Job;
+
+/// What one worker does with a till of its own.
+pub trait TillJob {
+    /// What it comes to.
+    type End: Send + Drop;
+
+    // On these mirrors, alone or not, from the job, with what it asked for, to its end.
+    ghost comes_to: { Bool → List Mirror → Self → List Ask → Self.End → Type 0 };
+
+    /// Does the job, and gives the till back.
+    fn work<T: Till + Drop>(self, till: T) -> (T, Self::End)
+        ensures { (single : Bool) → (single ≡ true → T.alone till) → T.asks till ≡ []
+            → comes_to single (T.mirrors till) self (T.asks result.0) result.1 };
+}
+
+/// A job and its till.
+#[derive(Drop)]
+pub(crate) struct WithTill<J, T> {
+    pub(crate) job: J,
+    pub(crate) till: T,
+}
+
+impl<J: TillJob, T: Till + Send + Drop> Job for WithTill<J, T> {
+    type End = (T, J::End);
+
+    ghost comes_to = { λ with end. (single : Bool) → (single ≡ true → T.alone with.till) → T.asks with.till ≡ []
+        → J.comes_to single (T.mirrors with.till) with.job (T.asks end.0) end.1 };
+
+    fn work(self) -> (T, J::End) {
+        let WithTill { job, till } = self;
+        job.work(till)
+    }
+}

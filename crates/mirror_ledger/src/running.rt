@@ -1,0 +1,193 @@
+//! Jobs with tills in threads, over books that are opened for them and closed after them.
+
+ghost use Rattle.std.specs.Prelude.{◌≡◌, ◌<◌, ◌≤◌, Bool, List, All, IfOk, IfSome, length, map, nat_eq, true, vec_len};
+ghost use Rattle.std.specs.List.{AllZip};
+ghost use Rattle.records.specs.declared.mirror.Mirror.{Mirror};
+ghost use Rattle.worker_threads.specs.Jobs.{EndsAs};
+ghost use Rattle.mirror_ledger.specs.Asks.{Ask};
+ghost use Rattle.mirror_ledger.specs.Named.{IsNamed, are_bounded};
+ghost use Rattle.mirror_ledger.specs.Running.{end_of, till_of};
+ghost use Rattle.mirror_ledger.specs.Tills.{AreTotalsOf, HaveWorked, IsFresh};
+
+use crate::book::BudgetName;
+use crate::closing::{close_parts, gather_tills};
+use crate::job::{TillJob, WithTill};
+use crate::opening::{Blanks, open_books};
+use crate::till::Till;
+use crate::working::tills_of;
+use records::Mirror;
+use std::alloc::{AllocError, Global};
+use std::marker::Brand;
+use std::sync::Wait;
+use std::thread::Threads;
+use worker_threads::{Gate, OwnJob, run_together};
+
+/// What jobs with tills came to.
+#[derive(Drop)]
+pub struct Ran<J: TillJob + Drop, O: OwnJob> {
+    /// What each job came to, in order, or the job, which did not begin.
+    pub ends: Vec<Result<J::End, J>>,
+    /// What the own job came to, if it began.
+    pub own: Option<O::End>,
+    /// Each mirror's total in bytes.
+    pub totals: Vec<u64>,
+}
+
+// Gives each job a till.
+fn paired<J: TillJob + Drop, T: Till + Drop>(
+    alloc: Global,
+    jobs: Vec<J>,
+    tills: Vec<T>,
+) -> Result<Vec<WithTill<J, T>>, AllocError>
+    requires { vec_len jobs ≡ vec_len tills }
+    ensures jobs { IfOk result (λ pairs. map (λ pair. pair.job) pairs.items ≡ jobs.items) }
+    ensures fresh { IfOk result (λ pairs. (single : Bool) (mirrors : List Mirror)
+        → All (IsFresh T.mirrors T.asks T.alone single mirrors) tills.items
+        → All (λ pair. IsFresh T.mirrors T.asks T.alone single mirrors pair.till) pairs.items) }
+{
+    let mut tills = tills;
+    let mut pairs = Vec::new(alloc);
+    for job in jobs {
+        let Some(till) = tills.pop() else {
+            unreachable!()
+        };
+        pairs.push(WithTill { job, till })?;
+    }
+    Ok(pairs)
+}
+
+// The till of a worker's job, and what the job came to.
+fn parted<J: TillJob + Drop, T: Till + Drop>(
+    ran: Result<(T, J::End), WithTill<J, T>>,
+) -> (T, Result<J::End, J>)
+    ensures { (result.0 ≡ till_of ran) × (result.1 ≡ end_of ran) }
+{
+    match ran {
+        Ok((till, end)) => (till, Ok(end)),
+        Err(WithTill { job, till }) => (till, Err(job)),
+    }
+}
+
+// The tills of the workers' jobs, and what the jobs came to.
+fn split<J: TillJob + Drop, T: Till + Drop>(
+    alloc: Global,
+    all: Vec<Result<(T, J::End), WithTill<J, T>>>,
+) -> Result<(Vec<T>, Vec<Result<J::End, J>>), AllocError>
+    ensures tills { IfOk result (λ parts. parts.0.items ≡ map till_of all.items) }
+    ensures ends { IfOk result (λ parts. parts.1.items ≡ map end_of all.items) }
+{
+    let mut tills = Vec::new(alloc);
+    let mut ends = Vec::new(alloc);
+    for ran in all {
+        let (till, end) = parted(ran);
+        tills.push(till)?;
+        ends.push(end)?;
+    }
+    Ok((tills, ends))
+}
+
+// Does jobs with a till each, and the own job beside them.
+fn work_together<
+    J: TillJob + Send + Drop,
+    O: OwnJob,
+    T: Till + Send + Drop,
+    G: Gate + Sync,
+    R: Threads + Wait + Sync,
+>(
+    rt: &R,
+    alloc: Global,
+    gate: &G,
+    jobs: Vec<J>,
+    tills: Vec<T>,
+    own: &mut O,
+) -> Result<(Vec<T>, Vec<Result<J::End, J>>, Option<O::End>), AllocError>
+    requires { vec_len jobs ≡ vec_len tills }
+    ensures many { IfOk result (λ done. vec_len done.0 ≡ vec_len tills) }
+    ensures own { IfOk result (λ done. IfSome done.2 (O.comes_to own.old)) }
+    ensures works { IfOk result (λ done. (single : Bool) (mirrors : List Mirror)
+        → All (IsFresh T.mirrors T.asks T.alone single mirrors) tills.items
+        → HaveWorked (J.comes_to single mirrors) jobs.items (map T.asks done.0.items) done.1.items) }
+{
+    let pairs = paired(alloc, jobs, tills)?;
+    let Ok((all, own)) = run_together(rt, alloc, gate, pairs, own) else {
+        return Err(AllocError);
+    };
+    let (tills, ends) = split(alloc, all)?;
+    Ok((tills, ends, own))
+}
+
+// Runs jobs over books whose ledgers have these names.
+fn run_over<
+    A: BudgetName + Send + Sync,
+    B: BudgetName + Send + Sync,
+    C: BudgetName + Send + Sync,
+    D: BudgetName + Send + Sync,
+    J: TillJob + Send + Drop,
+    O: OwnJob,
+    G: Gate + Sync,
+    R: Threads + Wait + Sync,
+>(
+    rt: &R,
+    alloc: Global,
+    blanks: Blanks,
+    mirrors: Vec<Mirror>,
+    gate: &G,
+    jobs: Vec<J>,
+    own: &mut O,
+) -> Result<Ran<J, O>, AllocError>
+    requires some_mirror { 0 < vec_len mirrors }
+    requires few_mirrors { vec_len mirrors ≤ 4 }
+    requires bounded { are_bounded mirrors.items ≡ true }
+    requires some_worker { 0 < vec_len jobs }
+    requires few_workers { vec_len jobs ≤ 8 }
+    requires first { IsNamed blanks.first A.name A.parts A.budget (vec_len jobs) mirrors.items 0 }
+    requires second { IsNamed blanks.second B.name B.parts B.budget (vec_len jobs) mirrors.items 1 }
+    requires third { IsNamed blanks.third C.name C.parts C.budget (vec_len jobs) mirrors.items 2 }
+    requires fourth { IsNamed blanks.fourth D.name D.parts D.budget (vec_len jobs) mirrors.items 3 }
+    ensures works { IfOk result (λ ran. (asks : List (List Ask))
+        × HaveWorked (J.comes_to (nat_eq (vec_len jobs) 1) mirrors.items) jobs.items asks ran.ends.items
+        × AreTotalsOf mirrors.items asks ran.totals.items) }
+    ensures own { IfOk result (λ ran. IfSome ran.own (O.comes_to own.old)) }
+{
+    let (books, shares) = open_books::<A, B, C, D, R>(rt, alloc, blanks, mirrors, jobs.len())?;
+    let tills = tills_of(alloc, &books, shares)?;
+    let (tills, ends, own) = work_together(rt, alloc, gate, jobs, tills, own)?;
+    let parts = gather_tills(tills);
+    let totals = close_parts(rt, alloc, books, parts)?;
+    Ok(Ran { ends, own, totals })
+}
+
+// rule: Jobs with tills
+/// Does 1 to 8 jobs in a thread each, which begin together or not at all, with a till each over 1 to 4 mirrors of
+/// budgets to 2^60, and the caller's own job beside them; returns what each came to, and each mirror's total in bytes.
+///
+/// Opens the mirrors' books for it and closes them after it. A total is what the mirror granted to all workers, and
+/// within its budget. `gate` is called once in each thread before its job begins. Where a thread can't be started no
+/// job begins, the own one neither, and each other is given back. Out of memory is the only error, before the jobs or
+/// after them.
+pub fn run_with_tills<
+    J: TillJob + Send + Drop,
+    O: OwnJob,
+    G: Gate + Sync,
+    R: Threads + Wait + Sync,
+>(
+    rt: &R,
+    alloc: Global,
+    mirrors: Vec<Mirror>,
+    gate: &G,
+    jobs: Vec<J>,
+    own: &mut O,
+) -> Result<Ran<J, O>, AllocError>
+    requires some_mirror { 0 < vec_len mirrors }
+    requires few_mirrors { vec_len mirrors ≤ 4 }
+    requires bounded { are_bounded mirrors.items ≡ true }
+    requires some_worker { 0 < vec_len jobs }
+    requires few_workers { vec_len jobs ≤ 8 }
+    ensures works { IfOk result (λ ran. (asks : List (List Ask))
+        × HaveWorked (J.comes_to (nat_eq (vec_len jobs) 1) mirrors.items) jobs.items asks ran.ends.items
+        × AreTotalsOf mirrors.items asks ran.totals.items) }
+    ensures own { IfOk result (λ ran. IfSome ran.own (O.comes_to own.old)) }
+{
+    let blanks = Blanks::new(jobs.len() as u64);
+    run_over::<Brand, Brand, Brand, Brand, J, O, G, R>(rt, alloc, blanks, mirrors, gate, jobs, own)
+}
