@@ -158,8 +158,8 @@ fn push_asked(
     }
 }
 
-// The reply to what is asked of a track.
-fn words_of(
+/// The reply to what is asked of a track.
+pub(crate) fn words_of(
     alloc: Global,
     catalogue: &Catalogue,
     key: &str,

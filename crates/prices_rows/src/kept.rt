@@ -81,12 +81,7 @@ fn are_same(left: &[Certified], right: &[Certified]) -> bool {
 }
 
 // Whether so many workers make the list of a catalogue's tables, each with a piece of it.
-fn builds<R: Threads + Sync>(
-    rt: &R,
-    alloc: Global,
-    catalogue: &Catalogue,
-    workers: usize,
-) -> Option<bool>
+fn builds<R: Threads>(rt: &R, alloc: Global, catalogue: &Catalogue, workers: usize) -> Option<bool>
     requires { (1 ≤ workers) × (workers ≤ 16) }
 {
     let counter = Counter::new();
@@ -98,12 +93,7 @@ fn builds<R: Threads + Sync>(
 }
 
 // Whether 1, 2, 3, 5 and 16 workers do.
-fn builds_by_any<R: Threads + Sync>(
-    rt: &R,
-    alloc: Global,
-    script: &str,
-    edits: &str,
-) -> Option<bool> {
+fn builds_by_any<R: Threads>(rt: &R, alloc: Global, script: &str, edits: &str) -> Option<bool> {
     let catalogue = catalogue_of(alloc, script, edits)?;
     for workers in [1usize, 2, 3, 5, 16] {
         let workers = workers.clamp(1, 16);
@@ -133,7 +123,7 @@ fn any_number_of_workers_makes_the_same_list(rt: HostRuntime) {
 }
 
 // Whether two workers run at once.
-fn run_at_once<R: Threads + Clock + Sync>(rt: &R, alloc: Global) -> Option<bool> {
+fn run_at_once<R: Threads + Sync + Clock>(rt: &R, alloc: Global) -> Option<bool> {
     let holder = Holder {
         clock: rt,
         began: AtomicU64::new(0),
@@ -150,7 +140,7 @@ fn pieces_are_made_at_once(rt: HostRuntime) {
 }
 
 // The edition after a batch, and how many tables its gate counted.
-fn next_of<R: Threads + Sync>(
+fn next_of<R: Threads>(
     rt: &R,
     alloc: Global,
     edition: &Edition,
@@ -172,7 +162,7 @@ fn is_as_from_nothing(alloc: Global, edition: &Edition) -> Option<bool> {
 }
 
 // Whether a row is as it says: edits after those of `DEMO` and of `ONE`, how many tables are made, how many there are.
-fn is_kept<R: Threads + Sync>(rt: &R, alloc: Global, row: &str) -> Option<bool> {
+fn is_kept<R: Threads>(rt: &R, alloc: Global, row: &str) -> Option<bool> {
     let (edits, wanted) = row.split_once('|')?;
     let empty = keep(alloc, Edition::empty(alloc))?;
     let (first, _) = next_of(rt, alloc, empty, DEMO, "")?;
@@ -217,7 +207,7 @@ const EDITS: [&str; 6] = [
 ];
 
 // Whether an edition of a seed, and each of three after it, has the tables that are made from nothing.
-fn stays<R: Threads + Sync>(rt: &R, alloc: Global, seed: u64) -> Option<bool> {
+fn stays<R: Threads>(rt: &R, alloc: Global, seed: u64) -> Option<bool> {
     let empty = keep(alloc, Edition::empty(alloc))?;
     let (first, _) = next_of(rt, alloc, empty, script_of(alloc, seed)?, "")?;
     let (mut edition, _) = next_of(rt, alloc, first, NONE, ONE)?;

@@ -1,5 +1,6 @@
 //! Worked rows of payloads: what is permitted on the tracks of small catalogues, their graphs, tables of
-//! prices, also by several threads and kept by editions, and certificates, also with wrong lines.
+//! prices, also by several threads and kept by editions, certificates, also with wrong lines, and plans of clients
+//! with pins.
 //!
 //! It has tests alone, so that the crates of payloads and prices are proved once. Catalogues are made of scripts,
 //! and payloads are words.
@@ -26,6 +27,8 @@ mod outcomes;
 mod parallel;
 #[cfg(test)]
 mod places;
+#[cfg(test)]
+mod plans;
 #[cfg(test)]
 mod rule;
 #[cfg(test)]

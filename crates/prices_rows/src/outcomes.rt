@@ -47,6 +47,7 @@ fn push_fault(words: &mut String, fault: Fault) -> Result<(), AllocError> {
     match fault {
         Fault::BadLine { n } => write!(words, "P1 {n}"),
         Fault::NotOfThisGraph { n } => write!(words, "P2 {n}"),
+        other => write!(words, "{other}"),
     }
 }
 

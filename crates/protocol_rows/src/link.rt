@@ -5,7 +5,8 @@ ghost use Rattle.std.specs.Prelude.{◌≡◌, [], length};
 use crate::body::Body;
 use crate::countdown::Countdown;
 use crate::update_client_replies::Replies;
-use std::alloc::Global;
+use std::alloc::{AllocError, Global};
+use std::str;
 use update_client::{Failed, Link, Trace};
 
 /// What a link has carried, for contracts.
@@ -26,7 +27,7 @@ pub(crate) struct Played<'a> {
     piece: usize,
     countdown: Countdown,
     carried: Carried,
-    /// The requests and the addresses, a line each.
+    /// The prefixes that were sent, each after `pin:`, and the addresses; a word each.
     pub(crate) log: String,
 }
 
@@ -57,6 +58,24 @@ impl<'a> Played<'a> {
     }
 }
 
+// The prefix of versions that a request has, empty if there is none.
+fn prefix_in(body: &[u8]) -> &str {
+    let text = str::from_utf8(body).unwrap_or("");
+    match text.split_once("\"targetversionprefix\":\"") {
+        Some((_, rest)) => rest.split_once('"').unwrap_or(("", "")).0,
+        None => "",
+    }
+}
+
+// Adds the prefix of a request, if there is one.
+fn push_prefix(log: &mut String, body: &[u8]) -> Result<(), AllocError> {
+    let prefix = prefix_in(body);
+    if prefix.is_empty() {
+        return Ok(());
+    }
+    write!(log, "pin:{prefix} ")
+}
+
 impl Link for Played<'_> {
     ghost posts = { λ link. link.carried.posts };
 
@@ -69,7 +88,8 @@ impl Link for Played<'_> {
     ghost failures = { λ link. length link.carried.failures };
 
     fn post(&mut self, alloc: Global, body: &[u8]) -> Result<Vec<u8>, Failed> {
-        if !self.countdown.is_over() {
+        let logged = push_prefix(&mut self.log, body).is_ok();
+        if logged && !self.countdown.is_over() {
             if let Ok(reply) = self.replies.next(alloc) {
                 let reply = reply.into_bytes();
                 self.carried

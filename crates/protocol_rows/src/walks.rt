@@ -31,7 +31,19 @@ fn next_of(alloc: Global, texts: &mut Vec<Text>) -> Text {
     }
 }
 
-// A client of `demo` in a session: `SESSION VERSION FP COHORT`, and `down` if it allows a downgrade.
+// The client with the prefix that a word has after `pin:`, if it is one.
+fn with_word(alloc: Global, client: Client, word: &str) -> Result<Client, AllocError> {
+    match word.strip_prefix("pin:") {
+        Some(prefix) => {
+            let prefix = Text::copy_of(alloc, prefix)?;
+            Ok(client.with_prefix(prefix))
+        }
+        None => Ok(client),
+    }
+}
+
+// A client of `demo` in a session: `SESSION VERSION FP COHORT`, and then `down` if it allows a downgrade, or `pin:` and
+// its prefix.
 fn client_in_session(alloc: Global, line: &str) -> Result<Client, AllocError> {
     let mut texts = strings_of(alloc, line)?;
     let app = Text::copy_of(alloc, "demo")?;
@@ -40,11 +52,13 @@ fn client_in_session(alloc: Global, line: &str) -> Result<Client, AllocError> {
     let fp = next_of(alloc, &mut texts);
     let cohort = next_of(alloc, &mut texts);
     let hint = Text::new(String::new(alloc));
-    let rollback = !texts.is_empty();
-    Ok(Client::new(app, version, fp, cohort, hint, rollback, session))
+    let word = next_of(alloc, &mut texts);
+    let rollback = word.as_str() == "down";
+    let client = Client::new(app, version, fp, cohort, hint, rollback, session);
+    with_word(alloc, client, word.as_str())
 }
 
-// A client of `demo`: `VERSION FP COHORT`, and `down` if it allows a downgrade.
+// A client of `demo`: `VERSION FP COHORT`, and perhaps such a word.
 fn client_of(alloc: Global, line: &str) -> Result<Client, AllocError> {
     let line = format!(in alloc; "abc {line}")?;
     client_in_session(alloc, line.as_str())
@@ -163,6 +177,20 @@ const WALKS: &str =
 #[test]
 fn installs_what_is_offered(rt: HostRuntime) -> Result<(), Fail> {
     check_rows(&rt, rt.alloc(), WALKS)?;
+    Ok(())
+}
+
+// Each request of a walk has the client's prefix.
+const PINNED: &str =
+    r#"1.0 a-0 s:7 pin:2. | 1 offer s:7 2.0 b- abc;1 offer s:7 2.1 c- abc;1 check noupdate | abc |  = 2 steps 6 bytes, 2.1 c-0 s:7, 0, pin:2. u/full.bin pin:2. u/full.bin pin:2. , full 2.0 b-0 3;full 2.1 c-0 3;
+1.0 a-0 s:7 pin:1.0$ | 1 check noupdate |  |  = 0 steps 0 bytes, 1.0 a-0 s:7, 0, pin:1.0$ , 
+1.0 a-0 s:7 pin: | 1 check noupdate |  |  = 0 steps 0 bytes, 1.0 a-0 s:7, 0, , "#;
+
+// rule: Request of a client
+// rule: Client after a step
+#[test]
+fn sends_its_prefix_at_each_step(rt: HostRuntime) -> Result<(), Fail> {
+    check_rows(&rt, rt.alloc(), PINNED)?;
     Ok(())
 }
 

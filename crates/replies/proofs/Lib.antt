@@ -1,4 +1,6 @@
+mod KeyLemmas
 mod LoopLemmas
+mod PinnedLemmas
 mod PlanLemmas
 mod ReplyLemmas
 mod ZipLemmas

@@ -6,17 +6,16 @@ use Rattle.records.specs.declared.mirror.Mirror.{Mirror}
 use Rattle.omaha_json.specs.declared.reply.AppReply.{AppReply}
 use Rattle.omaha_json.specs.declared.request.AppAsk.{AppAsk}
 use Rattle.replies.specs.Clients.{IsAssigned}
-use Rattle.replies.specs.Plans.{IsChosen, payloads_of}
+use Rattle.replies.specs.Plans.{payloads_of}
 use Rattle.replies.specs.Replies.{app_reply}
 use Rattle.replies.specs.declared.choices.Choice.{Choice}
 use Rattle.replies.specs.declared.client.Assignment.{Assignment}
 
--- the first apps have their clients and choices
-pub record HasPlans (apps : List App) (session : List ℕ) (asks : List AppAsk) (index : ℕ)
-    (current : List ℕ) (clients : List (Option Assignment)) (choices : List (Option Choice)) : Type 0 where
+-- the first apps have their clients
+pub record HaveClients (apps : List App) (session : List ℕ) (asks : List AppAsk) (index : ℕ) (current : List ℕ)
+    (clients : List (Option Assignment)) : Type 0 where
   pub same : current ≡ session
   pub assigned : AllZip (IsAssigned apps session) (take index asks) clients
-  pub chosen : AllZip (IsChosen apps session) (take index asks) choices
 
 -- the first apps have their replies
 abbrev pub HaveReplies : (apps : List App) → (session : List ℕ) → (mirrors : List Mirror) → (asks : List AppAsk)

@@ -1,11 +1,11 @@
 -- Who asks in a request: for each of its apps that the catalogue has, a client on its track; this
 -- project's profile.
-use Rattle.std.specs.Prelude.{◌≡◌, ℕ, ◌<◌, IfSome, List, length, Option, option_and_then, option_map, position, slice_get}
+use Rattle.std.specs.Prelude.{◌≡◌, ℕ, ◌<◌, not, Bool, IfSome, List, length, Option, option_and_then, option_map, position, slice_get}
 use Rattle.records.specs.Lookups.{cohorts_at, is_app}
 use Rattle.records.specs.declared.content.App.{App}
 use Rattle.records.specs.declared.content.Cohort.{Cohort}
 use Rattle.cohorts.specs.CohortTexts.{printed}
-use Rattle.cohorts.specs.Offers.{track_target}
+use Rattle.cohorts.specs.Offers.{is_any, track_target}
 use Rattle.cohorts.specs.Tracks.{cohort_at, track_of}
 use Rattle.cohorts.specs.declared.track.Track.{Track}
 use Rattle.omaha_json.specs.declared.request.AppAsk.{AppAsk}
@@ -70,6 +70,10 @@ key_of client =
       rollback = client.track.rollback;
       pin = client.track.pin;
     }
+
+-- the client's administrator doesn't allow any version
+abbrev pub is_pinned : Client → Bool
+is_pinned client = not (is_any client.track.pin)
 
 -- rule: Cohort that a reply names
 -- the cohort that serves a client

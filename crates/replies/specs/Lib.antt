@@ -1,4 +1,5 @@
 pub mod Clients
+pub mod Pinned
 pub mod Timestamps
 pub mod Plans
 pub mod Replies

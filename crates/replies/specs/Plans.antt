@@ -1,5 +1,5 @@
 -- What is chosen for each app of a request; this project's profile.
-use Rattle.std.specs.Prelude.{◌≡◌, ℕ, ◌==◌, ◌&&◌, ◌⊎◌, not, Bool, false, if◌then◌else◌, List, length, map, IfSome, MatchOption, Option, Some, None, option_map, slice_get}
+use Rattle.std.specs.Prelude.{◌≡◌, ◌≢◌, ℕ, ◌⊎◌, not, Bool, false, if◌then◌else◌, All, AllPairs, Any, List, map, IfSome, MatchOption, Option, Some, None, option_and_then, option_map, slice_get}
 use Rattle.std.specs.List.{AllZip}
 use Rattle.std.specs.Option.{option_map_or}
 use Rattle.records.specs.declared.content.App.{App}
@@ -11,15 +11,18 @@ use Rattle.payload_graph.specs.Places.{place_of}
 use Rattle.payload_graph.specs.declared.payload.Payload.{Payload}
 use Rattle.payload_graph.specs.declared.payload.TrackKey.{TrackKey}
 use Rattle.payload_graph.specs.declared.place.Place.{Place}
+use Rattle.payload_graph.specs.Net.{net_among}
+use Rattle.price_cert.specs.Tables.{Certificate}
+use Rattle.par_tables.specs.Tables.{IsTable}
 use Rattle.quotes.specs.Quotes.{IsFirst}
 use Rattle.quotes.specs.Sums.{HasNoChain}
-use Rattle.replies.specs.Clients.{Client, IsAssigned, client_of, key_of}
+use Rattle.replies.specs.Clients.{Client, IsAssigned, client_of, is_pinned, key_of}
 use Rattle.replies.specs.declared.choices.Choice.{Choice}
 use Rattle.replies.specs.declared.choices.Plan.{Plan}
 
--- an update check that isn't disabled and asks for no version of its own
+-- an update check that isn't disabled
 abbrev pub is_open : Check → Bool
-is_open check = not check.disabled && (length check.prefix == 0)
+is_open check = not check.disabled
 
 -- rule: App that wants an update
 -- the app wants an update
@@ -63,10 +66,33 @@ IsChosen apps session ask choice =
 abbrev pub IsPlan : List App → Request → List (Option Choice) → Type 0
 IsPlan apps request plan = AllZip (IsChosen apps request.session) request.apps plan
 
--- the plan of a request: the client of each of its apps, and what is chosen for it
+-- the key of the track of a pinned client that wants an update
+abbrev pub pinned_key : List App → List ℕ → AppAsk → Option TrackKey
+pinned_key apps session ask =
+    option_and_then (λ client. if is_pinned client then Some (key_of client) else None)
+    (client_to_update apps session ask)
+
+-- the table of a track is among some tables, if the track has a target
+abbrev pub HasTable : List App → List Certificate → TrackKey → Type 0
+HasTable apps tables key =
+    IfSome (net_among apps key) (λ net. Any (λ (table : Certificate). table.net ≡ net) tables)
+
+-- rule: Tables of a plan
+-- the tables of a plan: for the track of each pinned client that wants an update one certified table, if the track has
+-- a target
+pub record ArePinnedTables (apps : List App) (session : List ℕ) (asks : List AppAsk) (tables : List Certificate) : Type 0 where
+  pub certified : All IsTable tables
+  pub own : All (λ (table : Certificate). net_among apps table.net.key ≡ Some table.net) tables
+  pub each : All (λ (ask : AppAsk). IfSome (pinned_key apps session ask) (HasTable apps tables)) asks
+  pub once : AllPairs (λ (table other : Certificate). table.net.key ≢ other.net.key) tables
+  pub asked :
+      All (λ (table : Certificate). Any (λ (ask : AppAsk). pinned_key apps session ask ≡ Some table.net.key) asks) tables
+
+-- the plan of a request: the client of each of its apps, what is chosen for it, and the tables of pinned tracks
 pub record IsPlanOf (apps : List App) (request : Request) (plan : Plan) : Type 0 where
   pub assigned : AllZip (IsAssigned apps request.session) request.apps plan.clients
   pub chosen : IsPlan apps request plan.choices
+  pub priced : ArePinnedTables apps request.session request.apps plan.tables
 
 -- the payload that was chosen, if any
 abbrev pub payload_in : Option Choice → Option Payload

@@ -1,12 +1,14 @@
 //! Who asks for an app of a request.
 
-ghost use Rattle.std.specs.Prelude.{◌≡◌, ◌<◌, Some, length, slice_get};
+ghost use Rattle.std.specs.Prelude.{◌≡◌, ◌<◌, IfOk, Some, length, slice_get};
+ghost use Rattle.std.specs.List.{AllZip};
 ghost use Rattle.replies.specs.Clients.{IsAssigned, IsInCohort, client_in, cohort_of, key_of};
 
 use catalogue::{App, Catalogue, Cohort};
 use cohorts::{Session, Track, track_target};
-use omaha_json::AppAsk;
+use omaha_json::{AppAsk, Request};
 use payload_graph::TrackKey;
+use std::alloc::{AllocError, Global};
 
 /// What a plan keeps of a client: the key of the track that it is assigned to, and its bucket.
 #[derive(Clone, Copy, Debug, PartialEq, Eq)]
@@ -40,6 +42,25 @@ pub(crate) fn assign(
         key,
         bucket: track.bucket,
     })
+}
+
+/// Assigns the client of each app of a request, in order.
+pub(crate) fn assign_each(
+    alloc: Global,
+    catalogue: &Catalogue,
+    request: &Request,
+) -> Result<Vec<Option<Assignment>>, AllocError>
+    ensures { IfOk result (λ clients.
+        AllZip (IsAssigned catalogue.now request.now.session) request.now.apps clients.items) }
+{
+    let asks = request.apps.as_slice();
+    let mut session = Session::new(request.session.as_str());
+    let mut clients = Vec::with_capacity(alloc, asks.len())?;
+    for ask in asks {
+        let client = assign(catalogue, &mut session, ask);
+        clients.extend_from_slice(&[client])?;
+    }
+    Ok(clients)
 }
 
 /// A client of an app: who asks for an app of a request.

@@ -1,7 +1,8 @@
 //! Replies to requests, from an edition.
 //!
 //! `plan` assigns the client of each app of a request and chooses a payload for it: the first one of a
-//! chain of the least sum. `render` writes the reply by the plan and what the mirrors granted. Read
+//! chain of the least sum, by the table of the client's track: the edition's, or for a pinned client one that it
+//! makes and keeps in the plan. `render` writes the reply by the plan and what the mirrors granted. Read
 //! `specs/Clients.antt` for who asks, `specs/Plans.antt` for what is chosen and `specs/Replies.antt` for the reply.
 //!
 //! It grants no bytes: crates above do. A client's track is that of `cohorts`, what is permitted on it that
@@ -9,8 +10,10 @@
 
 #![tactic(auto)]
 
+mod checks;
 mod choices;
 mod client;
+mod pinned;
 mod planning;
 mod rendering;
 

@@ -1,40 +1,29 @@
 //! What is chosen for each app of a request.
 
-ghost use Rattle.std.specs.Prelude.{◌≡◌, ◌<◌, IfOk, Some, length, option_map, slice_get};
+ghost use Rattle.std.specs.Prelude.{◌≡◌, ◌<◌, false, true, All, IfOk, IfSome, Some, length, option_map, slice_get};
+ghost use Rattle.std.specs.List.{AllZip};
 ghost use Rattle.records.specs.Lookups.{diffs_at, releases_at};
+ghost use Rattle.cohorts.specs.Offers.{is_any};
 ghost use Rattle.payload_graph.specs.Chains.{bytes_of};
 ghost use Rattle.payload_graph.specs.Places.{IsWithin};
 ghost use Rattle.payload_graph.specs.Net.{net_among};
-ghost use Rattle.editions.specs.Editions.{content_of};
+ghost use Rattle.price_cert.specs.Tables.{Certificate};
+ghost use Rattle.editions.specs.Editions.{content_of, IsTrackKey};
 ghost use Rattle.replies.specs.Clients.{IsAssigned, key_of};
-ghost use Rattle.replies.specs.Plans.{is_open, wants_update, IsChoiceAmong, IsChosen, IsClientChoice, IsPlanOf};
+ghost use Rattle.replies.specs.Plans.{pinned_key, ArePinnedTables, HasTable, IsChoiceAmong, IsChosen, IsClientChoice, IsPlan, IsPlanOf};
 
-use crate::choices::{Choice, Draft, Plan};
-use crate::client::{Assignment, Client, assign};
+use crate::checks::wants_update;
+use crate::choices::{Choice, Plan};
+use crate::client::{Assignment, Client, assign_each};
+use crate::pinned::{find_pinned, is_any, pinned_tables};
 use catalogue::{App, Catalogue};
-use cohorts::Session;
 use editions::Edition;
-use omaha_json::{AppAsk, Check, Request};
+use omaha_json::{AppAsk, Request};
 use payload_graph::{Payload, Place, TrackKey, place_of};
 use price_cert::Certified;
 use quotes::{Quote, quote_from};
 use std::alloc::{AllocError, Global};
-
-fn accepts_any_version(check: &Check) -> bool
-    ensures { result ≡ is_open check.now }
-{
-    !check.disabled && check.prefix.as_str().is_empty()
-}
-
-// rule: App that wants an update
-fn has_open_check(ask: &AppAsk) -> bool
-    ensures { result ≡ wants_update ask.now }
-{
-    match &ask.check {
-        Some(check) => accepts_any_version(check),
-        None => false,
-    }
-}
+use values::Items;
 
 // rule: Requested bytes
 fn bytes_of(app: &App, payload: Payload) -> u64
@@ -98,28 +87,69 @@ fn choose_for(
     }
 }
 
-// The client of an app that is asked for, and what is chosen for it.
-// rule: Chosen payload
-fn plan_app(
-    edition: &Edition,
-    session: &mut Session<'_>,
-    ask: &AppAsk,
-) -> (Option<Assignment>, Option<Choice>)
-    ensures assigned { IsAssigned (content_of edition.now) session.old ask.now result.0 }
-    ensures chosen { IsChosen (content_of edition.now) session.old ask.now result.1 }
-    ensures same { session.new ≡ session.old }
+// The table of a track: an edition has that of clients without a pin.
+fn find_table<'a>(
+    edition: &'a Edition,
+    tables: &'a [Certified],
+    key: &TrackKey,
+) -> Option<&'a Certified>
+    requires unpinned { is_any key.now.pin ≡ true → IsTrackKey (content_of edition.now) key.now }
+    requires pinned { is_any key.now.pin ≡ false → HasTable (content_of edition.now) tables.now key.now }
+    requires own { All (λ (table : Certificate). net_among (content_of edition.now) table.net.key ≡ Some table.net) tables.now }
+    ensures { option_map (λ table. table.now.net) result ≡ net_among (content_of edition.now) key.now }
 {
-    let catalogue = edition.catalogue();
-    let Some(assignment) = assign(catalogue, session, ask) else {
-        return (None, None);
-    };
-    if !has_open_check(ask) {
-        return (Some(assignment), None);
+    if is_any(&key.pin) {
+        edition.table(key)
+    } else {
+        find_pinned(tables, key)
     }
+}
+
+// What is chosen for the client of an app that is asked for.
+// rule: Chosen payload
+fn choose_app(
+    edition: &Edition,
+    tables: &[Certified],
+    request: &Request,
+    ask: &AppAsk,
+    client: Option<Assignment>,
+) -> Option<Choice>
+    requires assigned { IsAssigned (content_of edition.now) request.now.session ask.now client }
+    requires table { IfSome (pinned_key (content_of edition.now) request.now.session ask.now)
+        (HasTable (content_of edition.now) tables.now) }
+    requires own { All (λ (table : Certificate). net_among (content_of edition.now) table.net.key ≡ Some table.net) tables.now }
+    ensures { IsChosen (content_of edition.now) request.now.session ask.now result }
+{
+    let _ = request;
+    let assignment = client?;
+    if !wants_update(ask) {
+        return None;
+    }
+    let catalogue = edition.catalogue();
     let client = Client::new(catalogue, &assignment);
-    let table = edition.table(&client.key());
-    let choice = choose_for(catalogue, &client, ask, table);
-    (Some(assignment), choice)
+    let table = find_table(edition, tables, &client.key());
+    choose_for(catalogue, &client, ask, table)
+}
+
+// What is chosen for each app of a request.
+fn choose_each(
+    alloc: Global,
+    edition: &Edition,
+    tables: &[Certified],
+    request: &Request,
+    clients: &[Option<Assignment>],
+) -> Result<Vec<Option<Choice>>, AllocError>
+    requires assigned { AllZip (IsAssigned (content_of edition.now) request.now.session) request.now.apps clients.now }
+    requires tables { ArePinnedTables (content_of edition.now) request.now.session request.now.apps tables.now }
+    ensures { IfOk result (λ choices. IsPlan (content_of edition.now) request.now choices.items) }
+{
+    let asks = request.apps.as_slice();
+    let mut choices = Vec::with_capacity(alloc, asks.len())?;
+    for (index, ask) in asks.iter().enumerate() {
+        let choice = choose_app(edition, tables, request, ask, clients[index]);
+        choices.push(choice)?;
+    }
+    Ok(choices)
 }
 
 /// Assigns the client of each app of a request to its track, and chooses what it is offered.
@@ -127,16 +157,18 @@ fn plan_app(
 /// For an app that the catalogue has and that wants an update this is the first payload of a chain of
 /// permitted payloads to the target of the client's track that has the least sum of bytes; of all such
 /// payloads the one that leads highest, and of two of these the differential. It is nothing at the target
-/// and if no chain leads there, for example if the track has no target.
+/// and if no chain leads there, for example if the track has no target. The table of a pinned client's track
+/// is made here, one for all apps with the same track and pin.
 pub fn plan(alloc: Global, edition: &Edition, request: &Request) -> Result<Plan, AllocError>
     ensures { IfOk result (λ plan. IsPlanOf (content_of edition.now) request.now plan) }
 {
-    let asks = request.apps.as_slice();
-    let mut session = Session::new(request.session.as_str());
-    let mut draft = Draft::with_capacity(alloc, asks.len())?;
-    for ask in asks {
-        let (client, choice) = plan_app(edition, &mut session, ask);
-        draft.push(client, choice)?;
-    }
-    Ok(draft.into_plan())
+    let catalogue = edition.catalogue();
+    let clients = assign_each(alloc, catalogue, request)?;
+    let tables = pinned_tables(alloc, catalogue, request, &clients)?;
+    let choices = choose_each(alloc, edition, &tables, request, &clients)?;
+    Ok(Plan {
+        clients: Items::new(clients),
+        choices: Items::new(choices),
+        tables: Items::new(tables),
+    })
 }

@@ -28,7 +28,7 @@ ask_of client = record {
   fp = client.fp;
   cohort = client.cohort;
   hint = client.hint;
-  check = Some (record { disabled = false; rollback = client.rollback; prefix = [] });
+  check = Some (record { disabled = false; rollback = client.rollback; prefix = client.prefix });
   ping = false;
   events = 0;
 }

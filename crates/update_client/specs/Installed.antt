@@ -2,7 +2,8 @@
 use Rattle.std.specs.Prelude.{ℕ, List, Bool}
 
 -- an installed app with its version and its fingerprint, the cohort text and the cohort hint that its
--- client sends, whether it allows a downgrade, and the session's identifier
+-- client sends, whether it allows a downgrade, the session's identifier, and the prefix of versions that its
+-- administrator allows, empty for any
 pub record Installed : Type 0 where
   pub app : List ℕ
   pub version : List ℕ
@@ -11,3 +12,4 @@ pub record Installed : Type 0 where
   pub hint : List ℕ
   pub rollback : Bool
   pub session : List ℕ
+  pub prefix : List ℕ

@@ -1,6 +1,6 @@
 //! What a client is, and what it asks.
 
-ghost use Rattle.std.specs.Prelude.{◌≡◌, IfOk};
+ghost use Rattle.std.specs.Prelude.{◌≡◌, [], IfOk};
 ghost use Rattle.omaha_json_client.specs.RequestWriting.{IsAppid};
 ghost use Rattle.update_client.specs.Clients.{ask_of, request_of, client_after};
 
@@ -20,9 +20,12 @@ pub struct Client {
     hint: Text,
     rollback: bool,
     session: Text,
+    prefix: Option<Text>,
 }
 
 impl Model for Client {
+    ghost use Rattle.std.specs.Prelude.{[]};
+    ghost use Rattle.std.specs.Option.{option_map_or};
     ghost use Rattle.omaha_json_client.specs.RequestWriting.{IsAppid};
     ghost use Rattle.update_client.specs.Installed.{Installed};
 
@@ -36,13 +39,14 @@ impl Model for Client {
       hint = client.hint;
       rollback = client.rollback;
       session = client.session;
+      prefix = option_map_or (λ prefix. prefix) client.prefix [];
     } };
 
     ghost invariant = { λ client. IsAppid client.app };
 }
 
 impl Client {
-    /// Makes the client of an app.
+    /// Makes the client of an app, whose administrator allows any version.
     ///
     /// `app` is the app's identifier, 1 to 256 bytes. `version` and `fp` are the version and the fingerprint that
     /// are installed, both empty if nothing is. `cohort` is the cohort text that the server sent last, `hint` the
@@ -66,6 +70,7 @@ impl Client {
           hint = hint;
           rollback = rollback;
           session = session;
+          prefix = [];
         } }
     {
         Client {
@@ -76,6 +81,19 @@ impl Client {
             hint,
             rollback,
             session,
+            prefix: None,
+        }
+    }
+
+    /// Makes the same client, whose administrator allows the versions of a prefix, as `cohorts::Pin` reads it.
+    ///
+    /// It sends the prefix with each request, whatever it is.
+    pub fn with_prefix(self, prefix: Text) -> Client
+        ensures { result ≡ record self { prefix = prefix } }
+    {
+        Client {
+            prefix: Some(prefix),
+            ..self
         }
     }
 
@@ -106,6 +124,16 @@ impl Client {
         self.cohort.as_str()
     }
 
+    // The prefix of versions that the administrator allows, empty for any.
+    fn prefix(&self) -> &str
+        ensures { result.now ≡ self.now.prefix }
+    {
+        match &self.prefix {
+            Some(prefix) => prefix.as_str(),
+            None => "",
+        }
+    }
+
     // rule: Client after a step
     pub(crate) fn take_over(&mut self, accepted: Accepted)
         ensures { self.new ≡ client_after self.old accepted }
@@ -134,7 +162,7 @@ fn make_ask(alloc: Global, client: &Client) -> Result<AppAsk, AllocError>
         check: Some(Check {
             disabled: false,
             rollback: client.rollback,
-            prefix: Text::copy_of(alloc, "")?,
+            prefix: Text::copy_of(alloc, client.prefix())?,
         }),
         ping: false,
         events: 0,
