@@ -203,7 +203,7 @@ impl Edition {
     /// 1 to 16, each of which may have a thread of its own and calls `gate` before its first table.
     ///
     /// The errors are those of `next`; after one of them no piece has begun, unless it is `Memory`.
-    pub fn next_with<R: Threads + Sync, G: Gate + Sync>(
+    pub fn next_with<R: Threads, G: Gate + Sync>(
         &self,
         rt: &R,
         batch: Batch,

@@ -1,6 +1,6 @@
 -- The tables of the pieces, one after the other, are those of all tracks.
 use Rattle.std.proofs.Common.{◌≡◌, ℕ, zero, ◌+◌, ◌*◌, ◌/◌, ◌<◌, ◌≤◌, List, [], ◌++◌, drop, length, map, take, sym, ap, ◌∙◌, subst, arith}
-use Rattle.std.proofs.Math.Nat.{div-le_self, div-mul-le_self, le-div_iff_mul-le, mul-div_cancel_left, mul-le-mul_right}
+use Rattle.std.proofs.Math.Nat.{div-mul-le_self, le-div_iff_mul-le, mul-div_cancel_left, mul-le-mul_right}
 use Rattle.std.proofs.lemmas.List.{map-append, take-append-drop, take-take, take_all}
 use Rattle.std.proofs.lemmas.List.Elements.{All-append, filter_map-append}
 use Rattle.records.specs.declared.content.App.{App}
@@ -35,13 +35,6 @@ pub bound_of-rises :
 bound_of-rises count workers piece some =
     let next : piece ≤ piece + 1 = omega arith in
     div-rises (piece * count) ((piece + 1) * count) workers some (mul-le-mul_right count next)
-
--- the first one begins at the first track
-pub bound_of-first : (count workers : ℕ) → bound_of count workers 0 ≡ 0
-bound_of-first count workers =
-    let low = div-le_self (0 * count) workers in
-    let none : 0 * count ≡ 0 = omega arith in
-    omega arith
 
 -- the last one ends after the last track
 bound_of-last : (count workers : ℕ) → zero < workers → bound_of count workers workers ≡ count

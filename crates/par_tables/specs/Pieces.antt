@@ -1,12 +1,10 @@
 -- The tracks that have a target, and how several threads divide them; this project's profile.
-use Rattle.std.specs.Prelude.{◌≡◌, ℕ, ◌+◌, ◌*◌, ◌/◌, ◌<◌, Bool, true, List, [], drop, length, take, IfOk, Result, Vec, slice_index_or}
+use Rattle.std.specs.Prelude.{◌≡◌, ℕ, ◌+◌, ◌*◌, ◌/◌, Bool, true, List, drop, length, take}
 use Rattle.std.specs.List.{filter}
 use Rattle.std.specs.Option.{is_some}
 use Rattle.records.specs.declared.content.App.{App}
 use Rattle.payload_graph.specs.declared.payload.TrackKey.{TrackKey}
 use Rattle.payload_graph.specs.Net.{net_among}
-use Rattle.price_cert.specs.Tables.{Certificate}
-use Rattle.par_tables.specs.Tables.{Adds}
 use Rattle.par_tables.specs.Tracks.{keys_of}
 
 -- the track has a target
@@ -29,9 +27,3 @@ bound_of count workers piece = piece * count / workers
 abbrev pub piece_of : List TrackKey → ℕ → ℕ → List TrackKey
 piece_of keys workers piece =
     drop (bound_of (length keys) workers piece) (take (bound_of (length keys) workers (piece + 1)) keys)
-
--- each piece for which memory sufficed has the tables of its tracks
-abbrev pub ArePieces : {Z E : Type 0} → List App → List TrackKey → ℕ → List (Result (Vec Certificate Z) E) → Type 0
-ArePieces {Z} {E} apps keys workers pieces =
-    (piece : ℕ) (d : Result (Vec Certificate Z) E) → piece < workers →
-    IfOk (slice_index_or pieces piece d) (λ tables. Adds apps (piece_of keys workers piece) [] tables.items)

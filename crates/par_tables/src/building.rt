@@ -1,46 +1,64 @@
 //! The tables of a catalogue, or of some of its apps, by one thread or by several.
 
-ghost use Rattle.std.specs.Prelude.{◌≡◌, ◌<◌, ◌≤◌, [], All, IfOk, length, vec_len};
+ghost use Rattle.std.specs.Prelude.{◌≡◌, ◌<◌, ◌≤◌, [], All, IfOk, length, take};
 ghost use Rattle.par_tables.specs.Marks.{AreTablesFor};
-ghost use Rattle.par_tables.specs.Pieces.{piece_of, ArePieces, HasTarget};
+ghost use Rattle.par_tables.specs.Pieces.{bound_of, piece_of, HasTarget};
 ghost use Rattle.par_tables.specs.Tables.{Adds, AreTables};
 
-use crate::gate::Gate;
 use crate::piece::{piece_tables, tables_of};
 use crate::tracks::{tracks, tracks_for};
 use catalogue::Catalogue;
 use payload_graph::TrackKey;
 use price_cert::Certified;
 use std::alloc::{AllocError, Global};
-use std::thread;
-use std::thread::Threads;
+use std::thread::{Threads, join};
+use worker_threads::Gate;
 
-// The tables of all pieces, one after the other.
-fn joined(
+// Makes the tables of the first pieces of the tracks that have a target: the last of them in a thread of its own.
+fn first_pieces<R: Threads, G: Gate + Sync>(
+    rt: &R,
     alloc: Global,
     catalogue: &Catalogue,
-    keys: &[TrackKey],
+    listed: &[TrackKey],
     workers: usize,
-    pieces: Vec<Result<Vec<Certified>, AllocError>>,
+    pieces: usize,
+    gate: &G,
 ) -> Result<Vec<Certified>, AllocError>
-    requires workers { 1 ≤ workers }
-    requires count { vec_len pieces ≡ workers }
-    requires pieces { ArePieces catalogue.now keys.now workers pieces.items }
-    ensures { IfOk result (λ tables. Adds catalogue.now keys.now [] tables.items) }
+    requires workers { (1 ≤ workers) × (workers ≤ 16) }
+    requires pieces { pieces ≤ workers }
+    requires targets { All (HasTarget catalogue.now) listed.now }
+    ensures { IfOk result (λ tables.
+        Adds catalogue.now (take (bound_of (length listed.now) workers pieces) listed.now) [] tables.items) }
 {
-    let _ = catalogue;
-    let _ = keys;
-    let _ = workers;
-    let mut tables = Vec::new(alloc);
-    for piece in pieces {
-        let mut part = piece?;
-        tables.append(&mut part)?;
+    if pieces == 0 {
+        return Ok(Vec::new(alloc));
     }
+    let last = pieces - 1;
+    let (piece, before) = join(
+        rt,
+        || -> Result<Vec<Certified>, AllocError>
+            requires piece { last < workers }
+            requires few { workers ≤ 16 }
+            requires targets { All (HasTarget catalogue.now) listed.now }
+            ensures { IfOk result (λ tables. Adds catalogue.entry.now (piece_of listed.entry.now workers last) [] tables.items) }
+        { piece_tables(alloc, catalogue, listed, workers, last, gate) },
+        || -> Result<Vec<Certified>, AllocError>
+            requires piece { last < workers }
+            requires some { 1 ≤ workers }
+            requires few { workers ≤ 16 }
+            requires targets { All (HasTarget catalogue.now) listed.now }
+            ensures { IfOk result (λ tables.
+                Adds catalogue.entry.now (take (bound_of (length listed.entry.now) workers last) listed.entry.now) [] tables.items) }
+        { first_pieces(rt, alloc, catalogue, listed, workers, last, gate) },
+    );
+    let mut tables = before?;
+    let mut part = piece?;
+    tables.append(&mut part)?;
     Ok(tables)
 }
 
 // Makes the tables of tracks that have a target, in pieces.
-fn build_tracks<R: Threads + Sync, G: Gate + Sync>(
+fn build_tracks<R: Threads, G: Gate + Sync>(
     rt: &R,
     alloc: Global,
     catalogue: &Catalogue,
@@ -52,18 +70,7 @@ fn build_tracks<R: Threads + Sync, G: Gate + Sync>(
     requires targets { All (HasTarget catalogue.now) listed.now }
     ensures { IfOk result (λ tables. Adds catalogue.now listed.now [] tables.items) }
 {
-    let pieces = thread::map_indices(
-        rt,
-        alloc,
-        workers,
-        &|piece: usize| -> Result<Vec<Certified>, AllocError>
-            requires piece { piece < workers }
-            requires few { workers ≤ 16 }
-            requires targets { All (HasTarget catalogue.now) listed.now }
-            ensures { IfOk result (λ tables. Adds catalogue.entry.now (piece_of listed.entry.now workers piece) [] tables.items) }
-        { piece_tables(alloc, catalogue, listed, workers, piece, gate) },
-    )?;
-    let tables = joined(alloc, catalogue, listed, workers, pieces)?;
+    let tables = first_pieces(rt, alloc, catalogue, listed, workers, workers, gate)?;
     Ok(tables)
 }
 
@@ -84,7 +91,7 @@ pub(crate) fn list_tables(
 ///
 /// Each piece may have a thread of its own, and piece `i` of `n` tables has those from `i * n / workers` up to
 /// `(i + 1) * n / workers`. Each one, also an empty one, calls `gate` once before its first table.
-pub fn build<R: Threads + Sync, G: Gate + Sync>(
+pub fn build<R: Threads, G: Gate + Sync>(
     rt: &R,
     alloc: Global,
     catalogue: &Catalogue,
@@ -103,7 +110,7 @@ pub fn build<R: Threads + Sync, G: Gate + Sync>(
 /// Makes those of a catalogue's tables whose app is marked, in their order, in pieces as `build` does.
 ///
 /// There is a mark for each app.
-pub fn build_for<R: Threads + Sync, G: Gate + Sync>(
+pub fn build_for<R: Threads, G: Gate + Sync>(
     rt: &R,
     alloc: Global,
     catalogue: &Catalogue,

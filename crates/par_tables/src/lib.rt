@@ -6,14 +6,14 @@
 //!
 //! `build` makes the same list by several threads, each of which has a piece of it: read `specs/Pieces.antt`.
 //! `build_for` makes the tables of some apps, and `merged` adds those of the others, kept of the content before:
-//! read `specs/Marks.antt`. `tables_for` is `build_for` by one thread.
+//! read `specs/Marks.antt`. `tables_for` is `build_for` by one thread. `tables_of` makes the tables of any tracks that
+//! have a target, also of clients with a pin.
 //!
 //! It does not find prices, which `solver` does. Only `build` and `build_for` start threads.
 
 #![tactic(auto)]
 
 mod building;
-mod gate;
 mod keeping;
 mod keys;
 pub mod laws;
@@ -23,6 +23,8 @@ mod places;
 mod tracks;
 
 pub use crate::building::{build, build_for, tables_for};
-pub use crate::gate::{Free, Gate};
 pub use crate::keeping::merged;
 pub use crate::listing::{TrackTables, tables};
+pub use crate::piece::tables_of;
+pub use crate::tracks::has_target;
+pub use worker_threads::{Free, Gate};

@@ -5,12 +5,12 @@ ghost use Rattle.payload_graph.specs.Net.{resolved_at};
 ghost use Rattle.par_tables.specs.Pieces.{piece_of, HasTarget};
 ghost use Rattle.par_tables.specs.Tables.{Adds};
 
-use crate::gate::Gate;
 use catalogue::Catalogue;
 use payload_graph::{Differentials, Graph, TrackKey};
 use price_cert::Certified;
 use solver::solve;
 use std::alloc::{AllocError, Global};
+use worker_threads::Gate;
 
 // Adds the table of a track, if it has a target.
 fn push_table(
@@ -59,8 +59,10 @@ fn turn_to(
     Ok(())
 }
 
-/// Makes the tables of tracks that have a target; the differentials of an app are resolved once.
-pub(crate) fn tables_of(
+/// Makes the tables of tracks that have a target, in the order of their keys.
+///
+/// The differentials of an app are resolved once for all of its tracks that follow one another.
+pub fn tables_of(
     alloc: Global,
     catalogue: &Catalogue,
     keys: &[TrackKey],

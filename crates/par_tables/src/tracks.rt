@@ -33,8 +33,8 @@ fn has_target_in(app: &App, key: &TrackKey) -> bool
     }
 }
 
-/// Whether a track has a target.
-pub(crate) fn has_target(catalogue: &Catalogue, key: &TrackKey) -> bool
+/// Whether a track has a target; a track that isn't there has none.
+pub fn has_target(catalogue: &Catalogue, key: &TrackKey) -> bool
     ensures { result ≡ has_target catalogue.now key.now }
 {
     match catalogue.apps().get(key.app) {

@@ -1,14 +1,19 @@
-//! Why bytes are no certificate of a graph.
+//! Why there is no certificate, or why bytes are no valid one.
 
 ghost use Rattle.std.specs.Prelude.{◌≡◌, Some};
-ghost use Rattle.price_certificates.specs.FaultStrings.{fault_string};
+ghost use Rattle.price_certificates.specs.FaultStrings.{fault_string, rule_string};
 ghost use Rattle.price_certificates.specs.Reading.{fault_at};
 
+use price_cert::Rule;
 use std::error::Error;
 use std::fmt;
+use values::Text;
 
-/// The first wrong line of a certificate; lines are counted from 1.
-#[derive(Clone, Copy, Debug, Drop, PartialEq, Eq)]
+/// Why there is no certificate, or why bytes are no valid one; lines are counted from 1.
+///
+/// Reading finds the first wrong line alone. The other two are for who asks for a track's certificate, and for who
+/// checks the rows that were read.
+#[derive(Debug, Drop)]
 pub enum Fault {
     /// P1: the line is not well formed, is missing, or is after the last one.
     BadLine {
@@ -20,6 +25,23 @@ pub enum Fault {
         /// The number of the line.
         n: usize,
     },
+    /// There is no table of the track: no app or cohort of the name, no target, or the clients allow a
+    /// downgrade but the cohort doesn't.
+    NoTrack,
+    /// A row breaks a rule: the version of its release, as it was added, and the rule.
+    Wrong(Text, Rule),
+}
+
+// The name of a rule.
+fn rule_word(rule: Rule) -> &'static str
+    ensures { result.now ≡ rule_string rule }
+{
+    match rule {
+        Rule::C1 => "C1",
+        Rule::C2 => "C2",
+        Rule::C3 => "C3",
+        Rule::C4 => "C4",
+    }
 }
 
 // rule: Printed fault of a certificate
@@ -30,6 +52,12 @@ impl fmt::Display for Fault {
         match self {
             Fault::BadLine { n } => write!(f, "P1 BadLine {n}"),
             Fault::NotOfThisGraph { n } => write!(f, "P2 NotOfThisGraph {n}"),
+            Fault::NoTrack => f.write_str("no track"),
+            Fault::Wrong(release, rule) => {
+                let release = release.as_str();
+                let rule = rule_word(*rule);
+                write!(f, "wrong {release} {rule}")
+            }
         }
     }
 }

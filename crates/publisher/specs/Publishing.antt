@@ -1,12 +1,10 @@
 -- What opening and publishing come to; this project's profile.
-use Rattle.std.specs.Prelude.{◌≡◌, ◌≢◌, ℕ, List, [], ◌∷◌, All, length, Result, Ok, Err, Vec}
+use Rattle.std.specs.Prelude.{◌≡◌, ◌≢◌, ◌⊎◌, ℕ, List, [], ◌∷◌, All, length, Result, Ok, Err, Vec}
 use Rattle.catalogue.specs.declared.edit.Edit.{Edit}
 use Rattle.catalogue_laws.specs.Histories.{History}
 use Rattle.editions.specs.Editions.{Continues, IsAccepted}
 use Rattle.editions.specs.declared.fault.NextError.TheVariants as next
 use Rattle.publisher.specs.Sights.{Sight, fresh}
-use Rattle.publisher.specs.declared.fault.OpenError.{OpenError}
-use Rattle.publisher.specs.declared.fault.OpenError.TheVariants as opening
 use Rattle.publisher.specs.declared.fault.PublishError.{PublishError}
 use Rattle.publisher.specs.declared.fault.PublishError.TheVariants as publishing
 
@@ -24,21 +22,29 @@ Publishes before base batch (Err (publishing.Refused refused)) after =
     (base ≡ length before) × Continues before batch (Err (next.Refused refused)) × (after ≡ before)
 Publishes before base batch (Err publishing.HistoryFull) after =
     (base ≡ length before) × Continues before batch (Err next.HistoryFull) × (after ≡ before)
+Publishes before base batch (Err publishing.NoPlace) after = ⊥
 Publishes before base batch (Err publishing.Memory) after = after ≡ before
 
 -- why nothing was opened: an edit of the first batch is rejected; there is no place for a reader, although the batch
 -- is accepted; or out of memory
-abbrev pub FailsToOpen : List Edit → OpenError → Type 0
-FailsToOpen batch (opening.Refused refused) = Continues [] batch (Err (next.Refused refused))
-FailsToOpen batch opening.NoPlace = IsAccepted [] batch
-FailsToOpen batch opening.Memory = Unit {0}
+abbrev pub FailsToOpen : List Edit → PublishError → Type 0
+FailsToOpen batch (publishing.Stale now) = ⊥
+FailsToOpen batch (publishing.Refused refused) = Continues [] batch (Err (next.Refused refused))
+FailsToOpen batch publishing.HistoryFull = ⊥
+FailsToOpen batch publishing.NoPlace = IsAccepted [] batch
+FailsToOpen batch publishing.Memory = Unit {0}
 
 -- rule: Opening
--- what opening with a first batch comes to: a press of edition 1 and as many views that have seen it, or an error
-abbrev pub Opens : {Z : Type 0} → List Edit → ℕ → Result (History × Vec Sight Z) OpenError → Type 0
-Opens batch readers (Ok made) =
-    IsAccepted [] batch
-    × (made.0 ≡ batch ∷ [])
+-- what opening with an edition of a history comes to: a press of it and as many views that have seen it; or there is
+-- no place for a reader, or out of memory
+abbrev pub OpensWith : {Z : Type 0} → History → ℕ → Result (History × Vec Sight Z) PublishError → Type 0
+OpensWith history readers (Ok made) =
+    (made.0 ≡ history)
     × (length made.1.items ≡ readers)
-    × All (λ sight. sight ≡ fresh (batch ∷ [])) made.1.items
+    × All (λ sight. sight ≡ fresh history) made.1.items
+OpensWith history readers (Err error) = (error ≡ publishing.NoPlace) ⊎ (error ≡ publishing.Memory)
+
+-- what opening with a first batch comes to: the same with edition 1, or an error
+abbrev pub Opens : {Z : Type 0} → List Edit → ℕ → Result (History × Vec Sight Z) PublishError → Type 0
+Opens batch readers (Ok made) = IsAccepted [] batch × OpensWith (batch ∷ []) readers (Ok made)
 Opens batch readers (Err error) = FailsToOpen batch error

@@ -3,30 +3,19 @@ use catalogue::Refused;
 use editions::NextError;
 use std::alloc::AllocError;
 
-/// Why nothing was opened.
-///
-/// The errors are in the order in which they are looked for; `Memory` may come before any of them.
-#[derive(Drop)]
-pub enum OpenError {
-    /// An edit of the batch was rejected.
-    Refused(Refused),
-    /// There is no place for one of the readers.
-    NoPlace,
-    /// An allocation failed.
-    Memory,
-}
-
 /// Why a batch was not published. The published edition is then as before.
 ///
 /// The errors are in the order in which they are looked for; `Memory` may come before any of them.
 #[derive(Drop)]
 pub enum PublishError {
-    /// Another edition than the batch's base is published: this one.
+    /// Another edition than the batch's base is published: this one. `open` has no base.
     Stale(Receipt),
     /// An edit of the batch was rejected.
     Refused(Refused),
-    /// The published edition holds 4096 batches, as many as it may.
+    /// The published edition holds 4096 batches, as many as it may. `open` publishes the first.
     HistoryFull,
+    /// There is no place for one of the readers. Only `open` has readers.
+    NoPlace,
     /// An allocation failed.
     Memory,
 }
@@ -54,16 +43,5 @@ impl From<AllocError> for PublishError {
 
     fn from(_refused: AllocError) -> PublishError {
         PublishError::Memory
-    }
-}
-
-impl From<AllocError> for OpenError {
-    ghost use Rattle.std.specs.Prelude.{◌≡◌};
-    ghost use Rattle.publisher.specs.declared.fault.OpenError.TheVariants.{Memory};
-
-    ghost from_gives = { λ _ e. e ≡ Memory };
-
-    fn from(_refused: AllocError) -> OpenError {
-        OpenError::Memory
     }
 }

@@ -1,9 +1,9 @@
 //! Published editions that readers never wait for.
 //!
-//! `open` publishes edition 1, and makes a `Press` and some `View`s. `Press::publish` publishes one more batch whole or
-//! not at all, and returns a `Receipt`. `View::enter` gives an `Entered` with one edition, whose history begins with
-//! all that the view has seen or learnt; `Entered::leave` gives the view back. `meet` compares a
-//! view with a press. Read `specs/Publishing.antt` and `specs/Sights.antt`.
+//! `open` publishes edition 1, `open_edition` one that was made before; each makes a `Press` and some `View`s.
+//! `Press::publish` publishes one more batch whole or not at all, and returns a `Receipt`. `View::enter` gives an
+//! `Entered` with one edition, whose history begins with all that the view has seen or learnt; `Entered::leave` gives
+//! the view back. `meet` compares a view with a press. Read `specs/Publishing.antt` and `specs/Sights.antt`.
 //!
 //! Contracts see a press, an entered view and a receipt as a history. What a view has seen is kept by the rule of
 //! `left_right`; what it has learnt is kept as an edition, and `View::enter` compares its batches.
@@ -22,8 +22,8 @@ mod shown;
 mod steps;
 mod view;
 
-pub use crate::fault::{OpenError, PublishError};
+pub use crate::fault::PublishError;
 pub use crate::meeting::meet;
-pub use crate::press::{Press, open};
+pub use crate::press::{Press, open, open_edition};
 pub use crate::receipt::Receipt;
 pub use crate::view::{Entered, View};

@@ -3,11 +3,11 @@ ghost use Rattle.std.specs.Arc.{arc_value};
 ghost use Rattle.same_batches.specs.Beginnings.{StartsWith};
 ghost use Rattle.editions.specs.Editions.{Continues};
 ghost use Rattle.left_right.specs.Sides.{view as heard_by};
-ghost use Rattle.publisher.specs.declared.fault.OpenError.TheVariants.{Memory, NoPlace};
-ghost use Rattle.publisher.specs.Publishing.{FailsToOpen, Opens, Publishes};
+ghost use Rattle.publisher.specs.declared.fault.PublishError.TheVariants.{Memory, NoPlace};
+ghost use Rattle.publisher.specs.Publishing.{FailsToOpen, Opens, OpensWith, Publishes};
 ghost use Rattle.publisher.specs.Sights.{fresh};
 
-use crate::fault::{OpenError, PublishError};
+use crate::fault::PublishError;
 use crate::receipt::Receipt;
 use crate::rule::PressWriter;
 use crate::steps::{new_writer, show, views_of};
@@ -42,7 +42,7 @@ impl Model for Press {
 }
 
 // The edition after another with one more batch.
-fn next_of<R: Threads + Sync, G: Gate + Sync>(
+fn next_of<R: Threads, G: Gate + Sync>(
     rt: &R,
     alloc: Global,
     edition: &Edition,
@@ -98,7 +98,7 @@ impl Press {
     /// read the edition before the published one.
     // rule: Publishing
     // rule: Stale base
-    pub fn publish<R: Threads + Sync + Wait, G: Gate + Sync>(
+    pub fn publish<R: Threads + Wait, G: Gate + Sync>(
         &mut self,
         rt: &R,
         alloc: Global,
@@ -129,21 +129,21 @@ impl Press {
 }
 
 // The first edition, of one batch.
-fn first_of<R: Threads + Sync, G: Gate + Sync>(
+fn first_of<R: Threads, G: Gate + Sync>(
     rt: &R,
     alloc: Global,
     batch: Batch,
     workers: usize,
     gate: &G,
-) -> Result<Arc<Edition>, OpenError>
+) -> Result<Edition, PublishError>
     requires { (1 ≤ workers) × (workers ≤ 16) }
-    ensures { MatchResult result (λ first. Continues [] batch (Ok (arc_value first))) (FailsToOpen batch) }
+    ensures { MatchResult result (λ first. Continues [] batch (Ok first)) (FailsToOpen batch) }
 {
-    match next_of(rt, alloc, &Edition::empty(alloc), batch, workers, gate) {
+    match Edition::empty(alloc).next_with(rt, batch, workers, gate) {
         Ok(first) => Ok(first),
-        Err(NextError::Refused(refused)) => Err(OpenError::Refused(refused)),
+        Err(NextError::Refused(refused)) => Err(PublishError::Refused(refused)),
         Err(NextError::HistoryFull) => unreachable!(),
-        Err(NextError::Memory) => Err(OpenError::Memory),
+        Err(NextError::Memory) => Err(PublishError::Memory),
     }
 }
 
@@ -153,7 +153,7 @@ fn opened<R: Wait>(
     alloc: Global,
     writer: PressWriter,
     readers: usize,
-) -> Result<(Press, Vec<View>), OpenError>
+) -> Result<(Press, Vec<View>), PublishError>
     requires { heard_by writer.desk.place ≡ arc_value writer.desk.shown.value.edition ∷ [] }
     ensures made { IfOk result (λ made. (made.0 ≡ arc_value writer.desk.shown.value.edition)
         × (length made.1.items ≡ readers)
@@ -175,29 +175,48 @@ fn opened<R: Wait>(
     }
 }
 
+/// Publishes an edition that was made before, and makes a press and so many views that have seen it.
+///
+/// There are 1 to 8 views. Returns `NoPlace` if there is no place for a view.
+// rule: Opening
+pub fn open_edition<R: Wait>(
+    rt: &R,
+    alloc: Global,
+    edition: Edition,
+    readers: usize,
+) -> Result<(Press, Vec<View>), PublishError>
+    requires { (0 < readers) × (readers ≤ 8) }
+    ensures { OpensWith edition readers result }
+{
+    let Ok(first) = Arc::new(alloc, edition) else {
+        return Err(PublishError::Memory);
+    };
+    let writer = new_writer(alloc, readers)?;
+    let (writer, shown) = show(writer, rt, first);
+    if shown.is_err() {
+        let _published = writer.take(rt);
+        return Err(PublishError::Memory);
+    }
+    opened(rt, alloc, writer, readers)
+}
+
 /// Publishes edition 1, of one batch, and makes a press and so many views that have seen it.
 ///
 /// There are 1 to 8 views. The tables are made in `workers` pieces, from 1 to 16, under `gate`, as
 /// `Edition::next_with` does. Returns the batch's first rejected edit, then `NoPlace` if there is no place for a view.
 // rule: Opening
-pub fn open<R: Threads + Sync + Wait, G: Gate + Sync>(
+pub fn open<R: Threads + Wait, G: Gate + Sync>(
     rt: &R,
     alloc: Global,
     batch: Batch,
     readers: usize,
     workers: usize,
     gate: &G,
-) -> Result<(Press, Vec<View>), OpenError>
+) -> Result<(Press, Vec<View>), PublishError>
     requires readers { (0 < readers) × (readers ≤ 8) }
     requires workers { (1 ≤ workers) × (workers ≤ 16) }
     ensures { Opens batch readers result }
 {
     let first = first_of(rt, alloc, batch, workers, gate)?;
-    let writer = new_writer(alloc, readers)?;
-    let (writer, shown) = show(writer, rt, first);
-    if shown.is_err() {
-        let _published = writer.take(rt);
-        return Err(OpenError::Memory);
-    }
-    opened(rt, alloc, writer, readers)
+    open_edition(rt, alloc, first, readers)
 }

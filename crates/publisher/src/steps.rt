@@ -5,9 +5,9 @@ ghost use Rattle.std.specs.Arc.{arc_value};
 ghost use Rattle.left_right.specs.Sides.{view as heard_by};
 ghost use Rattle.same_batches.specs.Beginnings.{StartsWith};
 ghost use Rattle.publisher.specs.Sights.{fresh};
-ghost use Rattle.publisher.specs.declared.fault.OpenError.TheVariants.{Memory, NoPlace};
+ghost use Rattle.publisher.specs.declared.fault.PublishError.TheVariants.{Memory, NoPlace};
 
-use crate::fault::OpenError;
+use crate::fault::PublishError;
 use crate::rule::{Notes, PressWriter, Sees, ViewReader};
 use crate::shown::Shown;
 use crate::view::View;
@@ -67,7 +67,7 @@ pub(crate) fn views_of(
     writer: &mut PressWriter,
     alloc: Global,
     readers: usize,
-) -> Result<Vec<View>, OpenError>
+) -> Result<Vec<View>, PublishError>
     requires { heard_by writer.old.desk.place ≡ arc_value writer.old.desk.shown.value.edition ∷ [] }
     ensures views { IfOk result (λ views. (length views.items ≡ readers)
         × All (λ view. view ≡ fresh (arc_value writer.old.desk.shown.value.edition)) views.items) }
@@ -78,11 +78,11 @@ pub(crate) fn views_of(
     let mut views = Vec::new(alloc);
     for _index in 0..readers {
         let Some(reader) = new_reader(writer) else {
-            return Err(OpenError::NoPlace);
+            return Err(PublishError::NoPlace);
         };
         let view = View::new(reader, &writer.published().edition);
         if views.push(view).is_err() {
-            return Err(OpenError::Memory);
+            return Err(PublishError::Memory);
         }
     }
     Ok(views)
