@@ -1,18 +1,18 @@
 -- The calls of a desk, and what it returns; this project's profile.
-use Rattle.std.specs.Prelude.{◌≡◌, ℕ, List, [], ◌∷◌, Option, None, Some, Result, Ok, Err}
+use Rattle.std.specs.Prelude.{◌≡◌, ℕ, List, [], ◌∷◌, Option, Result, Ok, Err}
 use Rattle.http_desks.specs.declared.desk.DeskStatus.{DeskStatus}
 use Rattle.http_desks.specs.declared.desk.Answer.{Answer}
 use Rattle.values.specs.declared.declared.Declared.{Declared}
 use Rattle.http_desks.specs.declared.desk.Off.{Off}
 
--- the status and the body, unless the desk is off
-abbrev pub answer_in : Result Answer Off → Option (DeskStatus × List ℕ)
-answer_in (Ok answer) = Some (answer.status, answer.body.items)
-answer_in (Err off) = None
+-- the status and the body, or why the desk is off
+abbrev pub answer_in : Result Answer Off → Result (DeskStatus × List ℕ) Off
+answer_in (Ok answer) = Ok (answer.status, answer.body.items)
+answer_in (Err off) = Err off
 
 -- a body at a timestamp, and what was returned; or a package's name, and what is declared of it
 pub data Call : Type 0 where
-  Asks : List ℕ → ℕ → Option (DeskStatus × List ℕ) → Call
+  Asks : List ℕ → ℕ → Result (DeskStatus × List ℕ) Off → Call
   Looks : List ℕ → Option Declared → Call
 
 -- rule: Calls of a desk

@@ -13,6 +13,7 @@ use Rattle.http_desks.specs.declared.answering.Handled.{Handled}
 use Rattle.http_desks.specs.declared.answering.Handled.TheVariants.{Answered, Off, Cut}
 use Rattle.http_desks.specs.declared.desk.DeskStatus.{DeskStatus}
 use Rattle.http_desks.specs.declared.desk.DeskStatus.TheVariants as answered
+use Rattle.http_desks.specs.declared.desk.Off.{Off as Reason}
 use Rattle.values.specs.declared.declared.Declared.{Declared}
 use Rattle.http_desks.specs.Calls.{Call, Leads}
 use Rattle.http_desks.specs.Uses.{Fetch, Mismatched, Read, Broken, IsFetch, Use, Nowhere, Misused, Asked, Unknown, Untaken, Fetched, calls_of}
@@ -39,9 +40,9 @@ kind_for kind [] = []
 kind_for kind (byte ∷ bytes) = kind
 
 -- the reply of a desk; the connection ends after it if the desk is off
-abbrev pub answer_reply : List ℕ → Bool → Option (DeskStatus × List ℕ) → List ℕ
-answer_reply kind closes None = empty_reply status.InternalServerError None true
-answer_reply kind closes (Some answer) =
+abbrev pub answer_reply : List ℕ → Bool → Result (DeskStatus × List ℕ) Reason → List ℕ
+answer_reply kind closes (Err off) = empty_reply status.InternalServerError None true
+answer_reply kind closes (Ok answer) =
     head_lines (status_of answer.0) (kind_for kind answer.1) None (length answer.1) closes ++ answer.1
 
 -- what is sent of a package
@@ -74,8 +75,8 @@ fetch_handled hash (Broken blocks) = None
 
 -- how the reply came out, if no write failed
 abbrev pub handled_of : Use → Option Handled
-handled_of (Asked moment None) = Some Off
-handled_of (Asked moment (Some answer)) = Some Answered
+handled_of (Asked moment (Err off)) = Some Off
+handled_of (Asked moment (Ok answer)) = Some Answered
 handled_of (Fetched name declared fetch) = fetch_handled declared.hash fetch
 handled_of Nowhere = Some Answered
 handled_of Misused = Some Answered

@@ -1,8 +1,9 @@
 -- What becomes of a whole message; this project's profile.
-use Rattle.std.specs.Prelude.{◌≡◌, ◌≢◌, ◌≤◌, ℕ, List, [], ◌∷◌, length, Option, None, Some, if◌then◌else◌, bytes_eq, codes}
+use Rattle.std.specs.Prelude.{◌≡◌, ◌≢◌, ◌≤◌, ℕ, List, [], ◌∷◌, length, Option, None, Some, Result, if◌then◌else◌, bytes_eq, codes}
 use Rattle.http_heads.specs.Targets.{package_in, path_in}
 use Rattle.http_desks.specs.Downloads.{IsRead, Reads, ReadsFrom, full_blocks}
 use Rattle.http_desks.specs.declared.desk.DeskStatus.{DeskStatus}
+use Rattle.http_desks.specs.declared.desk.Off.{Off}
 use Rattle.values.specs.declared.declared.Declared.{Declared}
 use Rattle.http_desks.specs.declared.method.Method.{Method}
 use Rattle.http_desks.specs.declared.method.Method.TheVariants.{Get, Post, Other}
@@ -40,7 +41,7 @@ pub data Fetch : Type 0 where
 pub data Use : Type 0 where
   Nowhere : Use
   Misused : Use
-  Asked : ℕ → Option (DeskStatus × List ℕ) → Use
+  Asked : ℕ → Result (DeskStatus × List ℕ) Off → Use
   Unknown : List ℕ → Use
   Untaken : List ℕ → Declared → Use
   Fetched : List ℕ → Declared → Fetch → Use

@@ -74,7 +74,7 @@ fn ask<W: Sink, D: Desk, C: Clock>(
                 Err(error) => Err(error),
             }
         }
-        Err(_) => match send_empty(sink, block, Status::InternalServerError, None, true) {
+        Err(off) => match send_empty(sink, block, Status::InternalServerError, None, true) {
             Ok(()) => Ok(Handled::Off),
             Err(error) => Err(error),
         },

@@ -1,16 +1,13 @@
 -- The client of an app that is asked for: its app is one of the content's, and it is on the track that it asked for.
-use Rattle.std.proofs.Common.{◌≡◌, ℕ, ◌&&◌, not, Bool, true, false, eqb, List, [], ◌∷◌, length, Option, None, Some, refl, sym, ap, ◌∙◌, subst}
+use Rattle.std.proofs.Common.{◌≡◌, ℕ, ◌&&◌, Bool, true, false, List, Option, None, Some, refl, sym, ap, ◌∙◌, subst}
 use Rattle.std.specs.List.{position, slice_get}
-use Rattle.std.specs.Option.{option_map, option_map_or, unwrap_or}
-use Rattle.std.proofs.lemmas.Bool.{and_parts, cond_both, eqb-true}
+use Rattle.std.specs.Option.{option_map, unwrap_or}
+use Rattle.std.proofs.lemmas.Bool.{cond_both}
 use Rattle.std.proofs.lemmas.List.Elements.{All-from_recursion}
 use Rattle.std.proofs.lemmas.Option.{get_or_from_slice_get, none-some, option_and_then_some, slice_get_within}
-use Rattle.cohorts.specs.Pins.{pin_of}
-use Rattle.cohorts.specs.Tracks.{asks_rollback, cohort_at, no_cohort, pin_asked, track_of}
-use Rattle.cohorts.specs.declared.pin.Pin.TheVariants as pin
+use Rattle.cohorts.specs.Tracks.{asks_rollback, cohort_at, no_cohort, track_of}
 use Rattle.cohorts.specs.declared.track.Track.{Track}
 use Rattle.omaha_json.specs.declared.request.AppAsk.{AppAsk}
-use Rattle.omaha_json.specs.declared.request.Check.{Check}
 use Rattle.payload_graph.specs.Chains.{cohort_target}
 use Rattle.payload_graph.specs.Net.{Net, net_of}
 use Rattle.records.specs.Lookups.{is_app}
@@ -18,9 +15,8 @@ use Rattle.records.specs.Validity.{IsValid, IsValidApp}
 use Rattle.records.specs.declared.content.App.{App}
 use Rattle.records.specs.declared.content.Cohort.{Cohort}
 use Rattle.replies.specs.Clients.{Client, client_at, client_of, key_of}
-use Rattle.replies.specs.Plans.{client_to_update, is_open, wants_update}
+use Rattle.replies.specs.Plans.{client_to_update, wants_update}
 use Rattle.interleavings.specs.Choices.{graph_for}
-use Rattle.interleavings.proofs.ListLemmas.{Passes-option_map_or}
 
 -- the value that was mapped
 pub record Mapped {A B : Type 0} (f : A → B) (from : Option A) (to : B) : Type 0 where
@@ -61,21 +57,6 @@ module _ (apps : List App) (session : List ℕ) (ask : AppAsk) where
         let within = slice_get_within apps client.index client.app is.there in
         subst IsValidApp (get_or_from_slice_get apps client.index client.app client.app is.there)
         (All-from_recursion IsValidApp apps valid.apps_valid client.index client.app within)
-
-    -- its update check names no prefix, so it has no pin
-    no-pin : pin_asked ask ≡ pin.Any
-    no-pin =
-        let check = Passes-option_map_or is_open ask.check is.wants in
-        let parts = and_parts (not check.item.disabled) (eqb (length check.item.prefix) 0) check.passed in
-        ap (λ (o : Option Check). option_map_or (λ (c : Check). pin_of c.prefix) o pin.Any) check.is
-        ∙ ap pin_of (empty check.item.prefix (eqb-true (length check.item.prefix) 0 parts.1))
-      where
-        empty : (text : List ℕ) → length text ≡ 0 → text ≡ []
-        empty [] none = refl
-        empty (byte ∷ text) none = cc
-
-    pub no-pin-key : (key_of client).pin ≡ pin.Any
-    no-pin-key = ap (λ (t : Track). t.pin) is.track ∙ no-pin
 
     -- the graph of its track leads down if the key does
     pub same-rollback : (net : Net) → graph_for client ≡ Some net → net.rollback ≡ (key_of client).rollback

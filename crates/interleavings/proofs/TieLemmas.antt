@@ -1,5 +1,6 @@
 -- The contracts of the program's functions as events.
-use Rattle.std.proofs.Common.{◌≡◌, ℕ, suc, ◌+◌, ◌&&◌, Bool, true, false, eqb, ltb, cond, List, [], ◌∷◌, ◌++◌, length, Option, None, Some, Result, Ok, Err, inl, inr, refl, sym, ap, ◌∙◌, subst, arith}
+use Rattle.std.proofs.Common.{◌≡◌, ℕ, suc, ◌+◌, ◌&&◌, Bool, true, false, eqb, ltb, cond, List, [], ◌∷◌, ◌++◌, length, Option, None, Some, Result, Ok, Err, ◌⊎◌, inl, inr, refl, sym, ap, ◌∙◌, subst, arith}
+use Rattle.std.specs.Option.{is_some}
 use Rattle.std.specs.Result.{is_ok}
 use Rattle.std.proofs.lemmas.Bool.{and_from, and_left, and_right, cond-false, cond-true, eq-eqb, false≢true, le-leb, le-ltb, leb-true, lt-ltb, ne_eqb}
 use Rattle.catalogue.specs.declared.edit.Edit.{Edit}
@@ -14,10 +15,15 @@ use Rattle.records.specs.declared.mirror.Mirror.{Mirror}
 use Rattle.replies.specs.Plans.{payloads_of}
 use Rattle.replies.specs.Replies.{AreOutcomes, reply_of}
 use Rattle.replies.specs.declared.choices.Choice.{Choice}
+use Rattle.http_desks.specs.declared.desk.DeskStatus.{DeskStatus}
+use Rattle.publisher.specs.Sights.{Sight}
+use Rattle.publisher.specs.declared.fault.PublishError.{PublishError}
+use Rattle.service_desks.specs.Scripts.{IsPublished, IsScriptReply, publish_reply}
+use Rattle.service_desks.specs.Workers.{stock_of}
 use Rattle.update_desk.specs.Asking.{asks_of}
 use Rattle.interleavings.specs.Jobs.{Pending, bytes_asked, outcomes_by_app, outcomes_of}
 use Rattle.interleavings.specs.Services.{is_published, published}
-use Rattle.interleavings.specs.Ties.{AnswersAreOfPending, FullIsNotPublished, GrantsAreBooked, NextIsPublished, PressPublishes, RejectedIsNotPublished, RoomIsTested}
+use Rattle.interleavings.specs.Ties.{AnswersAreOfPending, FullIsNotPublished, GrantsAreBooked, NextIsPublished, PressPublishes, RejectedIsNotPublished, RoomIsTested, ScriptsArePublished, WorkersReplyByOneHistory}
 
 module _ (history : History) (batch : List Edit) where
   taken : is_published history (length history) batch ≡ true → published history (length history)
@@ -71,6 +77,7 @@ press_publishes before base batch (Err (publishing.Refused refused)) after rejec
     inl (rejected.2 ∙ at-base before base batch before rejected.0 (rejected_is_not_published before batch refused rejected.1))
 press_publishes before base batch (Err publishing.HistoryFull) after full =
     inl (full.2 ∙ at-base before base batch before full.0 (full_is_not_published before batch full.1))
+press_publishes before base batch (Err publishing.NoPlace) after never = absurd never
 press_publishes before base batch (Err publishing.Memory) after refused = inr (refl, refused)
 
 pub room_is_tested : RoomIsTested
@@ -131,3 +138,29 @@ answers_are_of_pending stock request moment before after text reply =
           ∙ ap (λ (os : List (Option ℕ)). reply_bytes
           (reply_of stock.content request (payloads_of reply.plan) os stock.mirrors moment)) (sym has.is);
     }
+
+pub workers_reply_by_one_history : WorkersReplyByOneHistory
+workers_reply_by_one_history mirrors before after request moment text (history, enters, reply) = record {
+  history = history;
+  led = enters.accepted;
+  risen = enters.risen;
+  seen = ap (λ (sight : Sight). sight.seen) enters.left;
+  is = answers_are_of_pending (stock_of history mirrors) request moment before.asks after.asks text reply;
+}
+
+-- a publish that is replied to didn't run out of memory
+published-replied :
+    (history before after : History) (outcome : Result History PublishError) (reply : DeskStatus × List ℕ) →
+    publish_reply outcome ≡ Some reply →
+    (after ≡ history) ⊎ ((outcome ≡ Err publishing.Memory) × (after ≡ before)) →
+    after ≡ history
+published-replied history before after outcome reply replied (inl same) = same
+published-replied history before after outcome reply replied (inr (memory, kept)) =
+    absurd (false≢true (ap (λ (o : Option (DeskStatus × List ℕ)). is_some o) (sym (ap publish_reply memory) ∙ replied)))
+
+pub scripts_are_published : ScriptsArePublished
+scripts_are_published before input script reply after read performed =
+    let done : IsPublished before script.0 script.1 reply after =
+    subst (λ r. IsScriptReply before r reply after) read performed in
+    published-replied (published before script.0 script.1) before after done.outcome reply done.replied
+    (press_publishes before script.0 script.1 done.outcome after done.published)

@@ -1,5 +1,5 @@
 -- What a worker chooses for the apps of a request by tables of prices; no chain is looked at.
-use Rattle.std.specs.Prelude.{◌≡◌, ℕ, ◌==◌, ◌&&◌, Bool, true, List, is_none, length, map, Option, None, Some, option_and_then}
+use Rattle.std.specs.Prelude.{◌≡◌, ℕ, ◌==◌, ◌&&◌, ◌⊎◌, Any, Bool, true, List, [], is_none, length, map, Option, None, Some, option_and_then}
 use Rattle.std.specs.List.{list_all, range_with_len}
 use Rattle.std.specs.Option.{option_map_or}
 use Rattle.omaha_json.specs.declared.request.AppAsk.{AppAsk}
@@ -7,6 +7,7 @@ use Rattle.omaha_json.specs.declared.request.Request.{Request}
 use Rattle.payload_graph.specs.Chains.{bytes_of}
 use Rattle.payload_graph.specs.Net.{Net, net_in}
 use Rattle.price_cert.specs.Rules.{broken_at}
+use Rattle.price_cert.specs.Tables.{Certificate}
 use Rattle.price_cert.specs.declared.row.Row.{Row}
 use Rattle.quotes.specs.ByRows.{quote_by_rows}
 use Rattle.quotes.specs.declared.quote.Quote.{Quote}
@@ -67,8 +68,13 @@ choice_of apps session tables ask =
 abbrev pub choices_of : List App → Request → Tables → List (Option Choice)
 choices_of apps request tables = map (choice_of apps request.session tables) request.apps
 
--- a plan is what certified rows say
-pub record IsByPrices (apps : List App) (request : Request) (plan : List (Option Choice)) : Type 0 where
+-- the rows are those of a stored table, or there are none
+abbrev pub AreStored : List Certificate → List Row → Type 0
+AreStored stored rows = (rows ≡ []) ⊎ Any (λ (table : Certificate). table.rows ≡ rows) stored
+
+-- a plan is what certified rows of stored tables say
+pub record IsByPrices (apps : List App) (request : Request) (stored : List Certificate) (plan : List (Option Choice)) : Type 0 where
   pub tables : Tables
+  pub own : (ask : AppAsk) → AreStored stored (tables ask)
   pub certified : are_certified apps request tables ≡ true
   pub chosen : choices_of apps request tables ≡ plan

@@ -12,9 +12,10 @@ use Rattle.par_tables.specs.Tables.{AreTables}
 use Rattle.price_cert.specs.Tables.{Certificate}
 use Rattle.records.specs.declared.content.App.{App}
 use Rattle.records.specs.declared.mirror.Mirror.{Mirror}
-use Rattle.replies.specs.Plans.{IsPlan, payloads_of}
+use Rattle.replies.specs.Plans.{IsPlan, IsPlanOf, payloads_of}
 use Rattle.replies.specs.Replies.{AreOutcomes, reply_of}
 use Rattle.replies.specs.declared.choices.Choice.{Choice}
+use Rattle.replies.specs.declared.choices.Plan.{Plan}
 use Rattle.interleavings.specs.Choices.{IsByPrices}
 use Rattle.interleavings.specs.Events.{Event, Machine, Publish, Raise, service_after}
 use Rattle.interleavings.specs.Jobs.{EndedJob, Job, Pending, Rendered, Worker, granted_for, is_decided, jobs_of, outcomes_of}
@@ -174,10 +175,11 @@ BatchesArePublishedInTurn machine =
     (known : ℕ) (next : List Edit) →
     (machine mirrors service (Publish known next)).history ≡ published service.history known next)
 
--- each plan that an edition's program makes is one that a worker makes by certified rows: those of the edition's tables
+-- each plan that an edition's program makes is one that a worker makes by certified rows: those of the edition's tables,
+-- and for pinned clients those of the plan's own
 abbrev pub PlansAreByPrices : Type 0
 PlansAreByPrices =
-    (history : History) (tables : List Certificate) (request : Request) (plan : List (Option Choice)) →
+    (history : History) (tables : List Certificate) (request : Request) (plan : Plan) →
     AreTables (content_of history) tables →
-    IsPlan (content_of history) request plan →
-    IsByPrices (content_of history) request plan
+    IsPlanOf (content_of history) request plan →
+    IsByPrices (content_of history) request (tables ++ plan.tables) plan.choices

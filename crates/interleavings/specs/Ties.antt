@@ -1,18 +1,23 @@
 -- Which events the contracts of the program's functions are: each law reads one contract as an event.
-use Rattle.std.specs.Prelude.{◌≡◌, ◌⊎◌, ◌↔◌, ℕ, true, List, ◌++◌, length, Result, Ok, Err}
+use Rattle.std.specs.Prelude.{◌≡◌, ◌≤◌, ◌⊎◌, ◌↔◌, ℕ, true, List, ◌++◌, length, Result, Ok, Err}
 use Rattle.catalogue.specs.declared.edit.Edit.{Edit}
 use Rattle.catalogue.specs.declared.fault.Refused.{Refused}
-use Rattle.catalogue_laws.specs.Histories.{History}
-use Rattle.editions.specs.Editions.{Continues}
+use Rattle.catalogue_laws.specs.Histories.{History, LeadsTo}
+use Rattle.editions.specs.Editions.{Continues, content_of}
 use Rattle.editions.specs.declared.fault.NextError.TheVariants as error
+use Rattle.http_desks.specs.declared.desk.DeskStatus.{DeskStatus}
 use Rattle.mirror_ledger.specs.Asks.{Ask}
 use Rattle.mirror_ledger.specs.Budgets.{Account, Grants, HasRoom}
 use Rattle.omaha_json.specs.ReplyWriting.{reply_bytes}
 use Rattle.omaha_json.specs.declared.reply.Reply.{Reply}
 use Rattle.omaha_json.specs.declared.request.Request.{Request}
+use Rattle.profile_toml.specs.Reading.{script_of_bytes}
 use Rattle.publisher.specs.Publishing.{Publishes}
 use Rattle.publisher.specs.declared.fault.PublishError.{PublishError}
 use Rattle.publisher.specs.declared.fault.PublishError.TheVariants as publishing
+use Rattle.records.specs.declared.mirror.Mirror.{Mirror}
+use Rattle.service_desks.specs.Scripts.{Performs}
+use Rattle.service_desks.specs.Workers.{Progress, Replies, stock_of}
 use Rattle.update_desk.specs.Answering.{IsReply, Stock}
 use Rattle.update_desk.specs.Asking.{asks_of}
 use Rattle.interleavings.specs.Jobs.{Pending, is_decided, outcomes_of}
@@ -66,8 +71,31 @@ pub record IsOfPending (stock : Stock) (request : Request) (moment : ℕ) (befor
   pub asked : after ≡ before ++ asks_of pending.choices (outcomes_of pending)
   pub written : text ≡ reply_bytes reply
 
--- `answer` of `update_desk` replies so
+-- `reply_to` of `update_desk` replies so
 abbrev pub AnswersAreOfPending : Type 0
 AnswersAreOfPending =
     (stock : Stock) (request : Request) (moment : ℕ) (before after : List Ask) (text : List ℕ) →
     IsReply stock request moment before after text → IsOfPending stock request moment before after text
+
+-- a reply is that of one history that was accepted, by a reply in the making; it has no fewer batches than the worker
+-- had seen before, and as many as it has then seen
+pub record IsOfOneHistory (mirrors : List Mirror) (before after : Progress) (request : Request) (moment : ℕ)
+    (text : List ℕ) : Type 0 where
+  pub history : History
+  pub led : LeadsTo history (content_of history)
+  pub risen : before.sight.seen ≤ length history
+  pub seen : after.sight.seen ≡ length history
+  pub is : IsOfPending (stock_of history mirrors) request moment before.asks after.asks text
+
+-- a worker's desk replies so
+abbrev pub WorkersReplyByOneHistory : Type 0
+WorkersReplyByOneHistory =
+    (mirrors : List Mirror) (before after : Progress) (request : Request) (moment : ℕ) (text : List ℕ) →
+    Replies mirrors before request moment (Ok text) after → IsOfOneHistory mirrors before after request moment text
+
+-- a script that the operator's desk replies to is a publish by somebody who knows of as many batches as its base says
+abbrev pub ScriptsArePublished : Type 0
+ScriptsArePublished =
+    (before : History) (input : List ℕ) (script : ℕ × List Edit) (reply : DeskStatus × List ℕ) (after : History) →
+    script_of_bytes input ≡ Ok script → Performs before input (Ok reply) after →
+    after ≡ published before script.0 script.1

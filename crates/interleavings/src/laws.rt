@@ -5,7 +5,7 @@ ghost use Rattle.interleavings.specs.Headline.{OffersLeadToTargets, RepliesSayTr
 ghost use Rattle.interleavings.specs.Laws.{BatchesArePublishedInTurn, BatchesArePublishedWhole, JobsGoByWhatWasSeen, PlansAreByPrices, PublishedIsAccepted, PublishedStays, RepliesAreOfOneCatalogue, SeenIsPublished, SeenNeverFalls, SharesAreOfJobs, TotalsAreWithinBudgets};
 ghost use Rattle.interleavings.specs.Requests.{RepliesAreToGivenRequests};
 ghost use Rattle.interleavings.specs.Runs.{BudgetEnds, BudgetRaised, DropAfterGrant, FailedConditions, PublishBetween, StalePublish};
-ghost use Rattle.interleavings.specs.Ties.{AnswersAreOfPending, FullIsNotPublished, GrantsAreBooked, NextIsPublished, PressPublishes, RejectedIsNotPublished, RoomIsTested};
+ghost use Rattle.interleavings.specs.Ties.{AnswersAreOfPending, FullIsNotPublished, GrantsAreBooked, NextIsPublished, PressPublishes, RejectedIsNotPublished, RoomIsTested, ScriptsArePublished, WorkersReplyByOneHistory};
 ghost use Rattle.interleavings.specs.Wrong.{EntriesBreak, GrantsBreak, PlansAndRepliesBreak, PublishesBreak};
 
 // rule: Service
@@ -86,8 +86,8 @@ pub fn following()
 }
 
 // rule: Choice by prices
-/// States that each plan by a history's content is what a worker chooses by certified rows, if there are tables of the
-/// content, as an edition has them.
+/// States that each plan by a history's content is what a worker chooses by certified rows of stored tables: of those of
+/// the content, as an edition has them, and of the plan's own, which pinned clients have.
 pub fn plans()
     ensures { PlansAreByPrices }
 {
@@ -98,7 +98,8 @@ pub fn plans()
     theorems::laws::plans();
 }
 
-/// States which events the contracts of `Edition::next`, `Press::publish`, `Book::grant` and `update_desk::answer` are.
+/// States which events the contracts of `Edition::next`, `Press::publish`, `Book::grant`, `update_desk::reply_to`, a
+/// worker's desk and the operator's desk are.
 pub fn ties()
     ensures next { NextIsPublished }
     ensures rejected { RejectedIsNotPublished }
@@ -107,6 +108,8 @@ pub fn ties()
     ensures room { RoomIsTested }
     ensures grants { GrantsAreBooked }
     ensures answers { AnswersAreOfPending }
+    ensures workers { WorkersReplyByOneHistory }
+    ensures scripts { ScriptsArePublished }
 {}
 
 /// Shows small runs, worked by hand: a publish between the plan of one worker and its reply, a dropped job, a publisher

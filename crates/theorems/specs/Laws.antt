@@ -146,7 +146,7 @@ WalksEnd =
     IsWalk (content_of history) mirrors session ask replies →
     map check_in replies ≡ map offered (offers_of replies) ++ Some check.NoUpdate ∷ []
 
--- a client stays the same on its walk: its app, its cohort, its bucket, its lane and its rollback
+-- a client stays the same on its walk: its app, its cohort, its bucket, its lane, its rollback, its pin and its target
 abbrev pub WalksKeepTracks : Type 0
 WalksKeepTracks =
     (history : History) (mirrors : List Mirror) (session : List ℕ) (client : Client) (ask : AppAsk) (replies : List AppReply) →

@@ -58,7 +58,7 @@ pub fn steps()
 /// Each reply may come from a mirror of its own. There is a walk, unless there is no mirror; and every walk
 /// makes at most as many offers as the app has releases, and ends with `noupdate`. If a chain leads from
 /// the start to the target of the client's track, the walk ends at the target, and the bytes of its offers
-/// are the least sum of such a chain; if none does, it makes no offer. The client's track stays the same.
+/// are the least sum of such a chain; if none does, it makes no offer. The client's track stays the same, with its pin.
 pub fn walk()
     ensures exists { WalksExist }
     ensures short { WalksAreShort }

@@ -1,17 +1,13 @@
--- The reply to an input, by what the mirrors grant; this project's profile.
-use Rattle.std.specs.Prelude.{◌≡◌, ◌⊎◌, ℕ, List, Option, Result, Ok, Err}
+-- The reply to a request, by what the mirrors grant; this project's profile.
+use Rattle.std.specs.Prelude.{◌≡◌, ◌⊎◌, ℕ, List, Option}
 use Rattle.mirror_ledger.specs.Asks.{Ask}
 use Rattle.omaha_json.specs.ReplyWriting.{reply_bytes}
-use Rattle.omaha_json.specs.RequestReading.{request_of_bytes}
-use Rattle.omaha_json.specs.declared.fault.RequestFault.{RequestFault}
 use Rattle.omaha_json.specs.declared.request.Request.{Request}
 use Rattle.records.specs.declared.content.App.{App}
 use Rattle.records.specs.declared.mirror.Mirror.{Mirror}
 use Rattle.replies.specs.Plans.{IsPlan, payloads_of}
 use Rattle.replies.specs.Replies.{reply_of}
 use Rattle.replies.specs.declared.choices.Choice.{Choice}
-use Rattle.values.specs.declared.read_error.ReadError.{ReadError}
-use Rattle.values.specs.declared.read_error.ReadError.TheVariants as errors
 use Rattle.update_desk.specs.Asking.{AsksFirst, AsksFor}
 
 -- what is offered: the catalogue's content, and the mirrors of its packages
@@ -19,6 +15,7 @@ pub record Stock : Type 0 where
   pub content : List App
   pub mirrors : List Mirror
 
+-- rule: Reply to a request
 -- the bytes are the reply to the request at a time, by a plan of the content and what the mirrors
 -- granted for it
 pub record IsReply (stock : Stock) (request : Request) (moment : ℕ) (before after : List Ask) (text : List ℕ) : Type 0 where
@@ -33,15 +30,3 @@ abbrev pub HasBegun : Stock → Request → List Ask → List Ask → Type 0
 HasBegun stock request before after =
     (after ≡ before)
     ⊎ ((plan : List (Option Choice)) × IsPlan stock.content request plan × AsksFirst stock.mirrors plan before after)
-
--- rule: Reply to an input
--- the reply to the request that the input is; or the input's first fault, and nothing was asked; or
--- memory ran out
-abbrev pub Answers : Stock → List ℕ → ℕ → List Ask → List Ask → Result (List ℕ) (ReadError RequestFault) → Type 0
-Answers stock input moment before after (Ok text) =
-    (request : Request) × (request_of_bytes input ≡ Ok request) × IsReply stock request moment before after text
-Answers stock input moment before after (Err (errors.Fault fault)) =
-    (request_of_bytes input ≡ Err fault) × (after ≡ before)
-Answers stock input moment before after (Err errors.Memory) =
-    (after ≡ before)
-    ⊎ ((request : Request) × (request_of_bytes input ≡ Ok request) × HasBegun stock request before after)

@@ -1,3 +1,2 @@
 pub mod Answering
 pub mod Asking
-pub mod Desks

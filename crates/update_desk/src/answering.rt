@@ -1,21 +1,26 @@
-// The reply to an input.
+// The reply to a request.
 
-ghost use Rattle.std.specs.Prelude.{◌≡◌, IfOk, IfErr, OnErr, Ok, Err};
+ghost use Rattle.std.specs.Prelude.{◌≡◌, IfOk, OnErr};
 ghost use Rattle.editions.specs.Editions.{content_of};
-ghost use Rattle.update_desk.specs.Answering.{Answers, HasBegun, IsReply};
+ghost use Rattle.update_desk.specs.Answering.{HasBegun, IsReply};
 ghost use Rattle.update_desk.specs.Asking.{GrantsFirst};
 
 use crate::asking::ask_each;
 use editions::Edition;
 use mirror_ledger::Till;
-use omaha_json::{Request, RequestFault, read_request};
+use omaha_json::Request;
 use replies::{plan, render};
 use std::alloc::{AllocError, Global};
 use std::sync::Wait;
-use values::ReadError;
 
-// Replies to a request.
-fn reply_to<T: Till, R: Wait>(
+// rule: Reply to a request
+/// Replies to a request from an edition, at a time in seconds since 1 January 1970 UTC, with the bytes that a till
+/// grants.
+///
+/// The till is asked for each payload that the reply offers, or would if a mirror had granted it, once and in the order
+/// of the apps. If memory runs out a first part of the asks may have been made. If the till is alone, which is if
+/// nothing else is granted on its mirrors, each payload is offered from the first mirror with room.
+pub fn reply_to<T: Till, R: Wait>(
     rt: &R,
     alloc: Global,
     edition: &Edition,
@@ -48,40 +53,4 @@ fn reply_to<T: Till, R: Wait>(
         till.given(),
         moment,
     )
-}
-
-// rule: Reply to an input
-/// Replies to an input from an edition, at a time in seconds since 1 January 1970 UTC, with the bytes
-/// that a till grants.
-///
-/// Returns the reply to the request that the input is, and nothing else; or the input's first fault, as
-/// `omaha_json::read_request` does, and then asks for nothing. The till is asked for each payload that
-/// the reply offers, or would if a mirror had granted it, once and in the order of the apps. If memory
-/// runs out a first part of the asks may have been made. If the till is alone, which is if nothing else is
-/// granted on its mirrors, each payload is offered from the first mirror with room.
-pub fn answer<T: Till, R: Wait>(
-    rt: &R,
-    alloc: Global,
-    edition: &Edition,
-    till: &mut T,
-    moment: u64,
-    input: &[u8],
-) -> Result<Vec<u8>, ReadError<RequestFault>>
-    ensures ok { IfOk result (λ reply.
-        Answers (record { content = content_of edition.now; mirrors = T.mirrors till.old }) input.now moment
-        (T.asks till.old) (T.asks till.new) (Ok reply.items)) }
-    ensures refused { IfErr result (λ error.
-        Answers (record { content = content_of edition.now; mirrors = T.mirrors till.old }) input.now moment
-        (T.asks till.old) (T.asks till.new) (Err error)) }
-    ensures mirrors { T.mirrors till.new ≡ T.mirrors till.old }
-    ensures alone { T.alone till.old
-        → T.alone till.new × GrantsFirst (T.mirrors till.old) (T.asks till.old) (T.asks till.new) }
-{
-    match read_request(alloc, input) {
-        Ok(request) => match reply_to(rt, alloc, edition, till, moment, &request) {
-            Ok(reply) => Ok(reply),
-            Err(_) => Err(ReadError::Memory),
-        },
-        Err(error) => Err(error),
-    }
 }

@@ -1,9 +1,8 @@
-//! The desk of update checks: the reply to a client's message, by what the mirrors grant.
+//! The reply to update checks, by what the mirrors grant.
 //!
-//! `answer` turns the bytes of a request into those of the reply. It asks a `Till` of `mirror_ledger`
-//! for each payload that the reply offers, and offers nothing that no mirror granted: read
-//! `specs/Asking.antt` and `specs/Answering.antt`. A `Single` is the `Desk` of `http_desks` that replies
-//! so, from one edition: read `specs/Desks.antt`.
+//! `reply_to` replies to a request from an edition. It asks a `Till` of `mirror_ledger` for each payload that the reply
+//! offers, and offers nothing that no mirror granted: read `specs/Asking.antt` and `specs/Answering.antt`.
+//! `find_package` finds what a catalogue declares of a package.
 //!
 //! It publishes no edition, opens no books and reads no stream.
 
@@ -12,7 +11,6 @@
 mod answering;
 mod asking;
 mod packages;
-mod single;
 
-pub use crate::answering::answer;
-pub use crate::single::Single;
+pub use crate::answering::reply_to;
+pub use crate::packages::find_package;

@@ -6,9 +6,8 @@ ghost use Rattle.records.specs.Lookups.{declared_of};
 use catalogue::{Catalogue, Declared};
 use std::str;
 
-// rule: Desk of update checks
 /// Finds what a catalogue declares of the package of a name, which may be any bytes.
-pub(crate) fn find_package(catalogue: &Catalogue, name: &[u8]) -> Option<Declared>
+pub fn find_package(catalogue: &Catalogue, name: &[u8]) -> Option<Declared>
     ensures { result ≡ declared_of catalogue.now name.now }
 {
     catalogue.validity();

@@ -1,4 +1,4 @@
-use Rattle.std.proofs.Common.{None, Some, List, ℕ, refl, ap, subst, ◌∙◌, arith}
+use Rattle.std.proofs.Common.{Ok, Err, List, ℕ, refl, ap, subst, ◌∙◌, arith}
 use Rattle.std.specs.Io.KnownBytes.{Appends}
 use Rattle.http_wire.specs.Sending.{AppendsPart}
 use Rattle.http_desks.specs.Replies.{kind_for, status_of}
@@ -8,7 +8,7 @@ use Rattle.http_desks.proofs.answering.ask.Goals as goal
 
 pub returns-in-Ok-send_reply-clause-asked : goal.returns-in-Ok-send_reply-clause-asked
 returns-in-Ok-send_reply-clause-asked g c = record {
-  used = Asked c.now-moment.result (Some (c.in-Ok.answer.status, c.in-Ok.answer.body.items));
+  used = Asked c.now-moment.result (Ok (c.in-Ok.answer.status, c.in-Ok.answer.body.items));
   fits = c.now-moment.ensures;
   calls = (c.answer.new.self, c.in-Ok.ensures.steps, refl);
   writes = (
@@ -27,7 +27,7 @@ returns-in-Ok-send_reply-clause-asked g c = record {
 
 pub returns-in-Ok-clause-asked : goal.returns-in-Ok-clause-asked
 returns-in-Ok-clause-asked g c = record {
-  used = Asked c.now-moment.result (Some (c.in-Ok.answer.status, c.in-Ok.answer.body.items));
+  used = Asked c.now-moment.result (Ok (c.in-Ok.answer.status, c.in-Ok.answer.body.items));
   fits = c.now-moment.ensures;
   calls = (c.answer.new.self, c.in-Ok.ensures.steps, refl);
   writes =
@@ -44,7 +44,7 @@ returns-in-Ok-clause-asked g c = record {
 
 pub returns-in-Ok-send_empty-clause-asked : goal.returns-in-Ok-send_empty-clause-asked
 returns-in-Ok-send_empty-clause-asked g c = record {
-  used = Asked c.now-moment.result None;
+  used = Asked c.now-moment.result (Err c.in-Err.off);
   fits = c.now-moment.ensures;
   calls = (c.answer.new.self, c.in-Err.ensures.steps, refl);
   writes = (refl, c.in-Ok-send_empty.ensures.sends);
@@ -52,7 +52,7 @@ returns-in-Ok-send_empty-clause-asked g c = record {
 
 pub returns-clause-asked : goal.returns-clause-asked
 returns-clause-asked g c = record {
-  used = Asked c.now-moment.result None;
+  used = Asked c.now-moment.result (Err c.in-Err.off);
   fits = c.now-moment.ensures;
   calls = (c.answer.new.self, c.in-Err.ensures.steps, refl);
   writes = c.in-Err-send_empty.ensures.sends;

@@ -1,0 +1,6 @@
+pub mod Entries
+pub mod Lines
+pub mod Operators
+pub mod Replies
+pub mod Scripts
+pub mod Workers

@@ -1,0 +1,28 @@
+-- The lines that the operator's desk replies with; this project's profile.
+use Rattle.std.specs.Prelude.{ℕ, List, ◌++◌, codes, decimal}
+use Rattle.catalogue.specs.FaultStrings.{fault_string}
+use Rattle.catalogue.specs.declared.fault.Refused.{Refused}
+use Rattle.profile_toml.specs.FaultStrings.{fault_string as script_fault_string}
+use Rattle.profile_toml.specs.declared.fault.ProfileFault.{ProfileFault}
+
+-- rule: Lines of the operator's desk
+-- the number of the edition that was published
+abbrev pub edition_line : ℕ → List ℕ
+edition_line number = codes "edition " ++ decimal number ++ codes "\n"
+
+-- the number of the edition that is published, which is not the script's base
+abbrev pub stale_line : ℕ → List ℕ
+stale_line number = codes "stale " ++ decimal number ++ codes "\n"
+
+-- the index of the rejected edit, from 0, and its fault
+abbrev pub refused_line : Refused → List ℕ
+refused_line refused =
+    codes "refused " ++ decimal refused.index ++ codes " " ++ fault_string refused.fault ++ codes "\n"
+
+-- there is no room for a batch
+abbrev pub full_line : List ℕ
+full_line = codes "history full\n"
+
+-- the fault of a script
+abbrev pub script_line : ProfileFault → List ℕ
+script_line fault = script_fault_string fault ++ codes "\n"

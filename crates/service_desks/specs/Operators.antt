@@ -1,0 +1,41 @@
+-- The operator's desk: scripts and dumps; this project's profile.
+use Rattle.std.specs.Prelude.{◌≡◌, ◌≢◌, ◌⊎◌, ℕ, List, codes, None, Result, Ok, Err}
+use Rattle.catalogue_laws.specs.Histories.{History}
+use Rattle.editions.specs.Editions.{content_of}
+use Rattle.http_desks.specs.Calls.{Call, Asks, Looks}
+use Rattle.http_desks.specs.declared.desk.DeskStatus.{DeskStatus}
+use Rattle.http_desks.specs.declared.desk.DeskStatus.TheVariants as status
+use Rattle.http_desks.specs.declared.desk.Off.{Off}
+use Rattle.http_desks.specs.declared.desk.Off.TheVariants as off
+use Rattle.profile_writer.specs.Profiles.{IsProfileFile, IsReadAs}
+use Rattle.records.specs.declared.mirror.Mirror.{Mirror}
+use Rattle.service_desks.specs.Scripts.{Performs}
+
+-- rule: Dump
+-- a reply is the profile of a history's content and of mirrors, and is read as them
+pub record IsDump (mirrors : List Mirror) (history : History) (reply : DeskStatus × List ℕ) : Type 0 where
+  pub succeeded : reply.0 ≡ status.Success
+  pub written : IsProfileFile (content_of history) mirrors reply.1
+  pub reads_back : IsReadAs (content_of history) mirrors reply.1
+
+-- what a dump comes to, unless memory runs out
+abbrev pub Dumps : List Mirror → History → Result (DeskStatus × List ℕ) Off → Type 0
+Dumps mirrors history (Ok reply) = IsDump mirrors history reply
+Dumps mirrors history (Err off.Memory) = Unit {0}
+Dumps mirrors history (Err off.Closed) = ⊥
+
+-- the body that asks for a dump
+abbrev pub dump_word : List ℕ
+dump_word = codes "dump"
+
+-- what a body comes to: a dump, if it asks for one, and then nothing is published; else a script
+abbrev pub IsOperated : List Mirror → History → List ℕ → Result (DeskStatus × List ℕ) Off → History → Type 0
+IsOperated mirrors before body answer after =
+    ((body ≡ dump_word) × Dumps mirrors before answer × (after ≡ before))
+    ⊎ ((body ≢ dump_word) × Performs before body answer after)
+
+-- rule: Operator's desk
+-- a call of the desk, with the published history before and after it; the desk knows no package
+abbrev pub IsCall : List Mirror → History → Call → History → Type 0
+IsCall mirrors before (Asks body moment answer) after = IsOperated mirrors before body answer after
+IsCall mirrors before (Looks name found) after = (found ≡ None) × (after ≡ before)

@@ -1,0 +1,79 @@
+ghost use Rattle.std.specs.Prelude.{◌≡◌, codes};
+
+use crate::answering::answer_by;
+use crate::held_view::HeldView;
+use http_desks::{Answer, Declared, Desk, Off};
+use mirror_ledger::Till;
+use publisher::View;
+use std::sync::Wait;
+
+// rule: Desk of a worker
+/// The desk of update checks, by a view of the published editions and a till.
+///
+/// It replies to the messages to `/service/update2/json`: 200 and the reply to a request, by the one edition that its
+/// view enters for it; 400 and no body if the body is none, and then enters no edition and asks for nothing. It is off
+/// if memory runs out, and what was granted before stays so; and if its view enters nothing, as after the press has
+/// ended. A package is looked up in the edition that its view enters, and isn't found if there is none.
+#[derive(Drop)]
+pub struct Worker<'a, R: Wait + AllocGlobal, T: Till> {
+    /// What waits for locks and has the memory of replies.
+    pub rt: &'a R,
+    /// The view.
+    pub view: HeldView,
+    /// What grants the bytes of update checks.
+    pub till: T,
+}
+
+impl<'a, R: Wait + AllocGlobal, T: Till> Worker<'a, R, T> {
+    /// Makes a worker of a view and a till.
+    pub fn new(rt: &'a R, view: View, till: T) -> Worker<'a, R, T>
+        ensures view { result.view ≡ view }
+        ensures till { result.till ≡ till }
+    {
+        let view = HeldView::new(view);
+        Worker { rt, view, till }
+    }
+
+    /// Gives the view and the till back.
+    pub fn into_parts(self) -> (View, T)
+        ensures view { result.0 ≡ self.entry.view }
+        ensures till { result.1 ≡ self.entry.till }
+    {
+        let Worker { view, till, .. } = self;
+        (view.into_view(), till)
+    }
+}
+
+impl<R: Wait + AllocGlobal, T: Till> Desk for Worker<'_, R, T> {
+    ghost use Rattle.std.specs.Prelude.{◌≡◌};
+    ghost use Rattle.service_desks.specs.Workers.{IsCall};
+    ghost use Rattle.update_desk.specs.Asking.{GrantsFirst};
+
+    ghost path = { λ _. codes "/service/update2/json" };
+
+    ghost content_type = { λ _. codes "application/json" };
+
+    ghost steps = { λ old call new.
+        (T.mirrors new.till ≡ T.mirrors old.till)
+        × IsCall (T.mirrors old.till) (record { sight = old.view; asks = T.asks old.till }) call
+        (record { sight = new.view; asks = T.asks new.till })
+        × (T.alone old.till
+        → T.alone new.till × GrantsFirst (T.mirrors old.till) (T.asks old.till) (T.asks new.till)) };
+
+    fn path(&self) -> &str {
+        "/service/update2/json"
+    }
+
+    fn content_type(&self) -> &str {
+        "application/json"
+    }
+
+    fn answer(&mut self, body: &[u8], moment: u64) -> Result<Answer, Off> {
+        let alloc = self.rt.alloc();
+        answer_by(self.rt, alloc, &mut self.view, &mut self.till, body, moment)
+    }
+
+    fn package(&mut self, name: &[u8]) -> Option<Declared> {
+        self.view.find(name)
+    }
+}
