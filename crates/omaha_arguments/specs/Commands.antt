@@ -6,8 +6,8 @@ use Rattle.clap.specs.Kinds.{or_else}
 use Rattle.clap.specs.Simple.{on_top}
 use Rattle.clap.specs.Words.{App, Kinds, Row, Text, fault_of, first_of, new_app, subcommand_of, with_rule, with_subcommand}
 use Rattle.clap.specs.declared.error.kind.ErrorKind.TheVariants.{ValueValidation}
-use Rattle.omaha_arguments.specs.Options.{number_in, option_named, strings_in}
-use Rattle.omaha_arguments.specs.ReportArguments.{certify_app, check_app, comparison_in, describe_app, explain_app, faults_of_report, report_in, verify_app}
+use Rattle.omaha_arguments.specs.Options.{number_in, option_named, strings_in, workers_in}
+use Rattle.omaha_arguments.specs.ReportArguments.{certify_app, check_app, comparison_in, describe_app, explain_app, faults_of_check, faults_of_report, report_in, verify_app}
 use Rattle.omaha_arguments.specs.ServeArguments.{faults_of_serve, serve_app, serve_in}
 use Rattle.omaha_arguments.specs.WalkArguments.{faults_of_walk, walk_app, walk_in}
 use Rattle.omaha_arguments.specs.declared.command.Command.{Command}
@@ -62,8 +62,9 @@ plain_once = record { profile = None; moment = 0 }
 -- what `check` is asked to do: to compare with a folder, or to report on the profile alone
 abbrev pub check_in : List Row → Command
 check_in options =
-    option_map_or (λ comparison. command.Compare comparison) (comparison_in options)
-    (command.Report (report_in (codes "check") options))
+    option_map_or (λ comparison. command.Compare comparison)
+    (comparison_in (unwrap_or (workers_in options) 1) options)
+    (command.Report (report_in (codes "check") (unwrap_or (workers_in options) 1) options))
 
 -- what the command of a name is asked to do
 abbrev pub command_in : List ℕ → List Row → Command
@@ -74,7 +75,7 @@ command_in name options =
     else (if bytes_eq name (codes "walk") then command.Walk (walk_in options)
     else (if bytes_eq name (codes "describe") then command.Describe (strings_in (codes "FILE") options)
     else (if bytes_eq name (codes "check") then check_in options
-    else command.Report (report_in name options))))))
+    else command.Report (report_in name 1 options))))))
 
 -- what is wrong with the options of the command of a name
 abbrev pub faults_in : List ℕ → List Row → Kinds
@@ -84,7 +85,7 @@ faults_in name options =
     else (if bytes_eq name (codes "explain") then []
     else (if bytes_eq name (codes "walk") then faults_of_walk options
     else (if bytes_eq name (codes "describe") then []
-    else (if bytes_eq name (codes "check") then [] else faults_of_report name options)))))
+    else (if bytes_eq name (codes "check") then faults_of_check options else faults_of_report name options)))))
 
 -- rule: Arguments of the command line
 -- what the arguments ask for

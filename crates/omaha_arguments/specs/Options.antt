@@ -1,5 +1,5 @@
 -- The options and arguments of a command, and what their values say; this project's profile.
-use Rattle.std.specs.Prelude.{ℕ, ◌≡◌, ◌^◌, ◌==◌, ◌&&◌, Bool, true, List, [], length, nat_lt, slice_index, if◌then◌else◌, Option, Some, None, unwrap_or, IfOk, Result}
+use Rattle.std.specs.Prelude.{ℕ, ◌≡◌, ◌^◌, ◌==◌, ◌&&◌, Bool, true, List, [], codes, length, nat_lt, slice_index, if◌then◌else◌, Option, Some, None, unwrap_or, IfOk, Result}
 use Rattle.std.specs.Option.{option_map_or}
 use Rattle.std.specs.Str.{all_ascii_digits}
 use Rattle.std.specs.Str.Parse.{digits_value}
@@ -59,3 +59,16 @@ number_of text = if is_number text then Some (digits_value 10 text) else None
 -- the number of an option, or a default without the option; none if it is no number
 abbrev pub number_in : List ℕ → ℕ → List Row → Option ℕ
 number_in name default options = option_map_or number_of (first_of name options) (Some default)
+
+-- there are 1 to 8 workers
+abbrev pub is_number_of_workers : ℕ → Bool
+is_number_of_workers workers = nat_lt 0 workers && nat_lt workers 9
+
+-- the number, if so many workers there may be
+abbrev pub workers_of : ℕ → Option ℕ
+workers_of workers = if is_number_of_workers workers then Some workers else None
+
+-- rule: Number of workers
+-- how many workers `--workers` says, 1 without the option
+abbrev pub workers_in : List Row → Option ℕ
+workers_in options = option_map_or workers_of (number_in (codes "workers") 1 options) None

@@ -7,15 +7,17 @@ use Rattle.clap.specs.declared.error.kind.ErrorKind.TheVariants.{ValueValidation
 use Rattle.cohorts.specs.declared.names.TrackNames.{TrackNames}
 use Rattle.cohorts.specs.declared.track.Lane.{Lane}
 use Rattle.cohorts.specs.declared.track.Lane.TheVariants.{Target, Held}
-use Rattle.omaha_arguments.specs.Options.{option_named, string_in, wanted, wanted_list}
+use Rattle.omaha_arguments.specs.Options.{option_named, string_in, wanted, wanted_list, workers_in}
 use Rattle.omaha_arguments.specs.declared.command.Comparison.{Comparison}
 use Rattle.omaha_arguments.specs.declared.command.Question.{Question}
 use Rattle.omaha_arguments.specs.declared.command.Question.TheVariants.{Check, Certify, Verify}
 use Rattle.omaha_arguments.specs.declared.command.Report.{Report}
 
--- the commands `check F`, with its option, `certify F APP COHORT LANE ROLLBACK` and `verify F CERT`
+-- the commands `check F`, with its options, `certify F APP COHORT LANE ROLLBACK` and `verify F CERT`
 abbrev pub check_app : App
-check_app = with_rule (with_rule (new_app (codes "check")) (wanted (codes "F"))) (option_named (codes "packages"))
+check_app =
+    with_rule (with_rule (with_rule (new_app (codes "check")) (wanted (codes "F"))) (option_named (codes "packages")))
+    (option_named (codes "workers"))
 
 abbrev pub certify_app : App
 certify_app =
@@ -68,16 +70,21 @@ question_in name options =
     else Verify (string_in (codes "CERT") options))
 
 -- rule: Arguments of a report
--- what the command of a name asks about a profile
-abbrev pub report_in : List ℕ → List Row → Report
-report_in name options = record { profile = string_in (codes "F") options; question = question_in name options }
+-- what the command of a name asks about a profile, with so many threads
+abbrev pub report_in : List ℕ → ℕ → List Row → Report
+report_in name workers options =
+    record { profile = string_in (codes "F") options; workers = workers; question = question_in name options }
 
 -- rule: Arguments of a comparison
 -- what `check` is asked to compare: the packages of the profile with the files of the folder, if one is given
-abbrev pub comparison_in : List Row → Option Comparison
-comparison_in options =
-    option_map (λ packages. record { profile = string_in (codes "F") options; packages = packages })
+abbrev pub comparison_in : ℕ → List Row → Option Comparison
+comparison_in workers options =
+    option_map (λ packages. record { profile = string_in (codes "F") options; packages = packages; workers = workers })
     (first_of (codes "packages") options)
+
+-- what is wrong with the options of `check`
+abbrev pub faults_of_check : List Row → Kinds
+faults_of_check options = if is_some (workers_in options) then [] else ValueValidation ∷ []
 
 -- LANE and ROLLBACK are such words
 abbrev pub faults_of_certify : List Row → Kinds

@@ -3,19 +3,25 @@ use Rattle.std.specs.Prelude.{ℕ, ◌&&◌, Bool, if◌then◌else◌, List, []
 use Rattle.std.specs.Option.{option_map, option_map_or}
 use Rattle.clap.specs.Words.{App, Kinds, Row, first_of, new_app, with_rule}
 use Rattle.clap.specs.declared.error.kind.ErrorKind.TheVariants.{ValueValidation}
-use Rattle.omaha_arguments.specs.Options.{number_in, number_of, option_named, string_in, wanted_option}
+use Rattle.omaha_arguments.specs.Options.{number_in, number_of, option_named, string_in, wanted_option, workers_in}
 use Rattle.omaha_arguments.specs.declared.command.Serve.{Serve}
 
--- the command `serve`, with its six options
+-- the command `serve`, with its nine options
 abbrev pub serve_app : App
 serve_app =
     with_rule
     (with_rule
     (with_rule
     (with_rule
+    (with_rule
+    (with_rule
+    (with_rule
     (with_rule (with_rule (new_app (codes "serve")) (wanted_option (codes "profile"))) (wanted_option (codes "packages")))
     (wanted_option (codes "listen")))
+    (option_named (codes "operator")))
+    (option_named (codes "workers")))
     (option_named (codes "sessions")))
+    (option_named (codes "edits")))
     (option_named (codes "timeout")))
     (option_named (codes "log"))
 
@@ -23,9 +29,9 @@ serve_app =
 abbrev pub limit_of : List ℕ → Option (Option ℕ)
 limit_of text = option_map Some (number_of text)
 
--- how many sessions are served; none without the option: there is no end
-abbrev pub sessions_in : List Row → Option (Option ℕ)
-sessions_in options = option_map_or limit_of (first_of (codes "sessions") options) (Some None)
+-- how many sessions an option says; none without the option: there is no end
+abbrev pub limit_in : List ℕ → List Row → Option (Option ℕ)
+limit_in name options = option_map_or limit_of (first_of name options) (Some None)
 
 -- a time limit has 1 to 86400 seconds
 abbrev pub is_timeout : ℕ → Bool
@@ -47,7 +53,10 @@ serve_in options =
       profile = string_in (codes "profile") options;
       packages = string_in (codes "packages") options;
       listen = string_in (codes "listen") options;
-      sessions = unwrap_or (sessions_in options) None;
+      operator = first_of (codes "operator") options;
+      workers = unwrap_or (workers_in options) 0;
+      sessions = unwrap_or (limit_in (codes "sessions") options) None;
+      edits = unwrap_or (limit_in (codes "edits") options) None;
       timeout = unwrap_or (timeout_in options) 0;
       log = first_of (codes "log") options;
     }
@@ -55,4 +64,6 @@ serve_in options =
 -- what is wrong with the options of `serve`
 abbrev pub faults_of_serve : List Row → Kinds
 faults_of_serve options =
-    if is_some (sessions_in options) && is_some (timeout_in options) then [] else ValueValidation ∷ []
+    if is_some (workers_in options) && is_some (limit_in (codes "sessions") options)
+    && is_some (limit_in (codes "edits") options) && is_some (timeout_in options)
+    then [] else ValueValidation ∷ []

@@ -8,10 +8,11 @@ use Rattle.omaha_arguments.specs.declared.command.Command.{Command}
 use Rattle.omaha_arguments.specs.declared.command.Command.TheVariants as command
 use Rattle.omaha_arguments.specs.declared.command.Walk.{Walk}
 
--- the command `walk`, with its seven options
+-- the command `walk`, with its eight options
 abbrev pub walk_app : App
 walk_app =
     with_rule
+    (with_rule
     (with_rule
     (with_rule
     (with_rule
@@ -21,6 +22,7 @@ walk_app =
     (option_named (codes "fp")))
     (option_named (codes "cohort")))
     (option_named (codes "session")))
+    (option_named (codes "prefix")))
     (flag_named (codes "rollback"))
 
 -- rule: Options of a walk
@@ -34,6 +36,7 @@ walk_in options =
       fp = string_in (codes "fp") options;
       cohort = string_in (codes "cohort") options;
       session = string_in (codes "session") options;
+      prefix = string_in (codes "prefix") options;
       rollback = flag_in (codes "rollback") options;
     }
 

@@ -40,8 +40,14 @@ pub struct Serve {
     pub packages: Text,
     /// The address to listen on.
     pub listen: Text,
-    /// After how many sessions it ends, or `None` for no end.
+    /// The address to listen on for the operator, or `None` for no operator.
+    pub operator: Option<Text>,
+    /// How many workers serve: 1 to 8.
+    pub workers: u64,
+    /// How many sessions of clients there are, or `None` for no end.
     pub sessions: Option<u64>,
+    /// How many sessions of the operator there are, or `None` for no end.
+    pub edits: Option<u64>,
     /// How many seconds a silent client is waited for: 1 to 86400.
     pub timeout: u64,
     /// The path of the log of replies, `-` for standard error, or `None` for no log.
@@ -55,6 +61,8 @@ pub struct Comparison {
     pub profile: Text,
     /// The path of the folder of packages.
     pub packages: Text,
+    /// How many threads make the tables: 1 to 8.
+    pub workers: usize,
 }
 
 /// What the command `walk` is asked to do. What isn't given is empty.
@@ -72,6 +80,8 @@ pub struct Walk {
     pub cohort: Text,
     /// The session's identifier.
     pub session: Text,
+    /// The prefix of versions that the client is pinned to.
+    pub prefix: Text,
     /// Whether a downgrade is allowed.
     pub rollback: bool,
 }
@@ -81,6 +91,8 @@ pub struct Walk {
 pub struct Report {
     /// The path of the profile.
     pub profile: Text,
+    /// How many threads make the tables: 1 to 8.
+    pub workers: usize,
     /// The question.
     pub question: Question,
 }

@@ -5,6 +5,7 @@ ghost use Rattle.clap.specs.Words.{App, FailsBy, found_of, rows_of, with_subcomm
 ghost use Rattle.omaha_arguments.specs.Commands.{check_in, command_in, command_of, faults_in, faults_of, omaha_app, plain_app};
 ghost use Rattle.omaha_arguments.specs.Errors.{IsWhy};
 ghost use Rattle.omaha_arguments.specs.Options.{IsMade};
+ghost use Rattle.omaha_arguments.specs.ReportArguments.{faults_of_check};
 ghost use Rattle.omaha_arguments.specs.WalkArguments.{IsAskable};
 
 use crate::command::{Command, Once};
@@ -13,7 +14,7 @@ use crate::once_arguments::{once_command, read_once};
 use crate::options::{Making, optional_string, strings_in};
 use crate::report_arguments::{
     certify_command, check_command, describe_command, explain_command, read_comparison,
-    read_report, verify_command,
+    read_report, read_workers, verify_command,
 };
 use crate::serve_arguments::{read_serve, serve_command};
 use crate::walk_arguments::{read_walk, walk_command};
@@ -68,13 +69,14 @@ fn omaha_command<'a>(alloc: Global) -> Making<'a>
 
 // Reads the arguments of `check`.
 fn read_check(alloc: Global, matches: &ArgMatches<'_>) -> Result<Command, Error>
-    ensures faults { FailsBy [] result }
+    ensures faults { FailsBy (faults_of_check (rows_of (found_of matches.now))) result }
     ensures command { IfOk result (λ command. command ≡ check_in (rows_of (found_of matches.now))) }
     ensures named { IfOk result IsAskable }
 {
-    match read_comparison(alloc, matches)? {
+    let workers = read_workers(alloc, matches)?;
+    match read_comparison(alloc, workers, matches)? {
         Some(comparison) => Ok(Command::Compare(comparison)),
-        None => Ok(Command::Report(read_report(alloc, "check", matches)?)),
+        None => Ok(Command::Report(read_report(alloc, "check", workers, matches)?)),
     }
 }
 
@@ -102,7 +104,7 @@ fn read_command(alloc: Global, name: &str, matches: &ArgMatches<'_>) -> Result<C
     if name == "check" {
         return read_check(alloc, matches);
     }
-    Ok(Command::Report(read_report(alloc, name, matches)?))
+    Ok(Command::Report(read_report(alloc, name, 1, matches)?))
 }
 
 // Reads the arguments after the program's name, or has `clap`'s error.
@@ -127,8 +129,8 @@ fn parse(alloc: Global, arguments: &[String]) -> Result<Command, Error>
 ///
 /// Without arguments that is the command `once` without options. Fails with `Shown` if they ask for the help
 /// or the version; with `Invalid` if `clap` rejects them, if `--moment` is no decimal number below 2^64, if
-/// LANE is neither `target` nor `held`, if ROLLBACK is neither `yes` nor `no`, or if the `--app` of `walk` has
-/// not 1 to 256 bytes; and with `Memory` if an allocation fails.
+/// `--workers` is none from 1 to 8, if LANE is neither `target` nor `held`, if ROLLBACK is neither `yes` nor `no`, or
+/// if the `--app` of `walk` has not 1 to 256 bytes; and with `Memory` if an allocation fails.
 pub fn read_arguments(alloc: Global, arguments: &[String]) -> Result<Command, ArgumentError>
     ensures command { IfOk result (λ command.
         (faults_of (map string_bytes arguments.now) ≡ []) × (command ≡ command_of (map string_bytes arguments.now))) }

@@ -2,7 +2,7 @@
 
 ghost use Rattle.std.specs.Prelude.{◌≡◌, IfOk, map};
 ghost use Rattle.clap.specs.Words.{App, first_of, found_of, new_app, rows_of, with_rule};
-ghost use Rattle.omaha_arguments.specs.Options.{IsMade, flag_in, flag_named, has_plus, number_in, number_of, option_named, string_in, strings_in, wanted, wanted_list, wanted_option};
+ghost use Rattle.omaha_arguments.specs.Options.{IsMade, flag_in, flag_named, has_plus, number_in, number_of, option_named, string_in, strings_in, wanted, wanted_list, wanted_option, workers_in, workers_of};
 
 use clap::{Arg, ArgAction, ArgMatches};
 use std::alloc::{AllocError, Global};
@@ -101,6 +101,28 @@ pub(crate) fn number_in(matches: &ArgMatches<'_>, id: &str, default: u64) -> Opt
     match matches.get_str(id) {
         None => Some(default),
         Some(text) => number_of(text),
+    }
+}
+
+// A number, if so many workers there may be.
+fn workers_of(workers: u64) -> Option<u64>
+    ensures { result ≡ workers_of workers }
+{
+    if 0 < workers && workers < 9 {
+        Some(workers)
+    } else {
+        None
+    }
+}
+
+// rule: Number of workers
+/// How many workers `--workers` says, 1 without the option.
+pub(crate) fn workers_in(matches: &ArgMatches<'_>) -> Option<u64>
+    ensures { result ≡ workers_in (rows_of (found_of matches.now)) }
+{
+    match number_in(matches, "workers", 1) {
+        None => None,
+        Some(workers) => workers_of(workers),
     }
 }
 

@@ -1,13 +1,14 @@
 // The arguments of the commands that report on a profile, as `clap` reads them.
 
-ghost use Rattle.std.specs.Prelude.{◌≡◌, codes, IfOk};
+ghost use Rattle.std.specs.Prelude.{◌≡◌, [], codes, IfOk, unwrap_or};
 ghost use Rattle.clap.specs.Words.{FailsBy, found_of, kind_of, rows_of};
-ghost use Rattle.omaha_arguments.specs.Options.{IsMade};
-ghost use Rattle.omaha_arguments.specs.ReportArguments.{yes_or_no, certify_app, check_app, comparison_in, describe_app, explain_app, faults_of_certify, faults_of_report, lane_of, names_in, question_in, report_in, verify_app};
+ghost use Rattle.omaha_arguments.specs.Options.{IsMade, workers_in};
+ghost use Rattle.omaha_arguments.specs.ReportArguments.{yes_or_no, certify_app, check_app, comparison_in, describe_app, explain_app, faults_of_certify, faults_of_check, faults_of_report, lane_of, names_in, question_in, report_in, verify_app};
 
 use crate::command::{Comparison, Question, Report};
 use crate::options::{
     Making, optional_string, string_in, titled, with_option, with_wanted, with_wanted_list,
+    workers_in,
 };
 use clap::error::ErrorKind;
 use clap::{Arg, ArgMatches, Error};
@@ -21,6 +22,9 @@ const AFTER_CHECK: &str =
     "Prints one line: the edition's number, and how many apps, releases, differentials, cohorts and
 tables of prices it has. If the profile is invalid, prints the first fault on standard error.
 
+With --workers several threads make the tables of prices, which is faster for a large profile. What
+is printed is the same.
+
 With --packages it also compares each declared package with its file in DIR. If some differ, it
 prints a line for each in place of that line, and then `omaha: packages N` on standard error:
   mini-1.0.bin: missing                     DIR has no such file
@@ -33,7 +37,8 @@ if the arguments are invalid.
 
 Examples:
   omaha check profile.toml
-  omaha check profile.toml --packages packages";
+  omaha check profile.toml --packages packages
+  omaha check profile.toml --workers 4";
 
 const CERTIFY: &str = "Prints the certificate of a track: its least sums of bytes.";
 
@@ -101,7 +106,9 @@ pub(crate) fn check_command<'a>(alloc: Global) -> Making<'a>
     let command = titled(alloc, "check", CHECK, AFTER_CHECK);
     let command = with_wanted(alloc, command, "F", "The profile");
     let help = "The folder of the packages [default: they are not compared]";
-    with_option(alloc, command, "packages", "DIR", help)
+    let command = with_option(alloc, command, "packages", "DIR", help);
+    let help = "How many threads make the tables of prices, 1 to 8 [default: 1]";
+    with_option(alloc, command, "workers", "N", help)
 }
 
 pub(crate) fn describe_command<'a>(alloc: Global) -> Making<'a>
@@ -208,33 +215,64 @@ fn read_question(alloc: Global, name: &str, matches: &ArgMatches<'_>) -> Result<
 }
 
 // rule: Arguments of a report
-/// Reads the arguments of the command of a name.
+/// Reads the arguments of the command of a name, with so many threads.
 pub(crate) fn read_report(
     alloc: Global,
     name: &str,
+    workers: usize,
     matches: &ArgMatches<'_>,
 ) -> Result<Report, Error>
     ensures faults { FailsBy (faults_of_report name.now (rows_of (found_of matches.now))) result }
-    ensures report { IfOk result (λ report. report ≡ report_in name.now (rows_of (found_of matches.now))) }
+    ensures report { IfOk result (λ report. report ≡ report_in name.now workers (rows_of (found_of matches.now))) }
 {
     let question = read_question(alloc, name, matches)?;
     let profile = Text::copy_of(alloc, string_in(matches, "F"))?;
-    Ok(Report { profile, question })
+    Ok(Report {
+        profile,
+        workers,
+        question,
+    })
+}
+
+// The error for a number of threads that is none, built like the errors of `clap`.
+fn invalid_workers(alloc: Global) -> Result<Error, AllocError>
+    ensures { IfOk result (λ error. kind_of error ≡ ErrorKind.ValueValidation) }
+{
+    let mut command = check_command(alloc)?.bin_name("omaha check")?;
+    command.error(
+        ErrorKind::ValueValidation,
+        "N is a decimal number from 1 to 8",
+    )
+}
+
+// rule: Number of workers
+/// Reads how many threads `check` has for the tables.
+pub(crate) fn read_workers(alloc: Global, matches: &ArgMatches<'_>) -> Result<usize, Error>
+    ensures faults { FailsBy (faults_of_check (rows_of (found_of matches.now))) result }
+    ensures valid { IfOk result (λ _. faults_of_check (rows_of (found_of matches.now)) ≡ []) }
+    ensures workers { IfOk result (λ workers. workers ≡ unwrap_or (workers_in (rows_of (found_of matches.now))) 1) }
+{
+    match workers_in(matches) {
+        Some(workers) => Ok(workers as usize),
+        None => Err(invalid_workers(alloc)?),
+    }
 }
 
 // rule: Arguments of a comparison
-/// Reads what to compare, if `check` is asked to.
+/// Reads what to compare, with so many threads, if `check` is asked to.
 pub(crate) fn read_comparison(
     alloc: Global,
+    workers: usize,
     matches: &ArgMatches<'_>,
 ) -> Result<Option<Comparison>, AllocError>
-    ensures { IfOk result (λ comparison. comparison ≡ comparison_in (rows_of (found_of matches.now))) }
+    ensures { IfOk result (λ comparison. comparison ≡ comparison_in workers (rows_of (found_of matches.now))) }
 {
     match optional_string(alloc, matches, "packages")? {
         None => Ok(None),
         Some(packages) => Ok(Some(Comparison {
             profile: Text::copy_of(alloc, string_in(matches, "F"))?,
             packages,
+            workers,
         })),
     }
 }

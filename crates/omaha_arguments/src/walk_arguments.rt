@@ -29,6 +29,8 @@ const COHORT: &str = "The cohort that the server sent last [default: none]";
 
 const SESSION: &str = "The session's identifier [default: none]";
 
+const PREFIX: &str = "The allowed versions: '4' for 4 and 4.1, '4.0$' for 4.0 alone [default: any]";
+
 const ROLLBACK: &str = "Whether a downgrade is allowed";
 
 const AFTER_WALK: &str =
@@ -42,6 +44,10 @@ step and one at the end:
 
 FP is `1.` and the SHA-256 of the installed version's full package. A client that doesn't say it
 isn't offered a differential at its first step.
+
+P is what Chromium's policy TargetVersionPrefix says. The client is led to the highest release that
+P allows and the server's target doesn't exclude, by releases that P allows; if it can't get there,
+there is no update.
 
 If the walk fails, it prints one line on standard error. The lines of the steps before stay.
   omaha: U1 Link           the server can't be reached, or its reply isn't whole
@@ -70,6 +76,7 @@ pub(crate) fn walk_command<'a>(alloc: Global) -> Making<'a>
     let command = with_option(alloc, command, "fp", "FP", FP);
     let command = with_option(alloc, command, "cohort", "C", COHORT);
     let command = with_option(alloc, command, "session", "S", SESSION);
+    let command = with_option(alloc, command, "prefix", "P", PREFIX);
     with_flag(alloc, command, "rollback", ROLLBACK)
 }
 
@@ -108,6 +115,7 @@ pub(crate) fn read_walk(alloc: Global, matches: &ArgMatches<'_>) -> Result<Walk,
         fp: Text::copy_of(alloc, string_in(matches, "fp"))?,
         cohort: Text::copy_of(alloc, string_in(matches, "cohort"))?,
         session: Text::copy_of(alloc, string_in(matches, "session"))?,
+        prefix: Text::copy_of(alloc, string_in(matches, "prefix"))?,
         rollback: flag_in(matches, "rollback"),
     })
 }

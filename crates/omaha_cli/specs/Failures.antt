@@ -3,8 +3,8 @@ use Rattle.std.specs.Prelude.{ℕ, List, ◌++◌, codes, decimal}
 use Rattle.catalogue.specs.FaultStrings.{refused_string}
 use Rattle.omaha_json.specs.Faults.{fault_string}
 use Rattle.package_files.specs.Descriptions.{error_string as reason_text}
+use Rattle.price_certificates.specs.FaultStrings.{fault_string as certificate_fault_text}
 use Rattle.profile_toml.specs.FaultStrings.{fault_string as profile_fault_text}
-use Rattle.reports.specs.FaultStrings.{error_string}
 use Rattle.streams.specs.Strings.{shown_string}
 use Rattle.update_client.specs.Faults.{fault_string as walk_fault_text}
 use Rattle.omaha_cli.specs.declared.failure.Failure.{Failure}
@@ -23,9 +23,12 @@ failure_string (failure.Edit refused) = refused_string refused
 failure_string failure.Read = codes "read"
 failure_string failure.TooLong = codes "read"
 failure_string (failure.Request fault) = fault_string fault
-failure_string (failure.Certificate error) = error_string error
+failure_string (failure.Certificate fault) = certificate_fault_text fault
 failure_string (failure.Code code) = codes "no code " ++ shown_string code
 failure_string (failure.Net address) = codes "net " ++ shown_string address
+failure_string failure.NoPlace = codes "no place"
+failure_string failure.Closed = codes "closed"
+failure_string failure.Thread = codes "thread"
 failure_string (failure.Walk fault) = walk_fault_text fault
 failure_string failure.Memory = codes "memory"
 failure_string failure.Write = codes "write"

@@ -6,7 +6,7 @@ use Rattle.streams.specs.Streams.{Known}
 use Rattle.streams.specs.Writing.{Breaks}
 use Rattle.omaha_json.specs.RequestReading.{request_of_bytes}
 use Rattle.omaha_json.specs.declared.fault.RequestFault.{RequestFault}
-use Rattle.omaha_server.specs.Answering.{Answers}
+use Rattle.omaha_server.specs.Answering.{IsAnswerTo}
 use Rattle.omaha_server.specs.Builtin.{builtin_service}
 use Rattle.omaha_server.specs.Services.{Profile, service_of}
 use Rattle.omaha_server.specs.declared.service.Service.{Service}
@@ -79,7 +79,7 @@ IsServed files (Some path) (Err refusal) = ⊥
 pub record IsReplyTo (service : Service) (moment : ℕ) (held : Known) (reply : List ℕ) : Type 0 where
   pub input : List ℕ
   pub read : IsWhole held max_input input
-  pub answered : Answers service moment input (Ok reply)
+  pub answered : IsAnswerTo service moment input reply
 
 -- the input is no request, for that reason
 abbrev pub HasFault : Known → RequestFault → Type 0
@@ -87,7 +87,8 @@ HasFault held fault =
     (input : List ℕ) × IsWhole held max_input input × (request_of_bytes input ≡ Err fault)
 
 -- What a service replies: the reply is written and nothing else; or the writer failed within it; or
--- nothing is written, since the input can't be read, is too long or has the fault, or memory ran out.
+-- nothing is written, since the input can't be read, is too long or has the fault, there is no view of the edition, or
+-- memory ran out.
 abbrev pub Replies : Service → ℕ → Streams → Streams → Result (Unit {0}) Failure → Type 0
 Replies service moment old new (Ok done) =
     (reply : List ℕ)
@@ -100,7 +101,10 @@ Replies service moment old new (Err failure.TooLong) =
     IsLonger old.input max_input × (new.output ≡ old.output)
 Replies service moment old new (Err (failure.Request fault)) =
     HasFault old.input fault × (new.output ≡ old.output)
+Replies service moment old new (Err failure.NoPlace) = new.output ≡ old.output
+Replies service moment old new (Err failure.Closed) = new.output ≡ old.output
 Replies service moment old new (Err failure.Memory) = new.output ≡ old.output
+Replies service moment old new (Err failure.Thread) = ⊥
 Replies service moment old new (Err (failure.File path)) = ⊥
 Replies service moment old new (Err (failure.Undescribed path reason)) = ⊥
 Replies service moment old new (Err (failure.Packages count)) = ⊥

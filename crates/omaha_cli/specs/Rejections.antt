@@ -1,9 +1,7 @@
 -- A reader's error as a failure of the program.
 use Rattle.catalogue.specs.declared.fault.Refused.{Refused}
-use Rattle.omaha_json.specs.declared.fault.RequestFault.{RequestFault}
 use Rattle.profile_toml.specs.declared.fault.ProfileFault.{ProfileFault}
-use Rattle.reports.specs.declared.fault.CertificateError.{CertificateError}
-use Rattle.reports.specs.declared.fault.CertificateError.TheVariants as certificate
+use Rattle.price_certificates.specs.declared.fault.Fault.{Fault as CertificateFault}
 use Rattle.streams.specs.declared.reading.ReadFailure.{ReadFailure}
 use Rattle.streams.specs.declared.reading.ReadFailure.TheVariants as input
 use Rattle.update_client.specs.declared.fault.Fault.{Fault}
@@ -25,13 +23,9 @@ abbrev pub failure_of_edit : ReadError Refused → Failure
 failure_of_edit errors.Memory = failure.Memory
 failure_of_edit (errors.Fault refused) = failure.Edit refused
 
-abbrev pub failure_of_request : ReadError RequestFault → Failure
-failure_of_request errors.Memory = failure.Memory
-failure_of_request (errors.Fault fault) = failure.Request fault
-
-abbrev pub failure_of_certificate : CertificateError → Failure
-failure_of_certificate certificate.Memory = failure.Memory
-failure_of_certificate error = failure.Certificate error
+abbrev pub failure_of_certificate : ReadError CertificateFault → Failure
+failure_of_certificate errors.Memory = failure.Memory
+failure_of_certificate (errors.Fault fault) = failure.Certificate fault
 
 abbrev pub failure_of_walk : ReadError Fault → Failure
 failure_of_walk errors.Memory = failure.Memory

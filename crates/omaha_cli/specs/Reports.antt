@@ -8,7 +8,8 @@ use Rattle.editions.specs.Editions.{content_of}
 use Rattle.omaha_server.specs.declared.service.Service.{Service}
 use Rattle.reports.specs.Certificates.{Certifies, Verifies}
 use Rattle.reports.specs.Summaries.{summary_of}
-use Rattle.reports.specs.declared.fault.CertificateError.{CertificateError}
+use Rattle.price_certificates.specs.declared.fault.Fault.{Fault}
+use Rattle.values.specs.declared.read_error.ReadError.{ReadError}
 use Rattle.omaha_cli.specs.Once.{Files, IsServed, IsUnreadable, max_profile}
 use Rattle.omaha_cli.specs.Rejections.{failure_of_certificate}
 use Rattle.omaha_cli.specs.Streams.{Streams}
@@ -23,11 +24,11 @@ abbrev pub certified_line : List ℕ
 certified_line = codes "certified\n"
 
 -- the failure is that of an error of a certificate, of which something holds
-abbrev pub FailsAs : (CertificateError → Type 0) → Failure → Type 0
-FailsAs holds refusal = (error : CertificateError) × (refusal ≡ failure_of_certificate error) × holds error
+abbrev pub FailsAs : (ReadError Fault → Type 0) → Failure → Type 0
+FailsAs holds refusal = (error : ReadError Fault) × (refusal ≡ failure_of_certificate error) × holds error
 
 -- the file is read, and its bytes are found valid or not
-abbrev pub IsVerified : Files → List App → List ℕ → Result (Unit {0}) CertificateError → Type 0
+abbrev pub IsVerified : Files → List App → List ℕ → Result (Unit {0}) (ReadError Fault) → Type 0
 IsVerified files apps path found =
     (bytes : List ℕ) × IsWhole (files path) max_profile bytes × Verifies apps bytes found
 

@@ -1,15 +1,13 @@
 -- What the command `serve` does; this project's profile.
-use Rattle.std.specs.Prelude.{◌≡◌, ◌⊎◌, ℕ, max, List, Option, None, Some, Result, Ok, Err}
+use Rattle.std.specs.Prelude.{◌≡◌, ◌⊎◌, ℕ, max, min, List, Option, None, Some, Result, Ok, Err}
 use Rattle.streams.specs.Streams.{Known}
 use Rattle.omaha_arguments.specs.declared.command.Serve.{Serve}
 use Rattle.omaha_server.specs.Edges.{Edges}
 use Rattle.omaha_server.specs.Serving.{IsLogged, Serves}
 use Rattle.omaha_server.specs.declared.error.ServerError.{ServerError}
 use Rattle.omaha_server.specs.declared.error.ServerError.TheVariants as server
-use Rattle.omaha_server.specs.Answering.{stock_of}
 use Rattle.omaha_server.specs.declared.place.Place.{Place}
 use Rattle.omaha_server.specs.declared.service.Service.{Service}
-use Rattle.update_desk.specs.Answering.{Stock}
 use Rattle.omaha_cli.specs.Once.{Files, IsServed}
 use Rattle.omaha_cli.specs.Streams.{Streams}
 use Rattle.omaha_cli.specs.declared.failure.Failure.{Failure}
@@ -20,42 +18,54 @@ abbrev pub IsUnopened : Option (List ℕ) → Failure → Type 0
 IsUnopened (Some path) named = (named ≡ failure.File path) ⊎ (named ≡ failure.Memory)
 IsUnopened None named = named ≡ failure.Memory
 
+-- the failure of a server whose operator's address can't be bound; naming it takes memory
+abbrev pub IsUnbound : Option (List ℕ) → Failure → Type 0
+IsUnbound (Some address) named = (named ≡ failure.Net address) ⊎ (named ≡ failure.Memory)
+IsUnbound None named = named ≡ failure.Memory
+
 -- how the command ends by the end of its server; naming the address or the folder takes memory
 abbrev pub EndsAs : Result (Unit {0}) ServerError → Serve → Result (Unit {0}) Failure → Type 0
 EndsAs (Ok done) serve result = result ≡ Ok tt
 EndsAs (Err server.Net) serve result = (result ≡ Err (failure.Net serve.listen)) ⊎ (result ≡ Err failure.Memory)
 EndsAs (Err server.Log) serve result = (named : Failure) × IsUnopened serve.log named × (result ≡ Err named)
 EndsAs (Err server.Folder) serve result = (result ≡ Err (failure.File serve.packages)) ⊎ (result ≡ Err failure.Memory)
+EndsAs (Err server.OperatorNet) serve result = (named : Failure) × IsUnbound serve.operator named × (result ≡ Err named)
+EndsAs (Err server.NoPlace) serve result = result ≡ Err failure.NoPlace
+EndsAs (Err server.Closed) serve result = result ≡ Err failure.Closed
+EndsAs (Err server.Thread) serve result = result ≡ Err failure.Thread
 EndsAs (Err server.Write) serve result = result ≡ Err failure.Write
 EndsAs (Err server.Memory) serve result = result ≡ Err failure.Memory
 
--- the place that the arguments name: the address, the folder, the sessions, the log and the seconds
+-- the place that the arguments name: the addresses, the folder, the workers, the sessions, the log and the seconds
 pub record IsPlaceOf (serve : Serve) (place : Place) : Type 0 where
   pub address : place.address ≡ serve.listen
+  pub operator : place.operator ≡ serve.operator
   pub packages : place.packages ≡ serve.packages
+  pub workers : place.workers ≡ min (max serve.workers 1) 8
   pub sessions : place.sessions ≡ serve.sessions
+  pub edits : place.edits ≡ serve.edits
   pub log : place.log ≡ serve.log
   pub seconds : place.seconds ≡ max serve.timeout 1
 
 -- a service was served at that place to its end, or to an error
-pub record IsHostedAt (edges : Edges) (stock : Stock) (serve : Serve) (old new : Known) (result : Result (Unit {0}) Failure) : Type 0 where
+pub record IsHostedAt (edges : Edges) (service : Service) (serve : Serve) (old new : Known) (result : Result (Unit {0}) Failure) : Type 0 where
   pub place : Place
   pub placed : IsPlaceOf serve place
   pub ended : Result (Unit {0}) ServerError
-  pub serves : Serves edges place stock old new ended
+  pub serves : Serves edges place service old new ended
   pub logged : IsLogged edges place.log ended
   pub ends : EndsAs ended serve result
 
 -- the same, or memory ran out before
-abbrev pub IsHosted : Edges → Stock → Serve → Known → Known → Result (Unit {0}) Failure → Type 0
-IsHosted edges stock serve old new result =
-    IsHostedAt edges stock serve old new result
+abbrev pub IsHosted : Edges → Service → Serve → Known → Known → Result (Unit {0}) Failure → Type 0
+IsHosted edges service serve old new result =
+    IsHostedAt edges service serve old new result
     ⊎ ((result ≡ Err failure.Memory) × (new ≡ old))
 
 -- what follows from what was made of the profile
 abbrev pub IsServedBy : Edges → Result Service Failure → Serve → Streams → Streams → Result (Unit {0}) Failure → Type 0
 IsServedBy edges (Ok service) serve old new result =
-    IsHosted edges (stock_of service) serve old.output new.output result × (new.input ≡ old.input)
+    IsHosted edges service serve old.output new.output result × (new.input ≡ old.input)
 IsServedBy edges (Err refusal) serve old new result = (result ≡ Err refusal) × (new ≡ old)
 
 -- rule: Service over HTTP

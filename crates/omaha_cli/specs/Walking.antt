@@ -26,6 +26,7 @@ client_of walk =
       hint = [];
       rollback = walk.rollback;
       session = walk.session;
+      prefix = walk.prefix;
     }
 
 -- the last line of a walk, unless memory runs out; after an error there is none

@@ -15,6 +15,7 @@ use omaha_server::Service;
 use package_files::{Finding, Folders, findings_string};
 use reports::summary;
 use std::alloc::{AllocError, Global};
+use std::thread::Threads;
 use streams::{Disk, WriteWhole};
 use values::Items;
 
@@ -89,7 +90,7 @@ fn compare_service<R: Folders, W: WriteWhole>(
 /// Prints what `check` prints without a folder if all agree. Otherwise prints a line for each that differs, and fails
 /// with how many there are. Fails, in this order, with the profile's file, its first fault, its first rejected edit,
 /// and the writer.
-pub(crate) fn compare_on<R: Disk + Folders + AllocGlobal, W: WriteWhole>(
+pub(crate) fn compare_on<R: Disk + Folders + AllocGlobal + Threads + Sync, W: WriteWhole>(
     rt: &R,
     asked: &Comparison,
     writer: &mut W,
@@ -98,7 +99,7 @@ pub(crate) fn compare_on<R: Disk + Folders + AllocGlobal, W: WriteWhole>(
         (record { input = input; output = W.output writer.old })
         (record { input = input; output = W.output writer.new }) result }
 {
-    match open_profile(rt, &asked.profile) {
+    match open_profile(rt, &asked.profile, asked.workers) {
         Ok(service) => compare_service(rt.alloc(), rt, asked.packages.as_str(), &service, writer),
         Err(failure) => Err(failure),
     }

@@ -4,8 +4,8 @@ ghost use Rattle.omaha_cli.specs.Failures.{failure_string};
 use catalogue::Refused;
 use omaha_json::RequestFault;
 use package_files::DescribeError;
+use price_certificates::Fault as CertificateFault;
 use profile_toml::ProfileFault;
-use reports::CertificateError;
 use std::alloc::AllocError;
 use std::error::Error;
 use std::fmt;
@@ -36,11 +36,17 @@ pub enum Failure {
     /// The request is invalid.
     Request(RequestFault),
     /// There is no such certificate, or it is not valid.
-    Certificate(CertificateError),
+    Certificate(CertificateFault),
     /// The program prints no such code. The code prints without control characters.
     Code(Text),
     /// The address could not be bound. It prints without control characters.
     Net(Text),
+    /// There is no place for a view of the editions.
+    NoPlace,
+    /// A view entered no edition.
+    Closed,
+    /// A thread could not be started.
+    Thread,
     /// A walk failed.
     Walk(Fault),
     /// Memory ran out.
@@ -73,7 +79,7 @@ impl fmt::Display for Failure {
             Failure::Read => write!(f, "read"),
             Failure::TooLong => write!(f, "read"),
             Failure::Request(fault) => write!(f, "{fault}"),
-            Failure::Certificate(error) => write!(f, "{error}"),
+            Failure::Certificate(fault) => write!(f, "{fault}"),
             Failure::Code(code) => {
                 let code = Shown {
                     string: code.as_str(),
@@ -86,6 +92,9 @@ impl fmt::Display for Failure {
                 };
                 write!(f, "net {address}")
             }
+            Failure::NoPlace => write!(f, "no place"),
+            Failure::Closed => write!(f, "closed"),
+            Failure::Thread => write!(f, "thread"),
             Failure::Walk(fault) => write!(f, "{fault}"),
             Failure::Memory => write!(f, "memory"),
             Failure::Write => write!(f, "write"),
@@ -149,30 +158,16 @@ impl From<ReadError<Refused>> for Failure {
     }
 }
 
-impl From<ReadError<RequestFault>> for Failure {
-    ghost use Rattle.std.specs.Prelude.{◌≡◌};
-    ghost use Rattle.omaha_cli.specs.Rejections.{failure_of_request};
-
-    ghost from_gives = { λ error failure. failure ≡ failure_of_request error };
-
-    fn from(error: ReadError<RequestFault>) -> Failure {
-        match error {
-            ReadError::Fault(fault) => Failure::Request(fault),
-            ReadError::Memory => Failure::Memory,
-        }
-    }
-}
-
-impl From<CertificateError> for Failure {
+impl From<ReadError<CertificateFault>> for Failure {
     ghost use Rattle.std.specs.Prelude.{◌≡◌};
     ghost use Rattle.omaha_cli.specs.Rejections.{failure_of_certificate};
 
     ghost from_gives = { λ error failure. failure ≡ failure_of_certificate error };
 
-    fn from(error: CertificateError) -> Failure {
+    fn from(error: ReadError<CertificateFault>) -> Failure {
         match error {
-            CertificateError::Memory => Failure::Memory,
-            error => Failure::Certificate(error),
+            ReadError::Fault(fault) => Failure::Certificate(fault),
+            ReadError::Memory => Failure::Memory,
         }
     }
 }

@@ -6,10 +6,11 @@ ghost use Rattle.omaha_cli.specs.Streams.{Streams};
 
 use crate::failure::Failure;
 use omaha_arguments::Once;
-use omaha_server::{Service, answer, builtin_service, make_service};
+use omaha_server::{ServerError, Service, answer, builtin_service, make_service};
 use profile_toml::{laws, read_profile};
 use std::alloc::Global;
 use std::sync::Wait;
+use std::thread::Threads;
 use streams::{Disk, ReadFailure, ReadWhole, WriteWhole};
 use values::Text;
 
@@ -23,40 +24,53 @@ pub(crate) const MAX_PROFILE: u32 = 67108864;
 /// Makes the service of a profile.
 ///
 /// Fails with the profile's first fault, as `profile_toml::read_profile` does; else with the first of its edits that
-/// the empty catalogue rejects.
-pub fn read_service(alloc: Global, profile: &[u8]) -> Result<Service, Failure>
+/// the empty catalogue rejects. `workers` threads make the tables, from 1 to 16; fewer or more count as these.
+pub fn read_service<R: Threads + Sync>(
+    rt: &R,
+    alloc: Global,
+    profile: &[u8],
+    workers: usize,
+) -> Result<Service, Failure>
     ensures { IsMade (service_of_bytes profile.now) result }
 {
     laws::mirrors();
     let (batch, mirrors) = read_profile(alloc, profile)?;
-    Ok(make_service(alloc, batch, mirrors)?)
+    let workers = workers.max(1).min(16);
+    Ok(make_service(rt, alloc, batch, mirrors, workers)?)
 }
 
 // rule: Maximum of a profile
-/// Reads a profile's file, and makes what requests are replied to from.
-pub(crate) fn open_profile<R: Disk + AllocGlobal>(rt: &R, path: &Text) -> Result<Service, Failure>
+/// Reads a profile's file, and makes what requests are replied to from, by so many threads.
+pub(crate) fn open_profile<R: Disk + AllocGlobal + Threads + Sync>(
+    rt: &R,
+    path: &Text,
+    workers: usize,
+) -> Result<Service, Failure>
     ensures { IsServed (R.file_at rt.now) (Some path.now) result }
 {
     match rt.read_file(rt.alloc(), path.as_str(), MAX_PROFILE) {
-        Ok(bytes) => read_service(rt.alloc(), bytes.as_slice()),
+        Ok(bytes) => read_service(rt, rt.alloc(), bytes.as_slice(), workers),
         Err(ReadFailure::Memory) => Err(Failure::Memory),
         Err(_) => Err(Failure::File(path.clone()?)),
     }
 }
 
 // What requests are replied to from: the profile's file, if one is named.
-fn open_service<R: Disk + AllocGlobal>(rt: &R, once: &Once) -> Result<Service, Failure>
+fn open_service<R: Disk + AllocGlobal + Threads + Sync>(
+    rt: &R,
+    once: &Once,
+) -> Result<Service, Failure>
     ensures { IsServed (R.file_at rt.now) once.now.profile result }
 {
     match &once.profile {
-        Some(path) => open_profile(rt, path),
+        Some(path) => open_profile(rt, path, 1),
         None => Ok(builtin_service(rt.alloc())?),
     }
 }
 
 // rule: Maximum of the input
 // Reads a request, and writes the reply to it.
-fn reply_from<R: AllocGlobal + Wait, I: ReadWhole, W: WriteWhole>(
+fn reply_from<R: AllocGlobal + Threads + Sync + Wait, I: ReadWhole, W: WriteWhole>(
     rt: &R,
     service: Service,
     moment: u64,
@@ -68,7 +82,14 @@ fn reply_from<R: AllocGlobal + Wait, I: ReadWhole, W: WriteWhole>(
         (record { input = I.input reader.new; output = W.output writer.new }) result }
 {
     let input = reader.read_whole(rt.alloc(), MAX_INPUT)?;
-    let reply = answer(rt, rt.alloc(), service, moment, input.as_slice())?;
+    let reply = match answer(rt, rt.alloc(), service, moment, input.as_slice()) {
+        Ok(Ok(reply)) => reply,
+        Ok(Err(fault)) => return Err(Failure::Request(fault)),
+        Err(ServerError::NoPlace) => return Err(Failure::NoPlace),
+        Err(ServerError::Closed) => return Err(Failure::Closed),
+        Err(ServerError::Memory) => return Err(Failure::Memory),
+        Err(_) => unreachable!(),
+    };
     match writer.write_whole(reply.as_slice()) {
         Ok(()) => Ok(()),
         Err(_) => Err(Failure::Write),
@@ -80,10 +101,10 @@ fn reply_from<R: AllocGlobal + Wait, I: ReadWhole, W: WriteWhole>(
 ///
 /// Reads the profile's file, if one is named, then the reader to its end, and writes the reply to
 /// the writer, byte for byte. The profile may have 64 MiB and the request 262144 bytes. Fails, in
-/// this order, with the file, the profile's fault, its first rejected edit, the reader, the
-/// request's fault; each time nothing is written. If the writer fails, a first part of the reply is
-/// written, and not all of it. The mirrors' budgets count for this one request, from nothing.
-pub fn respond<R: Disk + AllocGlobal + Wait, I: ReadWhole, W: WriteWhole>(
+/// this order, with the file, the profile's fault, its first rejected edit, the reader, no place for a view of the
+/// edition, the request's fault, and a view that enters nothing; each time nothing is written. If the writer fails, a
+/// first part of the reply is written, and not all of it. The mirrors' budgets count for this one request, from nothing.
+pub fn respond<R: Disk + AllocGlobal + Threads + Sync + Wait, I: ReadWhole, W: WriteWhole>(
     rt: &R,
     once: &Once,
     reader: &mut I,

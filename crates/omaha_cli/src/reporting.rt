@@ -11,11 +11,12 @@ use crate::printing::print;
 use omaha_arguments::{Question, Report};
 use omaha_server::Service;
 use reports::{certify, summary, verify};
+use std::thread::Threads;
 use streams::{Disk, ReadFailure, WriteWhole};
 use values::Text;
 
 // That the certificate in a file is valid.
-fn verify_file<R: Disk + AllocGlobal>(
+fn verify_file<R: Disk + AllocGlobal + Threads + Sync>(
     rt: &R,
     service: &Service,
     path: &Text,
@@ -28,12 +29,12 @@ fn verify_file<R: Disk + AllocGlobal>(
         Err(ReadFailure::Memory) => return Err(Failure::Memory),
         Err(_) => return Err(Failure::File(path.clone()?)),
     };
-    verify(rt.alloc(), &service.edition, bytes.as_slice())?;
+    verify(rt, rt.alloc(), &service.edition, bytes.as_slice())?;
     Ok(Vec::from_slice(rt.alloc(), b"certified\n")?)
 }
 
 // What is found for a question about a service's edition.
-fn find<R: Disk + AllocGlobal>(
+fn find<R: Disk + AllocGlobal + Threads + Sync>(
     rt: &R,
     service: &Service,
     question: &Question,
@@ -49,11 +50,14 @@ fn find<R: Disk + AllocGlobal>(
 }
 
 // What a report finds.
-fn report_bytes<R: Disk + AllocGlobal>(rt: &R, report: &Report) -> Result<Vec<u8>, Failure>
+fn report_bytes<R: Disk + AllocGlobal + Threads + Sync>(
+    rt: &R,
+    report: &Report,
+) -> Result<Vec<u8>, Failure>
     ensures ok { IfOk result (λ text. IsReported (R.file_at rt.now) report.now (Ok text.items)) }
     ensures err { IfErr result (λ failure. IsReported (R.file_at rt.now) report.now (Err failure)) }
 {
-    match open_profile(rt, &report.profile) {
+    match open_profile(rt, &report.profile, report.workers) {
         Ok(service) => find(rt, &service, &report.question),
         Err(failure) => Err(failure),
     }
@@ -65,7 +69,7 @@ fn report_bytes<R: Disk + AllocGlobal>(rt: &R, report: &Report) -> Result<Vec<u8
 /// Fails, in this order, with the profile's file, its first fault, its first rejected edit, and what the
 /// question finds; each time nothing is written. If the writer fails, a first part of the report is written,
 /// and not all of it.
-pub fn report_on<R: Disk + AllocGlobal, W: WriteWhole>(
+pub fn report_on<R: Disk + AllocGlobal + Threads + Sync, W: WriteWhole>(
     rt: &R,
     asked: &Report,
     writer: &mut W,

@@ -15,10 +15,12 @@ use crate::serving::serve_profile;
 use crate::walking::walk_on;
 use omaha_arguments::{ArgumentError, Command, read_arguments};
 use omaha_client::Connector;
-use omaha_server::Host;
+use omaha_server::System;
 use package_files::Folders;
 use std::alloc::Global;
 use std::sync::Wait;
+use std::thread::Threads;
+use std::time::Clock;
 use streams::{Disk, ReadWhole, WriteWhole, offer};
 use values::Text;
 
@@ -97,10 +99,10 @@ fn end_without_command<W: WriteWhole>(error: ArgumentError, writer: &mut W) -> E
 
 // Does what a command asks for.
 fn obey<
-    R: Disk + Folders + Host + Connector + AllocGlobal + Wait,
+    R: Disk + Folders + System + Clock + Connector + AllocGlobal + Threads + Sync + Wait,
     I: ReadWhole,
     W: WriteWhole,
-    F: WriteWhole,
+    F: WriteWhole + Send,
 >(rt: &R, command: &Command, reader: &mut I, writer: &mut W, errors: &mut F) -> Result<(), Failure>
     requires { IsAskable command.now }
     ensures silent { IsSilentCommand command.now → errors.new ≡ errors.old }
@@ -121,10 +123,10 @@ fn obey<
 
 // Carries out what the arguments ask for.
 fn carry_out<
-    R: Disk + Folders + Host + Connector + AllocGlobal + Wait,
+    R: Disk + Folders + System + Clock + Connector + AllocGlobal + Threads + Sync + Wait,
     I: ReadWhole,
     W: WriteWhole,
-    F: WriteWhole,
+    F: WriteWhole + Send,
 >(rt: &R, arguments: &[String], reader: &mut I, writer: &mut W, errors: &mut F) -> Ending
     ensures silent { IsSilentRun (map string_bytes arguments.now) → errors.new ≡ errors.old }
     ensures ends { Ends (record { files = R.file_at rt.now; storage = R.storage rt.now; edges = R.edges rt.now; replies = R.replies rt.now }) (map string_bytes arguments.now)
@@ -174,10 +176,10 @@ fn report<F: WriteWhole>(alloc: Global, ending: &Ending, errors: &mut F)
 /// after one line on `errors`; and 2 if the arguments are invalid, after `clap`'s message on `errors`. With `--log -` a
 /// server also logs its replies there.
 pub fn run<
-    R: Disk + Folders + Host + Connector + AllocGlobal + Wait,
+    R: Disk + Folders + System + Clock + Connector + AllocGlobal + Threads + Sync + Wait,
     I: ReadWhole,
     W: WriteWhole,
-    F: WriteWhole,
+    F: WriteWhole + Send,
 >(rt: &R, arguments: &[String], reader: &mut I, writer: &mut W, errors: &mut F) -> u8
     ensures run { Runs (record { files = R.file_at rt.now; storage = R.storage rt.now; edges = R.edges rt.now; replies = R.replies rt.now }) (map string_bytes arguments.now)
         (record { input = I.input reader.old; output = W.output writer.old })

@@ -1,18 +1,21 @@
 // The command `serve`.
 
 ghost use Rattle.std.specs.Prelude.{◌≡◌, IfOk};
-ghost use Rattle.omaha_cli.specs.Serving.{EndsAs, IsHosted, IsPlaceOf, IsUnopened, ServesOn};
-ghost use Rattle.omaha_server.specs.Answering.{stock_of};
+ghost use Rattle.omaha_cli.specs.Serving.{EndsAs, IsHosted, IsPlaceOf, IsUnbound, IsUnopened, ServesOn};
 ghost use Rattle.omaha_server.specs.Serving.{IsSilent};
 ghost use Rattle.streams.specs.Streams.{Known};
 
 use crate::failure::Failure;
 use crate::once::open_profile;
 use omaha_arguments::Serve;
-use omaha_server::{Host, Place, ServerError, Service};
+use omaha_server::{Place, ServerError, Service, System, serve};
 use std::alloc::AllocError;
+use std::sync::Wait;
+use std::thread::Threads;
+use std::time::Clock;
 use streams::{Disk, WriteWhole};
 use values::Text;
+use worker_threads::Free;
 
 // The failure of a server whose log can't be opened.
 fn unopened(log: &Option<Text>) -> Failure
@@ -27,6 +30,19 @@ fn unopened(log: &Option<Text>) -> Failure
     }
 }
 
+// The failure of a server whose operator's address can't be bound.
+fn unbound(operator: &Option<Text>) -> Failure
+    ensures { IsUnbound operator.now result }
+{
+    let Some(address) = operator else {
+        return Failure::Memory;
+    };
+    match address.clone() {
+        Ok(address) => Failure::Net(address),
+        Err(_) => Failure::Memory,
+    }
+}
+
 // The end of the command by the end of its server.
 fn end_of(ended: Result<(), ServerError>, asked: &Serve) -> Result<(), Failure>
     ensures { EndsAs ended asked.now result }
@@ -34,66 +50,77 @@ fn end_of(ended: Result<(), ServerError>, asked: &Serve) -> Result<(), Failure>
     match ended {
         Ok(()) => Ok(()),
         Err(ServerError::Net) => Err(Failure::Net(asked.listen.clone()?)),
+        Err(ServerError::OperatorNet) => Err(unbound(&asked.operator)),
         Err(ServerError::Log) => Err(unopened(&asked.log)),
         Err(ServerError::Folder) => Err(Failure::File(asked.packages.clone()?)),
+        Err(ServerError::NoPlace) => Err(Failure::NoPlace),
+        Err(ServerError::Closed) => Err(Failure::Closed),
+        Err(ServerError::Thread) => Err(Failure::Thread),
         Err(ServerError::Write) => Err(Failure::Write),
         Err(ServerError::Memory) => Err(Failure::Memory),
     }
 }
 
-// Where and for how long to serve.
+// A copy of a string that may be missing.
+fn copy_of(text: &Option<Text>) -> Result<Option<Text>, AllocError>
+    ensures { IfOk result (λ copy. copy ≡ text.now) }
+{
+    match text {
+        Some(text) => Ok(Some(text.clone()?)),
+        None => Ok(None),
+    }
+}
+
+// Where, by how many workers and for how long to serve.
 fn place_of(asked: &Serve) -> Result<Place, AllocError>
     ensures { IfOk result (λ place. IsPlaceOf asked.now place) }
 {
-    let log = match &asked.log {
-        Some(path) => Some(path.clone()?),
-        None => None,
-    };
     Ok(Place {
         address: asked.listen.clone()?,
+        operator: copy_of(&asked.operator)?,
         packages: asked.packages.clone()?,
+        workers: asked.workers.max(1).min(8) as usize,
         sessions: asked.sessions,
-        log,
+        edits: asked.edits,
+        log: copy_of(&asked.log)?,
         seconds: asked.timeout.max(1),
     })
 }
 
 // Serves a service.
-fn serve_made<R: Host, W: WriteWhole, F: WriteWhole>(
-    rt: &R,
-    service: Service,
-    asked: &Serve,
-    writer: &mut W,
-    errors: &mut F,
-) -> Result<(), Failure>
-    ensures hosted { IsHosted (R.edges rt.now) (stock_of service) asked.now (W.output writer.old) (W.output writer.new) result }
+fn serve_made<
+    R: System + Clock + AllocGlobal + Threads + Sync + Wait,
+    W: WriteWhole,
+    F: WriteWhole + Send,
+>(rt: &R, service: Service, asked: &Serve, writer: &mut W, errors: &mut F) -> Result<(), Failure>
+    ensures hosted { IsHosted (R.edges rt.now) service asked.now (W.output writer.old) (W.output writer.new) result }
     ensures silent { IsSilent asked.now.log → errors.new ≡ errors.old }
 {
     let Ok(place) = place_of(asked) else {
         return Err(Failure::Memory);
     };
-    let ended = rt.serve_service(service, &place, writer, errors);
+    let ended = serve(rt, service, &place, &Free, writer, errors);
     end_of(ended, asked)
 }
 
 // rule: Service over HTTP
-/// Serves a profile and its packages, and prints the mirrors' totals at the end.
+/// Serves a profile and its packages, takes the operator's scripts, and prints the mirrors' totals at the end.
 ///
 /// Fails, in this order, with the profile's file, its first fault, its first rejected edit, the log, the folder of
-/// packages, the address, and the writer; the writer may also fail after the last session. Replies are logged on
+/// packages, no place for a worker's view, the address, the operator's address, the writer, and a thread that can't be
+/// started; the writer may also fail after the last session. Replies are logged on
 /// `errors` if the log is `-`; otherwise it is left as it is.
-pub(crate) fn serve_profile<R: Disk + Host + AllocGlobal, W: WriteWhole, F: WriteWhole>(
-    rt: &R,
-    asked: &Serve,
-    writer: &mut W,
-    errors: &mut F,
-) -> Result<(), Failure>
+pub(crate) fn serve_profile<
+    R: Disk + System + Clock + AllocGlobal + Threads + Sync + Wait,
+    W: WriteWhole,
+    F: WriteWhole + Send,
+>(rt: &R, asked: &Serve, writer: &mut W, errors: &mut F) -> Result<(), Failure>
     ensures silent { IsSilent asked.now.log → errors.new ≡ errors.old }
     ensures serves { (input : Known) → ServesOn (R.file_at rt.now) (R.edges rt.now) asked.now
         (record { input = input; output = W.output writer.old })
         (record { input = input; output = W.output writer.new }) result }
 {
-    match open_profile(rt, &asked.profile) {
+    match open_profile(rt, &asked.profile, asked.workers.min(16) as usize) {
         Ok(service) => serve_made(rt, service, asked, writer, errors),
         Err(failure) => Err(failure),
     }

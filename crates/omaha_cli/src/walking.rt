@@ -20,7 +20,8 @@ fn client_of(alloc: Global, asked: &Walk) -> Result<Client, AllocError>
     requires { IsAppid asked.now.app }
     ensures { IfOk result (λ client. client ≡ client_of asked.now) }
 {
-    Ok(Client::new(
+    let prefix = asked.prefix.clone()?;
+    let client = Client::new(
         asked.app.clone()?,
         asked.version.clone()?,
         asked.fp.clone()?,
@@ -28,7 +29,8 @@ fn client_of(alloc: Global, asked: &Walk) -> Result<Client, AllocError>
         Text::copy_of(alloc, "")?,
         asked.rollback,
         asked.session.clone()?,
-    ))
+    );
+    Ok(client.with_prefix(prefix))
 }
 
 // The line after a walk.

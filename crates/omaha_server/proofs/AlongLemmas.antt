@@ -1,22 +1,23 @@
 -- Sessions seen by a part of the desk's state.
-use Rattle.std.proofs.Common.{◌≡◌, ◌∙◌, ℕ, List, [], ◌∷◌, Option, Result, ap, codes, length, refl, subst, sym}
+use Rattle.std.proofs.Common.{◌≡◌, ◌∙◌, ℕ, Bool, true, List, [], ◌∷◌, Option, Result, ap, codes, refl, subst, sym}
 use Rattle.std.specs.declared.net.tcp.TcpListener.{TcpListener}
 use Rattle.std.specs.declared.net.tcp.TcpStream.{TcpStream}
-use Rattle.http_connections.specs.Connections.{IsSession, IsSessionOver, Unaccepted, Visit, Visited, Visits, limit_of}
+use Rattle.http_connections.specs.Connections.{IsSession, IsSessionOver, Unaccepted, Visit, Visited, Visits}
 use Rattle.http_desks.specs.Calls.{Call, Leads}
 use Rattle.http_desks.specs.Uses.{IsUse}
 use Rattle.http_desks.specs.Downloads.{Reads}
 use Rattle.http_sessions.specs.Sessions.{Serves}
 use Rattle.http_sessions.specs.declared.ends.Fault.{Fault}
 use Rattle.http_sessions.specs.declared.ends.Served.{Served}
+use Rattle.catalogue_laws.specs.Histories.{History}
 use Rattle.mirror_ledger.specs.Asks.{Ask}
-use Rattle.records.specs.declared.content.App.{App}
+use Rattle.publisher.specs.Sights.{Sight}
 use Rattle.records.specs.declared.mirror.Mirror.{Mirror}
-use Rattle.update_desk.specs.Answering.{Stock}
+use Rattle.service_desks.specs.Operators.{IsCall as IsOperatorCall}
+use Rattle.service_desks.specs.Workers.{IsCall, Progress}
 use Rattle.update_desk.specs.Asking.{GrantsFirst}
-use Rattle.update_desk.specs.Desks.{IsCall}
 use Rattle.omaha_server.specs.Edges.{Edges, IsTime}
-use Rattle.omaha_server.specs.Serving.{AreServed, DeskSteps, desk_path, desk_type}
+use Rattle.omaha_server.specs.Serving.{AreOperated, AreServed, DeskSteps, VisitsAt, desk_path, desk_type}
 use Rattle.omaha_server.specs.declared.place.Place.{Place}
 
 -- each step keeps what holds of the state, and is a step of the part
@@ -85,40 +86,52 @@ Visits-along part Kept steps along follows connects path kind tells sizes reads 
     let last = IsSession-along part Kept steps along follows path kind tells sizes reads visits.0 behind result first.0 session in
     (last.0, (part visits.0, first.1, (stream, came, last.1)))
 
--- what stays of a desk's state: the content, the mirrors, and that nobody else is granted on them
+-- what stays of a worker's desk: the mirrors, and that nobody else is granted on them, if the worker is single
 pub AreServed-along :
-    {D : Type 0} (content : D → List App) (mirrors : D → List Mirror) (asks : D → List Ask) (Alone : D → Type 0)
-    (steps : D → Call → D → Type 0) (edges : Edges) (place : Place) (listener : TcpListener) (visits : List Visit) (before behind : D)
+    {D : Type 0} (mirrors : D → List Mirror) (sight : D → Sight) (asks : D → List Ask) (Alone : D → Type 0)
+    (steps : D → Call → D → Type 0) (edges : Edges) (place : Place) (listener : TcpListener) (sessions : Option ℕ) (single : Bool) (before behind : D)
     → ((old : D) (call : Call) (new : D) → steps old call new →
-    (content new ≡ content old) × (mirrors new ≡ mirrors old)
-    × IsCall (record { content = content old; mirrors = mirrors old }) (asks old) call (asks new)
+    (mirrors new ≡ mirrors old)
+    × IsCall (mirrors old) (record { sight = sight old; asks = asks old }) call (record { sight = sight new; asks = asks new })
     × (Alone old → Alone new × GrantsFirst (mirrors old) (asks old) (asks new)))
-    → Alone before → asks before ≡ [] → length visits ≡ limit_of place.sessions
-    → Visits (IsSessionOver (λ stream. edges.accepts listener place.seconds stream)
-    (IsSession (λ d. codes "/service/update2/json") (λ d. codes "application/json") steps IsTime (edges.sizes place.packages) (edges.reads place.packages)))
-    before visits behind
-    → AreServed edges place listener (record { content = content before; mirrors = mirrors before }) (asks behind) × Alone behind
-AreServed-along {D} content mirrors asks Alone steps edges place listener visits before behind step alone none many served =
-    let stock : Stock = record { content = content before; mirrors = mirrors before } in
-    let Kept : D → Type 0 = λ d. (content d ≡ content before) × (mirrors d ≡ mirrors before) × Alone d in
-    let follows : Follows asks Kept steps (DeskSteps stock) = λ old call new kept stepped.
-    let told = step old call new stepped in
-    let granted = told.3 kept.2 in (
-      (told.0 ∙ kept.0, told.1 ∙ kept.1, granted.0),
+    → (single ≡ true → Alone before) → asks before ≡ []
+    → VisitsAt edges place listener sessions (λ d. codes "/service/update2/json") (λ d. codes "application/json") steps before behind
+    → AreServed edges place listener sessions single (mirrors before) (sight before) (asks behind)
+AreServed-along {D} mirrors sight asks Alone steps edges place listener sessions single before behind step alone none (visits, many, served) =
+    let part : D → Progress = λ d. record { sight = sight d; asks = asks d } in
+    let Kept : D → Type 0 = λ d. (mirrors d ≡ mirrors before) × (single ≡ true → Alone d) in
+    let follows : Follows part Kept steps (DeskSteps single (mirrors before)) = λ old call new kept stepped.
+    let told = step old call new stepped in (
+      (told.0 ∙ kept.0, λ is. (told.2 (kept.1 is)).0),
       (
-        subst (λ (c : List App). IsCall (record { content = c; mirrors = mirrors before }) (asks old) call (asks new)) kept.0
-            (subst (λ (m : List Mirror). IsCall (record { content = content old; mirrors = m }) (asks old) call (asks new)) kept.1 told.2),
-        subst (λ (m : List Mirror). GrantsFirst m (asks old) (asks new)) kept.1 granted.1,
+        subst (λ (m : List Mirror). IsCall m (part old) call (part new)) kept.0 told.1,
+        λ is. subst (λ (m : List Mirror). GrantsFirst m (asks old) (asks new)) kept.0 (told.2 (kept.1 is)).1,
       ),
     ) in
-    let connects : TcpStream → Type 0 = λ stream. edges.accepts listener place.seconds stream in
-    let along = Visits-along asks Kept steps (DeskSteps stock) follows connects (codes "/service/update2/json") (codes "application/json") IsTime
-    (edges.sizes place.packages) (edges.reads place.packages) visits before behind (refl, refl, alone) served in (
-      record {
-        visits = visits;
-        many = many;
-        each = subst (λ (first : List Ask). Visits (IsSessionOver connects (IsSession desk_path desk_type (DeskSteps stock) IsTime (edges.sizes place.packages) (edges.reads place.packages)))
-            first visits (asks behind)) none along.1;
-      },
-      along.0.2,
-    )
+    let along = Visits-along part Kept steps (DeskSteps single (mirrors before)) follows (λ stream. edges.accepts listener place.seconds stream)
+    (codes "/service/update2/json") (codes "application/json") IsTime (edges.sizes place.packages) (edges.reads place.packages)
+    visits before behind (refl, alone) served in
+    record {
+      left = sight behind;
+      visited =
+          subst (λ (first : List Ask). VisitsAt edges place listener sessions desk_path desk_type (DeskSteps single (mirrors before))
+          (record { sight = sight before; asks = first }) (part behind)) none (visits, many, along.1);
+    }
+
+-- what stays of the operator's desk: the mirrors
+pub AreOperated-along :
+    {D : Type 0} (mirrors : D → List Mirror) (history : D → History) (steps : D → Call → D → Type 0) (edges : Edges) (place : Place)
+    (listener : TcpListener) (before behind : D)
+    → ((old : D) (call : Call) (new : D) → steps old call new →
+    (mirrors new ≡ mirrors old) × IsOperatorCall (mirrors old) (history old) call (history new))
+    → VisitsAt edges place listener place.edits (λ d. codes "/operate") (λ d. codes "text/plain") steps before behind
+    → AreOperated edges place listener (mirrors before) (history before)
+AreOperated-along {D} mirrors history steps edges place listener before behind step (visits, many, served) =
+    let Kept : D → Type 0 = λ d. mirrors d ≡ mirrors before in
+    let follows : Follows history Kept steps (IsOperatorCall (mirrors before)) = λ old call new kept stepped.
+    let told = step old call new stepped in
+    (told.0 ∙ kept, subst (λ (m : List Mirror). IsOperatorCall m (history old) call (history new)) kept told.1) in
+    let along = Visits-along history Kept steps (IsOperatorCall (mirrors before)) follows (λ stream. edges.accepts listener place.seconds stream)
+    (codes "/operate") (codes "text/plain") IsTime (edges.sizes place.packages) (edges.reads place.packages)
+    visits before behind refl served in
+    record { after = history behind; visited = (visits, many, along.1) }

@@ -1,23 +1,25 @@
 -- What follows of the work of one worker, by a till that was opened for it.
-use Rattle.std.proofs.Common.{◌≡◌, ◌+◌, ℕ, List, [], ◌∷◌, ◌++◌, All, Option, Some, Result, Ok, Err, IfOk, IfErr, true, ◌&&◌, nat_le, length, map, refl, sym, ap, ap₂, ◌∙◌, subst, arith}
+use Rattle.std.proofs.Common.{◌≡◌, ◌+◌, ℕ, Bool, List, [], ◌∷◌, ◌++◌, All, Option, Some, Result, Ok, Err, IfOk, append-nil, true, ◌&&◌, nat_le, length, map, refl, sym, ap, ap₂, ◌∙◌, subst, arith}
+use Rattle.std.specs.Prelude.{MatchResult}
 use Rattle.std.specs.List.{list_all}
 use Rattle.std.proofs.lemmas.Bool.{and_parts}
 use Rattle.std.proofs.lemmas.List.{length-append, length-map}
 use Rattle.std.proofs.lemmas.List.Elements.{All-pop}
-use Rattle.editions.specs.Editions.{content_of}
 use Rattle.records.specs.Mirrors.{is_codebase, is_mirror, max_budget}
 use Rattle.records.specs.Forms.{is_cohort_name}
-use Rattle.records.specs.declared.content.App.{App}
 use Rattle.records.specs.declared.mirror.Mirror.{Mirror}
 use Rattle.mirror_ledger.specs.Asks.{Ask}
 use Rattle.mirror_ledger.specs.Named.{are_bounded}
 use Rattle.mirror_ledger.specs.Tills.{AreOpened}
-use Rattle.omaha_json.specs.declared.fault.RequestFault.{RequestFault}
-use Rattle.update_desk.specs.Answering.{Answers as IsAnswered, Stock}
+use Rattle.catalogue_laws.specs.Histories.{History}
+use Rattle.omaha_json.specs.declared.request.Request.{Request}
+use Rattle.publisher.specs.Heard.{GoesOn}
+use Rattle.publisher.specs.Sights.{Allows, Sight, fresh}
+use Rattle.same_batches.specs.Beginnings.{StartsWith}
+use Rattle.service_desks.specs.Workers.{Replies, stock_of}
+use Rattle.update_desk.specs.Answering.{IsReply}
 use Rattle.update_desk.specs.Asking.{AreGranted, GrantsFirst}
-use Rattle.values.specs.declared.read_error.ReadError.{ReadError}
-use Rattle.values.specs.declared.read_error.ReadError.TheVariants as errors
-use Rattle.omaha_server.specs.Answering.{AnswersAlone}
+use Rattle.omaha_server.specs.Answering.{IsRepliedAlone, RepliesFor}
 
 -- the budgets of valid mirrors are at most the maximum
 pub are_bounded-mirrors : (mirrors : List Mirror) → list_all is_mirror mirrors ≡ true → are_bounded mirrors ≡ true
@@ -59,45 +61,64 @@ AreGranted-all mirrors before after none grants =
     subst (λ (asks : List Ask). AreGranted mirrors asks after) none
     (subst (λ (asks : List Ask). AreGranted mirrors before asks) (sym same) grants.2)
 
--- the desk's reply by a till of these mirrors that nothing had been asked of
-AnswersAlone-reply :
-    (content : List App) (mirrors given : List Mirror) (moment : ℕ) (input : List ℕ) (before after asks : List Ask) (text : List ℕ) →
+-- the reply by a till of these mirrors that nothing had been asked of
+pub IsRepliedAlone-reply :
+    (mirrors given : List Mirror) (sight left : Sight) (request : Request) (moment : ℕ) (before after asks : List Ask) (text : List ℕ) →
     mirrors ≡ given → before ≡ [] → after ≡ asks → GrantsFirst mirrors before after →
-    IsAnswered (record { content = content; mirrors = mirrors }) input moment before after (Ok text) →
-    AnswersAlone (record { content = content; mirrors = given }) moment input asks (Ok text)
-AnswersAlone-reply content mirrors given moment input before after asks text same none end grants answered =
-    let stock : Stock = record { content = content; mirrors = given } in
+    Replies mirrors (record { sight = sight; asks = before }) request moment (Ok text) (record { sight = left; asks = after }) →
+    IsRepliedAlone given sight request moment asks text left
+IsRepliedAlone-reply mirrors given sight left request moment before after asks text same none end grants replied =
     let granted = AreGranted-all given before after none (subst (λ (all : List Mirror). GrantsFirst all before after) same grants) in
-    let replied : IsAnswered stock input moment before after (Ok text) =
-    subst (λ (all : List Mirror). IsAnswered (record { content = content; mirrors = all }) input moment before after (Ok text)) same answered in
-    subst (λ (list : List Ask). AnswersAlone stock moment input list (Ok text)) end
-    (subst (λ (first : List Ask). IsAnswered stock input moment first after (Ok text)) none replied, granted)
+    let here : Replies given (record { sight = sight; asks = before }) request moment (Ok text) (record { sight = left; asks = after }) =
+    subst (λ (all : List Mirror). Replies all (record { sight = sight; asks = before }) request moment (Ok text) (record { sight = left; asks = after })) same replied in
+    subst (λ (list : List Ask). IsRepliedAlone given sight request moment list text left) end
+    (record {
+      replies = subst (λ (first : List Ask). Replies given (record { sight = sight; asks = first }) request moment (Ok text) (record { sight = left; asks = after })) none here;
+      granted = granted;
+    })
 
-AnswersAlone-error :
-    (content : List App) (mirrors given : List Mirror) (moment : ℕ) (input : List ℕ) (before after asks : List Ask) (error : ReadError RequestFault) →
-    IsAnswered (record { content = content; mirrors = mirrors }) input moment before after (Err error) →
-    AnswersAlone (record { content = content; mirrors = given }) moment input asks (Err error)
-AnswersAlone-error content mirrors given moment input before after asks (errors.Fault fault) answered = answered.0
-AnswersAlone-error content mirrors given moment input before after asks errors.Memory answered = tt
+-- a history that begins with another of its length is that one
+same-history : (later earlier : History) → StartsWith later earlier → length later ≡ length earlier → later ≡ earlier
+same-history later earlier (rest, is) long =
+    is ∙ ap (λ (xs : History). earlier ++ xs) (no-rest rest (omega (arith, ap length is, length-append earlier rest, long))) ∙ append-nil earlier
+  where
+    no-rest : (rest : History) → length rest ≡ 0 → rest ≡ []
+    no-rest [] none = refl
+    no-rest (batch ∷ rest) none = absurd (omega (arith, none))
 
-pub AnswersAlone-end :
-    {A : Type 0} (view : A → List ℕ) (content : List App) (mirrors given : List Mirror) (moment : ℕ) (input : List ℕ)
-    (before after asks : List Ask) (result : Result A (ReadError RequestFault)) →
-    mirrors ≡ given → before ≡ [] → after ≡ asks → GrantsFirst mirrors before after →
-    IfOk result (λ reply. IsAnswered (record { content = content; mirrors = mirrors }) input moment before after (Ok (view reply))) →
-    IfErr result (λ error. IsAnswered (record { content = content; mirrors = mirrors }) input moment before after (Err error)) →
-    IfOk result (λ reply. AnswersAlone (record { content = content; mirrors = given }) moment input asks (Ok (view reply)))
-    × IfErr result (λ error. AnswersAlone (record { content = content; mirrors = given }) moment input asks (Err error))
-AnswersAlone-end view content mirrors given moment input before after asks (Ok reply) same none end grants ok refused =
-    (AnswersAlone-reply content mirrors given moment input before after asks (view reply) same none end grants ok, tt)
-AnswersAlone-end view content mirrors given moment input before after asks (Err error) same none end grants ok refused =
-    (tt, AnswersAlone-error content mirrors given moment input before after asks error refused)
+-- the reply of a view that has seen one edition, and sees as many batches afterwards, is that edition's
+pub RepliesFor-same :
+    (mirrors : List Mirror) (sight left : Sight) (request : Request) (moment : ℕ) (asks : List Ask) (text : List ℕ) (history : History) →
+    IsRepliedAlone mirrors sight request moment asks text left → sight ≡ fresh history → left.seen ≡ sight.seen →
+    RepliesFor history mirrors request moment text
+RepliesFor-same mirrors sight left request moment asks text history replied is same =
+    let (entered, enters, reply) = replied.replies in
+    let began : GoesOn entered (history ∷ []) = (subst (λ (s : Sight). Allows s entered) is enters.allowed).1 in
+    let long : length entered ≡ length history =
+    sym (ap (λ (s : Sight). s.seen) enters.left) ∙ same ∙ ap (λ (s : Sight). s.seen) is in
+    record {
+      asks = asks;
+      replied = subst (λ (h : History). IsReply (stock_of h mirrors) request moment [] asks text) (same-history entered history began.0 long) reply;
+      granted = replied.granted;
+    }
 
--- the reply of one worker is that of a service
-pub Answers-alone :
-    {A : Type 0} (view : A → List ℕ) (Answered : List Ask → Result (List ℕ) (ReadError RequestFault) → Type 0) (asks : List Ask)
-    (result : Result A (ReadError RequestFault)) →
-    IfOk result (λ reply. Answered asks (Ok (view reply))) × IfErr result (λ error. Answered asks (Err error)) →
-    IfOk result (λ reply. (list : List Ask) × Answered list (Ok (view reply))) × IfErr result (λ error. (list : List Ask) × Answered list (Err error))
-Answers-alone view Answered asks (Ok reply) held = ((asks, held.0), tt)
-Answers-alone view Answered asks (Err error) held = (tt, (asks, held.1))
+-- what holds of a value in both cases holds if it is there
+pub IfOk-of :
+    {A E : Type 0} {P Q : A → Type 0} (R : E → Type 0) (result : Result A E) →
+    ((value : A) → Q value → P value) → MatchResult result Q R → IfOk result P
+IfOk-of R (Ok value) step holds = step value holds
+IfOk-of R (Err error) step holds = tt
+
+-- the reply that a view gave is that of the edition that it had seen, if it saw as many batches
+pub RepliesFor-seen :
+    {A E F : Type 0} (items : A → List ℕ) (mirrors : List Mirror) (view old left : Sight) (request : Request) (moment : ℕ) (asks : List Ask)
+    (reply : Result A F) (is_same : Bool) (replied : Result A E) →
+    IfOk reply (λ text. IsRepliedAlone mirrors old request moment asks (items text) left) →
+    old ≡ view → (is_same ≡ true → left.seen ≡ view.seen) →
+    IfOk replied (λ text. (reply ≡ Ok text) × (is_same ≡ true)) →
+    IfOk replied (λ text. (history : History) → view ≡ fresh history → RepliesFor history mirrors request moment (items text))
+RepliesFor-seen items mirrors view old left request moment asks reply is_same (Err error) alone own seen said = tt
+RepliesFor-seen {A} {E} {F} items mirrors view old left request moment asks reply is_same (Ok text) alone own seen said = λ history is.
+    let here = subst (λ (r : Result A F). IfOk r (λ t. IsRepliedAlone mirrors old request moment asks (items t) left)) said.0 alone in
+    RepliesFor-same mirrors old left request moment asks (items text) history here (own ∙ is)
+    (seen said.1 ∙ sym (ap (λ (s : Sight). s.seen) own))

@@ -1,4 +1,6 @@
 mod AlongLemmas
-pub mod AnswerLemmas
 mod BuiltinLemmas
+mod ClientLemmas
+mod RunLemmas
 mod TotalLemmas
+pub mod AnswerLemmas

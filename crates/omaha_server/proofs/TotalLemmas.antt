@@ -4,14 +4,7 @@ use Rattle.std.proofs.lemmas.List.{append-nil, append_assoc, drop_all, map-appen
 use Rattle.std.proofs.lemmas.Slice.Zip.{length-zip}
 use Rattle.std.specs.List.{zip}
 use Rattle.mirror_ledger.specs.Asks.{Ask}
-use Rattle.mirror_ledger.specs.Named.{totals_of}
-use Rattle.records.specs.declared.content.App.{App}
 use Rattle.records.specs.declared.mirror.Mirror.{Mirror}
-use Rattle.mirror_ledger.specs.Tills.{AreTotalsOf, granted_by}
-use Rattle.std.specs.declared.net.tcp.TcpListener.{TcpListener}
-use Rattle.omaha_server.specs.Edges.{Edges}
-use Rattle.omaha_server.specs.Serving.{AreServed, AreTotals}
-use Rattle.omaha_server.specs.declared.place.Place.{Place}
 use Rattle.omaha_server.specs.Totals.{names_of, total_line, totals_string}
 
 pub names_of-last : (mirrors : List Mirror) (mirror : Mirror) → names_of (mirrors ++ mirror ∷ []) ≡ names_of mirrors ++ mirror.name ∷ []
@@ -49,15 +42,3 @@ pub only_worker : (workers : List (List Ask)) → length workers ≡ 1 → (asks
 only_worker [] one = absurd (omega (arith, one))
 only_worker (asks ∷ []) one = (asks, refl)
 only_worker (asks ∷ more ∷ workers) one = absurd (omega (arith, one))
-
--- the totals of one worker, whose sessions were served
-pub AreTotals-of :
-    (edges : Edges) (place : Place) (listener : TcpListener) (content : List App) (mirrors : List Mirror) (workers : List (List Ask)) (totals : List ℕ) →
-    length workers ≡ 1 →
-    ((asks : List Ask) → workers ≡ asks ∷ [] → AreServed edges place listener (record { content = content; mirrors = mirrors }) asks) →
-    AreTotalsOf mirrors workers totals →
-    AreTotals edges place listener (record { content = content; mirrors = mirrors }) totals
-AreTotals-of edges place listener content mirrors workers totals one served summed =
-    let (asks, same) = only_worker workers one in
-    let sums = subst (λ (w : List (List Ask)). totals ≡ totals_of mirrors (granted_by w 0) (granted_by w 1) (granted_by w 2) (granted_by w 3)) same summed.sums in
-    record { asks = asks; served = served asks same; granted = simp zero-add at sums; within = summed.within }

@@ -1,52 +1,47 @@
-// The reply to one input, over books that are opened for it.
+// The reply to one input, by a view of its own of the one edition, over books that are opened for it.
 
-ghost use Rattle.std.specs.Prelude.{◌≡◌, ◌∷◌, [], List, IfOk, IfErr, Ok, Err};
-ghost use Rattle.editions.specs.Editions.{content_of};
+ghost use Rattle.std.specs.Prelude.{◌≡◌, ◌⊎◌, ◌∷◌, [], true, List, IfErr, IfOk, Ok};
+ghost use Rattle.catalogue_laws.specs.Histories.{History};
 ghost use Rattle.mirror_ledger.specs.Asks.{Ask};
-ghost use Rattle.omaha_server.specs.Answering.{Answers, AnswersAlone};
+ghost use Rattle.publisher.specs.Sights.{fresh};
+ghost use Rattle.omaha_server.specs.Answering.{Answers, IsRepliedAlone, IsUnanswered, RepliesFor};
+ghost use Rattle.omaha_server.specs.declared.error.ServerError.TheVariants.{Memory, NoPlace};
 
+use crate::error::ServerError;
+use crate::mirrors::Mirrors;
 use crate::service::Service;
 use editions::Edition;
+use http_desks::Off;
 use mirror_ledger::{Till, Work, work_with_tills};
-use omaha_json::RequestFault;
+use omaha_json::{Request, RequestFault, read_request};
+use publisher::{Press, PublishError, View, open_edition};
+use service_desks::HeldView;
 use std::alloc::Global;
 use std::sync::Wait;
 use values::ReadError;
 
-// The reply to one input by the till of one worker.
+// The reply to one request by the till of one worker.
 #[derive(Drop)]
 struct OneReply<'a> {
     alloc: Global,
-    edition: &'a Edition,
+    view: HeldView,
     moment: u64,
-    input: &'a [u8],
+    request: &'a Request,
 }
 
 impl<R: Wait> Work<R> for OneReply<'_> {
-    type End = Result<Vec<u8>, ReadError<RequestFault>>;
+    type End = Result<Vec<u8>, Off>;
 
-    ghost comes_to = { λ old _ mirrors workers end. (asks : List Ask) → workers ≡ asks ∷ []
-        → IfOk end (λ reply. AnswersAlone (record { content = content_of old.edition.now; mirrors = mirrors })
-        old.moment old.input.now asks (Ok reply.items))
-        × IfErr end (λ error. AnswersAlone (record { content = content_of old.edition.now; mirrors = mirrors })
-        old.moment old.input.now asks (Err error)) };
+    ghost comes_to = { λ old new mirrors workers end. (asks : List Ask) → workers ≡ asks ∷ []
+        → IfOk end (λ reply. IsRepliedAlone mirrors old.view old.request.now old.moment asks reply.items new.view) };
 
-    fn work<T: Till + Send + Drop>(
-        &mut self,
-        rt: &R,
-        tills: &mut Vec<T>,
-    ) -> Result<Vec<u8>, ReadError<RequestFault>> {
+    fn work<T: Till + Send + Drop>(&mut self, rt: &R, tills: &mut Vec<T>) -> Result<Vec<u8>, Off> {
         let Some(mut till) = tills.pop() else {
-            return Err(ReadError::Memory);
+            return Err(Off::Memory);
         };
-        let reply = update_desk::answer(
-            rt,
-            self.alloc,
-            self.edition,
-            &mut till,
-            self.moment,
-            self.input,
-        );
+        let reply = self
+            .view
+            .reply(rt, self.alloc, &mut till, self.moment, self.request);
         if tills.push(till).is_err() {
             unreachable!()
         }
@@ -54,33 +49,111 @@ impl<R: Wait> Work<R> for OneReply<'_> {
     }
 }
 
+// Publishes an edition, with one view.
+fn open_one<R: Wait>(rt: &R, alloc: Global, edition: Edition) -> Result<(Press, View), ServerError>
+    ensures view { IfOk result (λ made. made.1 ≡ fresh edition) }
+    ensures err { IfErr result (λ error. (error ≡ NoPlace) ⊎ (error ≡ Memory)) }
+{
+    match open_edition(rt, alloc, edition, 1) {
+        Ok((press, views)) => {
+            let mut views = views;
+            match views.pop() {
+                Some(view) => Ok((press, view)),
+                None => unreachable!(),
+            }
+        }
+        Err(PublishError::NoPlace) => Err(ServerError::NoPlace),
+        Err(PublishError::Memory) => Err(ServerError::Memory),
+        Err(_) => unreachable!(),
+    }
+}
+
+// The reply of a view, if it is from the edition that the view had seen.
+fn replied(reply: Result<Vec<u8>, Off>, is_same: bool) -> Result<Vec<u8>, ServerError>
+    ensures ok { IfOk result (λ text. (reply ≡ Ok text) × (is_same ≡ true)) }
+    ensures err { IfErr result (λ error. IsUnanswered error) }
+{
+    match reply {
+        Ok(text) => {
+            if is_same {
+                Ok(text)
+            } else {
+                Err(ServerError::Closed)
+            }
+        }
+        Err(Off::Closed) => Err(ServerError::Closed),
+        Err(Off::Memory) => Err(ServerError::Memory),
+    }
+}
+
+// Replies to a request from the edition that a view has seen last.
+fn reply_by<R: Wait>(
+    rt: &R,
+    alloc: Global,
+    mirrors: Mirrors,
+    view: View,
+    moment: u64,
+    request: &Request,
+) -> Result<Vec<u8>, ServerError>
+    ensures ok { IfOk result (λ reply. (history : History) → view ≡ fresh history
+        → RepliesFor history mirrors request.now moment reply.items) }
+    ensures err { IfErr result (λ error. IsUnanswered error) }
+{
+    let number = view.seen();
+    let mut job = OneReply {
+        alloc,
+        view: HeldView::new(view),
+        moment,
+        request,
+    };
+    let (reply, _totals) = work_with_tills(rt, alloc, mirrors.into_vec(), 1, &mut job)?;
+    let OneReply { view, .. } = job;
+    let is_same = view.into_view().seen() == number;
+    replied(reply, is_same)
+}
+
+// Replies to an input from the edition that a view has seen last, or finds its fault.
+fn answer_by<R: Wait>(
+    rt: &R,
+    alloc: Global,
+    mirrors: Mirrors,
+    view: View,
+    moment: u64,
+    input: &[u8],
+) -> Result<Result<Vec<u8>, RequestFault>, ServerError>
+    ensures { (history : History) → view ≡ fresh history → Answers (record { edition = history; mirrors = mirrors }) moment input.now result }
+{
+    match read_request(alloc, input) {
+        Ok(request) => match reply_by(rt, alloc, mirrors, view, moment, &request) {
+            Ok(reply) => Ok(Ok(reply)),
+            Err(error) => Err(error),
+        },
+        Err(ReadError::Fault(fault)) => Ok(Err(fault)),
+        Err(ReadError::Memory) => Err(ServerError::Memory),
+    }
+}
+
 // rule: Reply of the program
 /// Replies to an input from a service, at a time in seconds since 1 January 1970 UTC.
 ///
-/// Opens books of the mirrors' budgets for this one input, with nothing granted yet. Returns the reply to
-/// the request that the input is, and nothing else; or the input's first fault, as
-/// `omaha_json::read_request` does. A payload is offered from the first mirror whose budget has room for
-/// it beside the payloads of the apps before it, and is `error-internal` if none has. It takes the
-/// service, since what its mirrors granted isn't kept. It may wait for a lock, though nothing else has it.
+/// Publishes the service's edition to a view of its own, and opens books of the mirrors' budgets for this one input,
+/// with nothing granted yet. Returns the reply to the request that the input is, and nothing else; or the input's
+/// first fault, as `omaha_json::read_request` does. A payload is offered from the first mirror whose budget has room
+/// for it beside the payloads of the apps before it, and is `error-internal` if none has. It takes the service, since
+/// what its mirrors granted isn't kept. Fails with `NoPlace` before it reads the input, and with `Closed` if the view
+/// doesn't enter the edition. It may wait for a lock, though nothing else has it.
 pub fn answer<R: Wait>(
     rt: &R,
     alloc: Global,
     service: Service,
     moment: u64,
     input: &[u8],
-) -> Result<Vec<u8>, ReadError<RequestFault>>
-    ensures ok { IfOk result (λ reply. Answers service moment input.now (Ok reply.items)) }
-    ensures refused { IfErr result (λ error. Answers service moment input.now (Err error)) }
+) -> Result<Result<Vec<u8>, RequestFault>, ServerError>
+    ensures { Answers service moment input.now result }
 {
     let Service { edition, mirrors } = service;
-    let mut job = OneReply {
-        alloc,
-        edition: &edition,
-        moment,
-        input,
-    };
-    match work_with_tills(rt, alloc, mirrors.into_vec(), 1, &mut job) {
-        Ok((reply, _)) => reply,
-        Err(_) => Err(ReadError::Memory),
-    }
+    let (press, view) = open_one(rt, alloc, edition)?;
+    let answered = answer_by(rt, alloc, mirrors, view, moment, input);
+    press.end(rt);
+    answered
 }

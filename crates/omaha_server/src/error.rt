@@ -2,15 +2,23 @@
 
 use std::alloc::AllocError;
 
-/// Why a server ends before its last session, or without its totals.
+/// Why there is no reply, or why a server ends before its last session or without its totals.
 #[derive(Clone, Copy, Debug, Drop, PartialEq, Eq)]
 pub enum ServerError {
     /// The address could not be bound.
     Net,
+    /// The operator's address could not be bound.
+    OperatorNet,
     /// The log could not be opened.
     Log,
     /// The folder of packages is no folder, or can't be seen.
     Folder,
+    /// There is no place for a view of the editions.
+    NoPlace,
+    /// A view entered no edition.
+    Closed,
+    /// A thread could not be started.
+    Thread,
     /// The output could not be written.
     Write,
     /// Memory ran out.

@@ -5,31 +5,33 @@
 //! `answer` turns the bytes of one request into those of the reply, over books of the mirrors' budgets:
 //! read `specs/Answering.antt`.
 //!
-//! `serve` opens books of the mirrors' budgets, listens, serves connections one after the other, and prints
-//! each mirror's total at the end. Read `specs/Serving.antt`. If a log is asked for, `access_logs` writes a
-//! line for each reply. What it asks of the system is a `System`, whose relations name addresses, seconds, folders
-//! and logs: read `specs/Edges.antt`.
+//! `serve` publishes the edition, opens books of the mirrors' budgets, listens, and lets workers begin together, each of
+//! which serves connections one after the other, beside the operator's; it prints each mirror's total at the end. Read
+//! `specs/Serving.antt`. If a log is asked for, `access_logs` writes a line for each reply. What it asks of the system
+//! is a `System`, whose relations name addresses, seconds, folders and logs: read `specs/Edges.antt`.
 //!
-//! It starts no thread, publishes nothing, and knows no command line.
+//! It knows no command line.
 
 #![tactic(auto)]
 
 mod answering;
 mod builtin;
+mod clients;
 mod error;
-mod host;
+mod logging;
 mod mirrors;
+mod operating;
 mod place;
 mod service;
 mod serving;
+mod setup;
 mod system;
 mod totals;
 
 pub use crate::answering::answer;
 pub use crate::error::ServerError;
-pub use crate::host::Host;
 pub use crate::mirrors::Mirrors;
 pub use crate::place::Place;
 pub use crate::service::{Service, builtin_service, make_service};
 pub use crate::serving::serve;
-pub use crate::system::System;
+pub use crate::system::{LogFile, System};

@@ -1,6 +1,6 @@
 // What the program replies from, and how a profile's edits and mirrors make it.
 
-ghost use Rattle.std.specs.Prelude.{◌≡◌, IfOk};
+ghost use Rattle.std.specs.Prelude.{◌≡◌, ◌≤◌, IfOk};
 ghost use Rattle.editions.specs.Editions.{content_of};
 ghost use Rattle.omaha_server.specs.Builtin.{builtin_apps, builtin_service};
 ghost use Rattle.omaha_server.specs.Services.{service_of};
@@ -11,7 +11,9 @@ use crate::builtin::{builtin_edition, builtin_mirror};
 use crate::mirrors::Mirrors;
 use catalogue::{Batch, Mirror, Refused};
 use editions::{Edition, NextError};
+use par_tables::Free;
 use std::alloc::{AllocError, Global};
+use std::thread::Threads;
 use values::ReadError;
 
 /// What requests are replied to from: an edition, and the mirrors of its packages.
@@ -40,17 +42,21 @@ pub fn builtin_service(alloc: Global) -> Result<Service, AllocError>
 
 /// Makes the service of a profile's edits and mirrors.
 ///
-/// The mirrors are one to four valid ones, no two of one name, as `profile_toml::read_profile` returns them. Fails
-/// with the first of the edits that the empty catalogue rejects.
-pub fn make_service(
+/// The mirrors are one to four valid ones, no two of one name, as `profile_toml::read_profile` returns them. The
+/// tables are made in `workers` pieces, from 1 to 16, each of which may have a thread of its own. Fails with the first
+/// of the edits that the empty catalogue rejects.
+pub fn make_service<R: Threads>(
+    rt: &R,
     alloc: Global,
     batch: Batch,
     mirrors: Vec<Mirror>,
+    workers: usize,
 ) -> Result<Service, ReadError<Refused>>
-    requires { AreMirrors mirrors.items }
+    requires mirrors { AreMirrors mirrors.items }
+    requires workers { (1 ≤ workers) × (workers ≤ 16) }
     ensures { Reads (λ service. service) result (service_of (batch, mirrors.items)) }
 {
-    match Edition::empty(alloc).next(batch) {
+    match Edition::empty(alloc).next_with(rt, batch, workers, &Free) {
         Ok(edition) => Ok(Service {
             edition,
             mirrors: Mirrors::new(mirrors),

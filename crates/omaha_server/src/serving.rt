@@ -1,173 +1,307 @@
-// A service over HTTP, one connection after the other.
+// A service over HTTP, by workers that begin together.
 
-ghost use Rattle.std.specs.Prelude.{◌≡◌, ◌∷◌, [], List, IfOk, IfErr};
-ghost use Rattle.editions.specs.Editions.{content_of};
-ghost use Rattle.mirror_ledger.specs.Asks.{Ask};
+ghost use Rattle.std.specs.Prelude.{◌≡◌, ◌⊎◌, ◌≤◌, All, length, IfErr, IfOk, IsOk, IsTrue};
+ghost use Rattle.publisher.specs.Sights.{fresh};
 ghost use Rattle.omaha_server.specs.Edges.{is_dash};
-ghost use Rattle.omaha_server.specs.Serving.{AreServed, AreTotals, IsLogged, IsOpened, IsReady, IsSilent, IsUnlogged, Serves, Stops};
-ghost use Rattle.omaha_server.specs.Answering.{stock_of};
+ghost use Rattle.omaha_server.specs.Runs.{HasServed, HaveRun, PrintsLines};
+ghost use Rattle.omaha_server.specs.Serving.{AreTotals, IsListening, IsLogged, IsOpened, IsReady, IsSilent, IsUnlogged, Serves, Stops};
+ghost use Rattle.omaha_server.specs.declared.error.ServerError.TheVariants.{Memory, NoPlace, OperatorNet, Thread};
 
+use crate::clients::all_clients;
 use crate::error::ServerError;
+use crate::logging::SharedLog;
+use crate::mirrors::Mirrors;
+use crate::operating::Operating;
 use crate::place::Place;
 use crate::service::Service;
+use crate::setup::Setup;
 use crate::system::System;
 use crate::totals::{names_of, totals_string};
-use access_logs::AccessLog;
 use editions::Edition;
 use http_connections::print_ready;
-use http_devices::SystemClock;
-use http_wire::{Unwatched, Watch};
-use mirror_ledger::{Till, Work, work_with_tills};
-use std::alloc::AllocError;
+use mirror_ledger::{Ran, TillJob, run_with_tills};
+use publisher::{Press, PublishError, View, open_edition};
+use service_desks::Operator;
+use std::alloc::{AllocError, Global};
+use std::fs::File;
 use std::net::TcpListener;
-use std::sync::Wait;
+use std::sync::{Mutex, Wait};
+use std::thread::Threads;
 use std::time::Clock;
 use streams::WriteWhole;
-use update_desk::Single;
+use values::Text;
+use worker_threads::{Gate, OwnJob};
 
-// The sessions of a listener, by the till of one worker.
+// The listeners of a server.
 #[derive(Drop)]
-struct Sessions<'a, S, V> {
-    system: &'a S,
-    edition: &'a Edition,
-    place: &'a Place,
-    listener: &'a TcpListener,
-    watch: &'a V,
+struct Listeners {
+    clients: TcpListener,
+    operator: Option<TcpListener>,
 }
 
-// rule: Sessions of a server
-impl<R: Wait + AllocGlobal, S: System, V: Watch> Work<R> for Sessions<'_, S, V> {
-    type End = ();
-
-    ghost comes_to = { λ old _ mirrors workers _. (asks : List Ask) → workers ≡ asks ∷ []
-        → AreServed (S.edges old.system.now) old.place.now old.listener.now
-        (record { content = content_of old.edition.now; mirrors = mirrors }) asks };
-
-    fn work<T: Till + Send + Drop>(&mut self, rt: &R, tills: &mut Vec<T>) {
-        let Some(till) = tills.pop() else {
-            return;
-        };
-        let mut desk = Single {
-            rt,
-            edition: self.edition,
-            till,
-        };
-        self.system.serve_folder(
-            self.place.packages.as_str(),
-            self.listener,
-            self.place.seconds,
-            &mut desk,
-            self.watch,
-            self.place.sessions,
-        );
-        let Single { till, .. } = desk;
-        if tills.push(till).is_err() {
-            unreachable!()
-        }
+// Binds the operator's address, if there is one.
+fn bind_operator<R: System>(rt: &R, place: &Place) -> Result<Option<TcpListener>, ServerError>
+    ensures bound { IfOk result (λ listener. IsListening (R.edges rt.now) place.now.operator listener) }
+    ensures err { IfErr result (λ error. error ≡ OperatorNet) }
+{
+    match &place.operator {
+        Some(address) => match rt.bind_address(address.as_str()) {
+            Ok(listener) => Ok(Some(listener)),
+            Err(_) => Err(ServerError::OperatorNet),
+        },
+        None => Ok(None),
     }
 }
 
-// Serves a service at a listener, over books of its mirrors' budgets, and returns the totals.
-fn serve_sessions<R: System + Wait + AllocGlobal, V: Watch>(
-    rt: &R,
-    service: Service,
-    place: &Place,
-    listener: &TcpListener,
-    watch: &V,
-) -> Result<Vec<u64>, AllocError>
-    ensures { IfOk result (λ totals. AreTotals (R.edges rt.now) place.now listener.now (stock_of service) totals.items) }
-{
-    let Service { edition, mirrors } = service;
-    let mut job = Sessions {
-        system: rt,
-        edition: &edition,
-        place,
-        listener,
-        watch,
-    };
-    let ((), totals) = work_with_tills(rt, rt.alloc(), mirrors.into_vec(), 1, &mut job)?;
-    Ok(totals)
-}
-
-// Binds the address of a place whose folder was found, and prints `ready`.
+// Binds the addresses of a place whose folder was found, and prints `ready`.
 fn open_place<R: System, W: WriteWhole>(
     rt: &R,
     place: &Place,
     out: &mut W,
-) -> Result<TcpListener, ServerError>
+) -> Result<Listeners, ServerError>
     requires { (R.edges rt.now).folders place.now.packages }
-    ensures bound { IfOk result (λ listener. (R.edges rt.now).listens place.now.address listener) }
+    ensures bound { IfOk result (λ listeners. (R.edges rt.now).listens place.now.address listeners.clients) }
+    ensures operated { IfOk result (λ listeners. IsListening (R.edges rt.now) place.now.operator listeners.operator) }
     ensures ready { IfOk result (λ _. IsReady (W.output out.old) (W.output out.new)) }
     ensures err { IfErr result (λ error. IsUnlogged error
         × Stops (R.edges rt.now) place.now (W.output out.old) (W.output out.new) error) }
 {
-    let Ok(listener) = rt.bind_address(place.address.as_str()) else {
+    let Ok(clients) = rt.bind_address(place.address.as_str()) else {
         return Err(ServerError::Net);
     };
+    let operator = bind_operator(rt, place)?;
     match print_ready(out) {
-        Ok(()) => Ok(listener),
+        Ok(()) => Ok(Listeners { clients, operator }),
         Err(_) => Err(ServerError::Write),
     }
 }
 
-// rule: Run of a server
-// Serves a service, and shows a watch its connections.
-fn serve_watched<R: System + Wait + AllocGlobal, W: WriteWhole, V: Watch>(
+// Publishes an edition to the views of so many workers.
+fn open_views<R: Wait>(
     rt: &R,
-    service: Service,
-    place: &Place,
-    out: &mut W,
-    watch: &V,
-) -> Result<(), ServerError>
-    ensures serves { Serves (R.edges rt.now) place.now (stock_of service) (W.output out.old) (W.output out.new) result }
-    ensures unlogged { IfErr result IsUnlogged }
+    alloc: Global,
+    edition: Edition,
+    workers: usize,
+) -> Result<(Press, Vec<View>), ServerError>
+    requires { (1 ≤ workers) × (workers ≤ 8) }
+    ensures press { IfOk result (λ made. made.0 ≡ edition) }
+    ensures many { IfOk result (λ made. length made.1.items ≡ workers) }
+    ensures views { IfOk result (λ made. All (λ sight. sight ≡ fresh edition) made.1.items) }
+    ensures err { IfErr result (λ error. (error ≡ NoPlace) ⊎ (error ≡ Memory)) }
 {
-    if !rt.has_folder(place.packages.as_str()) {
-        return Err(ServerError::Folder);
+    match open_edition(rt, alloc, edition, workers) {
+        Ok(made) => Ok(made),
+        Err(PublishError::NoPlace) => Err(ServerError::NoPlace),
+        Err(_) => Err(ServerError::Memory),
     }
-    let names = names_of(rt.alloc(), service.mirrors.as_slice())?;
-    let listener = open_place(rt, place, out)?;
-    let totals = serve_sessions(rt, service, place, &listener, watch)?;
-    let text = totals_string(rt.alloc(), names.as_slice(), &totals)?;
+}
+
+// Whether each worker began.
+fn all_began<E, J>(ends: &[Result<E, J>]) -> bool
+    ensures { IsTrue result → All IsOk ends.now }
+{
+    ends.iter().all(|end| end.is_ok())
+}
+
+// The totals of workers that all began, as the own job did.
+fn totals_in<J: TillJob + Drop, O: OwnJob>(
+    ran: Result<Ran<J, O>, AllocError>,
+) -> Result<Vec<u64>, ServerError>
+    ensures ok { IfOk result (λ totals. HaveRun ran totals.items) }
+    ensures err { IfErr result (λ error. (error ≡ Thread) ⊎ (error ≡ Memory)) }
+{
+    let ran = ran?;
+    if ran.own.is_some() && all_began(&ran.ends) {
+        Ok(ran.totals)
+    } else {
+        Err(ServerError::Thread)
+    }
+}
+
+// rule: Totals of a server
+// Serves at listeners by a worker for each view and by the operator's desk, and gives the press back.
+fn run_workers<
+    R: System + Clock + Threads + Wait + Sync + AllocGlobal,
+    W: WriteWhole + Send,
+    G: Gate + Sync,
+>(
+    setup: &Setup<'_, '_, R, W>,
+    listeners: &Listeners,
+    gate: &G,
+    desk: Operator<'_, R>,
+    mirrors: Mirrors,
+    views: Vec<View>,
+) -> (Press, Result<Vec<u64>, ServerError>)
+    requires mirrors { desk.mirrors.now ≡ mirrors }
+    requires many { length views.items ≡ setup.now.place.now.workers }
+    requires views { All (λ sight. sight ≡ fresh desk.press) views.items }
+    ensures ok { IfOk result.1 (λ totals. AreTotals (R.edges setup.now.rt.now) setup.now.place.now listeners.now.clients listeners.now.operator
+        (record { edition = desk.entry.press; mirrors = mirrors }) totals.items) }
+    ensures err { IfErr result.1 (λ error. (error ≡ Thread) ⊎ (error ≡ Memory)) }
+{
+    let alloc = setup.rt.alloc();
+    let Ok(jobs) = all_clients(alloc, setup, &listeners.clients, views) else {
+        return (desk.into_press(), Err(ServerError::Memory));
+    };
+    let mut own = Operating {
+        setup,
+        listener: listeners.operator.as_ref(),
+        desk,
+    };
+    let ran = run_with_tills(setup.rt, alloc, mirrors.into_vec(), gate, jobs, &mut own);
+    let Operating {
+        setup: _,
+        listener: _,
+        desk,
+    } = own;
+    (desk.into_press(), totals_in(ran))
+}
+
+// Serves at the addresses of a place whose folder was found, over an edition that was published, and ends its press.
+fn serve_press<
+    R: System + Clock + Threads + Wait + Sync + AllocGlobal,
+    W: WriteWhole + Send,
+    O: WriteWhole,
+    G: Gate + Sync,
+>(
+    setup: &Setup<'_, '_, R, W>,
+    desk: Operator<'_, R>,
+    mirrors: Mirrors,
+    views: Vec<View>,
+    gate: &G,
+    out: &mut O,
+) -> Result<Vec<u64>, ServerError>
+    requires folder { (R.edges setup.now.rt.now).folders setup.now.place.now.packages }
+    requires mirrors { desk.mirrors.now ≡ mirrors }
+    requires many { length views.items ≡ setup.now.place.now.workers }
+    requires views { All (λ sight. sight ≡ fresh desk.press) views.items }
+    ensures ok { IfOk result (λ totals. HasServed (R.edges setup.now.rt.now) setup.now.place.now
+        (record { edition = desk.entry.press; mirrors = mirrors }) (O.output out.old) (O.output out.new) totals.items) }
+    ensures err { IfErr result (λ error. IsUnlogged error
+        × Stops (R.edges setup.now.rt.now) setup.now.place.now (O.output out.old) (O.output out.new) error) }
+{
+    let listeners = match open_place(setup.rt, setup.place, out) {
+        Ok(listeners) => listeners,
+        Err(error) => {
+            desk.into_press().end(setup.rt);
+            return Err(error);
+        }
+    };
+    let (press, totals) = run_workers(setup, &listeners, gate, desk, mirrors, views);
+    press.end(setup.rt);
+    totals
+}
+
+// Prints the totals of mirrors of those names.
+fn print_totals<O: WriteWhole>(
+    alloc: Global,
+    names: &[Text],
+    totals: &[u64],
+    out: &mut O,
+) -> Result<(), ServerError>
+    ensures { PrintsLines names.now totals.now (O.output out.old) (O.output out.new) result }
+{
+    let text = totals_string(alloc, names, totals)?;
     match out.write_whole(text.as_str().as_bytes()) {
         Ok(()) => Ok(()),
         Err(_) => Err(ServerError::Write),
     }
 }
 
-// Serves a service, and logs its replies to the file at a path.
-fn serve_logged<R: System + Clock + Wait + AllocGlobal, W: WriteWhole>(
+// rule: Run of a server
+// Serves a service, with the log that there is.
+fn serve_with<
+    R: System + Clock + Threads + Wait + Sync + AllocGlobal,
+    W: WriteWhole + Send,
+    O: WriteWhole,
+    G: Gate + Sync,
+>(setup: &Setup<'_, '_, R, W>, service: Service, gate: &G, out: &mut O) -> Result<(), ServerError>
+    ensures serves { Serves (R.edges setup.now.rt.now) setup.now.place.now service (O.output out.old) (O.output out.new) result }
+    ensures unlogged { IfErr result IsUnlogged }
+{
+    let (rt, place) = (setup.rt, setup.place);
+    if !rt.has_folder(place.packages.as_str()) {
+        return Err(ServerError::Folder);
+    }
+    let names = names_of(rt.alloc(), service.mirrors.as_slice())?;
+    let given = service.mirrors.copy(rt.alloc())?;
+    let Service { edition, mirrors } = service;
+    let workers = place.workers;
+    let (press, views) = open_views(rt, rt.alloc(), edition, workers)?;
+    let desk = Operator {
+        rt,
+        press,
+        mirrors: given.as_slice(),
+        workers,
+    };
+    let totals = serve_press(setup, desk, mirrors, views, gate, out)?;
+    print_totals(rt.alloc(), names.as_slice(), &totals, out)
+}
+
+// Serves a service, with a log or without one.
+fn serve_over<
+    'a,
+    'b,
+    R: System + Clock + Threads + Wait + Sync + AllocGlobal,
+    W: WriteWhole + Send,
+    O: WriteWhole,
+    G: Gate + Sync,
+>(
+    rt: &'a R,
+    service: Service,
+    place: &'a Place,
+    gate: &G,
+    out: &mut O,
+    log: Option<&'a Mutex<SharedLog<'b, W>>>,
+) -> Result<(), ServerError>
+    ensures serves { Serves (R.edges rt.now) place.now service (O.output out.old) (O.output out.new) result }
+    ensures unlogged { IfErr result IsUnlogged }
+{
+    let setup = Setup { rt, place, log };
+    serve_with(&setup, service, gate, out)
+}
+
+// Serves a service, and logs its replies to a writer.
+fn serve_logged<
+    R: System + Clock + Threads + Wait + Sync + AllocGlobal,
+    W: WriteWhole + Send,
+    O: WriteWhole,
+    G: Gate + Sync,
+>(
     rt: &R,
     service: Service,
     place: &Place,
-    out: &mut W,
+    gate: &G,
+    out: &mut O,
+    writer: &mut W,
+) -> Result<(), ServerError>
+    ensures serves { Serves (R.edges rt.now) place.now service (O.output out.old) (O.output out.new) result }
+    ensures unlogged { IfErr result IsUnlogged }
+{
+    let log = Mutex::new(SharedLog::new(writer));
+    serve_over(rt, service, place, gate, out, Some(&log))
+}
+
+// Serves a service, and logs its replies to the file at a path.
+fn serve_logged_to<
+    R: System + Clock + Threads + Wait + Sync + AllocGlobal,
+    O: WriteWhole,
+    G: Gate + Sync,
+>(
+    rt: &R,
+    service: Service,
+    place: &Place,
+    gate: &G,
+    out: &mut O,
     path: &str,
 ) -> Result<(), ServerError>
-    ensures serves { Serves (R.edges rt.now) place.now (stock_of service) (W.output out.old) (W.output out.new) result }
+    ensures serves { Serves (R.edges rt.now) place.now service (O.output out.old) (O.output out.new) result }
     ensures opened { IsOpened (R.edges rt.now) path.now result }
 {
     let Ok(mut file) = rt.open_log(path) else {
         return Err(ServerError::Log);
     };
-    let clock = SystemClock::new(rt);
-    let log = AccessLog::new(rt.alloc(), &clock, &mut file);
-    serve_watched(rt, service, place, out, &log)
-}
-
-// Serves a service, and logs its replies to a writer.
-fn serve_shown<R: System + Clock + Wait + AllocGlobal, W: WriteWhole, F: WriteWhole>(
-    rt: &R,
-    service: Service,
-    place: &Place,
-    out: &mut W,
-    errors: &mut F,
-) -> Result<(), ServerError>
-    ensures serves { Serves (R.edges rt.now) place.now (stock_of service) (W.output out.old) (W.output out.new) result }
-    ensures unlogged { IfErr result IsUnlogged }
-{
-    let clock = SystemClock::new(rt);
-    let log = AccessLog::new(rt.alloc(), &clock, errors);
-    serve_watched(rt, service, place, out, &log)
+    serve_logged(rt, service, place, gate, out, &mut file)
 }
 
 // Whether a path means the standard error.
@@ -179,35 +313,51 @@ fn is_dash(path: &str) -> bool
 
 // rule: Run of a server
 // rule: Edges of a server
-/// Serves a service's update checks and its packages, and prints the mirrors' totals at the end.
+/// Serves a service's update checks and its packages, takes the operator's scripts, and prints the mirrors' totals at
+/// the end.
 ///
-/// Opens the log, if there is to be one, looks for the folder of packages, binds the address, prints `ready`, opens
-/// books of the mirrors' budgets, serves connections one after the other until there were so many, and then prints a
-/// line for each mirror: its name and how many bytes it was granted. Fails, in this order, with the log, the folder,
-/// memory, the address, the output.
-/// Memory may also run out after `ready`; then no total is printed.
+/// Opens the log, if there is to be one, looks for the folder of packages, publishes the edition, binds the addresses,
+/// prints `ready`, opens books of the mirrors' budgets, and lets its workers begin together, each in a thread of its
+/// own: each serves its portion of the clients' connections, one after the other, and the calling thread those of the
+/// operator. Then it prints a line for each mirror: its name and how many bytes it was granted. `gate` is called in
+/// each worker's thread before its first connection. Fails, in this order, with the log, the folder, memory, no place
+/// for a view, the address, the operator's address, the output, and a thread that can't be started; in that case no
+/// connection was accepted. Memory may also run out after `ready`; then no total is printed.
 ///
-/// The log gets a line for each reply, as `access_logs` has it: at the end of its file, or on `errors`, which is
-/// otherwise left as it is. A line that can't be written is lost, and holds up no reply.
-pub fn serve<R: System + Clock + Wait + AllocGlobal, W: WriteWhole, F: WriteWhole>(
+/// The log gets a line for each reply, as `access_logs` has it, at the end of its file, or on `errors`, which is
+/// otherwise left as it is; workers never mix their lines. A line that can't be written is lost, and holds up no reply.
+pub fn serve<
+    R: System + Clock + Threads + Wait + Sync + AllocGlobal,
+    O: WriteWhole,
+    F: WriteWhole + Send,
+    G: Gate + Sync,
+>(
     rt: &R,
     service: Service,
     place: &Place,
-    out: &mut W,
+    gate: &G,
+    out: &mut O,
     errors: &mut F,
 ) -> Result<(), ServerError>
-    ensures serves { Serves (R.edges rt.now) place.now (stock_of service) (W.output out.old) (W.output out.new) result }
+    ensures serves { Serves (R.edges rt.now) place.now service (O.output out.old) (O.output out.new) result }
     ensures logged { IsLogged (R.edges rt.now) place.now.log result }
     ensures silent { IsSilent place.now.log → errors.new ≡ errors.old }
 {
     match &place.log {
-        None => serve_watched(rt, service, place, out, &Unwatched),
+        None => serve_over(
+            rt,
+            service,
+            place,
+            gate,
+            out,
+            None::<&'static Mutex<SharedLog<'static, File>>>,
+        ),
         Some(path) => {
             let path = path.as_str();
             if is_dash(path) {
-                serve_shown(rt, service, place, out, errors)
+                serve_logged(rt, service, place, gate, out, errors)
             } else {
-                serve_logged(rt, service, place, out, path)
+                serve_logged_to(rt, service, place, gate, out, path)
             }
         }
     }

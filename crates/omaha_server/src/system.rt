@@ -8,21 +8,17 @@ use http_connections::{Listens, serve_listener};
 use http_desks::{Desk, Site};
 use http_devices::{Folder, SystemClock};
 use http_wire::Watch;
-use std::fs::OpenOptions;
+use std::fs::{File, OpenOptions};
 use std::io;
 use std::io::ErrorKind;
 use std::net::{Net, TcpListener, TcpStream};
 use std::os::unix::fs::FileTypeExt;
 use std::rt::Files;
 use std::time::Clock;
-use streams::WriteWhole;
 
-/// What a server asks of the system: a runtime with a network, files and a clock, or a test's stand-in for one.
+/// What a server asks of the system: a runtime with a network, files and a clock, or a test's setup-in for one.
 pub trait System {
     ghost use Rattle.omaha_server.specs.Edges.{Edges};
-
-    // the file of a log
-    type Log: WriteWhole + Drop;
 
     // what is known of addresses, connections, folders and logs
     ghost edges: { Self → Edges };
@@ -34,7 +30,7 @@ pub trait System {
     /// Opens the file at a path for lines at its end, and makes it if there is none.
     ///
     /// Fails if it can't be opened, or is a pipe, which would wait for a reader.
-    fn open_log(&self, path: &str) -> io::Result<Self::Log>
+    fn open_log(&self, path: &str) -> io::Result<File>
         ensures { IfOk result (λ _. (edges self.now).logs path.now) };
 
     /// Whether there is a folder at a path, which may be empty.
@@ -59,12 +55,24 @@ pub trait System {
             desk.old visits desk.new };
 }
 
-impl<R: Net<Listener = TcpListener, Stream = TcpStream> + Clock + Files + AllocGlobal> System
-    for R {
+/// A runtime's file, of which a log can be made.
+pub trait LogFile {
+    /// The file to write lines to; fails if it isn't one of the system's.
+    fn into_log(self) -> io::Result<File>;
+}
+
+impl LogFile for File {
+    fn into_log(self) -> io::Result<File> {
+        Ok(self)
+    }
+}
+
+impl<R: Net<Listener = TcpListener, Stream = TcpStream> + Clock + Files + AllocGlobal> System for R
+where
+    R::File: LogFile,
+{
     ghost use Rattle.std.specs.Prelude.{◌≡◌, ⊤, IfSome, true};
     ghost use Rattle.http_devices.specs.Names.{is_file_name};
-
-    type Log = R::File;
 
     // a size and bytes are those of a file of the folder
     ghost edges = { λ _. record {
@@ -80,7 +88,7 @@ impl<R: Net<Listener = TcpListener, Stream = TcpStream> + Clock + Files + AllocG
         self.listen(address)
     }
 
-    fn open_log(&self, path: &str) -> io::Result<R::File> {
+    fn open_log(&self, path: &str) -> io::Result<File> {
         if let Ok(found) = self.metadata(path) {
             if found.file_type().is_fifo() {
                 return Err(io::Error::from(ErrorKind::InvalidInput));
@@ -88,7 +96,7 @@ impl<R: Net<Listener = TcpListener, Stream = TcpStream> + Clock + Files + AllocG
         }
         let mut options = OpenOptions::new();
         options.append(true).create(true);
-        options.open(self, path)
+        options.open(self, path)?.into_log()
     }
 
     fn has_folder(&self, path: &str) -> bool {

@@ -5,8 +5,8 @@ pub returns-clause-hosted : goal.returns-clause-hosted
 returns-clause-hosted g c = inl (record {
   place = c.in-Ok.place;
   placed = c.in-Ok.ensures;
-  ended = c.serve_service-ended.result;
-  serves = c.serve_service-ended.ensures.serves;
-  logged = c.serve_service-ended.ensures.logged;
+  ended = c.serve-ended.result;
+  serves = c.serve-ended.ensures.serves;
+  logged = c.serve-ended.ensures.logged;
   ends = c.end_of.ensures;
 })

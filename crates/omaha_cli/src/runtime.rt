@@ -1,0 +1,26 @@
+// What a run needs of its runtime.
+
+use omaha_client::Connector;
+use omaha_server::System;
+use package_files::Folders;
+use std::sync::Wait;
+use std::thread::Threads;
+use std::time::Clock;
+use streams::Disk;
+
+/// What `run` needs of its runtime, for callers that are generic over it.
+///
+/// Such a caller has this bound and not those that the traits are implemented by, as `Net` and `Files`: the borrow
+/// checker follows a runtime to other threads by its own bounds.
+pub trait Runtime: Disk
+    + Folders
+    + System
+    + Clock
+    + Connector
+    + AllocGlobal
+    + Threads
+    + Sync
+    + Wait {}
+
+impl<R: Disk + Folders + System + Clock + Connector + AllocGlobal + Threads + Sync + Wait> Runtime
+    for R {}
