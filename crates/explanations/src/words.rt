@@ -1,6 +1,6 @@
 // What there is to say of other words.
 
-pub(crate) const WORDS: [(&str, &str); 7] = [
+pub(crate) const WORDS: [(&str, &str); 10] = [
     (
         "edit",
         "edit N: CODE
@@ -27,6 +27,33 @@ Found in: an address of the command line.
 The server can't listen on the address, or may not open two more files, for a connection and a package.
 Usual cause: No address and port, a port in use, or one below 1024 without the right to it.
 Remedy: Try another port, or `ss -ltn` to see who has it; see that `ulimit -n` is above 8.
+",
+    ),
+    (
+        "place",
+        "no place
+Found in: the views of the editions.
+There is no place among the readers of the published editions for each worker.
+Usual cause: None; the program asks for as many places as it makes room for.
+Remedy: Start it anew, and report it.
+",
+    ),
+    (
+        "closed",
+        "closed
+Found in: the view of the edition.
+The command `once` found no published edition to reply from.
+Usual cause: None; the edition is published before the request is read.
+Remedy: Start it anew, and report it.
+",
+    ),
+    (
+        "thread",
+        "thread
+Found in: the workers of a server.
+A worker's thread could not be started; no connection was accepted.
+Usual cause: A limit of threads or of memory, as `ulimit -u`, or `TasksMax=` of a unit.
+Remedy: Raise the limit, or serve with fewer workers.
 ",
     ),
     (

@@ -1,12 +1,13 @@
 // What mirrors grant to the apps of one request.
 
-use crate::ending::{ends, replied};
+use crate::ending::replied;
 use crate::shelf::Shelf;
 use crate::staged::SHARED;
 use omaha_cli::{Service, answer, read_service};
 use std::alloc::{AllocError, Global};
 use std::str;
 use std::sync::Wait;
+use std::thread::Threads;
 
 // The profile of the app `demo` with these keys, whose client at 1.0 is offered 1600 bytes.
 macro_rules! profile {
@@ -28,7 +29,8 @@ release = [
     };
 }
 
-const SCARCE: &str = profile!(
+/// The profile over two mirrors whose budgets are less than that.
+pub(crate) const SCARCE: &str = profile!(
     r#"
 mirror = [
     { name = "m0", codebase = "http://m0.example/p/", budget = 100 },
@@ -37,7 +39,8 @@ mirror = [
 "#
 );
 
-const ENOUGH: &str = profile!(
+/// The same over two mirrors of which only the second has enough.
+pub(crate) const ENOUGH: &str = profile!(
     r#"
 mirror = [
     { name = "m0", codebase = "http://m0.example/p/", budget = 1599 },
@@ -47,8 +50,6 @@ mirror = [
 );
 
 const MIRRORLESS: &str = profile!("");
-
-const FILES: [(&str, &str); 2] = [("scarce.toml", SCARCE), ("enough.toml", ENOUGH)];
 
 const BUSY: &str = concat!(
     ")]}'\n",
@@ -70,12 +71,12 @@ const SECOND: &str = concat!(
 
 #[test]
 fn counts_the_budgets_of_the_profile(rt: HostRuntime) {
-    let shelf = Shelf::new(rt, FILES.as_slice());
+    let shelf = Shelf::new(rt);
     let rt = &shelf.rt;
     let words = ["once", "--profile", "scarce.toml"];
-    assert!(rt; ends(&shelf, &words, SHARED, replied(BUSY)));
+    assert!(rt; shelf.ends(&words, SHARED, replied(BUSY)));
     let words = ["once", "--profile", "enough.toml"];
-    assert!(rt; ends(&shelf, &words, SHARED, replied(SECOND)));
+    assert!(rt; shelf.ends(&words, SHARED, replied(SECOND)));
 }
 
 fn profile_of(alloc: Global, budgets: &str) -> Result<String, AllocError> {
@@ -89,9 +90,9 @@ fn profile_of(alloc: Global, budgets: &str) -> Result<String, AllocError> {
     Ok(profile)
 }
 
-fn service_of(alloc: Global, budgets: &str) -> Option<Service> {
+fn service_of<R: Threads + Sync>(rt: &R, alloc: Global, budgets: &str) -> Option<Service> {
     let profile = profile_of(alloc, budgets).ok()?;
-    read_service(alloc, profile.as_str().as_bytes()).ok()
+    read_service(rt, alloc, profile.as_str().as_bytes(), 1).ok()
 }
 
 // A client at 1.0.
@@ -143,14 +144,26 @@ fn counts_in(alloc: Global, reply: &str, mirrors: usize) -> Result<String, Alloc
 }
 
 // The reply to so many clients over mirrors of these budgets.
-fn reply_over<R: Wait>(rt: &R, alloc: Global, budgets: &str, clients: usize) -> Option<Vec<u8>> {
+fn reply_over<R: Threads + Sync + Wait>(
+    rt: &R,
+    alloc: Global,
+    budgets: &str,
+    clients: usize,
+) -> Option<Vec<u8>> {
     let request = request_of(alloc, clients).ok()?;
-    let service = service_of(alloc, budgets)?;
-    answer(rt, alloc, service, 0, request.as_str().as_bytes()).ok()
+    let service = service_of(rt, alloc, budgets)?;
+    answer(rt, alloc, service, 0, request.as_str().as_bytes())
+        .ok()?
+        .ok()
 }
 
 // What the clients of a row get over its budgets.
-fn counts_over<R: Wait>(rt: &R, alloc: Global, budgets: &str, clients: usize) -> Option<String> {
+fn counts_over<R: Threads + Sync + Wait>(
+    rt: &R,
+    alloc: Global,
+    budgets: &str,
+    clients: usize,
+) -> Option<String> {
     let reply = reply_over(rt, alloc, budgets, clients)?;
     let text = str::from_utf8(&reply).ok()?;
     let mirrors = (count_of(budgets, " ") as usize).saturating_add(1);
@@ -174,7 +187,7 @@ const ROWS: &str = "1000000|1| 1, 0
 256000 153600|256| 160 96, 0";
 
 // Whether the clients of a row get what it says.
-fn is_granted<R: Wait>(rt: &R, alloc: Global, row: &str) -> Option<bool> {
+fn is_granted<R: Threads + Sync + Wait>(rt: &R, alloc: Global, row: &str) -> Option<bool> {
     let (budgets, others) = row.split_once('|')?;
     let (clients, wanted) = others.split_once('|')?;
     let line = counts_over(rt, alloc, budgets, clients.parse().unwrap_or(0))?;

@@ -1,45 +1,25 @@
 use crate::devices::Breaks;
-use crate::ending::{ends, ends_over, failed, replied, shows};
+use crate::ending::{failed, replied};
 use crate::offers::OLD;
-use crate::runs::ends_as_wanted;
 use crate::shelf::Shelf;
-use crate::staged::{
-    BETA, DATED, HELD, HINTED, LAST_DATED, SHARED, STAGED, TARGET, UNRELEASED, WAITING,
-};
+use crate::staged::{BETA, DATED, HELD, HINTED, LAST_DATED, SHARED, TARGET, WAITING};
 use std::io::ErrorKind;
-
-const FILES: [(&str, &str); 7] = [
-    ("staged.toml", STAGED),
-    ("unreleased.toml", UNRELEASED),
-    ("empty.toml", ""),
-    ("broken.toml", "schema ="),
-    ("keyless.toml", "schema = 1\nmirror = [{}]"),
-    ("mirrorless.toml", "schema = 1\nmirror = []"),
-    (
-        "unslashed.toml",
-        "schema = 1\nmirror = [{ name = \"m0\", codebase = \"http://m0.example/p\", budget = 1 }]",
-    ),
-];
-
-fn shelf<R: AllocGlobal>(rt: R) -> Shelf<R> {
-    Shelf::new(rt, FILES.as_slice())
-}
 
 #[test]
 fn serves_each_stage(rt: HostRuntime) {
-    let shelf = shelf(rt);
+    let shelf = Shelf::new(rt);
     let rt = &shelf.rt;
     let words = ["once", "--profile", "staged.toml"];
     let rows = [(SHARED, TARGET), (HELD, WAITING), (HINTED, BETA)];
     for (request, reply) in rows {
-        assert!(rt; ends(&shelf, &words, request, replied(reply)), "{request}");
+        assert!(rt; shelf.ends(&words, request, replied(reply)), "{request}");
     }
 }
 
 // rule: Arguments of the command line
 #[test]
 fn replies_at_the_given_time(rt: HostRuntime) {
-    let shelf = shelf(rt);
+    let shelf = Shelf::new(rt);
     let rt = &shelf.rt;
     let rows = [
         ("1767229261", DATED),
@@ -51,7 +31,7 @@ fn replies_at_the_given_time(rt: HostRuntime) {
     ];
     for (moment, reply) in rows {
         let words = ["once", "--moment", moment, "--profile=staged.toml"];
-        assert!(rt; ends(&shelf, &words, SHARED, replied(reply)), "{moment}");
+        assert!(rt; shelf.ends(&words, SHARED, replied(reply)), "{moment}");
     }
 }
 
@@ -101,17 +81,17 @@ const PROFILES: &str = "1_omaha:_file_nowhere.toml~ | once --profile nowhere.tom
 // rule: Shown string
 #[test]
 fn reports_what_is_wrong_with_the_profile(rt: HostRuntime) {
-    let shelf = shelf(rt);
+    let shelf = Shelf::new(rt);
     let rt = &shelf.rt;
     for row in PROFILES.lines() {
-        assert!(rt; ends_as_wanted(&shelf, row) == Some(true), "{row}");
+        assert!(rt; shelf.ends_as_wanted(row) == Some(true), "{row}");
     }
 }
 
 // A row is an invalid profile, and its line. The request is one that the built-in catalogue has an offer for.
 #[test]
 fn replies_from_no_other_catalogue_than_the_profile(rt: HostRuntime) {
-    let shelf = shelf(rt);
+    let shelf = Shelf::new(rt);
     let rt = &shelf.rt;
     let rows = [
         ("broken.toml", "omaha: F1 NotToml\n"),
@@ -120,7 +100,7 @@ fn replies_from_no_other_catalogue_than_the_profile(rt: HostRuntime) {
     ];
     for (profile, line) in rows {
         let words = ["once", "--profile", profile];
-        assert!(rt; ends(&shelf, &words, OLD, failed(line)), "{profile}");
+        assert!(rt; shelf.ends(&words, OLD, failed(line)), "{profile}");
     }
 }
 
@@ -133,18 +113,18 @@ fn reads_the_profile_before_an_input_that_fails(rt: HostRuntime) {
     };
     let words = ["once", "--profile", "broken.toml"];
     let wanted = failed("omaha: F1 NotToml\n");
-    let shelf = shelf(rt);
+    let shelf = Shelf::new(rt);
     let rt = &shelf.rt;
-    assert!(rt; ends_over(&shelf, &words, &mut reader, wanted));
+    assert!(rt; shelf.ends_over(&words, &mut reader, wanted));
 }
 
 #[test]
 fn reports_the_request_after_a_valid_profile(rt: HostRuntime) {
     let words = ["once", "--profile", "staged.toml"];
     let wanted = failed("omaha: J1 NotJson\n");
-    let shelf = shelf(rt);
+    let shelf = Shelf::new(rt);
     let rt = &shelf.rt;
-    assert!(rt; ends(&shelf, &words, "{", wanted));
+    assert!(rt; shelf.ends(&words, "{", wanted));
 }
 
 // Invalid arguments, and the beginning of the message: nothing is read or written.
@@ -164,9 +144,12 @@ const MISTAKES: &str =
 2_error:_unrecognized_subcommand_'a%C2%9Bb'~ | a\u{9b}b
 2_error:_unexpected_argument_'%1B[31m'_found~ | once \u{1b}[31m
 2_error:_the_following_required_arguments_were_not_provided:~ | serve --profile staged.toml
-2_error:_K_is_a_decimal_number | serve --profile a --packages b --listen c --sessions +5
-2_error:_K_is_a_decimal_number | serve --profile a --packages b --listen c --timeout 0
-2_error:_K_is_a_decimal_number | serve --profile a --packages b --listen c --timeout 86401
+2_error:_N_is_a_decimal_number | serve --profile a --packages b --listen c --sessions +5
+2_error:_N_is_a_decimal_number | serve --profile a --packages b --listen c --timeout 0
+2_error:_N_is_a_decimal_number | serve --profile a --packages b --listen c --workers 0
+2_error:_N_is_a_decimal_number | serve --profile a --packages b --listen c --workers 9
+2_error:_N_is_a_decimal_number | serve --profile a --packages b --listen c --operator d --edits=-1
+2_error:_N_is_a_decimal_number | serve --profile a --packages b --listen c --timeout 86401
 2_error:_A_is_an_identifier | walk --to a --app ^ --version 1.0
 2_error:_the_following_required_arguments_were_not_provided:~ | walk --to a --app mini
 2_error:_the_following_required_arguments_were_not_provided:~ | describe
@@ -175,21 +158,22 @@ const MISTAKES: &str =
 2_error:_unexpected_argument_'staged.toml'_found~ | once staged.toml
 2_error:_a_value_is_required_for_'--profile_<F>' | once --profile";
 
+// rule: Number of workers
 // rule: Options of the server
 // rule: Rejected arguments
 // rule: Status of the program
 #[test]
 fn accepts_no_other_arguments(rt: HostRuntime) {
-    let shelf = shelf(rt);
+    let shelf = Shelf::new(rt);
     let rt = &shelf.rt;
     for row in MISTAKES.lines() {
-        assert!(rt; ends_as_wanted(&shelf, row) == Some(true), "{row}");
+        assert!(rt; shelf.ends_as_wanted(row) == Some(true), "{row}");
     }
 }
 
 #[test]
 fn prints_help_and_version(rt: HostRuntime) {
-    let shelf = shelf(rt);
+    let shelf = Shelf::new(rt);
     let rt = &shelf.rt;
     let rows = [
         ("--help", "Usage: omaha [COMMAND]\n"),
@@ -200,13 +184,13 @@ fn prints_help_and_version(rt: HostRuntime) {
         ("certify --help", "demo stable target no"),
         ("verify --help", "omaha: wrong 2.0 C3"),
         ("explain --help", "[CODE]"),
-        ("serve --help", "--listen 127.0.0.1:8080\n"),
+        ("serve --help", "--operator 127.0.0.1:8081 --workers 4\n"),
         ("describe --help", "<FILE>"),
         ("walk --help", "U8 Busy"),
         ("--version", "omaha 0.2.0\n"),
         ("-V", "omaha 0.2.0\n"),
     ];
     for (words, text) in rows {
-        assert!(rt; shows(&shelf, words, text), "{words}");
+        assert!(rt; shelf.shows(words, text), "{words}");
     }
 }

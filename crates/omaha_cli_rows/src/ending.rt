@@ -1,14 +1,10 @@
 // How a run ends.
 
 use crate::runs::arguments;
-use omaha_cli::run;
+use omaha_cli::{Runtime, run};
 use std::alloc::{AllocError, Global};
 use std::io::Read;
-use std::net::{Net, TcpListener, TcpStream};
-use std::rt::Files;
 use std::str;
-use std::sync::Wait;
-use std::time::Clock;
 
 /// What a run writes, what it reports, and its status.
 #[derive(Clone, Copy, Drop)]
@@ -46,10 +42,12 @@ fn strings(alloc: Global, words: &[&str]) -> Result<Vec<String>, AllocError> {
 }
 
 // Whether a run ends so by its arguments and its reader.
-fn runs_so<
-    R: Net<Listener = TcpListener, Stream = TcpStream> + Clock + Files + Wait + AllocGlobal,
-    I: Read,
->(files: &R, words: &[String], reader: &mut I, wanted: Ending<'_>) -> bool {
+fn runs_so<R: Runtime, I: Read>(
+    files: &R,
+    words: &[String],
+    reader: &mut I,
+    wanted: Ending<'_>,
+) -> bool {
     let mut written = Vec::new(files.alloc());
     let mut told = Vec::new(files.alloc());
     let status = run(files, words, reader, &mut written, &mut told);
@@ -59,10 +57,12 @@ fn runs_so<
 }
 
 /// Whether a run ends so by its arguments and its reader.
-pub(crate) fn ends_over<
-    R: Net<Listener = TcpListener, Stream = TcpStream> + Clock + Files + Wait + AllocGlobal,
-    I: Read,
->(files: &R, words: &[&str], reader: &mut I, wanted: Ending<'_>) -> bool {
+pub(crate) fn ends_over<R: Runtime, I: Read>(
+    files: &R,
+    words: &[&str],
+    reader: &mut I,
+    wanted: Ending<'_>,
+) -> bool {
     match strings(files.alloc(), words) {
         Ok(words) => runs_so(files, &words, reader, wanted),
         Err(_) => false,
@@ -70,9 +70,7 @@ pub(crate) fn ends_over<
 }
 
 /// Whether a run ends so by its arguments and its input.
-pub(crate) fn ends<
-    R: Net<Listener = TcpListener, Stream = TcpStream> + Clock + Files + Wait + AllocGlobal,
->(files: &R, words: &[&str], input: &str, wanted: Ending<'_>) -> bool {
+pub(crate) fn ends<R: Runtime>(files: &R, words: &[&str], input: &str, wanted: Ending<'_>) -> bool {
     ends_over(files, words, &mut input.as_bytes(), wanted)
 }
 
@@ -83,9 +81,7 @@ fn has_string(bytes: &[u8], text: &str) -> bool {
 }
 
 // Whether a run writes help that has the string, and reports nothing.
-fn writes_string<
-    R: Net<Listener = TcpListener, Stream = TcpStream> + Clock + Files + Wait + AllocGlobal,
->(files: &R, words: &[String], text: &str) -> bool {
+fn writes_string<R: Runtime>(files: &R, words: &[String], text: &str) -> bool {
     let mut reader = b"{".as_slice();
     let mut written = Vec::new(files.alloc());
     let mut told = Vec::new(files.alloc());
@@ -94,9 +90,7 @@ fn writes_string<
 }
 
 /// Whether arguments, with a space between two, ask for help that has the string, in lines of at most 100 columns.
-pub(crate) fn shows<
-    R: Net<Listener = TcpListener, Stream = TcpStream> + Clock + Files + Wait + AllocGlobal,
->(files: &R, words: &str, text: &str) -> bool {
+pub(crate) fn shows<R: Runtime>(files: &R, words: &str, text: &str) -> bool {
     match arguments(files.alloc(), words) {
         Ok(words) => writes_string(files, &words, text),
         Err(_) => false,

@@ -1,14 +1,14 @@
 // The command `explain`: every code that the program prints has its explanation.
 
-use crate::ending::{ends, failed, replied};
-use crate::report_tests::shelf;
+use crate::ending::{failed, replied};
+use crate::shelf::Shelf;
 use catalogue::Fault;
 use explanations::{explain, list};
 use omaha_cli::Failure;
 use omaha_json::RequestFault;
 use package_files::DescribeError;
+use price_certificates::Fault as CertificateFault;
 use profile_toml::ProfileFault;
-use reports::CertificateError;
 use std::alloc::{AllocError, Global};
 use std::test::Fail;
 use update_client::Fault as WalkFault;
@@ -112,7 +112,7 @@ fn plain(place: usize) -> Failure {
         8 => Failure::Request(RequestFault::BadProtocol),
         9 => Failure::Request(RequestFault::BadApp { index: 0 }),
         10 => Failure::Request(RequestFault::TooManyApps),
-        11 => Failure::Certificate(CertificateError::NoTrack),
+        11 => Failure::Certificate(CertificateFault::NoTrack),
         12 => Failure::Packages(1),
         13 => Failure::Memory,
         _ => Failure::Write,
@@ -157,17 +157,10 @@ Remedy: Write the certificate anew by `omaha certify`.
 #[test]
 fn explains_and_lists(rt: HostRuntime) -> Result<(), Fail> {
     let all = list(rt.alloc())?;
-    let shelf = shelf(rt);
+    let shelf = Shelf::new(rt);
     let rt = &shelf.rt;
-    assert!(rt; ends(&shelf, &["explain", "P1"], "{", replied(FIRST_CODE)));
-    assert!(rt; ends(&shelf, &["explain"], "{", replied(all.as_str())));
-    assert!(rt;
-        ends(
-            &shelf,
-            &["explain", "C18"],
-            "{",
-            failed("omaha: no code C18\n")
-        )
-    );
+    assert!(rt; shelf.ends(&["explain", "P1"], "{", replied(FIRST_CODE)));
+    assert!(rt; shelf.ends(&["explain"], "{", replied(all.as_str())));
+    assert!(rt; shelf.ends(&["explain", "C18"], "{", failed("omaha: no code C18\n")));
     Ok(())
 }

@@ -1,17 +1,18 @@
 use crate::devices::{Blank, Breaks, Full};
-use crate::ending::{Ending, ends_over, failed, replied};
+use crate::ending::{Ending, failed, replied};
 use crate::offers::{OFFER, OLD};
+use crate::shelf::Shelf;
 use omaha_cli::{report_unreadable, run};
 use std::alloc::Global;
 use std::io;
 use std::io::{ErrorKind, Read};
-use std::net::{Net, TcpListener, TcpStream};
-use std::rt::Files;
 use std::sync::Wait;
-use std::time::Clock;
+use std::thread::Threads;
 
 #[test]
 fn rejects_an_input_that_breaks_off(rt: HostRuntime) {
+    let shelf = Shelf::new(rt);
+    let rt = &shelf.rt;
     let rows = [
         (ErrorKind::ConnectionReset, "omaha: read\n"),
         (ErrorKind::OutOfMemory, "omaha: memory\n"),
@@ -20,7 +21,7 @@ fn rejects_an_input_that_breaks_off(rt: HostRuntime) {
         for left in [0, 1, 40] {
             let mut reader = Breaks { left, kind };
             assert!(rt;
-                ends_over(&rt, &[], &mut reader, failed(line)),
+                shelf.ends_over(&[], &mut reader, failed(line)),
                 "{left} bytes"
             );
         }
@@ -28,36 +29,38 @@ fn rejects_an_input_that_breaks_off(rt: HostRuntime) {
 }
 
 // Whether a run over a request with so many spaces after it ends so.
-fn ends_after_spaces<
-    R: Net<Listener = TcpListener, Stream = TcpStream> + Clock + Files + Wait + AllocGlobal,
->(rt: &R, left: usize, wanted: Ending<'_>) -> bool {
-    ends_over(rt, &[], &mut OLD.as_bytes().chain(Blank { left }), wanted)
+fn ends_after_spaces<R: Threads + Sync + Wait>(
+    shelf: &Shelf<R>,
+    left: usize,
+    wanted: Ending<'_>,
+) -> bool {
+    shelf.ends_over(&[], &mut OLD.as_bytes().chain(Blank { left }), wanted)
 }
 
 // rule: Maximum of the input
 // rule: Reading up to a maximum
 #[test]
 fn rejects_an_input_that_is_too_long(rt: HostRuntime) {
+    let shelf = Shelf::new(rt);
+    let rt = &shelf.rt;
     let rows = [(262144, "omaha: J1 NotJson\n"), (262145, "omaha: read\n")];
     for (left, line) in rows {
         assert!(rt;
-            ends_over(&rt, &[], &mut Blank { left }, failed(line)),
+            shelf.ends_over(&[], &mut Blank { left }, failed(line)),
             "{left} bytes"
         );
     }
     let left = 262144 - OLD.len();
-    assert!(rt; ends_after_spaces(&rt, left, replied(OFFER)));
-    assert!(rt; ends_after_spaces(&rt, left + 1, failed("omaha: read\n")));
+    assert!(rt; ends_after_spaces(&shelf, left, replied(OFFER)));
+    assert!(rt; ends_after_spaces(&shelf, left + 1, failed("omaha: read\n")));
 }
 
 // Whether a run reports that it couldn't write its reply to a writer that takes so many bytes.
-fn reports_write<
-    R: Net<Listener = TcpListener, Stream = TcpStream> + Clock + Files + Wait + AllocGlobal,
->(rt: &R, left: usize) -> bool {
-    let words = Vec::new(rt.alloc());
-    let mut told = Vec::new(rt.alloc());
+fn reports_write<R: Threads + Sync + Wait>(shelf: &Shelf<R>, left: usize) -> bool {
+    let words = Vec::new(shelf.alloc());
+    let mut told = Vec::new(shelf.alloc());
     let status = run(
-        rt,
+        shelf,
         &words,
         &mut OLD.as_bytes(),
         &mut Full { left },
@@ -69,8 +72,10 @@ fn reports_write<
 // rule: Writing whole
 #[test]
 fn reports_that_a_reply_was_not_written(rt: HostRuntime) {
+    let shelf = Shelf::new(rt);
+    let rt = &shelf.rt;
     for left in 0..OFFER.len() {
-        assert!(rt; reports_write(&rt, left), "{left} bytes");
+        assert!(rt; reports_write(&shelf, left), "{left} bytes");
     }
 }
 

@@ -1,11 +1,9 @@
 // The commands `check` with a folder of packages, and `describe`.
 
 use crate::ending::{Ending, ends, failed, replied};
-use std::net::{Net, TcpListener, TcpStream};
+use omaha_cli::Runtime;
 use std::rt::Files;
-use std::sync::Wait;
 use std::test::Fail;
-use std::time::Clock;
 use std::{env, fs, io, process};
 
 const PROFILE: &str = r#"schema = 1
@@ -86,7 +84,7 @@ fn make_folder(rt: &HostRuntime, end: &str) -> Option<String> {
 }
 
 // Whether `check` ends so with a profile of a folder and the packages of another.
-fn checks<R: Net<Listener = TcpListener, Stream = TcpStream> + Clock + Files + Wait + AllocGlobal>(
+fn checks<R: Runtime>(
     rt: &R,
     folder: &str,
     profile: &str,
@@ -124,9 +122,12 @@ fn compares_the_packages_of_a_profile(rt: HostRuntime) -> Result<(), Fail> {
 }
 
 // Whether `check` ends so with a profile of a folder and the packages of one that there isn't.
-fn checks_elsewhere<
-    R: Net<Listener = TcpListener, Stream = TcpStream> + Clock + Files + Wait + AllocGlobal,
->(rt: &R, folder: &str, profile: &str, wanted: Ending<'_>) -> Option<bool> {
+fn checks_elsewhere<R: Runtime>(
+    rt: &R,
+    folder: &str,
+    profile: &str,
+    wanted: Ending<'_>,
+) -> Option<bool> {
     let elsewhere = format!(in rt.alloc(); "{folder}/elsewhere").ok()?;
     checks(rt, folder, profile, elsewhere.as_str(), wanted)
 }
@@ -148,18 +149,19 @@ fn finds_no_package_in_another_folder(rt: HostRuntime) -> Result<(), Fail> {
 }
 
 // Whether `describe` of a folder's first package ends so.
-fn describes<
-    R: Net<Listener = TcpListener, Stream = TcpStream> + Clock + Files + Wait + AllocGlobal,
->(rt: &R, folder: &str) -> Option<bool> {
+fn describes<R: Runtime>(rt: &R, folder: &str) -> Option<bool> {
     let first = format!(in rt.alloc(); "{folder}/mini-1.0.bin").ok()?;
     let words = ["describe", first.as_str()];
     Some(ends(rt, &words, "{", replied(FIRST_LINES)))
 }
 
 // Whether `describe` of a folder's first package and another file ends so.
-fn describes_both<
-    R: Net<Listener = TcpListener, Stream = TcpStream> + Clock + Files + Wait + AllocGlobal,
->(rt: &R, folder: &str, second: &str, wanted: Ending<'_>) -> Option<bool> {
+fn describes_both<R: Runtime>(
+    rt: &R,
+    folder: &str,
+    second: &str,
+    wanted: Ending<'_>,
+) -> Option<bool> {
     let first = format!(in rt.alloc(); "{folder}/mini-1.0.bin").ok()?;
     let second = format!(in rt.alloc(); "{folder}/{second}").ok()?;
     let words = ["describe", first.as_str(), second.as_str()];
@@ -167,9 +169,7 @@ fn describes_both<
 }
 
 // Whether `describe` reports that a folder has no such file.
-fn describes_no_file<
-    R: Net<Listener = TcpListener, Stream = TcpStream> + Clock + Files + Wait + AllocGlobal,
->(rt: &R, folder: &str) -> Option<bool> {
+fn describes_no_file<R: Runtime>(rt: &R, folder: &str) -> Option<bool> {
     let line = format!(in rt.alloc(); "omaha: file {folder}/none.bin: missing\n").ok()?;
     describes_both(rt, folder, "none.bin", failed(line.as_str()))
 }

@@ -1,29 +1,8 @@
 // The commands `check`, `certify` and `verify`.
 
-use crate::chained::{
-    BETA, CHAINED, ELSEWHERE, HELD_BETA, OF_NONE, STABLE, TOO_LOW, UNKNOWN, UNPRICED, ZERO_FIRST,
-};
-use crate::ending::{ends, replied};
-use crate::runs::ends_as_wanted;
+use crate::chained::{BETA, STABLE};
+use crate::ending::replied;
 use crate::shelf::Shelf;
-
-const FILES: [(&str, &str); 10] = [
-    ("chained.toml", CHAINED),
-    ("unknown.toml", UNKNOWN),
-    ("stable.prices", STABLE),
-    ("too-low.prices", TOO_LOW),
-    ("unpriced.prices", UNPRICED),
-    ("zero-first.prices", ZERO_FIRST),
-    ("elsewhere.prices", ELSEWHERE),
-    ("of-none.prices", OF_NONE),
-    ("beta.prices", BETA),
-    ("held-beta.prices", HELD_BETA),
-];
-
-/// The files of the tests of reports.
-pub(crate) fn shelf<R: AllocGlobal>(rt: R) -> Shelf<R> {
-    Shelf::new(rt, FILES.as_slice())
-}
 
 // rule: Arguments of a report
 // rule: Certificate of a named track
@@ -32,10 +11,18 @@ pub(crate) fn shelf<R: AllocGlobal>(rt: R) -> Shelf<R> {
 // rule: Summary of an edition
 #[test]
 fn reports_on_a_profile(rt: HostRuntime) {
-    let shelf = shelf(rt);
-    let rows: [(&[&str], &str); 5] = [
+    let shelf = Shelf::new(rt);
+    let rows: [(&[&str], &str); 7] = [
         (
             &["check", "chained.toml"],
+            "edition 1: 1 apps, 4 releases, 5 differentials, 2 cohorts, 4 tables\n",
+        ),
+        (
+            &["check", "chained.toml", "--workers", "1"],
+            "edition 1: 1 apps, 4 releases, 5 differentials, 2 cohorts, 4 tables\n",
+        ),
+        (
+            &["check", "--workers=8", "chained.toml"],
             "edition 1: 1 apps, 4 releases, 5 differentials, 2 cohorts, 4 tables\n",
         ),
         (
@@ -51,7 +38,7 @@ fn reports_on_a_profile(rt: HostRuntime) {
     ];
     let rt = &shelf.rt;
     for (words, wanted) in rows {
-        assert!(rt; ends(&shelf, words, "{", replied(wanted)), "{wanted}");
+        assert!(rt; shelf.ends(words, "{", replied(wanted)), "{wanted}");
     }
 }
 
@@ -75,19 +62,26 @@ const FAILURES: &str = "1_omaha:_file_nowhere.toml~ | check nowhere.toml
 1_omaha:_P2_NotOfThisGraph_3~ | verify chained.toml of-none.prices
 1_omaha:_no_track~ | verify chained.toml held-beta.prices
 1_omaha:_P1_BadLine_1~ | verify chained.toml chained.toml
+1_omaha:_edit_12:_C11_UnknownRelease~ | check unknown.toml --workers 8
+2_error:_N_is_a_decimal_number_from_1_to_8 | check chained.toml --workers 0
+2_error:_N_is_a_decimal_number_from_1_to_8 | check chained.toml --workers 9
+2_error:_N_is_a_decimal_number_from_1_to_8 | check chained.toml --workers +1
+2_error:_N_is_a_decimal_number_from_1_to_8 | check chained.toml --packages p --workers 0
+2_error:_unexpected_argument_'--workers'_found~ | verify chained.toml stable.prices --workers 2
 2_error:_LANE_is | certify chained.toml demo stable targets no
 2_error:_LANE_is | certify chained.toml demo stable target nay
 2_error:_the_following_required_arguments_were_not_provided: | check
 2_error:_the_following_required_arguments_were_not_provided: | verify chained.toml";
 
-// rule: Printed error of a certificate
+// rule: Printed fault of a certificate
+// rule: Number of workers
 // rule: Table of a track
 // rule: Valid certificate
 #[test]
 fn reports_why_there_is_no_report(rt: HostRuntime) {
-    let shelf = shelf(rt);
+    let shelf = Shelf::new(rt);
     let rt = &shelf.rt;
     for row in FAILURES.lines() {
-        assert!(rt; ends_as_wanted(&shelf, row) == Some(true), "{row}");
+        assert!(rt; shelf.ends_as_wanted(row) == Some(true), "{row}");
     }
 }

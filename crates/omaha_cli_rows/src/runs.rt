@@ -1,12 +1,8 @@
 // Runs by rows of one string: `WANTED | ARGUMENTS`.
 
-use omaha_cli::run;
+use omaha_cli::{Runtime, run};
 use std::alloc::{AllocError, Global};
-use std::net::{Net, TcpListener, TcpStream};
-use std::rt::Files;
 use std::str;
-use std::sync::Wait;
-use std::time::Clock;
 
 // A string of a row: `_` is a space, `~` a line feed, and `^` is left out, so that `^` alone is empty.
 fn unescaped(alloc: Global, text: &str) -> Result<String, AllocError> {
@@ -46,9 +42,7 @@ fn is_printed(told: &[u8], wanted: &str) -> bool {
 
 // Whether a run over the input `{` reads and writes nothing, and ends as wanted: its status, and what it prints on
 // standard error.
-fn fails_so<
-    R: Net<Listener = TcpListener, Stream = TcpStream> + Clock + Files + Wait + AllocGlobal,
->(files: &R, words: &[String], wanted: &str) -> bool {
+fn fails_so<R: Runtime>(files: &R, words: &[String], wanted: &str) -> bool {
     let mut reader = b"{".as_slice();
     let mut written = Vec::new(files.alloc());
     let mut told = Vec::new(files.alloc());
@@ -61,11 +55,7 @@ fn fails_so<
 }
 
 // Whether a run ends as wanted.
-fn ends_as<R: Net<Listener = TcpListener, Stream = TcpStream> + Clock + Files + Wait + AllocGlobal>(
-    files: &R,
-    words: &str,
-    wanted: &str,
-) -> bool {
+fn ends_as<R: Runtime>(files: &R, words: &str, wanted: &str) -> bool {
     match arguments(files.alloc(), words) {
         Ok(words) => fails_so(files, &words, wanted),
         Err(_) => false,
@@ -74,9 +64,7 @@ fn ends_as<R: Net<Listener = TcpListener, Stream = TcpStream> + Clock + Files + 
 
 /// Whether a run ends as its row says, and reads and writes nothing: it prints the wanted line, and after it nothing
 /// or the usage.
-pub(crate) fn ends_as_wanted<
-    R: Net<Listener = TcpListener, Stream = TcpStream> + Clock + Files + Wait + AllocGlobal,
->(files: &R, row: &str) -> Option<bool> {
+pub(crate) fn ends_as_wanted<R: Runtime>(files: &R, row: &str) -> Option<bool> {
     let (wanted, words) = row.split_once(" | ")?;
     let wanted = unescaped(files.alloc(), wanted).ok()?;
     Some(ends_as(files, words, wanted.as_str()))

@@ -4,9 +4,10 @@ use omaha_cli::{Failure, Once, Service, answer, builtin_service, read_service, r
 use std::alloc::{AllocError, Global};
 use std::sync::Wait;
 use std::test::Fail;
+use std::thread::Threads;
 
 // Whether a service replies so to a request.
-fn replies_so<R: Wait>(
+fn replies_so<R: Threads + Sync + Wait>(
     rt: &R,
     alloc: Global,
     service: Service,
@@ -14,14 +15,14 @@ fn replies_so<R: Wait>(
     wanted: &str,
 ) -> bool {
     match answer(rt, alloc, service, 0, request.as_bytes()) {
-        Ok(reply) => reply.as_slice() == wanted.as_bytes(),
-        Err(_) => false,
+        Ok(Ok(reply)) => reply.as_slice() == wanted.as_bytes(),
+        _ => false,
     }
 }
 
 #[test]
 fn replies_from_a_profile(rt: HostRuntime) -> Result<(), Fail> {
-    let service = read_service(rt.alloc(), STAGED.as_bytes())?;
+    let service = read_service(&rt, rt.alloc(), STAGED.as_bytes(), 2)?;
     assert!(rt; replies_so(&rt, rt.alloc(), service, SHARED, TARGET));
     Ok(())
 }
@@ -35,16 +36,16 @@ fn replies_from_the_builtin_catalogue(rt: HostRuntime) -> Result<(), Fail> {
 }
 
 // What is wrong with a profile.
-fn fault_of(alloc: Global, profile: &str) -> Result<String, AllocError> {
-    match read_service(alloc, profile.as_bytes()) {
+fn fault_of<R: Threads + Sync>(rt: &R, alloc: Global, profile: &str) -> Result<String, AllocError> {
+    match read_service(rt, alloc, profile.as_bytes(), 1) {
         Ok(_) => String::from_str(alloc, "a service"),
         Err(failure) => format!(in alloc; "{failure}"),
     }
 }
 
 // Whether this is what is wrong with a profile.
-fn is_wrong(alloc: Global, profile: &str, wanted: &str) -> bool {
-    match fault_of(alloc, profile) {
+fn is_wrong<R: Threads + Sync>(rt: &R, alloc: Global, profile: &str, wanted: &str) -> bool {
+    match fault_of(rt, alloc, profile) {
         Ok(fault) => fault.as_str() == wanted,
         Err(_) => false,
     }
@@ -54,8 +55,8 @@ fn is_wrong(alloc: Global, profile: &str, wanted: &str) -> bool {
 // rule: Service of a profile
 #[test]
 fn makes_no_service_of_a_rejected_profile(rt: HostRuntime) {
-    assert!(rt; is_wrong(rt.alloc(), UNRELEASED, "edit 6: C11 UnknownRelease"));
-    assert!(rt; is_wrong(rt.alloc(), "schema = 3", "F2 BadSchema"));
+    assert!(rt; is_wrong(&rt, rt.alloc(), UNRELEASED, "edit 6: C11 UnknownRelease"));
+    assert!(rt; is_wrong(&rt, rt.alloc(), "schema = 3", "F2 BadSchema"));
 }
 
 #[test]

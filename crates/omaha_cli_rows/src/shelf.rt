@@ -1,48 +1,147 @@
 // Files in memory.
 
+use crate::budget_tests::{ENOUGH, SCARCE};
+use crate::chained::{
+    BETA, CHAINED, ELSEWHERE, HELD_BETA, OF_NONE, STABLE, TOO_LOW, UNKNOWN, UNPRICED, ZERO_FIRST,
+};
+use crate::ending::{Ending, ends_over, shows};
+use crate::runs::ends_as_wanted;
+use crate::staged::{STAGED, UNRELEASED};
+use omaha_cli::LogFile;
 use std::alloc::{Allocator, Global};
-use std::fs::{FileTimes, Metadata, OpenFile, OpenOptions, Permissions};
+use std::fs::{File, FileTimes, Metadata, OpenFile, OpenOptions, Permissions};
 use std::io;
 use std::io::{ErrorKind, Read, Seek, SeekFrom, Write};
 use std::net::{Net, SocketAddr, TcpListener, TcpStream};
 use std::rt::Files;
 use std::sync::Wait;
+use std::thread::Threads;
 use std::time::{Clock, Duration};
 
-/// The files that a run finds, each a path and what it holds; the path of one that can be opened,
-/// but not read; and that of one that is too large for memory. `/dev/zero` has no end, `p` is a folder, and `fifo` is
-/// no regular file. Locks are waited for as `rt` does. There is no network and no clock.
+// The files that a run finds, each a path and what it holds.
+const FILES: [(&str, &str); 19] = [
+    ("staged.toml", STAGED),
+    ("unreleased.toml", UNRELEASED),
+    ("empty.toml", ""),
+    ("broken.toml", "schema ="),
+    ("keyless.toml", "schema = 1\nmirror = [{}]"),
+    ("mirrorless.toml", "schema = 1\nmirror = []"),
+    (
+        "unslashed.toml",
+        "schema = 1\nmirror = [{ name = \"m0\", codebase = \"http://m0.example/p\", budget = 1 }]",
+    ),
+    ("scarce.toml", SCARCE),
+    ("enough.toml", ENOUGH),
+    ("chained.toml", CHAINED),
+    ("unknown.toml", UNKNOWN),
+    ("stable.prices", STABLE),
+    ("too-low.prices", TOO_LOW),
+    ("unpriced.prices", UNPRICED),
+    ("zero-first.prices", ZERO_FIRST),
+    ("elsewhere.prices", ELSEWHERE),
+    ("of-none.prices", OF_NONE),
+    ("beta.prices", BETA),
+    ("held-beta.prices", HELD_BETA),
+];
+
+// The path of a file that can be opened, but not read.
+const BROKEN: &str = "broken";
+
+// The path of a file that is too large for memory.
+const LARGE: &str = "large.toml";
+
+/// A runtime with files in memory alone.
+///
+/// `/dev/zero` has no end, `p` is a folder, and `fifo` is no regular file. Locks are waited for and threads started as
+/// `rt` does. There is no network and no clock. Neither it nor a `Page` has a reference: the bounds of a `Runtime` name
+/// no lifetime.
 #[derive(Drop)]
 pub(crate) struct Shelf<R> {
     pub(crate) rt: R,
     pub(crate) alloc: Global,
-    pub(crate) files: &'static [(&'static str, &'static str)],
-    pub(crate) broken: &'static str,
-    pub(crate) large: &'static str,
 }
 
 impl<R: AllocGlobal> Shelf<R> {
-    /// The shelf of these files; `broken` can't be read, and `large.toml` is too large for memory.
-    pub(crate) fn new(rt: R, files: &'static [(&'static str, &'static str)]) -> Shelf<R> {
+    /// The shelf over a runtime.
+    pub(crate) fn new(rt: R) -> Shelf<R> {
         Shelf {
             alloc: rt.alloc(),
             rt,
-            files,
-            broken: "broken",
-            large: "large.toml",
         }
+    }
+}
+
+// One instance of `Runtime` for each of these is less than one for each row.
+impl<R: Threads + Sync + Wait> Shelf<R> {
+    /// Whether a run over these files ends so by its arguments and its reader.
+    pub(crate) fn ends_over<I: Read>(
+        &self,
+        words: &[&str],
+        reader: &mut I,
+        wanted: Ending<'_>,
+    ) -> bool {
+        ends_over(self, words, reader, wanted)
+    }
+
+    /// Whether a run over these files ends so by its arguments and its input.
+    pub(crate) fn ends(&self, words: &[&str], input: &str, wanted: Ending<'_>) -> bool {
+        self.ends_over(words, &mut input.as_bytes(), wanted)
+    }
+
+    /// Whether a run over these files ends as its row says, and reads and writes nothing.
+    pub(crate) fn ends_as_wanted(&self, row: &str) -> Option<bool> {
+        ends_as_wanted(self, row)
+    }
+
+    /// Whether arguments, with a space between two, ask for help that has the string.
+    pub(crate) fn shows(&self, words: &str, text: &str) -> bool {
+        shows(self, words, text)
     }
 }
 
 /// A file that is read, fails, or has no end.
 #[derive(Drop)]
 pub(crate) struct Page {
-    left: &'static [u8],
+    // Its index among the files; of an empty file there is none.
+    place: usize,
+    // How many of its bytes were read.
+    done: usize,
     is_broken: bool,
     is_endless: bool,
 }
 
+impl Page {
+    // A file without bytes.
+    fn empty() -> Page {
+        Page {
+            place: FILES.len(),
+            done: 0,
+            is_broken: false,
+            is_endless: false,
+        }
+    }
+
+    // The bytes that were not read yet.
+    fn left(&self) -> &'static [u8] {
+        match FILES.get(self.place) {
+            Some((_, text)) => {
+                let bytes = text.as_bytes();
+                &bytes[self.done.min(bytes.len())..]
+            }
+            None => b"".as_slice(),
+        }
+    }
+}
+
+impl LogFile for Page {
+    fn into_log(self) -> io::Result<File> {
+        unsupported()
+    }
+}
+
 impl<R: Wait> Wait for Shelf<R> {}
+
+impl<R: Threads> Threads for Shelf<R> {}
 
 impl<R> Net for Shelf<R> {
     type Stream = TcpStream;
@@ -87,38 +186,31 @@ impl<R> Files for Shelf<R> {
 
     fn open_file(&self, _how: &OpenOptions, path: &str) -> io::Result<Page> {
         let path = path.strip_prefix("./").unwrap_or(path);
-        if path == self.broken {
+        if path == BROKEN {
             return Ok(Page {
-                left: b"".as_slice(),
                 is_broken: true,
-                is_endless: false,
+                ..Page::empty()
             });
         }
         if path == "/dev/zero" {
             return Ok(Page {
-                left: b"".as_slice(),
-                is_broken: false,
                 is_endless: true,
+                ..Page::empty()
             });
         }
-        if path == self.large {
+        if path == LARGE {
             return Err(io::Error::from(ErrorKind::OutOfMemory));
         }
-        for (name, text) in self.files {
+        for (place, (name, _)) in FILES.iter().enumerate() {
             if path == *name {
                 return Ok(Page {
-                    left: text.as_bytes(),
-                    is_broken: false,
-                    is_endless: false,
+                    place,
+                    ..Page::empty()
                 });
             }
         }
         if path == "fifo" {
-            return Ok(Page {
-                left: b"".as_slice(),
-                is_broken: false,
-                is_endless: false,
-            });
+            return Ok(Page::empty());
         }
         Err(io::Error::from(ErrorKind::NotFound))
     }
@@ -131,13 +223,13 @@ impl<R> Files for Shelf<R> {
         if path == "p" || path == "fifo" {
             return Ok(Metadata::of_dir());
         }
-        if path == self.broken || path == "/dev/zero" {
+        if path == BROKEN || path == "/dev/zero" {
             return Ok(Metadata::of_file(0));
         }
-        if path == self.large {
+        if path == LARGE {
             return Err(io::Error::from(ErrorKind::OutOfMemory));
         }
-        for (name, text) in self.files {
+        for (name, text) in FILES.as_slice() {
             if path == *name {
                 return Ok(Metadata::of_file(text.len() as u64));
             }
@@ -148,7 +240,7 @@ impl<R> Files for Shelf<R> {
     // The same of a file of the folder `.`, where the one that can't be read may not be seen.
     fn symlink_metadata(&self, path: &str) -> io::Result<Metadata> {
         let path = path.strip_prefix("./").unwrap_or(path);
-        if path == self.broken {
+        if path == BROKEN {
             return Err(io::Error::from(ErrorKind::PermissionDenied));
         }
         self.metadata(path)
@@ -188,7 +280,9 @@ impl Read for Page {
             buf.fill(0);
             return Ok(buf.len());
         }
-        self.left.read(buf)
+        let count = self.left().read(buf)?;
+        self.done = self.done.saturating_add(count);
+        Ok(count)
     }
 }
 
@@ -210,7 +304,7 @@ impl Seek for Page {
 
 impl OpenFile for Page {
     fn metadata(&self) -> io::Result<Metadata> {
-        Ok(Metadata::of_file(self.left.len() as u64))
+        Ok(Metadata::of_file(self.left().len() as u64))
     }
 
     fn set_len(&self, _size: u64) -> io::Result<()> {

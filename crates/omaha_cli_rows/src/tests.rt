@@ -1,38 +1,47 @@
-use crate::ending::{Ending, ends, failed, replied};
+use crate::ending::{Ending, failed, replied};
 use crate::offers::{ACKNOWLEDGED, LATEST, NONE, OFFER, OLD, PINGS};
+use crate::shelf::Shelf;
 use std::alloc::{AllocError, Global};
-use std::net::{Net, TcpListener, TcpStream};
-use std::rt::Files;
 use std::sync::Wait;
 use std::test::Fail;
-use std::time::Clock;
+use std::thread::Threads;
 
 // Whether a run over the built-in catalogue ends so, without arguments and with `once`.
-fn replies_with<
-    R: Net<Listener = TcpListener, Stream = TcpStream> + Clock + Files + Wait + AllocGlobal,
->(rt: &R, input: &str, wanted: Ending<'_>) -> bool {
-    ends(rt, &[], input, wanted) && ends(rt, &["once"], input, wanted)
+fn replies_with<R: Threads + Sync + Wait>(
+    shelf: &Shelf<R>,
+    input: &str,
+    wanted: Ending<'_>,
+) -> bool {
+    shelf.ends(&[], input, wanted) && shelf.ends(&["once"], input, wanted)
 }
 
 #[test]
 fn offers_the_second_release(rt: HostRuntime) {
-    assert!(rt; replies_with(&rt, OLD, replied(OFFER)));
+    let shelf = Shelf::new(rt);
+    let rt = &shelf.rt;
+    assert!(rt; replies_with(&shelf, OLD, replied(OFFER)));
 }
 
 #[test]
 fn has_no_update_at_the_target(rt: HostRuntime) {
-    assert!(rt; replies_with(&rt, LATEST, replied(NONE)));
+    let shelf = Shelf::new(rt);
+    let rt = &shelf.rt;
+    assert!(rt; replies_with(&shelf, LATEST, replied(NONE)));
 }
 
 #[test]
 fn acknowledges_apps_in_order_as_they_are_spelled(rt: HostRuntime) {
-    assert!(rt; replies_with(&rt, PINGS, replied(ACKNOWLEDGED)));
+    let shelf = Shelf::new(rt);
+    let rt = &shelf.rt;
+    assert!(rt; replies_with(&shelf, PINGS, replied(ACKNOWLEDGED)));
 }
 
 // rule: Printed failure
 // rule: Status of the program
 #[test]
 fn fails_with_one_line(rt: HostRuntime) {
+    let shelf = Shelf::new(rt);
+    let rt = &shelf.rt;
     let rows = [
         ("", "omaha: J1 NotJson\n"),
         ("{", "omaha: J1 NotJson\n"),
@@ -47,7 +56,7 @@ fn fails_with_one_line(rt: HostRuntime) {
         ),
     ];
     for (input, line) in rows {
-        assert!(rt; replies_with(&rt, input, failed(line)), "{input}");
+        assert!(rt; replies_with(&shelf, input, failed(line)), "{input}");
     }
 }
 
@@ -63,7 +72,9 @@ fn too_many(alloc: Global) -> Result<String, AllocError> {
 
 #[test]
 fn rejects_257_apps(rt: HostRuntime) -> Result<(), Fail> {
+    let shelf = Shelf::new(rt);
+    let rt = &shelf.rt;
     let input = too_many(rt.alloc())?;
-    assert!(rt; replies_with(&rt, input.as_str(), failed("omaha: J5 TooManyApps\n")));
+    assert!(rt; replies_with(&shelf, input.as_str(), failed("omaha: J5 TooManyApps\n")));
     Ok(())
 }

@@ -16,6 +16,8 @@ mod message_tests;
 #[cfg(test)]
 mod narrow;
 #[cfg(test)]
+mod operator_tests;
+#[cfg(test)]
 mod site;
 #[cfg(test)]
 mod walk_tests;

@@ -1,13 +1,10 @@
 // A folder with a profile and its packages, an address of the loopback, and runs of the program over them.
 
 use crate::narrow::Narrow;
-use omaha_cli::run;
+use omaha_cli::{Runtime, run};
 use std::alloc::{AllocError, Global};
-use std::net::{Net, TcpListener, TcpStream};
-use std::rt::Files;
-use std::sync::Wait;
+use std::net::TcpListener;
 use std::test::Fail;
-use std::time::Clock;
 use std::{env, fs, io, process};
 
 // The profile, with HOST for the address.
@@ -55,8 +52,8 @@ pub(crate) struct Site {
     pub(crate) host: String,
 }
 
-// An address of the loopback that nobody listens on.
-fn free_host(rt: &HostRuntime) -> Result<String, Fail> {
+/// An address of the loopback that nobody listens on.
+pub(crate) fn free_host(rt: &HostRuntime) -> Result<String, Fail> {
     let listener = TcpListener::bind(rt, "127.0.0.1:0")?;
     Ok(format!(in rt.alloc(); "{}", listener.local_addr()?)?)
 }
@@ -111,9 +108,7 @@ fn strings(alloc: Global, words: &[&str]) -> Result<Vec<String>, AllocError> {
 }
 
 /// Runs the program with an output that takes so many bytes, and returns its status, its output and what it reports.
-pub(crate) fn run_within<
-    R: Net<Listener = TcpListener, Stream = TcpStream> + Clock + Files + Wait + AllocGlobal,
->(rt: &R, words: &[&str], left: usize) -> Option<String> {
+pub(crate) fn run_within<R: Runtime>(rt: &R, words: &[&str], left: usize) -> Option<String> {
     let alloc = rt.alloc();
     let words = strings(alloc, words).ok()?;
     let mut written = Narrow {
@@ -128,16 +123,12 @@ pub(crate) fn run_within<
 }
 
 /// Runs the program with an output that takes all bytes.
-pub(crate) fn run_program<
-    R: Net<Listener = TcpListener, Stream = TcpStream> + Clock + Files + Wait + AllocGlobal,
->(rt: &R, words: &[&str]) -> Option<String> {
+pub(crate) fn run_program<R: Runtime>(rt: &R, words: &[&str]) -> Option<String> {
     run_within(rt, words, usize::MAX)
 }
 
 /// Serves a site with more arguments.
-pub(crate) fn serve_with<
-    R: Net<Listener = TcpListener, Stream = TcpStream> + Clock + Files + Wait + AllocGlobal,
->(rt: &R, site: &Site, more: &[&str]) -> Option<String> {
+pub(crate) fn serve_with<R: Runtime>(rt: &R, site: &Site, more: &[&str]) -> Option<String> {
     let mut words = Vec::new(rt.alloc());
     let first = [
         "serve",
@@ -154,16 +145,17 @@ pub(crate) fn serve_with<
 }
 
 /// Serves so many sessions of a site.
-pub(crate) fn serve<
-    R: Net<Listener = TcpListener, Stream = TcpStream> + Clock + Files + Wait + AllocGlobal,
->(rt: &R, site: &Site, sessions: &str) -> Option<String> {
+pub(crate) fn serve<R: Runtime>(rt: &R, site: &Site, sessions: &str) -> Option<String> {
     serve_with(rt, site, &["--sessions", sessions, "--timeout", "20"])
 }
 
 /// The same with a log.
-pub(crate) fn serve_logged<
-    R: Net<Listener = TcpListener, Stream = TcpStream> + Clock + Files + Wait + AllocGlobal,
->(rt: &R, site: &Site, sessions: &str, log: &str) -> Option<String> {
+pub(crate) fn serve_logged<R: Runtime>(
+    rt: &R,
+    site: &Site,
+    sessions: &str,
+    log: &str,
+) -> Option<String> {
     serve_with(
         rt,
         site,

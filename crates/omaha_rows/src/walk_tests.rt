@@ -1,20 +1,23 @@
 use crate::client::connect;
 use crate::site::{Site, make_site, run_within, serve, write_file};
+use omaha_cli::Runtime;
 use std::fs;
 use std::net::{Net, TcpListener, TcpStream};
-use std::rt::Files;
-use std::sync::Wait;
 use std::test::Fail;
 use std::thread::join;
-use std::time::Clock;
 
 // The fingerprint of the first release.
 const FIRST: &str = "1.ba7816bf8f01cfea414140de5dae2223b00361a396177a9cb410ff61f20015ad";
 
 // Walks as a client at a version, once the server listens, which takes a connection. The output takes so many bytes.
-fn walk_within<
-    R: Net<Listener = TcpListener, Stream = TcpStream> + Clock + Files + Wait + AllocGlobal,
->(rt: &R, site: &Site, app: &str, version: &str, fp: &str, left: usize) -> Option<String> {
+fn walk_within<R: Net<Listener = TcpListener, Stream = TcpStream> + Runtime>(
+    rt: &R,
+    site: &Site,
+    app: &str,
+    version: &str,
+    fp: &str,
+    left: usize,
+) -> Option<String> {
     connect(rt, site.host.as_str())?;
     let words = [
         "walk",
@@ -33,7 +36,7 @@ fn walk_within<
 }
 
 // Walks as such a client, with an output that takes all bytes.
-fn walk<R: Net<Listener = TcpListener, Stream = TcpStream> + Clock + Files + Wait + AllocGlobal>(
+fn walk<R: Net<Listener = TcpListener, Stream = TcpStream> + Runtime>(
     rt: &R,
     site: &Site,
     app: &str,

@@ -12,12 +12,14 @@ use Rattle.payload_graph.specs.Net.{Net, net_among}
 use Rattle.price_cert.specs.Rules.{AreCertified, IsFirstWrong}
 use Rattle.price_cert.specs.declared.row.Prices.{Prices}
 use Rattle.price_cert.specs.declared.row.Row.{Row}
+use Rattle.price_cert.specs.declared.rules.Wrong.{Wrong}
 use Rattle.price_certificates.specs.Keys.{key_of_string}
 use Rattle.price_certificates.specs.Reading.{prices_of_string}
 use Rattle.price_certificates.specs.Strings.{spelled_at, string_among}
 use Rattle.price_certificates.specs.declared.fault.Fault.{Fault}
-use Rattle.reports.specs.declared.fault.CertificateError.{CertificateError}
-use Rattle.reports.specs.declared.fault.CertificateError.TheVariants as error
+use Rattle.price_certificates.specs.declared.fault.Fault.TheVariants as faults
+use Rattle.values.specs.declared.read_error.ReadError.{ReadError}
+use Rattle.values.specs.declared.read_error.ReadError.TheVariants as errors
 
 -- the key of a cohort of an app; its clients have no pin
 abbrev pub key_of : TrackNames → ℕ → ℕ → TrackKey
@@ -55,37 +57,41 @@ pub record IsCertificateOf (apps : List App) (net : Net) (text : List ℕ) : Typ
 
 -- rule: Certificate of a named track
 -- the certificate of the track that the names choose; or there is no table of such a track; or out of memory
-abbrev pub Certifies : List App → TrackNames → Result (List ℕ) CertificateError → Type 0
+abbrev pub Certifies : List App → TrackNames → Result (List ℕ) (ReadError Fault) → Type 0
 Certifies apps names (Ok text) =
     (net : Net) × (option_and_then (table_net apps) (key_named apps names) ≡ Some net) × IsCertificateOf apps net text
-Certifies apps names (Err error.NoTrack) = option_and_then (table_net apps) (key_named apps names) ≡ None
-Certifies apps names (Err error.Memory) = ⊤
-Certifies apps names (Err other) = ⊥
+Certifies apps names (Err (errors.Fault faults.NoTrack)) = option_and_then (table_net apps) (key_named apps names) ≡ None
+Certifies apps names (Err (errors.Fault other)) = ⊥
+Certifies apps names (Err errors.Memory) = ⊤
 
--- what is found of a certificate against the graph of its track: it is certified, or its first wrong line, or
--- its first wrong row, by the release's version, and the first rule which that breaks
-abbrev pub IsJudged : List App → Net → List ℕ → Result (Unit {0}) CertificateError → Type 0
+-- the first wrong row of a certificate that can be read, by the release's version, and the first rule which that breaks
+pub record HasWrong (apps : List App) (net : Net) (text : List ℕ) (fault : Fault) : Type 0 where
+  pub prices : Prices
+  pub wrong : Wrong
+  pub read : prices_of_string apps net text ≡ Ok prices
+  pub first : IsFirstWrong net prices.rows wrong
+  pub says : fault ≡ faults.Wrong (spelled_at (releases_at apps net.key.app) wrong.row) wrong.rule
+
+-- what is found of a certificate against the graph of its track: it is certified; or its first wrong line, or its
+-- first wrong row
+abbrev pub IsJudged : List App → Net → List ℕ → Result (Unit {0}) (ReadError Fault) → Type 0
 IsJudged apps net text (Ok done) =
     (prices : Prices) × (prices_of_string apps net text ≡ Ok prices) × AreCertified net prices.rows
-IsJudged apps net text (Err (error.Line fault)) = prices_of_string apps net text ≡ Err fault
-IsJudged apps net text (Err error.NoTrack) = ⊥
-IsJudged apps net text (Err (error.Wrong release rule)) =
-    (prices : Prices) × (row : ℕ) × (prices_of_string apps net text ≡ Ok prices)
-    × IsFirstWrong net prices.rows (record { row = row; rule = rule })
-    × (release ≡ spelled_at (releases_at apps net.key.app) row)
-IsJudged apps net text (Err error.Memory) = ⊤
+IsJudged apps net text (Err (errors.Fault fault)) =
+    (prices_of_string apps net text ≡ Err fault) ⊎ HasWrong apps net text fault
+IsJudged apps net text (Err errors.Memory) = ⊤
 
 -- a certificate's key and the graph of its track's table are known, and what is found
-abbrev pub IsFoundOf : List App → List ℕ → Option Net → Result (Unit {0}) CertificateError → Type 0
-IsFoundOf apps text None found = (found ≡ Err error.NoTrack) ⊎ (found ≡ Err error.Memory)
+abbrev pub IsFoundOf : List App → List ℕ → Option Net → Result (Unit {0}) (ReadError Fault) → Type 0
+IsFoundOf apps text None found = (found ≡ Err (errors.Fault faults.NoTrack)) ⊎ (found ≡ Err errors.Memory)
 IsFoundOf apps text (Some net) found = IsJudged apps net text found
 
 -- rule: Valid certificate
 -- what is found of a certificate: its first wrong line among those of its key; else that there is no table of
 -- its track; else what is found against the graph of that
-abbrev pub VerifiesBy : List App → List ℕ → Result TrackKey Fault → Result (Unit {0}) CertificateError → Type 0
-VerifiesBy apps text (Err fault) found = found ≡ Err (error.Line fault)
+abbrev pub VerifiesBy : List App → List ℕ → Result TrackKey Fault → Result (Unit {0}) (ReadError Fault) → Type 0
+VerifiesBy apps text (Err fault) found = found ≡ Err (errors.Fault fault)
 VerifiesBy apps text (Ok key) found = IsFoundOf apps text (table_net apps key) found
 
-abbrev pub Verifies : List App → List ℕ → Result (Unit {0}) CertificateError → Type 0
+abbrev pub Verifies : List App → List ℕ → Result (Unit {0}) (ReadError Fault) → Type 0
 Verifies apps text found = VerifiesBy apps text (key_of_string apps text) found

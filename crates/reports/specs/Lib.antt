@@ -1,3 +1,2 @@
 pub mod Certificates
-pub mod FaultStrings
 pub mod Summaries

@@ -6,7 +6,6 @@ ghost use Rattle.payload_graph.specs.Net.{net_among};
 ghost use Rattle.editions.specs.Editions.{content_of};
 ghost use Rattle.reports.specs.Certificates.{Certifies, IsCertificateOf};
 
-use crate::fault::CertificateError;
 use crate::names::key_named;
 use crate::tables::table_of;
 use catalogue::Catalogue;
@@ -14,8 +13,9 @@ use cohorts::TrackNames;
 use editions::Edition;
 use payload_graph::TrackKey;
 use price_cert::Certified;
-use price_certificates::write_prices;
+use price_certificates::{Fault, write_prices};
 use std::alloc::{AllocError, Global};
+use values::ReadError;
 
 // The certificate of a key's table.
 fn write_table(
@@ -41,15 +41,15 @@ pub fn certify(
     alloc: Global,
     edition: &Edition,
     names: &TrackNames,
-) -> Result<Vec<u8>, CertificateError>
+) -> Result<Vec<u8>, ReadError<Fault>>
     ensures ok { IfOk result (λ text. Certifies (content_of edition.now) names.now (Ok text.items)) }
     ensures err { IfErr result (λ error. Certifies (content_of edition.now) names.now (Err error)) }
 {
     let Some(key) = key_named(edition.catalogue(), names) else {
-        return Err(CertificateError::NoTrack);
+        return Err(ReadError::Fault(Fault::NoTrack));
     };
     let Some(table) = table_of(edition, &key) else {
-        return Err(CertificateError::NoTrack);
+        return Err(ReadError::Fault(Fault::NoTrack));
     };
     Ok(write_table(alloc, edition.catalogue(), &key, table)?)
 }

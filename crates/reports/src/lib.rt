@@ -9,12 +9,10 @@
 
 mod certifying;
 mod counting;
-mod fault;
 mod names;
 mod tables;
 mod verifying;
 
 pub use crate::certifying::certify;
 pub use crate::counting::summary;
-pub use crate::fault::CertificateError;
 pub use crate::verifying::verify;

@@ -8,14 +8,14 @@ ghost use Rattle.price_certificates.specs.Strings.{spelled_at};
 ghost use Rattle.editions.specs.Editions.{content_of};
 ghost use Rattle.reports.specs.Certificates.{IsJudged, Verifies, table_net};
 
-use crate::fault::CertificateError;
 use crate::tables::table_of;
 use catalogue::Catalogue;
 use editions::Edition;
+use parallel_check::check_parallel;
 use payload_graph::{Graph, TrackKey};
-use price_cert::check;
-use price_certificates::{read_key, read_prices};
+use price_certificates::{Fault, read_key, read_prices};
 use std::alloc::{AllocError, Global};
+use std::thread::Threads;
 use values::{ReadError, Text};
 
 // The version of a release, as it was added.
@@ -47,28 +47,25 @@ fn graph_of(alloc: Global, edition: &Edition, key: &TrackKey) -> Result<Option<G
 }
 
 // What a certificate is found to be, of the graph of its track.
-fn judge(
+fn judge<R: Threads + Sync>(
+    rt: &R,
     alloc: Global,
     catalogue: &Catalogue,
     graph: &Graph,
     text: &[u8],
-) -> Result<(), CertificateError>
+) -> Result<(), ReadError<Fault>>
     requires graph { net_among catalogue.now graph.now.key ≡ Some graph.now }
     requires pin { graph.now.key.pin ≡ pin.Any }
     ensures ok { IfOk result (λ done. IsJudged catalogue.now graph.now text.now (Ok done)) }
     ensures err { IfErr result (λ error. IsJudged catalogue.now graph.now text.now (Err error)) }
 {
     let app = graph.key().app;
-    let prices = match read_prices(alloc, catalogue, graph, text) {
-        Ok(prices) => prices,
-        Err(ReadError::Memory) => return Err(CertificateError::Memory),
-        Err(ReadError::Fault(fault)) => return Err(CertificateError::Line(fault)),
-    };
-    match check(graph, prices) {
+    let prices = read_prices(alloc, catalogue, graph, text)?;
+    match check_parallel(rt, graph, prices) {
         Ok(_) => Ok(()),
         Err((wrong, _)) => {
             let release = spelled_at(alloc, catalogue, app, wrong.row)?;
-            Err(CertificateError::Wrong(release, wrong.rule))
+            Err(ReadError::Fault(Fault::Wrong(release, wrong.rule)))
         }
     }
 }
@@ -78,18 +75,23 @@ fn judge(
 ///
 /// Fails, in this order, with the first wrong line among the first five; `NoTrack` if the edition has no
 /// table of that track; the first wrong line of the others; and the first wrong row from the highest
-/// version, with the first rule that it breaks.
-pub fn verify(alloc: Global, edition: &Edition, text: &[u8]) -> Result<(), CertificateError>
+/// version, with the first rule that it breaks. As many threads as there are processors look for a wrong row.
+pub fn verify<R: Threads + Sync>(
+    rt: &R,
+    alloc: Global,
+    edition: &Edition,
+    text: &[u8],
+) -> Result<(), ReadError<Fault>>
     ensures ok { IfOk result (λ done. Verifies (content_of edition.now) text.now (Ok done)) }
     ensures err { IfErr result (λ error. Verifies (content_of edition.now) text.now (Err error)) }
 {
     let catalogue = edition.catalogue();
     let key = match read_key(catalogue, text) {
         Ok(key) => key,
-        Err(fault) => return Err(CertificateError::Line(fault)),
+        Err(fault) => return Err(ReadError::Fault(fault)),
     };
     match graph_of(alloc, edition, &key)? {
-        Some(graph) => judge(alloc, catalogue, &graph, text),
-        None => Err(CertificateError::NoTrack),
+        Some(graph) => judge(rt, alloc, catalogue, &graph, text),
+        None => Err(ReadError::Fault(Fault::NoTrack)),
     }
 }

@@ -42,7 +42,9 @@ const NO_UPDATE: &str =
 {"appid":"mini","cohort":"stable:0","cohortname":"stable","status":"ok","updatecheck":{"status":"noupdate"}} | {"appid":"mini","cohort":"stable:0","packages":{"package":[{"fp":"1."}]},"updatecheck":{},"version":"2.0.0.0"}
 {"appid":"mini","cohort":"stable:0","cohortname":"stable","status":"ok","updatecheck":{"status":"noupdate"}} | {"appid":"mini","cohort":"stable:0","packages":{"package":[{"fp":"1."}]},"updatecheck":{},"version":"2.0.1"}
 {"appid":"mini","cohort":"stable:0","cohortname":"stable","status":"ok","updatecheck":{"status":"noupdate"}} | {"appid":"mini","cohort":"stable:0","packages":{"package":[{"fp":"1.ba7816bf8f01cfea414140de5dae2223b00361a396177a9cb410ff61f20015ad"}]},"updatecheck":{"updatedisabled":true},"version":"1.0"}
-{"appid":"mini","cohort":"stable:0","cohortname":"stable","status":"ok","updatecheck":{"status":"noupdate"}} | {"appid":"mini","cohort":"stable:0","packages":{"package":[{"fp":"1.ba7816bf8f01cfea414140de5dae2223b00361a396177a9cb410ff61f20015ad"}]},"updatecheck":{"targetversionprefix":"2"},"version":"1.0"}"#;
+{"appid":"mini","cohort":"stable:0","cohortname":"stable","status":"ok","updatecheck":{"status":"noupdate"}} | {"appid":"mini","cohort":"stable:0","packages":{"package":[{"fp":"1.ba7816bf8f01cfea414140de5dae2223b00361a396177a9cb410ff61f20015ad"}]},"updatecheck":{"targetversionprefix":"3"},"version":"1.0"}
+{"appid":"mini","cohort":"stable:0","cohortname":"stable","status":"ok","updatecheck":{"status":"noupdate"}} | {"appid":"mini","cohort":"stable:0","packages":{"package":[{"fp":"1.ba7816bf8f01cfea414140de5dae2223b00361a396177a9cb410ff61f20015ad"}]},"updatecheck":{"targetversionprefix":"1.0$"},"version":"1.0"}
+{"appid":"mini","cohort":"stable:0","cohortname":"stable","status":"ok","updatecheck":{"status":"noupdate"}} | {"appid":"mini","cohort":"stable:0","packages":{"package":[{"fp":"1.ba7816bf8f01cfea414140de5dae2223b00361a396177a9cb410ff61f20015ad"}]},"updatecheck":{"targetversionprefix":"2","updatedisabled":true},"version":"1.0"}"#;
 
 // rule: App that wants an update
 // rule: No update

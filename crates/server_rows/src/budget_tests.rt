@@ -6,6 +6,7 @@ use fixtures::{counts_in, three_parts};
 use std::alloc::Global;
 use std::str;
 use std::sync::Wait;
+use std::thread::Threads;
 
 // A row is budgets and how many clients ask, each for 300 bytes; then how many offers each mirror gets, how
 // many clients get `error-internal`, and the totals.
@@ -28,7 +29,11 @@ fn print_reply(alloc: Global, reply: &[u8], mirrors: usize, ended: &str) -> Opti
 }
 
 // What so many clients get over these budgets.
-fn print_offers<R: Wait + AllocGlobal>(rt: &R, budgets: &str, clients: &str) -> Option<String> {
+fn print_offers<R: Threads + Wait + AllocGlobal>(
+    rt: &R,
+    budgets: &str,
+    clients: &str,
+) -> Option<String> {
     let message = message_of(rt.alloc(), clients.parse().unwrap_or(0)).ok()?;
     let mut sink = Received::new(rt.alloc(), usize::MAX);
     let ended = serve_sent(rt, budgets, message.as_str().as_bytes(), &mut sink)?;
@@ -37,7 +42,7 @@ fn print_offers<R: Wait + AllocGlobal>(rt: &R, budgets: &str, clients: &str) -> 
 }
 
 // Whether the clients of a row get what it says.
-fn is_offered<R: Wait + AllocGlobal>(rt: &R, row: &str) -> bool {
+fn is_offered<R: Threads + Wait + AllocGlobal>(rt: &R, row: &str) -> bool {
     let (budgets, clients, wanted) = three_parts(row, "|");
     is_line(print_offers(rt, budgets, clients), wanted)
 }

@@ -31,6 +31,60 @@ fn chooses_the_first_payload_of_a_least_chain(rt: HostRuntime) {
     check_rows(&rt, Kind::Choice, edition, CHOICES);
 }
 
+// The same of clients with a prefix, which is before ` at `.
+const PINNED: &str = "none | 3 at 1,stable:0,false
+differential 2 for 200 | 3 at 2,stable:0,false
+none | 3 at 3,stable:0,false
+differential 3 for 500 | 4 at 2,stable:0,false
+none | 4 at 1,stable:0,false
+none | 4 at 4,stable:0,false
+differential 4 for 250 | 4$ at 3,stable:0,false
+differential 0 for 300 | 2. at 1,stable:0,false
+none | 4.0.0.1 at 3,stable:0,false
+none | x at 3,stable:0,false
+none | 4.$ at 3,stable:0,false
+full 1 for 1200 | 2 at 4,beta:0,true
+full 2 for 1500 | 3 at 4,beta:0,true
+none | 4 at 4,beta:0,true
+none | 2 at 4,beta:0,false
+full 1 for 1200 | 2 at 0,stable:0,false
+none | 3 at 0,stable:0,false";
+
+// rule: Chosen payload
+// rule: App that wants an update
+#[test]
+fn chooses_for_pinned_clients_what_their_prefix_allows(rt: HostRuntime) {
+    let edition = edition_of(rt.alloc(), CHAINED);
+    check_rows(&rt, Kind::Pinned, edition, PINNED);
+}
+
+// Clients at 1.0 without a prefix and with several, one of them with updates switched off.
+const MIXED: &str =
+    r#"differential 0 for 300, differential 0 for 300, none, differential 0 for 300, none, none | {"appid":"demo","cohort":"stable:0","packages":{"package":[{"fp":"1.1111111111111111111111111111111111111111111111111111111111111111"}]},"updatecheck":{}},{"appid":"demo","cohort":"stable:0","packages":{"package":[{"fp":"1.1111111111111111111111111111111111111111111111111111111111111111"}]},"updatecheck":{"targetversionprefix":"2"}},{"appid":"demo","cohort":"stable:0","packages":{"package":[{"fp":"1.1111111111111111111111111111111111111111111111111111111111111111"}]},"updatecheck":{"targetversionprefix":"3"}},{"appid":"DEMO","cohort":"stable:0","packages":{"package":[{"fp":"1.1111111111111111111111111111111111111111111111111111111111111111"}]},"updatecheck":{"targetversionprefix":"2."}},{"appid":"demo","cohort":"stable:0","packages":{"package":[{"fp":"1.1111111111111111111111111111111111111111111111111111111111111111"}]},"updatecheck":{"targetversionprefix":"2","updatedisabled":true}},{"appid":"nope","updatecheck":{"targetversionprefix":"2"}}"#;
+
+// rule: Chosen payload
+#[test]
+fn chooses_for_pinned_and_unpinned_clients_of_one_request(rt: HostRuntime) {
+    let edition = edition_of(rt.alloc(), CHAINED);
+    check_rows(&rt, Kind::Plan, edition, MIXED);
+}
+
+// Prefixes of one pin, of another, of one that allows no release, of another track, and without an update check.
+const TABLES: &str = r#"0 | {"appid":"demo","cohort":"stable:0","updatecheck":{}}
+1 | {"appid":"demo","cohort":"stable:0","updatecheck":{"targetversionprefix":"2"}}
+1 | {"appid":"demo","cohort":"stable:0","updatecheck":{"targetversionprefix":"2"}},{"appid":"demo","cohort":"stable:7","updatecheck":{"targetversionprefix":"02."}},{"appid":"demo","updatecheck":{}}
+2 | {"appid":"demo","cohort":"stable:0","updatecheck":{"targetversionprefix":"2"}},{"appid":"demo","cohort":"stable:0","updatecheck":{"targetversionprefix":"2$"}},{"appid":"demo","cohort":"stable:0","updatecheck":{"targetversionprefix":"2"}}
+0 | {"appid":"demo","cohort":"stable:0","updatecheck":{"targetversionprefix":"5"}},{"appid":"demo","cohort":"stable:0","updatecheck":{"targetversionprefix":"x"}}
+2 | {"appid":"demo","cohort":"stable:0","updatecheck":{"targetversionprefix":"2"}},{"appid":"demo","cohort":"beta:0","updatecheck":{"targetversionprefix":"2"}}
+0 | {"appid":"demo","cohort":"stable:0","updatecheck":{"targetversionprefix":"2","updatedisabled":true}},{"appid":"demo","cohort":"stable:0"},{"appid":"nope","updatecheck":{"targetversionprefix":"2"}}"#;
+
+// rule: Tables of a plan
+#[test]
+fn clients_of_one_pin_share_a_table(rt: HostRuntime) {
+    let edition = edition_of(rt.alloc(), CHAINED);
+    check_rows(&rt, Kind::Tables, edition, TABLES);
+}
+
 const WITHDRAWN: &str = "differential 3 for 500 | 2,stable:0,false
 differential 0 for 300 | 1,stable:0,false
 none | 2,stable:500,false

@@ -1,11 +1,13 @@
 //! Worked rows of what a server decides: clients with their tracks, requests with their replies, histories of
-//! batches, what is published of them, budgets, the desk of update checks, and files of packages.
+//! batches, what is published of them, budgets, the desks of workers and of the operator, and files of packages.
 //!
-//! It has tests alone, so that `cohorts`, `editions`, `publisher`, `replies`, `mirror_ledger`, `update_desk` and
-//! `package_files` are proved once. A row is a line; that of a reply has the reply, a bar, and what is asked.
+//! It has tests alone, so that `cohorts`, `editions`, `publisher`, `replies`, `mirror_ledger`, `update_desk`,
+//! `service_desks` and `package_files` are proved once. A row is a line; that of a reply has the reply, a bar, and what is asked.
 
 #![tactic(auto)]
 
+#[cfg(test)]
+mod answers;
 #[cfg(test)]
 mod asking;
 #[cfg(test)]
@@ -43,7 +45,11 @@ mod one_worker;
 #[cfg(test)]
 mod opened;
 #[cfg(test)]
+mod operator_tests;
+#[cfg(test)]
 mod pins;
+#[cfg(test)]
+mod plain_till;
 #[cfg(test)]
 mod plans;
 #[cfg(test)]
@@ -60,3 +66,5 @@ mod tracks;
 mod two_threads;
 #[cfg(test)]
 mod view_tests;
+#[cfg(test)]
+mod worker_tests;

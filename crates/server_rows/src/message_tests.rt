@@ -6,11 +6,13 @@ use fixtures::{three_parts, two_parts};
 use std::alloc::{AllocError, Global};
 use std::str;
 use std::sync::Wait;
+use std::thread::Threads;
 
 const REPLY: &str = r#")]}'
 {"response":{"app":[{"appid":"demo","cohort":"stable:0","cohortname":"stable","status":"ok","updatecheck":{"manifest":{"packages":{"package":[{"fp":"1.2222222222222222222222222222222222222222222222222222222222222222","hash_sha256":"2222222222222222222222222222222222222222222222222222222222222222","hashdiff_sha256":"1212121212121212121212121212121212121212121212121212121212121212","name":"demo-2.0.bin","namediff":"demo-1.0-2.0.bin","size":1200,"sizediff":300}]},"version":"2.0"},"status":"ok","urls":{"url":[{"codebase":"http://m0.example/p/"},{"codebasediff":"http://m0.example/p/"}]}}}],"daystart":{"elapsed_days":6940,"elapsed_seconds":3661},"protocol":"3.1"}}"#;
 
-const BUSY: &str = r#")]}'
+/// The reply of a desk without room to the message of one client.
+pub(crate) const BUSY: &str = r#")]}'
 {"response":{"app":[{"appid":"demo","cohort":"stable:0","cohortname":"stable","status":"ok","updatecheck":{"status":"error-internal"}}],"daystart":{"elapsed_days":6940,"elapsed_seconds":3661},"protocol":"3.1"}}"#;
 
 fn whole(alloc: Global, body: &str) -> Result<String, AllocError> {
@@ -21,7 +23,11 @@ fn whole(alloc: Global, body: &str) -> Result<String, AllocError> {
 }
 
 // Whether a peer gets this body for the message of one client over mirrors of these budgets.
-fn is_replied<R: Wait + AllocGlobal>(rt: &R, budgets: &str, wanted: &str) -> Option<bool> {
+fn is_replied<R: Threads + Wait + AllocGlobal>(
+    rt: &R,
+    budgets: &str,
+    wanted: &str,
+) -> Option<bool> {
     let message = message_of(rt.alloc(), 1).ok()?;
     let mut sink = Received::new(rt.alloc(), usize::MAX);
     let _ended = serve_sent(rt, budgets, message.as_str().as_bytes(), &mut sink)?;
@@ -29,7 +35,7 @@ fn is_replied<R: Wait + AllocGlobal>(rt: &R, budgets: &str, wanted: &str) -> Opt
     Some(sink.bytes.as_slice() == reply.as_str().as_bytes())
 }
 
-// rule: Reply to an input
+// rule: Reply to a request
 #[test]
 fn replies_with_the_offer_that_a_mirror_granted(rt: HostRuntime) {
     assert!(rt; is_replied(&rt, "1000000", REPLY) == Some(true));
@@ -67,7 +73,11 @@ fn print_session(alloc: Global, written: &[u8], ended: &str) -> Option<String> {
 }
 
 // What a peer that takes so many bytes a call gets for a message.
-fn print_sent<R: Wait + AllocGlobal>(rt: &R, message: &str, piece: &str) -> Option<String> {
+fn print_sent<R: Threads + Wait + AllocGlobal>(
+    rt: &R,
+    message: &str,
+    piece: &str,
+) -> Option<String> {
     let sent = message.replace(rt.alloc(), "~", "\r\n").ok()?;
     let mut sink = Received::new(rt.alloc(), piece.parse().unwrap_or(1));
     let ended = serve_sent(rt, "1000", sent.as_str().as_bytes(), &mut sink)?;
@@ -75,12 +85,12 @@ fn print_sent<R: Wait + AllocGlobal>(rt: &R, message: &str, piece: &str) -> Opti
 }
 
 // Whether the peer of a row gets what it says.
-fn is_served<R: Wait + AllocGlobal>(rt: &R, row: &str) -> bool {
+fn is_served<R: Threads + Wait + AllocGlobal>(rt: &R, row: &str) -> bool {
     let (message, piece, wanted) = three_parts(row, " | ");
     is_line(print_sent(rt, message, piece), wanted)
 }
 
-// rule: Desk of update checks
+// rule: Desk of a worker
 #[test]
 fn serves_packages_and_rejects_messages(rt: HostRuntime) {
     for row in MESSAGES.lines() {

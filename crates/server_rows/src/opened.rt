@@ -4,12 +4,14 @@ use crate::batches::LARGE;
 use crate::connection::{Received, Sent, Stopped};
 use crate::lines::{few_mirrors, push_numbers};
 use crate::shelf::Shelf;
-use fixtures::{CHAINED, edition_after};
+use fixtures::{CHAINED, open_profile, publish_edits};
 use http_sessions::{End, Fault, Served, serve};
 use mirror_ledger::{Till, Work, work_with_tills};
+use publisher::View;
+use service_desks::Worker;
 use std::alloc::{AllocError, Global};
 use std::sync::Wait;
-use update_desk::Single;
+use std::thread::Threads;
 
 // The files of three large packages, and of three that can't be opened.
 const FILES: &str =
@@ -30,6 +32,7 @@ fn end_of(served: &Result<Served, Fault>) -> &'static str {
 // The session of a connection.
 #[derive(Drop)]
 struct OneSession<'a> {
+    view: Option<View>,
     sent: &'a [u8],
     sink: &'a mut Received,
 }
@@ -40,13 +43,13 @@ impl<R: Wait + AllocGlobal> Work<R> for OneSession<'_> {
     ghost comes_to = { λ _ _ _ _ _. Unit {0} };
 
     fn work<T: Till + Send + Drop>(&mut self, rt: &R, tills: &mut Vec<T>) -> &'static str {
-        let Some(edition) = edition_after(rt.alloc(), CHAINED, LARGE) else {
-            return "no edition";
+        let Some(view) = self.view.take() else {
+            return "no view";
         };
         let Some(till) = tills.pop() else {
             return "no till";
         };
-        let mut desk = Single { rt, edition, till };
+        let mut desk = Worker::new(rt, view, till);
         let served = serve(
             rt,
             &mut Sent { left: self.sent },
@@ -55,7 +58,7 @@ impl<R: Wait + AllocGlobal> Work<R> for OneSession<'_> {
             &Shelf { files: FILES },
             &Stopped,
         );
-        let Single { till, .. } = desk;
+        let (_view, till) = desk.into_parts();
         if tills.push(till).is_err() {
             unreachable!()
         }
@@ -70,15 +73,37 @@ fn print_end(alloc: Global, how: &str, totals: &[u64]) -> Result<String, AllocEr
     Ok(line)
 }
 
+// Serves a connection by a view.
+fn serve_by<R: Wait + AllocGlobal>(
+    rt: &R,
+    budgets: &str,
+    view: View,
+    sent: &[u8],
+    sink: &mut Received,
+) -> Option<String> {
+    let mirrors = few_mirrors(rt.alloc(), budgets)?;
+    let view = Some(view);
+    let mut session = OneSession { view, sent, sink };
+    let (how, totals) = work_with_tills(rt, rt.alloc(), mirrors, 1, &mut session).ok()?;
+    print_end(rt.alloc(), how, &totals).ok()
+}
+
 /// Serves a connection over mirrors of these budgets, and returns how it ended with the mirrors' totals.
-pub(crate) fn serve_sent<R: Wait + AllocGlobal>(
+///
+/// The worker's view enters the second edition that was published.
+pub(crate) fn serve_sent<R: Threads + Wait + AllocGlobal>(
     rt: &R,
     budgets: &str,
     sent: &[u8],
     sink: &mut Received,
 ) -> Option<String> {
-    let mirrors = few_mirrors(rt.alloc(), budgets)?;
-    let mut session = OneSession { sent, sink };
-    let (how, totals) = work_with_tills(rt, rt.alloc(), mirrors, 1, &mut session).ok()?;
-    print_end(rt.alloc(), how, &totals).ok()
+    let alloc = rt.alloc();
+    let (mut press, mut views) = open_profile(rt, alloc, CHAINED, 1).ok()?;
+    let published = publish_edits(rt, alloc, &mut press, 1, LARGE).is_ok();
+    let ended = match views.pop() {
+        Some(view) if published => serve_by(rt, budgets, view, sent, sink),
+        _ => None,
+    };
+    press.end(rt);
+    ended
 }

@@ -4,7 +4,7 @@ use crate::asking::request;
 use catalogue::Catalogue;
 use cohorts::{CohortText, Lane, Track, assign};
 use editions::Edition;
-use fixtures::three_parts;
+use fixtures::{three_parts, two_parts};
 use omaha_json::Request;
 use payload_graph::Payload;
 use replies::{Choice, plan};
@@ -40,13 +40,31 @@ pub(crate) fn print_plan(alloc: Global, edition: &Edition, apps: &str) -> Option
     print_choices(alloc, plan.choices.as_slice()).ok()
 }
 
-/// The app of a client by a release's digit, which its fingerprint has, its cohort, and whether it may be downgraded.
-pub(crate) fn client_at(alloc: Global, client: &str) -> Option<String> {
+/// How many tables of its own the plan of a request of session `abc` has.
+pub(crate) fn print_tables(alloc: Global, edition: &Edition, apps: &str) -> Option<String> {
+    let request = request(alloc, apps, "abc")?;
+    let plan = plan(alloc, edition, &request).ok()?;
+    format!(in alloc; "{}", plan.tables.len()).ok()
+}
+
+// The app of a client of a prefix.
+fn client_with(alloc: Global, client: &str, prefix: &str) -> Option<String> {
     let (digit, cohort, down) = three_parts(client, ",");
     let hash = digit.repeat(alloc, 64).ok()?;
     format!(in alloc;
-        "{{\"appid\":\"demo\",\"cohort\":\"{cohort}\",\"packages\":{{\"package\":[{{\"fp\":\"1.{hash}\"}}]}},\"updatecheck\":{{\"rollback_allowed\":{down}}},\"version\":\"{digit}.0\"}}"
+        "{{\"appid\":\"demo\",\"cohort\":\"{cohort}\",\"packages\":{{\"package\":[{{\"fp\":\"1.{hash}\"}}]}},\"updatecheck\":{{\"rollback_allowed\":{down},\"targetversionprefix\":\"{prefix}\"}},\"version\":\"{digit}.0\"}}"
     ).ok()
+}
+
+/// The app of a client by a release's digit, which its fingerprint has, its cohort, and whether it may be downgraded.
+pub(crate) fn client_at(alloc: Global, client: &str) -> Option<String> {
+    client_with(alloc, client, "")
+}
+
+/// The same after the client's prefix and ` at `.
+pub(crate) fn pinned_at(alloc: Global, pinned: &str) -> Option<String> {
+    let (prefix, client) = two_parts(pinned, " at ");
+    client_with(alloc, client, prefix)
 }
 
 // The request of a client that may be downgraded, by its cohort, its hint and its session.

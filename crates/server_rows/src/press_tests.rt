@@ -5,7 +5,7 @@ ghost use Rattle.std.specs.Prelude.{◌<◌, ◌≤◌};
 use crate::batches::{MINI, TARGET};
 use crate::rows::{Kind, is_found};
 use fixtures::{CHAINED, open_edits, open_profile, publish_edits};
-use publisher::{OpenError, Press, PublishError, Receipt, View, meet};
+use publisher::{Press, PublishError, Receipt, View, meet};
 use std::alloc::Global;
 use std::sync::Wait;
 use std::thread::Threads;
@@ -16,8 +16,8 @@ const BEFORE: &str = "differential 0 for 300 | 1,stable:0,false";
 
 const AFTER: &str = "differential 3 for 500 | 2,stable:0,false";
 
-// A press of a profile, with its one view.
-fn open_one<R: Threads + Sync + Wait>(
+/// A press of a profile, with its one view.
+pub(crate) fn open_one<R: Threads + Wait>(
     rt: &R,
     alloc: Global,
     profile: &str,
@@ -57,7 +57,7 @@ fn learn(alloc: Global, view: View, receipt: &Receipt) -> (View, bool) {
 }
 
 // Whether a view enters the first edition, and the second one after it learnt its receipt.
-fn learns<R: Threads + Sync + Wait>(rt: &R, alloc: Global, press: &mut Press, view: View) -> bool {
+fn learns<R: Threads + Wait>(rt: &R, alloc: Global, press: &mut Press, view: View) -> bool {
     let (view, is_before) = enter(alloc, view, 1, BEFORE);
     let Ok(receipt) = publish_edits(rt, alloc, press, 1, WITHDRAWAL) else {
         return false;
@@ -68,7 +68,7 @@ fn learns<R: Threads + Sync + Wait>(rt: &R, alloc: Global, press: &mut Press, vi
 }
 
 // The number that is published if a batch is stale, else 0.
-fn stale_at<R: Threads + Sync + Wait>(
+fn stale_at<R: Threads + Wait>(
     rt: &R,
     alloc: Global,
     press: &mut Press,
@@ -81,7 +81,7 @@ fn stale_at<R: Threads + Sync + Wait>(
     }
 }
 
-fn learns_and_is_stale<R: Threads + Sync + Wait>(rt: &R, alloc: Global) -> Option<bool> {
+fn learns_and_is_stale<R: Threads + Wait>(rt: &R, alloc: Global) -> Option<bool> {
     let (mut press, view) = open_one(rt, alloc, CHAINED)?;
     let is_learnt = learns(rt, alloc, &mut press, view);
     let is_stale = stale_at(rt, alloc, &mut press, 1, WITHDRAWAL) == 2;
@@ -101,7 +101,7 @@ fn enters_what_it_learnt_and_rejects_the_same_batch_again(rt: HostRuntime) {
 }
 
 // Whether a batch on a base is rejected with its first edit's fault, and nothing is published.
-fn is_refused<R: Threads + Sync + Wait>(
+fn is_refused<R: Threads + Wait>(
     rt: &R,
     alloc: Global,
     press: &mut Press,
@@ -118,13 +118,13 @@ fn is_refused<R: Threads + Sync + Wait>(
 }
 
 // Publishes empty batches up to a number.
-fn fill<R: Threads + Sync + Wait>(rt: &R, alloc: Global, press: &mut Press, number: u64) {
+fn fill<R: Threads + Wait>(rt: &R, alloc: Global, press: &mut Press, number: u64) {
     for base in 1..number {
         let _receipt = publish_edits(rt, alloc, press, base, "");
     }
 }
 
-fn is_full<R: Threads + Sync + Wait>(rt: &R, alloc: Global, press: &mut Press) -> bool {
+fn is_full<R: Threads + Wait>(rt: &R, alloc: Global, press: &mut Press) -> bool {
     match publish_edits(rt, alloc, press, 4096, "") {
         Err(PublishError::HistoryFull) => press.edition().number() == 4096,
         _ => false,
@@ -132,14 +132,14 @@ fn is_full<R: Threads + Sync + Wait>(rt: &R, alloc: Global, press: &mut Press) -
 }
 
 // The press of an empty catalogue, whose histories grow fast.
-fn open_empty<R: Threads + Sync + Wait>(rt: &R, alloc: Global) -> Option<Press> {
+fn open_empty<R: Threads + Wait>(rt: &R, alloc: Global) -> Option<Press> {
     match open_edits(rt, alloc, "", 1) {
         Ok((press, _views)) => Some(press),
         Err(_) => None,
     }
 }
 
-fn rejects<R: Threads + Sync + Wait>(rt: &R, alloc: Global) -> Option<bool> {
+fn rejects<R: Threads + Wait>(rt: &R, alloc: Global) -> Option<bool> {
     let mut press = open_empty(rt, alloc)?;
     let is_rejected = is_refused(rt, alloc, &mut press, 1, TARGET);
     let is_stale = stale_at(rt, alloc, &mut press, 2, TARGET) == 1;
@@ -157,19 +157,19 @@ fn rejects_stale_batches_and_then_edits_and_then_a_full_history(rt: HostRuntime)
     assert!(rt; rejects(&rt, rt.alloc()) == Some(true));
 }
 
-fn is_rejected<R: Threads + Sync + Wait>(rt: &R, alloc: Global) -> bool {
+fn is_rejected<R: Threads + Wait>(rt: &R, alloc: Global) -> bool {
     match open_edits(rt, alloc, TARGET, 1) {
         Ok((press, _views)) => {
             press.end(rt);
             false
         }
-        Err(OpenError::Refused(refused)) => refused.index == 0,
+        Err(PublishError::Refused(refused)) => refused.index == 0,
         Err(_) => false,
     }
 }
 
 // Whether each of so many views has seen edition 1 and enters it.
-fn opens<R: Threads + Sync + Wait>(rt: &R, alloc: Global, count: usize) -> bool
+fn opens<R: Threads + Wait>(rt: &R, alloc: Global, count: usize) -> bool
     requires { (0 < count) × (count ≤ 8) }
 {
     let Ok((press, views)) = open_profile(rt, alloc, CHAINED, count) else {
@@ -206,7 +206,7 @@ fn is_lost(view: View, other: &Press) -> bool {
     }
 }
 
-fn is_lost_between<R: Threads + Sync + Wait>(rt: &R, alloc: Global) -> Option<bool> {
+fn is_lost_between<R: Threads + Wait>(rt: &R, alloc: Global) -> Option<bool> {
     let (press, view) = open_one(rt, alloc, CHAINED)?;
     let Some((other, _view)) = open_one(rt, alloc, MINI) else {
         press.end(rt);
@@ -219,7 +219,7 @@ fn is_lost_between<R: Threads + Sync + Wait>(rt: &R, alloc: Global) -> Option<bo
 }
 
 // Whether a view enters nothing after its press has ended, and has seen what it had seen.
-fn is_ended<R: Threads + Sync + Wait>(rt: &R, alloc: Global) -> Option<bool> {
+fn is_ended<R: Threads + Wait>(rt: &R, alloc: Global) -> Option<bool> {
     let (press, view) = open_one(rt, alloc, CHAINED)?;
     press.end(rt);
     match view.enter() {

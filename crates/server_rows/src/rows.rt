@@ -4,7 +4,7 @@ use crate::asking::{print_day, print_reply};
 use crate::catalogue_of_rows::print_findings;
 use crate::descriptions::print_description;
 use crate::pins::print_allowed;
-use crate::plans::{client_at, print_cohort, print_plan, print_track};
+use crate::plans::{client_at, pinned_at, print_cohort, print_plan, print_tables, print_track};
 use crate::shelf::Shelf;
 use editions::Edition;
 use fixtures::two_parts;
@@ -24,6 +24,10 @@ pub(crate) enum Kind {
     Plan,
     /// The choice for a client at a release.
     Choice,
+    /// The same for a client with a prefix.
+    Pinned,
+    /// How many tables a plan for apps has.
+    Tables,
     /// The track of a client.
     Track,
     /// The parts of a cohort text.
@@ -43,6 +47,8 @@ fn find(alloc: Global, kind: Kind, edition: &Edition, asked: &str) -> Option<Str
         Kind::Day => print_day(alloc, edition, asked),
         Kind::Plan => print_plan(alloc, edition, asked),
         Kind::Choice => print_plan(alloc, edition, client_at(alloc, asked)?.as_str()),
+        Kind::Pinned => print_plan(alloc, edition, pinned_at(alloc, asked)?.as_str()),
+        Kind::Tables => print_tables(alloc, edition, asked),
         Kind::Track => print_track(alloc, edition.catalogue(), asked),
         Kind::Cohort => print_cohort(alloc, asked),
         Kind::Pin => print_allowed(alloc, asked),

@@ -1,0 +1,128 @@
+// The desk of a worker, over a till in memory.
+
+use crate::answers::print_answer;
+use crate::message_tests::BUSY;
+use crate::plain_till::PlainTill;
+use crate::plans::client_at;
+use crate::press_tests::open_one;
+use crate::rows::is_line;
+use fixtures::{CHAINED, mirrors_of, publish_edits, request_of};
+use http_desks::Desk;
+use publisher::{Press, View};
+use service_desks::Worker;
+use std::sync::Wait;
+use std::thread::Threads;
+
+// A worker whose till grants all, or nothing.
+fn worker_of<'a, R: Wait + AllocGlobal>(
+    rt: &'a R,
+    view: View,
+    grants: bool,
+) -> Option<Worker<'a, R, PlainTill>> {
+    let mirrors = mirrors_of(rt.alloc(), "1000000").ok()?;
+    Some(Worker::new(rt, view, PlainTill::new(mirrors, grants)))
+}
+
+// What a body gets, one second after 01:01 on 1 January 2026.
+fn send<R: Wait + AllocGlobal>(
+    worker: &mut Worker<'_, R, PlainTill>,
+    body: &str,
+) -> Option<String> {
+    let answer = worker.answer(body.as_bytes(), 1767229261);
+    print_answer(worker.rt.alloc(), &answer)
+}
+
+// What a client at 2.0 gets.
+fn ask<R: Wait + AllocGlobal>(worker: &mut Worker<'_, R, PlainTill>) -> Option<String> {
+    let alloc = worker.rt.alloc();
+    let app = client_at(alloc, "2,stable:0,false")?;
+    let body = format!(in alloc;
+        "{{\"request\":{{\"app\":[{app}],\"protocol\":\"3.1\",\"sessionid\":\"abc\"}}}}"
+    ).ok()?;
+    send(worker, body.as_str())
+}
+
+fn has(reply: Option<String>, words: &str) -> bool {
+    match reply {
+        Some(reply) => reply.as_str().contains(words),
+        None => false,
+    }
+}
+
+// Whether a worker without room asks once, for 300 bytes, and says so.
+fn is_busy<R: Wait + AllocGlobal>(rt: &R, view: View) -> Option<bool> {
+    let mut worker = worker_of(rt, view, false)?;
+    let body = request_of(rt.alloc(), 1).ok()?;
+    let wanted = format!(in rt.alloc(); "200 {BUSY}").ok()?;
+    let is_said = is_line(send(&mut worker, body.as_str()), wanted.as_str());
+    let (_view, till) = worker.into_parts();
+    Some(is_said && till.count == 1 && till.last == 300)
+}
+
+// rule: Desk of a worker
+#[test]
+fn asks_once_and_says_that_no_mirror_has_room(rt: HostRuntime) {
+    let Some((press, view)) = open_one(&rt, rt.alloc(), CHAINED) else {
+        panic!(rt; "no press")
+    };
+    let is_busy = is_busy(&rt, view);
+    press.end(&rt);
+    assert!(rt; is_busy == Some(true));
+}
+
+// Whether a worker offers 3.0 before that is withdrawn and 4.0 afterwards, and has then seen 2 batches.
+fn follows<R: Threads + Wait + AllocGlobal>(rt: &R, press: &mut Press, view: View) -> Option<bool> {
+    let mut worker = worker_of(rt, view, true)?;
+    let is_before = has(ask(&mut worker), "\"sizediff\":200");
+    let receipt = publish_edits(rt, rt.alloc(), press, 1, "set_withdrawn demo 3.0 on");
+    let is_after = has(ask(&mut worker), "\"sizediff\":500");
+    let (view, till) = worker.into_parts();
+    Some(is_before && receipt.is_ok() && is_after && view.seen() == 2 && till.last == 500)
+}
+
+// rule: Reply of a worker
+// rule: Entry for a call
+#[test]
+fn replies_by_the_edition_that_it_enters(rt: HostRuntime) {
+    let Some((mut press, view)) = open_one(&rt, rt.alloc(), CHAINED) else {
+        panic!(rt; "no press")
+    };
+    let follows = follows(&rt, &mut press, view);
+    press.end(&rt);
+    assert!(rt; follows == Some(true));
+}
+
+// Whether a worker knows the package of 2.0.
+fn knows<R: Wait + AllocGlobal>(worker: &mut Worker<'_, R, PlainTill>) -> bool {
+    match worker.package(b"demo-2.0.bin") {
+        Some(declared) => declared.size == 1200,
+        None => false,
+    }
+}
+
+// Whether a worker is closed once its press has ended, but still rejects what is no request.
+fn closes<R: Threads + Wait + AllocGlobal>(
+    rt: &R,
+    press: Press,
+    worker: &mut Worker<'_, R, PlainTill>,
+) -> bool {
+    let is_known = knows(worker);
+    press.end(rt);
+    let is_closed = is_line(ask(worker), "closed");
+    let is_bad = is_line(send(worker, "{"), "400 ");
+    is_known && is_closed && is_bad && worker.package(b"demo-2.0.bin").is_none()
+}
+
+// rule: Desk of a worker
+#[test]
+fn is_closed_once_the_press_has_ended(rt: HostRuntime) {
+    let Some((press, view)) = open_one(&rt, rt.alloc(), CHAINED) else {
+        panic!(rt; "no press")
+    };
+    let Some(mut worker) = worker_of(&rt, view, true) else {
+        panic!(rt; "no worker")
+    };
+    let is_closed = closes(&rt, press, &mut worker);
+    let (view, till) = worker.into_parts();
+    assert!(rt; is_closed && view.seen() == 1 && till.count == 0);
+}
