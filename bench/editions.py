@@ -37,6 +37,7 @@ use par_tables::{Free, build};
 use std::alloc::{AllocError, Global};
 use std::io;
 use std::rt::Clock;
+use std::sync::Wait;
 use std::thread::Threads;
 use std::time::Instant;
 use values::{ReadError, Text};
@@ -60,7 +61,7 @@ fn catalogue_of(alloc: Global, apps: u64, releases: u64, next: u64) -> Result<Ca
 }
 
 // The nanoseconds in which all tables are made by 1, 2, 3, 4, 8 or 16 workers, and how many there are.
-fn built<R: Threads + Sync + Clock>(rt: &R, alloc: Global, catalogue: &Catalogue, workers: u64) -> Result<(u64, u64), AllocError> {
+fn built<R: Threads + Wait + Clock>(rt: &R, alloc: Global, catalogue: &Catalogue, workers: u64) -> Result<(u64, u64), AllocError> {
     let start = Instant::now(rt);
     let tables = match workers {
         2 => build(rt, alloc, catalogue, 2, &Free)?,
@@ -73,7 +74,7 @@ fn built<R: Threads + Sync + Clock>(rt: &R, alloc: Global, catalogue: &Catalogue
     Ok((passed_since(rt, start), tables.len() as u64))
 }
 
-fn run_build<R: Threads + Sync + Clock>(rt: &R, alloc: Global, apps: u64, releases: u64, next: u64, workers: u64) -> Result<(u64, u64), ReadError<Refused>> {
+fn run_build<R: Threads + Wait + Clock>(rt: &R, alloc: Global, apps: u64, releases: u64, next: u64, workers: u64) -> Result<(u64, u64), ReadError<Refused>> {
     let catalogue = catalogue_of(alloc, apps, releases, next)?;
     Ok(built(rt, alloc, &catalogue, workers)?)
 }
@@ -116,7 +117,7 @@ fn run_publish<R: Clock>(rt: &R, alloc: Global, mode: &str, apps: u64, releases:
     }
 }
 
-fn run<R: Threads + Sync + Clock>(rt: &R, alloc: Global, mode: &str, apps: u64, releases: u64, next: u64, count: u64) -> Option<(u64, u64)> {
+fn run<R: Threads + Wait + Clock>(rt: &R, alloc: Global, mode: &str, apps: u64, releases: u64, next: u64, count: u64) -> Option<(u64, u64)> {
     match mode {
         "build" => run_build(rt, alloc, apps, releases, next, count).ok(),
         _ => run_publish(rt, alloc, mode, apps, releases, next, count).ok(),

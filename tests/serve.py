@@ -20,6 +20,7 @@ import struct
 import subprocess
 import sys
 import tempfile
+import threading
 import time
 import urllib.error
 import urllib.request
@@ -43,7 +44,7 @@ def free_port():
 class Server:
     """A running server over a copy of the example's packages."""
 
-    def __init__(self, program, folder, sessions=None, profile=PROFILE, log=None):
+    def __init__(self, program, folder, sessions=None, profile=PROFILE, log=None, more=()):
         self.folder = pathlib.Path(folder)
         self.packages = self.folder / "packages"
         if not self.packages.exists():
@@ -56,6 +57,7 @@ class Server:
             words += ["--sessions", str(sessions)]
         if log is not None:
             words += ["--log", log]
+        words += more
         self.process = subprocess.Popen(
             [program, "serve", *words], cwd=self.folder, stdout=subprocess.PIPE, stderr=subprocess.PIPE
         )
@@ -448,7 +450,137 @@ def reports_a_log_that_it_cannot_open(program):
         expect("output and status", server.end(), (b"", b"omaha: file none/access.log\n", 1))
 
 
+def operate(port, body):
+    """Sends a body to the operator's address: the status and the reply."""
+    asked = urllib.request.Request(f"http://127.0.0.1:{port}/operate", data=body)
+    try:
+        with urllib.request.urlopen(asked, timeout=20) as reply:
+            return reply.status, reply.read()
+    except urllib.error.HTTPError as error:
+        return error.code, error.read()
+
+
+def walk(program, server, *more):
+    """The steps of a client that begins without the app, and the last line."""
+    words = ["walk", "--to", f"127.0.0.1:{server.port}", "--app", "mini", "--version", "", *more]
+    output, errors, status = run(program, server.folder, *words)
+    expect("the walk's errors and status", (errors, status), (b"", 0))
+    return output.decode().splitlines()
+
+
+TO_2_0 = ["step 1 full 1.0 1960", "step 2 diff 2.0 188", "done 2 steps 2148 bytes"]
+TO_3_0 = [*TO_2_0[:2], "step 3 diff 3.0 235", "done 3 steps 2383 bytes"]
+
+
+def publishes_while_it_serves(program):
+    """A release is staged, widened, halted and taken back; then the dump is served by another server."""
+    live = (EXAMPLES / "live.toml").read_text()
+    with tempfile.TemporaryDirectory() as folder:
+        operator = free_port()
+        words = ["--operator", f"127.0.0.1:{operator}", "--workers", "4"]
+        server = Server(program, folder, profile=live, more=words)
+        expect("before a publish", walk(program, server, "--cohort", "stable:7"), TO_2_0)
+        first = operate(operator, b"dump")
+        rows = [("stage", TO_3_0, TO_2_0), ("widen", TO_3_0, TO_3_0), ("halt", TO_2_0, TO_2_0), ("take_back", TO_2_0, TO_2_0)]
+        for number, (name, low, middle) in enumerate(rows, 2):
+            script = (EXAMPLES / "scripts" / f"{name}.toml").read_bytes()
+            expect(name, operate(operator, script), (200, f"edition {number}\n".encode()))
+            expect(f"{name} again", operate(operator, script), (409, f"stale {number}\n".encode()))
+            expect(f"a client of bucket 7 after {name}", walk(program, server, "--cohort", "stable:7"), low)
+            expect(f"a client of bucket 300 after {name}", walk(program, server, "--cohort", "stable:300"), middle)
+        status, dump = operate(operator, b"dump")
+        expect("dumps", (first[0], status, first[1] == dump), (200, 200, False))
+        expect("no script", operate(operator, b"x = [")[0], 400)
+        server.process.kill()
+        expect("nothing on standard error", server.end()[1], b"")
+    with tempfile.TemporaryDirectory() as folder:
+        pathlib.Path(folder, "profile.toml").write_bytes(dump)
+        shutil.copytree(EXAMPLES / "packages", pathlib.Path(folder, "packages"))
+        addresses = ["--listen", f"127.0.0.1:{free_port()}", "--operator", f"127.0.0.1:{operator}"]
+        words = [program, "serve", "--profile", "profile.toml", "--packages", "packages", *addresses]
+        with subprocess.Popen(words, cwd=folder, stdout=subprocess.PIPE) as again:
+            expect("first line", again.stdout.readline(), b"ready\n")
+            expect("the dump of a dump", operate(operator, b"dump"), (200, dump))
+            again.kill()
+
+
+SCRIPT = """schema = 1
+base = {base}
+[[edit]]
+do = "add_release"
+app = "mini"
+version = "4.{base}"
+name = "mini-4.{base}.bin"
+size = 100
+sha256 = "{base:064x}"
+[[edit]]
+do = "set_target"
+app = "mini"
+cohort = "stable"
+target = "4.{base}"
+"""
+
+
+def never_goes_back_while_200_are_published(program):
+    """Each connection's replies offer one of the published releases, in their order; the totals are what they offered."""
+    live = (EXAMPLES / "live.toml").read_text()
+    with tempfile.TemporaryDirectory() as folder:
+        operator = free_port()
+        words = ["--operator", f"127.0.0.1:{operator}", "--edits", "200", "--workers", "4"]
+        server = Server(program, folder, sessions=64, profile=live, more=words)
+        expect("first publish", operate(operator, SCRIPT.format(base=1).encode()), (200, b"edition 2\n"))
+        offers = [[] for _ in range(64)]
+
+        def ask_thirty_times(offered):
+            with server.connect() as connection:
+                kept = b""
+                for _ in range(30):
+                    connection.sendall(post(ASK))
+                    _, body, kept = read_reply(connection, kept)
+                    check = json.loads(body[5:])["response"]["app"][0]["updatecheck"]
+                    offered.append(int(check["manifest"]["version"].removeprefix("4.")))
+
+        clients = [threading.Thread(target=ask_thirty_times, args=(offered,)) for offered in offers]
+        for client in clients[:32]:
+            client.start()
+        published = [operate(operator, SCRIPT.format(base=base).encode()) for base in range(2, 201)]
+        for client in clients[32:]:
+            client.start()
+        for client in clients:
+            client.join()
+        expect("publishes", published, [(200, f"edition {base + 1}\n".encode()) for base in range(2, 201)])
+        expect("how many replies", sum(map(len, offers)), 64 * 30)
+        expect("connections in order", sum(offered == sorted(offered) for offered in offers), 64)
+        expect("published releases", {number for offered in offers for number in offered} <= set(range(1, 201)), True)
+        expect("output and status", server.end(), (b"ready\nm0 192000\n", b"", 0))
+
+
+def logs_whole_lines_of_all_workers(program):
+    """Eight clients at a time, each with connections of its own."""
+    with tempfile.TemporaryDirectory() as folder:
+        server = Server(program, folder, sessions=80, log="access.log", more=["--workers", "8"])
+
+        def ask_ten_times():
+            for _ in range(10):
+                with server.connect() as connection:
+                    connection.sendall(post(ASK) + post(ASK, b"Connection: close\r\n"))
+                    read_all(connection)
+
+        clients = [threading.Thread(target=ask_ten_times) for _ in range(8)]
+        for client in clients:
+            client.start()
+        for client in clients:
+            client.join()
+        expect("output and status", server.end(), (b"ready\nm0 313600\n", b"", 0))
+        lines = logged(pathlib.Path(folder, "access.log").read_bytes())
+        expect("how many lines", len(lines), 160)
+        expect("kinds of lines", {line[:2] for line in lines}, {(f'"POST {PATH} HTTP/1.1"', "200")})
+
+
 ALONE = [
+    publishes_while_it_serves,
+    never_goes_back_while_200_are_published,
+    logs_whole_lines_of_all_workers,
     logs_each_reply,
     logs_to_standard_error,
     loses_lines_and_no_replies_on_a_full_disk,

@@ -85,6 +85,28 @@ ROWS = [
     ),
     ("at the target", PROFILE, {}, ("3.0", AT_3), ("done 0 steps 0 bytes\n", "", 0)),
     (
+        "to the highest release that a prefix allows",
+        PROFILE,
+        {},
+        ("1.0", [*AT_1, "--prefix", "2"]),
+        ("step 1 diff 2.0 188\ndone 1 steps 188 bytes\n", "", 0),
+    ),
+    (
+        "past a release that a prefix doesn't allow",
+        PROFILE,
+        {},
+        ("1.0", [*AT_1, "--prefix", "3.0$"]),
+        ("step 1 full 3.0 3480\ndone 1 steps 3480 bytes\n", "", 0),
+    ),
+    (
+        "not past a stone that a prefix doesn't allow",
+        as_stone(PROFILE, "2.0"),
+        {},
+        ("1.0", [*AT_1, "--prefix", "3"]),
+        ("done 0 steps 0 bytes\n", "", 0),
+    ),
+    ("by no release that a prefix allows", PROFILE, {}, ("1.0", [*AT_1, "--prefix", "4"]), ("done 0 steps 0 bytes\n", "", 0)),
+    (
         "back, if the client allows it",
         back_to(PROFILE, "1.0"),
         {},
