@@ -31,6 +31,8 @@ mod descriptions;
 #[cfg(test)]
 mod folder_tests;
 #[cfg(test)]
+mod full_tests;
+#[cfg(test)]
 mod lines;
 #[cfg(test)]
 mod memory_tests;
@@ -48,8 +50,6 @@ mod opened;
 mod operator_tests;
 #[cfg(test)]
 mod pins;
-#[cfg(test)]
-mod plain_till;
 #[cfg(test)]
 mod plans;
 #[cfg(test)]

@@ -59,7 +59,7 @@ fn is_replied<R: Threads + Wait + AllocGlobal>(
 }
 
 // The first row that doesn't get what it says, `none` if each does.
-fn first_wrong<R: Threads + Wait + AllocGlobal>(
+pub(crate) fn first_wrong<R: Threads + Wait + AllocGlobal>(
     operator: &mut Operator<'_, R>,
     rows: &'static str,
 ) -> &'static str {
@@ -69,25 +69,6 @@ fn first_wrong<R: Threads + Wait + AllocGlobal>(
         }
     }
     "none"
-}
-
-// A script without edits on a base.
-fn push_empty<R: Threads + Wait + AllocGlobal>(
-    operator: &mut Operator<'_, R>,
-    base: u64,
-) -> Option<String> {
-    let body = format!(in operator.rt.alloc(); "schema = 1~base = {base}").ok()?;
-    send(operator, body.as_str())
-}
-
-// Whether the history is full after scripts without edits from edition 1 on.
-fn fills<R: Threads + Wait + AllocGlobal>(operator: &mut Operator<'_, R>) -> bool {
-    for base in 1..4095 {
-        let _reply = push_empty(operator, base);
-    }
-    let is_last = is_line(push_empty(operator, 4095), "200 edition 4096\n");
-    let is_full = is_line(push_empty(operator, 4096), "422 history full\n");
-    is_last && is_full && is_line(push_empty(operator, 1), "409 stale 4096\n")
 }
 
 // Whether a script of 4097 edits has too many.
@@ -137,29 +118,6 @@ fn performs<R: Threads + Wait + AllocGlobal>(rt: &R) -> Option<bool> {
 #[test]
 fn replies_to_scripts_one_after_the_other(rt: HostRuntime) {
     assert!(rt; performs(&rt) == Some(true));
-}
-
-// A profile without apps, whose histories grow fast.
-const EMPTY: &[u8] =
-    b"schema = 1\nmirror = [{ name = 'm0', codebase = 'http://m0.example/p/', budget = 0 }]";
-
-fn is_full<R: Threads + Wait + AllocGlobal>(rt: &R) -> Option<bool> {
-    let (press, mirrors) = open_desk(rt, rt.alloc(), EMPTY)?;
-    let mut operator = Operator {
-        rt,
-        press,
-        mirrors: &mirrors,
-        workers: 1,
-    };
-    let fills = fills(&mut operator);
-    operator.into_press().end(rt);
-    Some(fills)
-}
-
-// rule: Reply to a script
-#[test]
-fn publishes_up_to_4096_batches(rt: HostRuntime) {
-    assert!(rt; is_full(&rt) == Some(true));
 }
 
 // What the desk of a profile dumps after a script.

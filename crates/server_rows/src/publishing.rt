@@ -1,7 +1,7 @@
 use crate::batches::{MINI, TARGET, small};
 use crate::rows::{Kind, is_found};
 use editions::{Edition, NextError};
-use fixtures::{edition_of, edition_of_batches, next_of};
+use fixtures::{edition_of, next_of};
 use std::alloc::Global;
 
 fn is_printed(alloc: Global, error: &NextError, wanted: &str) -> bool {
@@ -12,27 +12,11 @@ fn is_printed(alloc: Global, error: &NextError, wanted: &str) -> bool {
 }
 
 // Whether edits after an edition are rejected so.
-fn rejects(alloc: Global, edition: &Edition, edits: &str, wanted: &str) -> bool {
+pub(crate) fn rejects(alloc: Global, edition: &Edition, edits: &str, wanted: &str) -> bool {
     match next_of(alloc, edition, edits) {
         Ok(_next) => false,
         Err(error) => is_printed(alloc, &error, wanted),
     }
-}
-
-// Whether the edition of 4096 batches accepts none, and reports an edit that is rejected first.
-fn is_full(alloc: Global) -> Option<bool> {
-    let edition = edition_of_batches(alloc, 4096)?;
-    let is_last = edition.number() == 4096 && rejects(alloc, edition, "", "history full");
-    Some(is_last && rejects(alloc, edition, TARGET, "edit 0: C1 UnknownApp"))
-}
-
-// rule: A rejected batch before a full history
-// rule: Room for 4096 batches
-#[test]
-fn takes_4096_batches_and_no_more(rt: HostRuntime) {
-    let first = edition_of_batches(rt.alloc(), 0);
-    assert!(rt; matches!(first, Some(edition) if edition.number() == 0));
-    assert!(rt; is_full(rt.alloc()) == Some(true));
 }
 
 const NOTHING: &str =

@@ -2,11 +2,10 @@
 
 use crate::answers::print_answer;
 use crate::message_tests::BUSY;
-use crate::plain_till::PlainTill;
 use crate::plans::client_at;
 use crate::press_tests::open_one;
 use crate::rows::is_line;
-use fixtures::{CHAINED, mirrors_of, publish_edits, request_of};
+use fixtures::{CHAINED, PlainTill, mirrors_of, publish_edits, request_of};
 use http_desks::Desk;
 use publisher::{Press, View};
 use service_desks::Worker;

@@ -1,0 +1,73 @@
+// A history of 4096 batches, at an edition and at the desk of a press.
+
+ghost use Rattle.std.specs.Prelude.{IfSome};
+ghost use Rattle.profile_toml.specs.Laws.{AreMirrors};
+
+use crate::batches::TARGET;
+use crate::operator_tests::first_wrong;
+use crate::publishing::rejects;
+use catalogue::Mirror;
+use editions::Edition;
+use fixtures::edition_of_batches;
+use profile_toml::read_profile;
+use publisher::open_edition;
+use service_desks::Operator;
+use std::alloc::Global;
+use std::sync::Wait;
+use std::thread::Threads;
+
+// A profile without apps, whose histories grow fast.
+const EMPTY: &[u8] =
+    b"schema = 1\nmirror = [{ name = 'm0', codebase = 'http://m0.example/p/', budget = 0 }]";
+
+fn empty_mirrors(alloc: Global) -> Option<Vec<Mirror>>
+    ensures { IfSome result (λ mirrors. AreMirrors mirrors.items) }
+{
+    profile_toml::laws::mirrors();
+    match read_profile(alloc, EMPTY) {
+        Ok((_batch, mirrors)) => Some(mirrors),
+        Err(_) => None,
+    }
+}
+
+// The scripts after 4095 batches, each with what it gets after those before it.
+const SCRIPTS: &str = r#"schema = 1~base = 4095 = 200 edition 4096
+schema = 1~base = 4096 = 422 history full
+schema = 1~base = 4096~edit = [{ do = "set_share", app = "demo", cohort = "beta", share = 1 }] = 422 refused 0 C1 UnknownApp
+schema = 1~base = 4095 = 409 stale 4096
+schema = 1~base = 1 = 409 stale 4096"#;
+
+// Whether an edition of 4096 batches accepts none, and reports an edit that is rejected first.
+fn is_full(alloc: Global, edition: &Edition) -> bool {
+    let is_last = edition.number() == 4096 && rejects(alloc, edition, "", "history full");
+    is_last && rejects(alloc, edition, TARGET, "edit 0: C1 UnknownApp")
+}
+
+fn fills<R: Threads + Wait + AllocGlobal>(rt: &R, alloc: Global) -> Option<bool> {
+    let mirrors = empty_mirrors(alloc)?;
+    let edition = edition_of_batches(alloc, 4095).ok()?;
+    let (press, _views) = open_edition(rt, alloc, edition, 1).ok()?;
+    let mut operator = Operator {
+        rt,
+        press,
+        mirrors: &mirrors,
+        workers: 1,
+    };
+    let is_said = first_wrong(&mut operator, SCRIPTS) == "none";
+    let press = operator.into_press();
+    let is_full = is_full(alloc, press.edition());
+    press.end(rt);
+    Some(is_said && is_full)
+}
+
+// rule: Publishing
+// rule: Stale base
+// rule: Reply to a script
+// rule: A rejected batch before a full history
+// rule: Room for 4096 batches
+#[test]
+fn takes_4096_batches_and_no_more(rt: HostRuntime) {
+    let first = edition_of_batches(rt.alloc(), 0);
+    assert!(rt; matches!(first, Ok(edition) if edition.number() == 0));
+    assert!(rt; fills(&rt, rt.alloc()) == Some(true));
+}
