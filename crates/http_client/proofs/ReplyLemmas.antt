@@ -8,6 +8,7 @@ use Rattle.http_client_heads.specs.declared.start.Start.{Start}
 use Rattle.http_client.specs.Replies.{Announces, ReplyRead, RestRead}
 use Rattle.http_client.specs.declared.fault.LinkFault.{LinkFault}
 use Rattle.http_client.specs.declared.fault.LinkFault.TheVariants as fault
+use Rattle.http_client.specs.declared.posting.Reply.{Reply}
 use Rattle.http_client.proofs.KnownLemmas.{Consumes-then}
 
 -- a slice up to the end of the bytes
@@ -19,15 +20,15 @@ after_start held seen at same =
 pub announced :
     (bytes : List ℕ) (start : Start) →
     StartFound bytes (Ok (Some start)) →
-    Announces bytes start.body (drop start.head bytes)
-announced bytes start (head, reads, long, framed) = (head, reads, framed)
+    Announces bytes start.status start.body (drop start.head bytes)
+announced bytes start (head, reads, long, said, framed) = (head, reads, said, framed)
 
 pub announced_more :
-    (bytes more : List ℕ) (size : ℕ) (rest : List ℕ) →
-    Announces bytes size rest →
-    Announces (bytes ++ more) size (rest ++ more)
-announced_more bytes more size rest (head, (valid, cut), framed) =
-    (head, (valid, ap (λ (text : List ℕ). text ++ more) cut ∙ append_assoc _ rest more), framed)
+    (bytes more : List ℕ) (code size : ℕ) (rest : List ℕ) →
+    Announces bytes code size rest →
+    Announces (bytes ++ more) code size (rest ++ more)
+announced_more bytes more code size rest (head, (valid, cut), said, framed) =
+    (head, (valid, ap (λ (text : List ℕ). text ++ more) cut ∙ append_assoc _ rest more), said, framed)
 
 -- bytes are read only if what waits is less than the body
 whole_body :
@@ -49,27 +50,32 @@ whole_body waiting (byte ∷ more) size count least long =
     ∙ append-nil (waiting ++ (byte ∷ more)))
 
 pub reply_whole :
-    (old between new : Option (List ℕ)) (held first body : List ℕ) (start : Start) (count : ℕ) →
+    (limit : ℕ) (old between new : Option (List ℕ)) (held first : List ℕ) (reply : Reply) (start : Start) (count : ℕ) →
     Consumes old between held →
     StartFound held (Ok (Some start)) →
+    reply.status ≡ start.status →
+    start.body ≤ limit →
     count ≡ min (length (drop start.head held)) start.body →
     first ≡ take count (drop start.head held) →
-    Came between new first body →
-    length body ≡ start.body →
-    ReplyRead old new (Ok body)
-reply_whole old between new held first body start count consumed found least is_first came long =
+    Came between new first reply.body.items →
+    length reply.body.items ≡ start.body →
+    ReplyRead limit old new (Ok reply)
+reply_whole limit old between new held first reply start count consumed found said short least is_first came long =
+    let body = reply.body.items in
     let waiting = drop start.head held in
     let whole : body ≡ take count waiting ++ came.bytes =
     came.behind ∙ ap (λ (text : List ℕ). text ++ came.bytes) is_first in
     let cut = whole_body waiting came.bytes start.body count least (ap length (sym whole) ∙ long) in
     let parts : waiting ++ came.bytes ≡ body ++ drop count waiting =
     cut ∙ ap (λ (text : List ℕ). text ++ drop count waiting) (sym whole) in
-    let more = announced_more held came.bytes start.body waiting (announced held start found) in (
+    let more = announced_more held came.bytes start.status start.body waiting (announced held start found) in (
       held ++ came.bytes,
       drop count waiting,
       Consumes-then old between new held came.bytes consumed came.consumed,
-      subst (λ size. Announces (held ++ came.bytes) size (body ++ drop count waiting)) (sym long)
-          (subst (Announces (held ++ came.bytes) start.body) parts more),
+      subst (λ code. Announces (held ++ came.bytes) code (length body) (body ++ drop count waiting)) (sym said)
+          (subst (λ size. Announces (held ++ came.bytes) start.status size (body ++ drop count waiting)) (sym long)
+          (subst (Announces (held ++ came.bytes) start.status start.body) parts more)),
+      omega (arith, long, short),
     )
 
 part_short :
@@ -90,31 +96,33 @@ part_short waiting more body size count least whole short =
     )
 
 pub reply_broken :
-    (old between new : Option (List ℕ)) (held first body : List ℕ) (start : Start) (count : ℕ) (why : LinkFault) →
+    (limit : ℕ) (old between new : Option (List ℕ)) (held first body : List ℕ) (start : Start) (count : ℕ) (why : LinkFault) →
     Consumes old between held →
     StartFound held (Ok (Some start)) →
     count ≡ min (length (drop start.head held)) start.body →
     first ≡ take count (drop start.head held) →
     RestRead between new first body start.body (Err why) →
-    ReplyRead old new (Err why)
-reply_broken old between new held first body start count fault.Ended consumed found least is_first (came, short, end) =
+    ReplyRead limit old new (Err why)
+reply_broken limit old between new held first body start count fault.Ended consumed found least is_first (came, short, end) =
     let waiting = drop start.head held in
     let whole : body ≡ take count waiting ++ came.bytes =
     came.behind ∙ ap (λ (text : List ℕ). text ++ came.bytes) is_first in (
       held ++ came.bytes,
       Consumes-then old between new held came.bytes consumed came.consumed,
       inr (
+        start.status,
         start.body,
         waiting ++ came.bytes,
-        announced_more held came.bytes start.body waiting (announced held start found),
+        announced_more held came.bytes start.status start.body waiting (announced held start found),
         part_short waiting came.bytes body start.body count least whole short,
       ),
       end,
     )
-reply_broken old between new held first body start count fault.Read consumed found least is_first rest = tt
-reply_broken old between new held first body start count fault.Memory consumed found least is_first rest = tt
-reply_broken old between new held first body start count fault.Address consumed found least is_first rest = absurd rest
-reply_broken old between new held first body start count fault.Connect consumed found least is_first rest = absurd rest
-reply_broken old between new held first body start count fault.Write consumed found least is_first rest = absurd rest
-reply_broken old between new held first body start count (fault.Head other) consumed found least is_first rest = absurd rest
-reply_broken old between new held first body start count fault.Long consumed found least is_first rest = absurd rest
+reply_broken limit old between new held first body start count fault.Read consumed found least is_first rest = tt
+reply_broken limit old between new held first body start count fault.Memory consumed found least is_first rest = tt
+reply_broken limit old between new held first body start count fault.Address consumed found least is_first rest = absurd rest
+reply_broken limit old between new held first body start count fault.Connect consumed found least is_first rest = absurd rest
+reply_broken limit old between new held first body start count fault.Write consumed found least is_first rest = absurd rest
+reply_broken limit old between new held first body start count (fault.Head other) consumed found least is_first rest = absurd rest
+reply_broken limit old between new held first body start count fault.Long consumed found least is_first rest = absurd rest
+reply_broken limit old between new held first body start count fault.Status consumed found least is_first rest = absurd rest

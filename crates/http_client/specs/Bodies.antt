@@ -3,6 +3,7 @@ use Rattle.std.specs.Prelude.{◌≡◌, ◌+◌, ◌⊎◌, ℕ, List, [], ◌+
 use Rattle.std.specs.Io.KnownBytes.{Consumes, IsAtEnd, Keeps}
 use Rattle.http_client.specs.declared.body.Body.{Body}
 use Rattle.http_client.specs.declared.fault.LinkFault.{LinkFault}
+use Rattle.http_client.specs.declared.fault.LinkFault.TheVariants as fault
 use Rattle.http_client.specs.Replies.{Announces, HeadFails}
 
 -- the bytes that were read after the head, and not yet handed on
@@ -17,7 +18,9 @@ left_of body = body.left
 -- the head announces the body, and what was read after it waits; or why there is none
 abbrev pub BodyOpened : Option (List ℕ) → Option (List ℕ) → Result Body LinkFault → Type 0
 BodyOpened old new (Ok body) =
-    (bytes : List ℕ) × Consumes old new bytes × Announces bytes (left_of body) (waiting body)
+    (bytes : List ℕ) × Consumes old new bytes × Announces bytes 200 (left_of body) (waiting body)
+BodyOpened old new (Err fault.Status) = (bytes : List ℕ) × (code : ℕ) × (size : ℕ) × (rest : List ℕ)
+    × Consumes old new bytes × Announces bytes code size rest × (code ≡ 200 → ⊥)
 BodyOpened old new (Err why) = (bytes : List ℕ) × HeadFails old new bytes why
 
 -- the announced length is kept; or the input ended before

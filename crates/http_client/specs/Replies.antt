@@ -1,18 +1,19 @@
 -- What a link reads of a reply, and what it wrote before; this project's profile.
-use Rattle.std.specs.Prelude.{◌≡◌, ◌<◌, ◌⊎◌, ℕ, List, ◌++◌, length, Option, None, Some, Result, Ok, Err, ⊤}
+use Rattle.std.specs.Prelude.{◌≡◌, ◌<◌, ◌≤◌, ◌==◌, ◌⊎◌, if◌then◌else◌, ℕ, List, ◌++◌, length, Option, None, Some, Result, Ok, Err, ⊤}
 use Rattle.std.specs.Io.KnownBytes.{Appends, Consumes, IsAtEnd, Keeps}
-use Rattle.httparse.specs.Grammar.{ResponseHead, ReadsResponse}
+use Rattle.httparse.specs.Grammar.{ResponseHead, ReadsResponse, status_code}
 use Rattle.http_wire.specs.Devices.{Came}
 use Rattle.http_wire.specs.Sending.{AppendsPart}
 use Rattle.http_client_heads.specs.Starts.{StartFound, length_after}
 use Rattle.http_client_heads.specs.declared.start.Start.{Start}
 use Rattle.http_client.specs.declared.fault.LinkFault.{LinkFault}
 use Rattle.http_client.specs.declared.fault.LinkFault.TheVariants as fault
+use Rattle.http_client.specs.declared.posting.Reply.{Reply}
 
--- bytes that are a head which announces a body of that size, and then the rest
-abbrev pub Announces : List ℕ → ℕ → List ℕ → Type 0
-Announces bytes size rest =
-    (head : ResponseHead) × ReadsResponse bytes head rest × (length_after head ≡ Ok size)
+-- bytes that are a head with that status, which announces a body of that size, and then the rest
+abbrev pub Announces : List ℕ → ℕ → ℕ → List ℕ → Type 0
+Announces bytes code size rest =
+    (head : ResponseHead) × ReadsResponse bytes head rest × (status_code head ≡ code) × (length_after head ≡ Ok size)
 
 -- a read failed, or memory ran out
 abbrev pub IsBroken : LinkFault → Type 0
@@ -46,20 +47,27 @@ RestRead old new before after size (Err other) = ⊥
 -- less than a reply: less than its head, or less of its body than it announces
 abbrev pub IsPart : List ℕ → Type 0
 IsPart bytes = StartFound bytes (Ok None)
-    ⊎ ((size : ℕ) × (rest : List ℕ) × Announces bytes size rest × (length rest < size))
+    ⊎ ((code : ℕ) × (size : ℕ) × (rest : List ℕ) × Announces bytes code size rest × (length rest < size))
 
 -- rule: Reply that a link reads
--- the body that the head announces, whole; or why there is none
-abbrev pub ReplyRead : Option (List ℕ) → Option (List ℕ) → Result (List ℕ) LinkFault → Type 0
-ReplyRead old new (Ok body) = (bytes : List ℕ) × (rest : List ℕ) × Consumes old new bytes
-    × Announces bytes (length body) (body ++ rest)
-ReplyRead old new (Err (fault.Head why)) = (bytes : List ℕ) × Consumes old new bytes × StartFound bytes (Err why)
-ReplyRead old new (Err fault.Ended) = (bytes : List ℕ) × Consumes old new bytes × IsPart bytes × IsAtEnd new
-ReplyRead old new (Err fault.Long) = (bytes : List ℕ) × (size : ℕ) × (rest : List ℕ) × Consumes old new bytes
-    × Announces bytes size rest × (1048576 < size)
-ReplyRead old new (Err fault.Memory) = ⊤
-ReplyRead old new (Err fault.Read) = ⊤
-ReplyRead old new (Err other) = ⊥
+-- the status and the body that the head announces, whole; or why there is none: it is longer than the limit, among others
+abbrev pub ReplyRead : ℕ → Option (List ℕ) → Option (List ℕ) → Result Reply LinkFault → Type 0
+ReplyRead limit old new (Ok reply) = (bytes : List ℕ) × (rest : List ℕ) × Consumes old new bytes
+    × Announces bytes reply.status (length reply.body.items) (reply.body.items ++ rest)
+    × (length reply.body.items ≤ limit)
+ReplyRead limit old new (Err (fault.Head why)) =
+    (bytes : List ℕ) × Consumes old new bytes × StartFound bytes (Err why)
+ReplyRead limit old new (Err fault.Ended) =
+    (bytes : List ℕ) × Consumes old new bytes × IsPart bytes × IsAtEnd new
+ReplyRead limit old new (Err fault.Long) = (bytes : List ℕ) × (code : ℕ) × (size : ℕ) × (rest : List ℕ)
+    × Consumes old new bytes × Announces bytes code size rest × (limit < size)
+ReplyRead limit old new (Err fault.Memory) = ⊤
+ReplyRead limit old new (Err fault.Read) = ⊤
+ReplyRead limit old new (Err other) = ⊥
+
+-- the body of a reply with the status 200, and of no other
+abbrev pub body_of : Reply → Result (List ℕ) LinkFault
+body_of reply = if reply.status == 200 then Ok reply.body.items else Err fault.Status
 
 -- rule: Request that a link writes
 -- the request was written whole; or memory ran out before it; or a write failed

@@ -4,8 +4,8 @@ ghost use Rattle.http_client.specs.Bodies.{left_of};
 use crate::body::Body;
 use crate::fault::LinkFault;
 use crate::opening::open_over;
-use crate::posting::post_over;
-use http_client_heads::{Address, parse_address};
+use crate::posting::{Reply, post_over};
+use http_client_heads::{Address, Post, parse_address};
 use http_devices::{Reading, Writing};
 use http_wire::Failed;
 use std::alloc::Global;
@@ -29,14 +29,6 @@ fn connect_limited<R: Net<Listener = TcpListener, Stream = TcpStream>, A: ToSock
     Ok(stream)
 }
 
-// What is posted, and where.
-#[derive(Clone, Copy, Drop)]
-struct Post<'a> {
-    host: &'a str,
-    path: &'a str,
-    body: &'a [u8],
-}
-
 // Posts over a connection.
 fn post_on<A: Ledger, B: Ledger>(
     alloc: Global,
@@ -44,7 +36,8 @@ fn post_on<A: Ledger, B: Ledger>(
     reads: Blank,
     writes: Blank,
     post: &Post<'_>,
-) -> Result<Vec<u8>, LinkFault>
+    limit: u64,
+) -> Result<Reply, LinkFault>
     requires read_name { reads.name ≡ A.name }
     requires read_parts { reads.parts ≡ A.parts }
     requires some_reads { 0 < reads.parts }
@@ -54,14 +47,7 @@ fn post_on<A: Ledger, B: Ledger>(
 {
     let mut source = Reading::<&TcpStream, A>::new(stream, reads);
     let mut sink = Writing::<&TcpStream, B>::new(stream, writes);
-    post_over(
-        alloc,
-        &mut source,
-        &mut sink,
-        post.host,
-        post.path,
-        post.body,
-    )
+    post_over(alloc, &mut source, &mut sink, post, limit)
 }
 
 // Opens a download over a connection.
@@ -102,24 +88,32 @@ fn read_on<A: Ledger>(
 }
 
 // Posts over a connection, with ledgers of its own.
-fn post_once(alloc: Global, stream: &TcpStream, post: &Post<'_>) -> Result<Vec<u8>, LinkFault> {
+fn post_once(
+    alloc: Global,
+    stream: &TcpStream,
+    post: &Post<'_>,
+    limit: u64,
+) -> Result<Reply, LinkFault> {
     let (reads, writes) = (Blank::new(1), Blank::new(1));
-    post_on::<Brand, Brand>(alloc, stream, reads, writes, post)
+    post_on::<Brand, Brand>(alloc, stream, reads, writes, post, limit)
 }
 
-/// Posts a body of JSON to a path of a host, over a connection of its own.
-pub(crate) fn post_to<R: Net<Listener = TcpListener, Stream = TcpStream>>(
+/// Posts to a host, which is looked up as `HOST:PORT`, over a connection of its own, and returns the reply, whatever its
+/// status.
+///
+/// Each read and each write may take so many seconds, at least one; the reply's body may have as many bytes as the
+/// limit. Errors are those of `post_over` after `Connect`, which says that there is no connection.
+pub fn post_to<R: Net<Listener = TcpListener, Stream = TcpStream>>(
     alloc: Global,
     rt: &R,
-    host: &str,
     seconds: u64,
-    path: &str,
-    body: &[u8],
-) -> Result<Vec<u8>, LinkFault> {
-    let Ok(stream) = connect_limited(rt, host, seconds) else {
+    post: &Post<'_>,
+    limit: u64,
+) -> Result<Reply, LinkFault> {
+    let Ok(stream) = connect_limited(rt, post.host, seconds) else {
         return Err(LinkFault::Connect);
     };
-    post_once(alloc, &stream, &Post { host, path, body })
+    post_once(alloc, &stream, post, limit)
 }
 
 /// Opens the download at an address, over a connection of its own.

@@ -18,8 +18,10 @@ pub enum LinkFault {
     Head(ReplyFault),
     /// The input ended before the head or, at a post, before the body.
     Ended,
-    /// The body of a post's reply is announced with more than `MAX_REPLY` bytes.
+    /// The body of a post's reply is announced with more bytes than the caller's limit.
     Long,
+    /// The reply has another status than 200; so a redirect as well.
+    Status,
 }
 
 impl From<AllocError> for LinkFault {

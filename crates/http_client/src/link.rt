@@ -4,12 +4,17 @@ ghost use Rattle.update_client.specs.Installing.{posted};
 
 use crate::body::Body;
 use crate::connecting::{open_at, post_to, read_from};
+use crate::fault::LinkFault;
+use http_client_heads::Post;
 use std::alloc::Global;
 use std::net::{Net, TcpListener, TcpStream};
 use update_client::{Failed, Link, Trace};
 
 /// The path that update checks are posted to.
 pub const UPDATE_PATH: &str = "/service/update2/json";
+
+/// The most bytes that the body of the reply to an update check may have.
+pub const MAX_REPLY: u64 = 1_048_576;
 
 /// The link to a server over TCP, with a connection for each post and each download.
 ///
@@ -50,6 +55,19 @@ impl<'a, R: Net<Listener = TcpListener, Stream = TcpStream>> HttpLink<'a, R> {
     }
 }
 
+impl<'a, R: Net<Listener = TcpListener, Stream = TcpStream>> HttpLink<'a, R> {
+    // The body of the reply to an update check.
+    fn check(&self, alloc: Global, body: &[u8]) -> Result<Vec<u8>, LinkFault> {
+        let post = Post {
+            host: self.host,
+            path: UPDATE_PATH,
+            kind: "application/json",
+            body,
+        };
+        post_to(alloc, self.rt, self.seconds, &post, MAX_REPLY)?.into_body()
+    }
+}
+
 impl<'a, R: Net<Listener = TcpListener, Stream = TcpStream>> Link for HttpLink<'a, R> {
     ghost use Rattle.http_client.specs.Bodies.{left_of};
 
@@ -65,7 +83,7 @@ impl<'a, R: Net<Listener = TcpListener, Stream = TcpStream>> Link for HttpLink<'
     ghost failures = { λ link. length link.failures };
 
     fn post(&mut self, alloc: Global, body: &[u8]) -> Result<Vec<u8>, Failed> {
-        match post_to(alloc, self.rt, self.host, self.seconds, UPDATE_PATH, body) {
+        match self.check(alloc, body) {
             Ok(reply) => {
                 self.posts.push(&(Trace::of(body), Trace::of(&reply)));
                 Ok(reply)

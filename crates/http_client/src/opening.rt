@@ -20,6 +20,9 @@ fn read_opening<S: Source>(alloc: Global, source: &mut S) -> Result<Body, LinkFa
     let mut held = Vec::new(alloc);
     let mut block = [0; BLOCK];
     let start = read_head(source, &mut held, &mut block)?;
+    if start.status != 200 {
+        return Err(LinkFault::Status);
+    }
     Ok(Body {
         held,
         at: start.head,
@@ -30,8 +33,8 @@ fn read_opening<S: Source>(alloc: Global, source: &mut S) -> Result<Body, LinkFa
 // rule: Request that a link writes
 /// Requests the download at an address, and reads the head of the reply.
 ///
-/// Errors: `Memory`, `Write`, and of the reply `Read`, `Head` and `Ended`, which say that the input failed,
-/// that the head is rejected, or that it isn't whole.
+/// Errors: `Memory`, `Write`, and of the reply `Read`, `Head`, `Ended` and `Status`, which say that the input failed,
+/// that the head is rejected, that it isn't whole, or that its status isn't 200.
 pub fn open_over<S: Source, W: Sink>(
     alloc: Global,
     source: &mut S,

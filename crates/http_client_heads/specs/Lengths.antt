@@ -1,6 +1,6 @@
--- How long the body of a reply is (RFC 9112, section 6). That only the status 200 is accepted, no chunked
--- body and no second length, even an equal one, is this project's profile.
-use Rattle.std.specs.Prelude.{ℕ, ◌^◌, ◌&&◌, ◌==◌, nat_lt, List, [], ◌∷◌, Result, Ok, Err, if◌then◌else◌, codes}
+-- How long the body of a reply is (RFC 9112, section 6). That no chunked body is accepted and no second length, even an
+-- equal one, is this project's profile.
+use Rattle.std.specs.Prelude.{ℕ, ◌^◌, ◌&&◌, nat_lt, List, [], ◌∷◌, Result, Ok, Err, if◌then◌else◌, codes}
 use Rattle.std.specs.Str.Parse.{digits_value}
 use Rattle.http_heads.specs.Fields.{Pair, values_named}
 use Rattle.http_heads.specs.Framing.{is_number}
@@ -26,8 +26,6 @@ length_without (coding ∷ more) lengths = Err fault.TransferCoding
 
 -- rule: Length of a reply
 -- the length of the body, or why the reply is rejected
-unfoldable pub body_length : ℕ → List Pair → Result ℕ ReplyFault
-body_length code fields =
-    if code == 200 then
+unfoldable pub body_length : List Pair → Result ℕ ReplyFault
+body_length fields =
     length_without (values_named (codes "transfer-encoding") fields) (values_named (codes "content-length") fields)
-    else Err fault.Status

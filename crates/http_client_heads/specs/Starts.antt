@@ -10,7 +10,7 @@ use Rattle.http_client_heads.specs.Lengths.{body_length}
 
 -- how long the body after a head is, or why the head is rejected
 abbrev pub length_after : ResponseHead → Result ℕ ReplyFault
-length_after head = body_length (status_code head) (map name_and_value head.fields)
+length_after head = body_length (map name_and_value head.fields)
 
 -- why the bytes begin with no head that is accepted: none, or one of too many fields
 abbrev pub LacksHead : List ℕ → ReplyFault → Type 0
@@ -19,10 +19,10 @@ LacksHead bytes fault.ManyFields = ResponseExceeds 100 bytes
 LacksHead bytes other = ⊥
 
 -- rule: Head of a reply that is read
--- the head at the front and the length of its body; less than a head; no head; or a head that is rejected
+-- the head at the front, its status and the length of its body; less than a head; no head; or a head that is rejected
 abbrev pub StartFound : List ℕ → Result (Option Start) ReplyFault → Type 0
 StartFound bytes (Ok (Some start)) = (head : ResponseHead) × ReadsResponse bytes head (drop start.head bytes)
-    × (start.head ≡ length (print_response head)) × (length_after head ≡ Ok start.body)
+    × (start.head ≡ length (print_response head)) × (status_code head ≡ start.status) × (length_after head ≡ Ok start.body)
 StartFound bytes (Ok None) = (length bytes < 16384) × HasNoResponse bytes × MayBecomeResponse bytes
 StartFound bytes (Err why) = LacksHead bytes why
     ⊎ ((head : ResponseHead) × (rest : List ℕ) × ReadsResponse bytes head rest × (length_after head ≡ Err why))

@@ -5,8 +5,6 @@ pub enum ReplyFault {
     NoHead,
     /// More than `MAX_FIELDS` fields.
     ManyFields,
-    /// A status other than 200.
-    Status,
     /// A `Transfer-Encoding` field.
     TransferCoding,
     /// No `Content-Length` field.

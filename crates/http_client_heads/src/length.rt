@@ -61,16 +61,13 @@ pub(crate) fn read_length(value: &[u8]) -> Result<u64, ReplyFault>
 // rule: Length of a reply
 /// Returns how many bytes follow the head of a reply, or why the reply is rejected.
 ///
-/// `fields` are places in `buf`. In this order: a status other than 200, so redirects as well; a
-/// `Transfer-Encoding`; no `Content-Length`, or two; one that isn't a decimal number below 2^64.
+/// `fields` are places in `buf`. In this order: a `Transfer-Encoding`; no `Content-Length`, or two; one that isn't a
+/// decimal number below 2^64.
 #[tactic(auto, unfolding(crate::specs::Lengths::body_length))]
-pub fn body_length(code: u16, buf: &[u8], fields: &[HeaderSpan]) -> Result<u64, ReplyFault>
+pub fn body_length(buf: &[u8], fields: &[HeaderSpan]) -> Result<u64, ReplyFault>
     requires { All (IsHeaderWithin (length buf.now)) fields.now }
-    ensures { result ≡ body_length code (map (header_bytes buf.now) fields.now) }
+    ensures { result ≡ body_length (map (header_bytes buf.now) fields.now) }
 {
-    if code != 200 {
-        return Err(ReplyFault::Status);
-    }
     if find_value(buf, fields, b"transfer-encoding").is_some() {
         return Err(ReplyFault::TransferCoding);
     }

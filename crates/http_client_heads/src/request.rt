@@ -14,12 +14,31 @@ fn get_head(alloc: Global, authority: &str, path: &str) -> Result<String, AllocE
 
 // The head of a post's request, with a body of so many bytes.
 #[tactic(auto, unfolding(crate::specs::Requests::post_lines))]
-fn post_head(alloc: Global, host: &str, path: &str, size: usize) -> Result<String, AllocError>
-    ensures { IfOk result (λ text. string_bytes text ≡ post_lines host.now path.now size) }
+fn post_head(
+    alloc: Global,
+    host: &str,
+    path: &str,
+    kind: &str,
+    size: usize,
+) -> Result<String, AllocError>
+    ensures { IfOk result (λ text. string_bytes text ≡ post_lines host.now path.now kind.now size) }
 {
     format!(in alloc;
-        "POST {path} HTTP/1.1\r\nHost: {host}\r\nContent-Type: application/json\r\nContent-Length: {size}\r\nConnection: close\r\n\r\n"
+        "POST {path} HTTP/1.1\r\nHost: {host}\r\nContent-Type: {kind}\r\nContent-Length: {size}\r\nConnection: close\r\n\r\n"
     )
+}
+
+/// What is posted, and where. No string of it is checked.
+#[derive(Clone, Copy, Drop)]
+pub struct Post<'a> {
+    /// The host, and perhaps its port.
+    pub host: &'a str,
+    /// The path, with its first slash.
+    pub path: &'a str,
+    /// The media type of the body (RFC 9110, section 8.3).
+    pub kind: &'a str,
+    /// The body.
+    pub body: &'a [u8],
 }
 
 /// Returns the request of a download.
@@ -31,18 +50,12 @@ pub fn get_request(alloc: Global, address: &Address<'_>) -> Result<Vec<u8>, Allo
 }
 
 // rule: Request of a post
-/// Returns the request that posts a body of JSON to a path of a host, the body included.
-///
-/// `host` may end in a port. Neither string is checked.
-pub fn post_request(
-    alloc: Global,
-    host: &str,
-    path: &str,
-    body: &[u8],
-) -> Result<Vec<u8>, AllocError>
-    ensures { IfOk result (λ text. text.items ≡ post_request host.now path.now body.now) }
+/// Returns the request of a post, its body included.
+pub fn post_request(alloc: Global, post: &Post<'_>) -> Result<Vec<u8>, AllocError>
+    ensures { IfOk result (λ text. text.items ≡ post_request post.now) }
 {
-    let mut text = post_head(alloc, host, path, body.len())?.into_bytes();
-    text.extend_from_slice(body)?;
+    let size = post.body.len();
+    let mut text = post_head(alloc, post.host, post.path, post.kind, size)?.into_bytes();
+    text.extend_from_slice(post.body)?;
     Ok(text)
 }

@@ -15,6 +15,8 @@ pub const MAX_FIELDS: usize = 100;
 /// A reply's head at the front of bytes.
 #[derive(Clone, Copy, Debug, Drop, PartialEq, Eq)]
 pub struct Start {
+    /// The status, such as 200.
+    pub status: u16,
     /// The length of the head in bytes.
     pub head: usize,
     /// The length of the body that follows, in bytes.
@@ -22,7 +24,7 @@ pub struct Start {
 }
 
 // rule: Head of a reply that is read
-/// Finds the head of a reply at the front of the bytes, and how long its body is.
+/// Finds the head of a reply at the front of the bytes, its status, and how long its body is.
 ///
 /// Returns `None` if there are less than `MAX_HEAD` bytes, and more can make them a head. Errors are those
 /// of `body_length` after a whole head, and before it: bytes that can't become a head, `MAX_HEAD` bytes or
@@ -33,8 +35,9 @@ pub fn read_start(bytes: &[u8]) -> Result<Option<Start>, ReplyFault>
     let mut fields = [EMPTY_HEADER_SPAN; MAX_FIELDS];
     match parse_response(bytes, &mut fields) {
         Ok(Status::Complete(spans)) => {
-            match body_length(spans.code, bytes, &fields[..spans.headers]) {
+            match body_length(bytes, &fields[..spans.headers]) {
                 Ok(body) => Ok(Some(Start {
+                    status: spans.code,
                     head: spans.len,
                     body,
                 })),
