@@ -5,6 +5,7 @@ use Rattle.omaha_cli.specs.Comparing.{Compares}
 use Rattle.omaha_cli.specs.Describing.{PrintsDescriptions}
 use Rattle.omaha_cli.specs.Explaining.{Explains}
 use Rattle.omaha_cli.specs.Once.{Responds}
+use Rattle.omaha_cli.specs.Operating.{Dumps, Publishes}
 use Rattle.omaha_cli.specs.Reports.{Reports}
 use Rattle.omaha_cli.specs.Serving.{ServesOn}
 use Rattle.omaha_cli.specs.Streams.{Streams}
@@ -15,7 +16,7 @@ use Rattle.omaha_arguments.specs.declared.command.Command.TheVariants as command
 use Rattle.omaha_cli.specs.declared.failure.Failure.{Failure}
 
 -- a reply to a request, a report on a profile or on its packages, descriptions of files, the explanation of a code, a
--- server, or a walk
+-- server, a walk, or a call of an operator's listener
 abbrev pub Does : World → Command → Streams → Streams → Result (Unit {0}) Failure → Type 0
 Does world (command.Once once) old new result = Responds world.files once old new result
 Does world (command.Report report) old new result = Reports world.files report old new result
@@ -24,6 +25,8 @@ Does world (command.Describe paths) old new result = PrintsDescriptions world.st
 Does world (command.Explain code) old new result = Explains code old new result
 Does world (command.Serve serve) old new result = ServesOn world.files world.edges serve old new result
 Does world (command.Walk walk) old new result = WalksOn world.replies walk old new result
+Does world (command.Publish asked) old new result = Publishes world.files world.operated asked old new result
+Does world (command.Dump to) old new result = Dumps world.operated to old new result
 
 -- the command logs nothing to the standard error
 abbrev pub IsSilentCommand : Command → Type 0

@@ -4,6 +4,7 @@ pub mod Doing
 pub mod Explaining
 pub mod Failures
 pub mod Once
+pub mod Operating
 pub mod Rejections
 pub mod Reports
 pub mod Running

@@ -24,9 +24,9 @@ abbrev pub max_input : ℕ
 max_input = 262144
 
 -- rule: Maximum of a profile
--- how many bytes a profile may have: 64 MiB
+-- how many bytes a profile may have: 256 MiB
 abbrev pub max_profile : ℕ
-max_profile = 67108864
+max_profile = 268435456
 
 -- what is known of each file, by its path
 abbrev pub Files : Type 0
@@ -114,6 +114,7 @@ Replies service moment old new (Err (failure.Certificate error)) = ⊥
 Replies service moment old new (Err (failure.Code code)) = ⊥
 Replies service moment old new (Err (failure.Net address)) = ⊥
 Replies service moment old new (Err (failure.Walk fault)) = ⊥
+Replies service moment old new (Err failure.Refused) = ⊥
 
 -- what follows from what was made of the profile: the service replies; without one nothing is read
 -- or written

@@ -4,12 +4,14 @@ use Rattle.omaha_server.specs.Edges.{Edges}
 use Rattle.package_files.specs.Storages.{Storage}
 use Rattle.update_client.specs.Walks.{Post}
 use Rattle.omaha_cli.specs.Once.{Files}
+use Rattle.omaha_cli.specs.Operating.{Listeners}
 
 -- rule: Edges of the program
--- of each file, by its path; of the files in folders; of addresses, connections and logs; and which posts were made to
--- the server at an address, each with the reply that came back
+-- of each file, by its path; of the files in folders; of addresses, connections and logs; which posts were made to the
+-- server at an address, each with the reply that came back; and which replies operators' listeners gave
 pub record World : Type 1 where
   pub files : Files
   pub storage : Storage
   pub edges : Edges
   pub replies : List ℕ → List Post → Type 0
+  pub operated : Listeners

@@ -18,7 +18,7 @@ use values::{ReadError, Text};
 /// Those of the profile come before those of the request.
 #[derive(Debug, Drop)]
 pub enum Failure {
-    /// The profile's file, of that path, could not be read, or has over 64 MiB; or the log's, of that path, could
+    /// The profile's file, of that path, could not be read, or has over 256 MiB; or the log's, of that path, could
     /// not be opened; or there is no folder of packages of that path. The path prints without control characters.
     File(Text),
     /// The file at that path can't be described, for that reason. The path prints without control characters.
@@ -39,7 +39,7 @@ pub enum Failure {
     Certificate(CertificateFault),
     /// The program prints no such code. The code prints without control characters.
     Code(Text),
-    /// The address could not be bound. It prints without control characters.
+    /// The address could not be bound, or the listener at it not be reached. It prints without control characters.
     Net(Text),
     /// There is no place for a view of the editions.
     NoPlace,
@@ -49,6 +49,8 @@ pub enum Failure {
     Thread,
     /// A walk failed.
     Walk(Fault),
+    /// The operator's listener replied with another status than 200. Its reply is printed, and nothing else.
+    Refused,
     /// Memory ran out.
     Memory,
     /// The reply could not be written.
@@ -96,6 +98,7 @@ impl fmt::Display for Failure {
             Failure::Closed => write!(f, "closed"),
             Failure::Thread => write!(f, "thread"),
             Failure::Walk(fault) => write!(f, "{fault}"),
+            Failure::Refused => write!(f, "refused"),
             Failure::Memory => write!(f, "memory"),
             Failure::Write => write!(f, "write"),
         }

@@ -18,7 +18,7 @@ use values::Text;
 const MAX_INPUT: u32 = 262144;
 
 /// How many bytes a profile may have.
-pub(crate) const MAX_PROFILE: u32 = 67108864;
+pub(crate) const MAX_PROFILE: u32 = 268435456;
 
 // rule: Service of a profile
 /// Makes the service of a profile.
@@ -100,7 +100,7 @@ fn reply_from<R: AllocGlobal + Threads + Sync + Wait, I: ReadWhole, W: WriteWhol
 /// Replies to the request that a reader holds.
 ///
 /// Reads the profile's file, if one is named, then the reader to its end, and writes the reply to
-/// the writer, byte for byte. The profile may have 64 MiB and the request 262144 bytes. Fails, in
+/// the writer, byte for byte. The profile may have 256 MiB and the request 262144 bytes. Fails, in
 /// this order, with the file, the profile's fault, its first rejected edit, the reader, no place for a view of the
 /// edition, the request's fault, and a view that enters nothing; each time nothing is written. If the writer fails, a
 /// first part of the reply is written, and not all of it. The mirrors' budgets count for this one request, from nothing.

@@ -10,6 +10,7 @@ use crate::describing::describe_files;
 use crate::explaining::explain_code;
 use crate::failure::Failure;
 use crate::once::respond;
+use crate::operating::{dump_on, publish_on};
 use crate::reporting::report_on;
 use crate::serving::serve_profile;
 use crate::walking::walk_on;
@@ -106,7 +107,7 @@ fn obey<
 >(rt: &R, command: &Command, reader: &mut I, writer: &mut W, errors: &mut F) -> Result<(), Failure>
     requires { IsAskable command.now }
     ensures silent { IsSilentCommand command.now → errors.new ≡ errors.old }
-    ensures does { Does (record { files = R.file_at rt.now; storage = R.storage rt.now; edges = R.edges rt.now; replies = R.replies rt.now }) command.now
+    ensures does { Does (record { files = R.file_at rt.now; storage = R.storage rt.now; edges = R.edges rt.now; replies = R.replies rt.now; operated = R.operated rt.now }) command.now
         (record { input = I.input reader.old; output = W.output writer.old })
         (record { input = I.input reader.new; output = W.output writer.new }) result }
 {
@@ -118,6 +119,8 @@ fn obey<
         Command::Explain(code) => explain_code(rt.alloc(), code, writer),
         Command::Serve(asked) => serve_profile(rt, asked, writer, errors),
         Command::Walk(asked) => walk_on(rt.alloc(), rt, asked, writer),
+        Command::Publish(asked) => publish_on(rt, rt.alloc(), asked, writer),
+        Command::Dump(to) => dump_on(rt, rt.alloc(), to, writer),
     }
 }
 
@@ -129,7 +132,7 @@ fn carry_out<
     F: WriteWhole + Send,
 >(rt: &R, arguments: &[String], reader: &mut I, writer: &mut W, errors: &mut F) -> Ending
     ensures silent { IsSilentRun (map string_bytes arguments.now) → errors.new ≡ errors.old }
-    ensures ends { Ends (record { files = R.file_at rt.now; storage = R.storage rt.now; edges = R.edges rt.now; replies = R.replies rt.now }) (map string_bytes arguments.now)
+    ensures ends { Ends (record { files = R.file_at rt.now; storage = R.storage rt.now; edges = R.edges rt.now; replies = R.replies rt.now; operated = R.operated rt.now }) (map string_bytes arguments.now)
         (record { input = I.input reader.old; output = W.output writer.old })
         (record { input = I.input reader.new; output = W.output writer.new }) result }
     ensures untouched { IsMistaken result → (reader.new ≡ reader.old) × (writer.new ≡ writer.old) }
@@ -160,6 +163,7 @@ fn report<F: WriteWhole>(alloc: Global, ending: &Ending, errors: &mut F)
     match ending {
         Ending::Replied => {}
         Ending::Shown => {}
+        Ending::Failed(Failure::Refused) => {}
         Ending::Failed(failure) => print_failure(alloc, failure, errors),
         Ending::Mistaken(text) => offer(errors, text.as_str().as_bytes()),
     }
@@ -172,8 +176,8 @@ fn report<F: WriteWhole>(alloc: Global, ending: &Ending, errors: &mut F)
 /// Without arguments, or with `once` and its options, it does what `respond` does; with `check`, `certify` or
 /// `verify` what `report_on` does; with `check F --packages DIR` it compares packages with files, with `describe`
 /// it describes files; with `serve` it serves until its last session; with `walk` it walks along a server's
-/// offers. It returns 0 if the command did that, or the help or the version was printed; 1 if the command failed,
-/// after one line on `errors`; and 2 if the arguments are invalid, after `clap`'s message on `errors`. With `--log -` a
+/// offers; with `publish` and `dump` it calls an operator's listener. It returns 0 if the command did that, or the help or
+/// the version was printed; 1 if the command failed, after one line on `errors`, or none if that listener refused; and 2 if the arguments are invalid, after `clap`'s message on `errors`. With `--log -` a
 /// server also logs its replies there.
 pub fn run<
     R: Disk + Folders + System + Clock + Connector + AllocGlobal + Threads + Sync + Wait,
@@ -181,7 +185,7 @@ pub fn run<
     W: WriteWhole,
     F: WriteWhole + Send,
 >(rt: &R, arguments: &[String], reader: &mut I, writer: &mut W, errors: &mut F) -> u8
-    ensures run { Runs (record { files = R.file_at rt.now; storage = R.storage rt.now; edges = R.edges rt.now; replies = R.replies rt.now }) (map string_bytes arguments.now)
+    ensures run { Runs (record { files = R.file_at rt.now; storage = R.storage rt.now; edges = R.edges rt.now; replies = R.replies rt.now; operated = R.operated rt.now }) (map string_bytes arguments.now)
         (record { input = I.input reader.old; output = W.output writer.old })
         (record { input = I.input reader.new; output = W.output writer.new })
         (F.output errors.old) (F.output errors.new) result }

@@ -45,7 +45,6 @@ const PROFILES: &str = "1_omaha:_file_nowhere.toml~ | once --profile nowhere.tom
 1_omaha:_F4_BadMirror_0~ | once --profile mirrorless.toml
 1_omaha:_F4_BadMirror_0~ | once --profile unslashed.toml
 1_omaha:_edit_6:_C11_UnknownRelease~ | once --profile unreleased.toml
-1_omaha:_file_/dev/zero~ | once --profile /dev/zero
 1_omaha:_file_fifo~ | once --profile fifo
 1_omaha:_file_\"\"~ | once --profile ^
 1_omaha:_file_a%0Ab%1B.toml~ | once --profile a~b\u{1b}.toml
@@ -74,9 +73,23 @@ const PROFILES: &str = "1_omaha:_file_nowhere.toml~ | once --profile nowhere.tom
 1_omaha:_file_/:_no_package_name~ | describe /
 1_omaha:_file_\"\":_no_package_name~ | describe ^
 1_omaha:_file_a/.b:_no_package_name~ | describe a/.b a.bin
-1_omaha:_U1_Link~ | walk --to 127.0.0.1:9 --app mini --version ^";
+1_omaha:_U1_Link~ | walk --to 127.0.0.1:9 --app mini --version ^
+1_omaha:_file_nowhere~ | publish --to 127.0.0.1:9 nowhere
+1_omaha:_file_fifo~ | publish --to 127.0.0.1:9 fifo
+1_omaha:_memory~ | publish --to 127.0.0.1:9 large.toml
+1_omaha:_net_127.0.0.1:9~ | publish --to 127.0.0.1:9 broken.toml
+1_omaha:_net_no%0Aaddress~ | dump --to no~address";
 
 // rule: Maximum of a profile
+#[test]
+fn reads_no_profile_without_an_end(rt: HostRuntime) {
+    let shelf = Shelf::new(rt);
+    let rt = &shelf.rt;
+    let row = "1_omaha:_file_/dev/zero~ | once --profile /dev/zero";
+    assert!(rt; shelf.ends_as_wanted(row) == Some(true));
+}
+
+// rule: Call of an operator's listener
 // rule: Service over HTTP
 // rule: Shown string
 #[test]
@@ -140,7 +153,11 @@ const MISTAKES: &str =
 2_error:_unexpected_argument_'-5'_found~ | once --moment -5
 2_error:_invalid_value_'0018446744073709551616'_for_'--moment_<N>' | once --moment 0018446744073709551616
 2_error:_unexpected_argument_'--version'_found~ | once --version
-2_error:_unrecognized_subcommand_'publish'~ | publish
+2_error:_unrecognized_subcommand_'release'~ | release
+2_error:_the_following_required_arguments_were_not_provided:~ | publish --to a
+2_error:_the_following_required_arguments_were_not_provided:~ | publish a
+2_error:_the_following_required_arguments_were_not_provided:~ | dump
+2_error:_unexpected_argument_'a'_found~ | dump --to b a
 2_error:_unrecognized_subcommand_'a%C2%9Bb'~ | a\u{9b}b
 2_error:_unexpected_argument_'%1B[31m'_found~ | once \u{1b}[31m
 2_error:_the_following_required_arguments_were_not_provided:~ | serve --profile staged.toml
@@ -187,6 +204,8 @@ fn prints_help_and_version(rt: HostRuntime) {
         ("serve --help", "--operator 127.0.0.1:8081 --workers 4\n"),
         ("describe --help", "<FILE>"),
         ("walk --help", "U8 Busy"),
+        ("publish --help", "history full"),
+        ("dump --help", "omaha dump --to"),
         ("--version", "omaha 0.2.0\n"),
         ("-V", "omaha 0.2.0\n"),
     ];

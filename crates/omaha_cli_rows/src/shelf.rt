@@ -276,8 +276,8 @@ impl Read for Page {
         if self.is_broken {
             return Err(io::Error::from(ErrorKind::ConnectionReset));
         }
+        // There are too many bytes, whatever they are.
         if self.is_endless {
-            buf.fill(0);
             return Ok(buf.len());
         }
         let count = self.left().read(buf)?;

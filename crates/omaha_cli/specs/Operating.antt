@@ -1,0 +1,53 @@
+-- What the commands `publish` and `dump` do; this project's profile.
+use Rattle.std.specs.Prelude.{◌≡◌, ◌⊎◌, ℕ, List, codes, Result, Ok, Err}
+use Rattle.std.specs.Io.KnownBytes.{Appends}
+use Rattle.streams.specs.Reading.{IsWhole}
+use Rattle.streams.specs.Writing.{Breaks}
+use Rattle.http_client.specs.declared.posting.Reply.{Reply}
+use Rattle.omaha_arguments.specs.declared.command.Publication.{Publication}
+use Rattle.omaha_cli.specs.Once.{Files, IsUnreadable, max_profile}
+use Rattle.omaha_cli.specs.Streams.{Streams}
+use Rattle.omaha_cli.specs.declared.failure.Failure.{Failure}
+use Rattle.omaha_cli.specs.declared.failure.Failure.TheVariants as failure
+
+-- which replies the operator's listener at an address gave to a body
+abbrev pub Listeners : Type 1
+Listeners = List ℕ → List ℕ → Reply → Type 0
+
+-- a file's bytes; or it can't be read; or memory ran out
+abbrev pub IsRead : Files → List ℕ → Result (List ℕ) Failure → Type 0
+IsRead files path (Ok bytes) = IsWhole (files path) max_profile bytes
+IsRead files path (Err refusal) =
+    ((refusal ≡ failure.File path) × IsUnreadable (files path)) ⊎ (refusal ≡ failure.Memory)
+
+-- the reply is printed, and the call succeeds exactly if its status is 200; or the writer failed within it
+abbrev pub PrintsReply : Reply → Streams → Streams → Result (Unit {0}) Failure → Type 0
+PrintsReply reply old new (Ok done) = (reply.status ≡ 200)
+    × Appends old.output.bytes new.output.bytes reply.body.items × (new.input ≡ old.input)
+PrintsReply reply old new (Err failure.Refused) = (reply.status ≡ 200 → ⊥)
+    × Appends old.output.bytes new.output.bytes reply.body.items × (new.input ≡ old.input)
+PrintsReply reply old new (Err failure.Write) =
+    Breaks old.output new.output reply.body.items × (new.input ≡ old.input)
+PrintsReply reply old new (Err other) = ⊥
+
+-- rule: Call of an operator's listener
+-- the listener's reply to a body is printed; or there is none, and nothing is printed
+abbrev pub Calls : Listeners → List ℕ → List ℕ → Streams → Streams → Result (Unit {0}) Failure → Type 0
+Calls listeners to body old new result =
+    ((reply : Reply) × listeners to body reply × PrintsReply reply old new result)
+    ⊎ (((result ≡ Err (failure.Net to)) ⊎ (result ≡ Err failure.Memory)) × (new ≡ old))
+
+-- what was read is sent; or nothing is done
+abbrev pub CallsWith : Listeners → List ℕ → Result (List ℕ) Failure → Streams → Streams → Result (Unit {0}) Failure → Type 0
+CallsWith listeners to (Ok body) old new result = Calls listeners to body old new result
+CallsWith listeners to (Err refusal) old new result = (result ≡ Err refusal) × (new ≡ old)
+
+-- the script's bytes are sent as they are
+abbrev pub Publishes : Files → Listeners → Publication → Streams → Streams → Result (Unit {0}) Failure → Type 0
+Publishes files listeners publication old new result =
+    (read : Result (List ℕ) Failure) × IsRead files publication.script read
+    × CallsWith listeners publication.to read old new result
+
+-- the word `dump` is sent
+abbrev pub Dumps : Listeners → List ℕ → Streams → Streams → Result (Unit {0}) Failure → Type 0
+Dumps listeners to old new result = Calls listeners to (codes "dump") old new result

@@ -1,0 +1,97 @@
+// The commands of an operator: `publish` and `dump`.
+
+ghost use Rattle.std.specs.Prelude.{IfErr, IfOk, Ok, Err};
+ghost use Rattle.omaha_cli.specs.Operating.{Calls, Dumps, IsRead, PrintsReply, Publishes};
+ghost use Rattle.streams.specs.Streams.{Known};
+
+use crate::failure::Failure;
+use crate::once::MAX_PROFILE;
+use crate::printing::print;
+use http_client::{LinkFault, Reply};
+use omaha_arguments::Publication;
+use omaha_client::Connector;
+use std::alloc::Global;
+use streams::{Disk, ReadFailure, WriteWhole};
+use values::Text;
+
+// Reads a file.
+fn read_file<R: Disk>(rt: &R, alloc: Global, path: &Text) -> Result<Vec<u8>, Failure>
+    ensures ok { IfOk result (λ bytes. IsRead (R.file_at rt.now) path.now (Ok bytes.items)) }
+    ensures err { IfErr result (λ failure. IsRead (R.file_at rt.now) path.now (Err failure)) }
+{
+    match rt.read_file(alloc, path.as_str(), MAX_PROFILE) {
+        Ok(bytes) => Ok(bytes),
+        Err(ReadFailure::Memory) => Err(Failure::Memory),
+        Err(_) => Err(Failure::File(path.clone()?)),
+    }
+}
+
+// Prints a reply, and succeeds if its status is 200.
+fn print_reply<W: WriteWhole>(reply: &Reply, writer: &mut W) -> Result<(), Failure>
+    ensures { (input : Known) → PrintsReply reply.now
+        (record { input = input; output = W.output writer.old })
+        (record { input = input; output = W.output writer.new }) result }
+{
+    print(reply.body.as_slice(), writer)?;
+    if reply.status == 200 {
+        Ok(())
+    } else {
+        Err(Failure::Refused)
+    }
+}
+
+// rule: Call of an operator's listener
+// Posts a body to an operator's listener, and prints the reply.
+fn call<R: Connector, W: WriteWhole>(
+    rt: &R,
+    alloc: Global,
+    to: &Text,
+    body: &[u8],
+    writer: &mut W,
+) -> Result<(), Failure>
+    ensures { (input : Known) → Calls (R.operated rt.now) to.now body.now
+        (record { input = input; output = W.output writer.old })
+        (record { input = input; output = W.output writer.new }) result }
+{
+    match rt.operate_at(alloc, to.as_str(), body) {
+        Ok(reply) => print_reply(&reply, writer),
+        Err(LinkFault::Memory) => Err(Failure::Memory),
+        Err(_) => Err(Failure::Net(to.clone()?)),
+    }
+}
+
+/// Posts a script's file to an operator's listener, as it is, and prints the reply.
+///
+/// Fails with the file, then with `Net` if the listener can't be reached or sends no whole reply; each time nothing is
+/// written. Fails with `Refused` after a reply with another status than 200, and with the writer.
+pub(crate) fn publish_on<R: Disk + Connector, W: WriteWhole>(
+    rt: &R,
+    alloc: Global,
+    asked: &Publication,
+    writer: &mut W,
+) -> Result<(), Failure>
+    ensures { (input : Known) → Publishes (R.file_at rt.now) (R.operated rt.now) asked.now
+        (record { input = input; output = W.output writer.old })
+        (record { input = input; output = W.output writer.new }) result }
+{
+    match read_file(rt, alloc, &asked.script) {
+        Ok(script) => call(rt, alloc, &asked.to, script.as_slice(), writer),
+        Err(failure) => Err(failure),
+    }
+}
+
+/// Prints the profile that an operator's listener dumps.
+///
+/// Fails as `publish_on` does without a file.
+pub(crate) fn dump_on<R: Connector, W: WriteWhole>(
+    rt: &R,
+    alloc: Global,
+    to: &Text,
+    writer: &mut W,
+) -> Result<(), Failure>
+    ensures { (input : Known) → Dumps (R.operated rt.now) to.now
+        (record { input = input; output = W.output writer.old })
+        (record { input = input; output = W.output writer.new }) result }
+{
+    call(rt, alloc, to, b"dump", writer)
+}
