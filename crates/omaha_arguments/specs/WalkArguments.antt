@@ -57,3 +57,5 @@ IsAskable (command.Describe paths) = ⊤
 IsAskable (command.Explain code) = ⊤
 IsAskable (command.Serve serve) = ⊤
 IsAskable (command.Walk walk) = IsAppid walk.app
+IsAskable (command.Publish publication) = ⊤
+IsAskable (command.Dump listener) = ⊤

@@ -20,6 +20,10 @@ pub enum Command {
     Serve(Serve),
     /// To walk along the offers of a server.
     Walk(Walk),
+    /// To publish a script to a running server.
+    Publish(Publication),
+    /// To print the profile that a running server has published: its operator's listener, as `HOST:PORT`.
+    Dump(Text),
 }
 
 /// What the command `once` is asked to do.
@@ -52,6 +56,15 @@ pub struct Serve {
     pub timeout: u64,
     /// The path of the log of replies, `-` for standard error, or `None` for no log.
     pub log: Option<Text>,
+}
+
+/// What the command `publish` is asked to do.
+#[derive(Drop)]
+pub struct Publication {
+    /// The operator's listener, as `HOST:PORT`.
+    pub to: Text,
+    /// The path of the script.
+    pub script: Text,
 }
 
 /// What the command `check` is asked to do with a folder of packages.

@@ -2,8 +2,9 @@
 //!
 //! `read_arguments` reads them with `clap` and gives a `Command`, or why there is none: the help or the
 //! version was asked for, or they are invalid. What they mean is said by `specs/Commands.antt` and, for the
-//! commands that report on a profile, `specs/ReportArguments.antt`, for `serve` `specs/ServeArguments.antt`;
-//! `walk` `specs/WalkArguments.antt`; how they are rejected by `specs/Errors.antt`.
+//! commands that report on a profile, `specs/ReportArguments.antt`; for `serve`, `specs/ServeArguments.antt`; for
+//! `publish` and `dump`, `specs/OperatorArguments.antt`; for `walk`, `specs/WalkArguments.antt`. How they are rejected
+//! is said by `specs/Errors.antt`.
 //!
 //! It opens no file and carries nothing out.
 
@@ -13,11 +14,12 @@ mod command;
 mod command_line;
 mod error;
 mod once_arguments;
+mod operator_arguments;
 mod options;
 mod report_arguments;
 mod serve_arguments;
 mod walk_arguments;
 
-pub use crate::command::{Command, Comparison, Once, Question, Report, Serve, Walk};
+pub use crate::command::{Command, Comparison, Once, Publication, Question, Report, Serve, Walk};
 pub use crate::command_line::read_arguments;
 pub use crate::error::ArgumentError;

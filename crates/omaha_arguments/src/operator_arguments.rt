@@ -1,0 +1,96 @@
+// The arguments of the operator's commands `publish` and `dump`, as `clap` reads them.
+
+ghost use Rattle.std.specs.Prelude.{◌≡◌, IfOk};
+ghost use Rattle.clap.specs.Words.{found_of, rows_of};
+ghost use Rattle.omaha_arguments.specs.Options.{IsMade};
+ghost use Rattle.omaha_arguments.specs.OperatorArguments.{dump_app, dump_in, publication_in, publish_app};
+
+use crate::command::Publication;
+use crate::options::{Making, string_in, titled, with_wanted, with_wanted_option};
+use clap::ArgMatches;
+use std::alloc::{AllocError, Global};
+use values::Text;
+
+const TO: &str = "The operator's address of the server, such as 127.0.0.1:8081";
+
+const SCRIPT: &str = "The script: a TOML file of at most 262144 bytes";
+
+const PUBLISH: &str = "Publishes a script to a running server.";
+
+const AFTER_PUBLISH: &str = "A script is a TOML file. docs/PROFILE.md describes its keys:
+  schema   1 or 2
+  base     the number of the edition that the script is written for
+  edit     the edits, a list of tables
+
+The server publishes the whole script as the next edition, or nothing. `omaha publish` prints the
+server's answer:
+  edition 5                      the script is published as edition 5
+  stale 5                        edition 5 is published, and `base` is another number
+  refused 0 C11 UnknownRelease   the catalogue rejects an edit, the first one of number 0
+  history full                   there are 4096 editions; restart the server from a dump
+  F3 BadEntry edit[0].on         the script is invalid, with the location
+`omaha explain C11` explains a code. Split a script of more than 262144 bytes.
+
+If the command fails, it prints one line on standard error.
+  omaha: file F     F can't be read
+  omaha: net ADDR   the server can't be reached at ADDR, or its reply isn't whole
+  omaha: write      standard output failed
+  omaha: memory     out of memory
+If F was read, the script may be published after a failure. Publish it again: it is published only
+once, and `stale` says so.
+
+Exit status: 0 if the server published the script, 1 if it gave another answer or the command
+failed, 2 if the arguments are invalid.
+
+Example, against `omaha serve` with `--operator 127.0.0.1:8081`:
+  omaha publish --to 127.0.0.1:8081 stage.toml";
+
+const DUMP: &str = "Prints the profile that a running server has published.";
+
+const AFTER_DUMP: &str = "The profile is a TOML file that `omaha serve` and `omaha check` read.
+It has the published catalogue and the mirrors, with the keys in a fixed order and no comments.
+
+If the command fails, it prints one line on standard error.
+  omaha: net ADDR   the server can't be reached at ADDR, or its reply isn't whole
+  omaha: write      standard output failed
+  omaha: memory     out of memory
+
+Exit status: 0 if the profile was printed, 1 if the command failed, 2 if the arguments are invalid.
+
+Example, against `omaha serve` with `--operator 127.0.0.1:8081`:
+  omaha dump --to 127.0.0.1:8081 > catalogue.toml";
+
+pub(crate) fn publish_command<'a>(alloc: Global) -> Making<'a>
+    ensures { IsMade publish_app result }
+{
+    let command = titled(alloc, "publish", PUBLISH, AFTER_PUBLISH);
+    let command = with_wanted_option(alloc, command, "to", "ADDR", TO);
+    with_wanted(alloc, command, "F", SCRIPT)
+}
+
+pub(crate) fn dump_command<'a>(alloc: Global) -> Making<'a>
+    ensures { IsMade dump_app result }
+{
+    let command = titled(alloc, "dump", DUMP, AFTER_DUMP);
+    with_wanted_option(alloc, command, "to", "ADDR", TO)
+}
+
+/// Reads the arguments of `publish`.
+pub(crate) fn read_publication(
+    alloc: Global,
+    matches: &ArgMatches<'_>,
+) -> Result<Publication, AllocError>
+    ensures { IfOk result (λ publication. publication ≡ publication_in (rows_of (found_of matches.now))) }
+{
+    let to = Text::copy_of(alloc, string_in(matches, "to"))?;
+    let script = Text::copy_of(alloc, string_in(matches, "F"))?;
+    Ok(Publication { to, script })
+}
+
+/// Reads the operator's listener that `dump` asks.
+pub(crate) fn read_dump(alloc: Global, matches: &ArgMatches<'_>) -> Result<Text, AllocError>
+    ensures { IfOk result (λ listener. listener ≡ dump_in (rows_of (found_of matches.now))) }
+{
+    let listener = string_in(matches, "to");
+    Text::copy_of(alloc, listener)
+}
