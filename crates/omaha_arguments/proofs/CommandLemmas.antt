@@ -75,6 +75,14 @@ no_faults app words found is none names without =
     let met : subcommand_of omaha_app words ≡ None = sym entered ∙ no_command found without in
     ap₂ or_else nothing (ap (λ (o : Option (Text × List Row)). option_map_or (λ named. faults_in named.0 named.1) o []) met)
 
+-- if there is no command, the arguments ask for what `once` without options asks for
+pub without_command : (app : App) (words : List Text) (found : Option (Text × List Row)) → app ≡ omaha_app → (is_simple app ≡ true → found ≡ subcommand_of app words) → None ≡ option_map (λ named. named.0) found → Once plain_once ≡ command_of words
+without_command app words found is names without =
+    let entered : found ≡ subcommand_of omaha_app words =
+    subst (λ (a : App). is_simple a ≡ true → found ≡ subcommand_of a words) is names omaha_app-is_simple in
+    let met : subcommand_of omaha_app words ≡ None = sym entered ∙ no_command found without in
+    sym (ap (λ (o : Option (Text × List Row)). option_map_or (λ named. command_in named.0 named.1) o (Once plain_once)) met)
+
 -- if `clap` found a command, what the arguments ask for is what its options ask for
 pub command_by_options : (app : App) (words : List Text) (name : Text) (options : List Row) (result : Result Command Error) (found : Option (Text × List Row)) → app ≡ omaha_app → (is_simple app ≡ true → found ≡ subcommand_of app words) → found ≡ Some (name, options) → IfOk result (λ command. command ≡ command_in name options) → IfOk result (λ command. command ≡ command_of words)
 command_by_options app words name options result found is names named same =

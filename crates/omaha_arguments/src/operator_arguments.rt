@@ -17,8 +17,7 @@ const SCRIPT: &str = "The script: a TOML file of at most 262144 bytes";
 
 const PUBLISH: &str = "Publishes a script to a running server.";
 
-const AFTER_PUBLISH: &str =
-    "A script is a TOML file. docs/PROFILE.md describes its keys:
+const AFTER_PUBLISH: &str = "A script is a TOML file. docs/PROFILE.md describes its keys:
   schema   1 or 2
   base     the number of the edition that the script is written for
   edit     the edits, a list of tables
@@ -37,7 +36,8 @@ If the command fails, it prints one line on standard error.
   omaha: net ADDR   the server can't be reached at ADDR, or its reply isn't whole
   omaha: write      standard output failed
   omaha: memory     out of memory
-After a failure the script may be published. Publish it again: it is published only once.
+If F was read, the script may be published after a failure. Publish it again: it is published only
+once, and `stale` says so.
 
 Exit status: 0 if the server published the script, 1 if it gave another answer or the command
 failed, 2 if the arguments are invalid.

@@ -1,6 +1,6 @@
 use Rattle.std.proofs.Common.{map, string_bytes, sym, ◌∙◌}
 use Rattle.clap.specs.Words.{app_of, found_of, rows_of, subcommand_rows_of}
-use Rattle.omaha_arguments.proofs.CommandLemmas.{command_by_options, fails_by_clap, fails_by_options, named_as, named_by_name, no_faults}
+use Rattle.omaha_arguments.proofs.CommandLemmas.{command_by_options, fails_by_clap, fails_by_options, named_as, named_by_name, no_faults, without_command}
 use Rattle.omaha_arguments.proofs.command_line.parse.Goals as goal
 
 pub returns-in_err-matches-clause-faults : goal.returns-in_err-matches-clause-faults
@@ -12,6 +12,12 @@ pub returns-in-None-clause-faults : goal.returns-in-None-clause-faults
 returns-in-None-clause-faults c =
     no_faults (app_of c.in_ok-omaha_command.field-0) (map string_bytes c.args.arguments.now) (subcommand_rows_of c.in_ok-matches.matches)
     c.in_ok-omaha_command.ensures c.in_ok-matches.ensures.kinds (λ simple. (c.in_ok-matches.ensures.matches simple).1)
+    (c.in-None.ensures.name ∙ sym (named_by_name c.in_ok-matches.matches))
+
+pub returns-in-None-clause-command : goal.returns-in-None-clause-command
+returns-in-None-clause-command c =
+    without_command (app_of c.in_ok-omaha_command.field-0) (map string_bytes c.args.arguments.now) (subcommand_rows_of c.in_ok-matches.matches)
+    c.in_ok-omaha_command.ensures (λ simple. (c.in_ok-matches.ensures.matches simple).1)
     (c.in-None.ensures.name ∙ sym (named_by_name c.in_ok-matches.matches))
 
 pub returns-clause-faults : goal.returns-clause-faults
