@@ -14,7 +14,7 @@ Remedy: `omaha once --help` says in which order the edits of a profile count.
         "file",
         "file F
 Found in: a path of the command line.
-The file can't be read, is no regular file, or has more than 64 MiB; `omaha describe` says what is wrong with it. Of
+The file can't be read, is no regular file, or has more than 256 MiB; `omaha describe` says what is wrong with it. Of
 `--log F`: the file can't be opened for writing. Of `--packages F`: there is no such folder.
 Usual cause: A misspelled path, missing permission, a folder, or a pipe.
 Remedy: Try `head F`; of a log, `touch F`; of packages, `ls F`.
@@ -24,8 +24,9 @@ Remedy: Try `head F`; of a log, `touch F`; of packages, `ls F`.
         "net",
         "net ADDR
 Found in: an address of the command line.
-The server can't listen on the address, or may not open two more files, for a connection and a package.
-Usual cause: No address and port, a port in use, or one below 1024 without the right to it.
+`serve` can't listen on the address, or may not open two more files, for a connection and a package. `publish` and
+`dump` can't reach an operator's listener there, or its reply isn't whole.
+Usual cause: No address and port, a port in use, or one below 1024 without the right to it; a server that is not running.
 Remedy: Try another port, or `ss -ltn` to see who has it; see that `ulimit -n` is above 8.
 ",
     ),

@@ -14,7 +14,7 @@ use std::alloc::{AllocError, Global};
 const ONCE: &str =
     "Reads one request from standard input, and writes the reply to standard output.";
 
-const PROFILE: &str = "The catalogue: a TOML file of at most 64 MiB [default: a built-in one]";
+const PROFILE: &str = "The catalogue: a TOML file of at most 256 MiB [default: a built-in one]";
 
 const TIMESTAMP: &str = "The time of the reply, in seconds since 1970 UTC [default: 0]";
 
@@ -23,7 +23,7 @@ const AFTER_ONCE: &str =
 
 If the command fails, it prints one line on standard error. Unless that is `omaha: write`, it has
 written nothing to standard output.
-  omaha: file F                        F can't be read, or has more than 64 MiB
+  omaha: file F                        F can't be read, or has more than 256 MiB
   omaha: F3 BadEntry app[0].id         the profile is invalid, with the location
   omaha: edit 12: C11 UnknownRelease   an edit of the profile is rejected
   omaha: J1 NotJson                    the request is invalid

@@ -17,7 +17,7 @@ use values::Text;
 
 const SERVE: &str = "Serves a profile's catalogue and its packages over HTTP.";
 
-const PROFILE: &str = "The catalogue and its mirrors: a TOML file of at most 64 MiB";
+const PROFILE: &str = "The catalogue and its mirrors: a TOML file of at most 256 MiB";
 
 const PACKAGES: &str = "The folder of the packages, each under its name in the catalogue";
 
@@ -44,7 +44,7 @@ publish, so keep it on the loopback. After the last session it prints one line f
 name, and how many bytes it was granted.
 
 If the command fails, it prints one line on standard error.
-  omaha: file F                F can't be read, has more than 64 MiB, or can't be opened for the log
+  omaha: file F                F can't be read, has more than 256 MiB, or can't be opened for the log
   omaha: F3 BadEntry app[0].id the profile is invalid, with the location
   omaha: no place              a worker found no place among the readers of the editions
   omaha: net ADDR              ADDR is no address, is in use, or may not be listened on
