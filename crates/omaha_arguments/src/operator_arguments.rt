@@ -23,12 +23,12 @@ const AFTER_PUBLISH: &str = "A script is a TOML file. docs/PROFILE.md describes 
   edit     the edits, a list of tables
 
 The server publishes the whole script as the next edition, or nothing. `omaha publish` prints the
-server's answer:
-  edition 5                      the script is published as edition 5
-  stale 5                        edition 5 is published, and `base` is another number
-  refused 0 C11 UnknownRelease   the catalogue rejects an edit, the first one of number 0
-  history full                   there are 4096 editions; restart the server from a dump
-  F3 BadEntry edit[0].on         the script is invalid, with the location
+server's reply:
+  `edition 5`                      the script is published as edition 5
+  `stale 5`                        edition 5 is published, and `base` is another number
+  `refused 0 C11 UnknownRelease`   the catalogue rejects an edit, the first one of number 0
+  `history full`                   there are 4096 editions; restart the server from a dump
+  `F3 BadEntry edit[0].on`         the script is invalid, with the location
 `omaha explain C11` explains a code. Split a script of more than 262144 bytes.
 
 If the command fails, it prints one line on standard error.
@@ -39,7 +39,7 @@ If the command fails, it prints one line on standard error.
 If F was read, the script may be published after a failure. Publish it again: it is published only
 once, and `stale` says so.
 
-Exit status: 0 if the server published the script, 1 if it gave another answer or the command
+Exit status: 0 if the server published the script, 1 if it gave another reply or the command
 failed, 2 if the arguments are invalid.
 
 Example, against `omaha serve` with `--operator 127.0.0.1:8081`:

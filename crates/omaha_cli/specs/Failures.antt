@@ -30,6 +30,6 @@ failure_string failure.NoPlace = codes "no place"
 failure_string failure.Closed = codes "closed"
 failure_string failure.Thread = codes "thread"
 failure_string (failure.Walk fault) = walk_fault_text fault
-failure_string failure.Refused = codes "refused"
+failure_string failure.Declined = codes "declined"
 failure_string failure.Memory = codes "memory"
 failure_string failure.Write = codes "write"

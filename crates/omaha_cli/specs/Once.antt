@@ -114,7 +114,7 @@ Replies service moment old new (Err (failure.Certificate error)) = ⊥
 Replies service moment old new (Err (failure.Code code)) = ⊥
 Replies service moment old new (Err (failure.Net address)) = ⊥
 Replies service moment old new (Err (failure.Walk fault)) = ⊥
-Replies service moment old new (Err failure.Refused) = ⊥
+Replies service moment old new (Err failure.Declined) = ⊥
 
 -- what follows from what was made of the profile: the service replies; without one nothing is read
 -- or written

@@ -24,7 +24,7 @@ IsRead files path (Err refusal) =
 abbrev pub PrintsReply : Reply → Streams → Streams → Result (Unit {0}) Failure → Type 0
 PrintsReply reply old new (Ok done) = (reply.status ≡ 200)
     × Appends old.output.bytes new.output.bytes reply.body.items × (new.input ≡ old.input)
-PrintsReply reply old new (Err failure.Refused) = (reply.status ≡ 200 → ⊥)
+PrintsReply reply old new (Err failure.Declined) = (reply.status ≡ 200 → ⊥)
     × Appends old.output.bytes new.output.bytes reply.body.items × (new.input ≡ old.input)
 PrintsReply reply old new (Err failure.Write) =
     Breaks old.output new.output reply.body.items × (new.input ≡ old.input)

@@ -76,7 +76,7 @@ IsPrinted refusal before after =
 abbrev pub IsReported : Ending → Known → Known → Type 0
 IsReported ending.Replied before after = after ≡ before
 IsReported ending.Shown before after = after ≡ before
-IsReported (ending.Failed failure.Refused) before after = after ≡ before
+IsReported (ending.Failed failure.Declined) before after = after ≡ before
 IsReported (ending.Failed refusal) before after = IsPrinted refusal before after
 IsReported (ending.Mistaken text) before after = IsWritten before after text
 

@@ -50,7 +50,7 @@ pub enum Failure {
     /// A walk failed.
     Walk(Fault),
     /// The operator's listener replied with another status than 200. Its reply is printed, and nothing else.
-    Refused,
+    Declined,
     /// Memory ran out.
     Memory,
     /// The reply could not be written.
@@ -98,7 +98,7 @@ impl fmt::Display for Failure {
             Failure::Closed => write!(f, "closed"),
             Failure::Thread => write!(f, "thread"),
             Failure::Walk(fault) => write!(f, "{fault}"),
-            Failure::Refused => write!(f, "refused"),
+            Failure::Declined => write!(f, "declined"),
             Failure::Memory => write!(f, "memory"),
             Failure::Write => write!(f, "write"),
         }

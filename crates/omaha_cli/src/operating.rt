@@ -36,7 +36,7 @@ fn print_reply<W: WriteWhole>(reply: &Reply, writer: &mut W) -> Result<(), Failu
     if reply.status == 200 {
         Ok(())
     } else {
-        Err(Failure::Refused)
+        Err(Failure::Declined)
     }
 }
 
@@ -63,7 +63,7 @@ fn call<R: Connector, W: WriteWhole>(
 /// Posts a script's file to an operator's listener, as it is, and prints the reply.
 ///
 /// Fails with the file, then with `Net` if the listener can't be reached or sends no whole reply; each time nothing is
-/// written. Fails with `Refused` after a reply with another status than 200, and with the writer.
+/// written. Fails with `Declined` after a reply with another status than 200, and with the writer.
 pub(crate) fn publish_on<R: Disk + Connector, W: WriteWhole>(
     rt: &R,
     alloc: Global,

@@ -1,4 +1,4 @@
-use Rattle.std.proofs.Common.{ap, codes, sym, ◌∙◌, ℕ, List, Option, Some, None}
+use Rattle.std.proofs.Common.{ap, sym, ◌∙◌, ℕ, List, Option, Some, None}
 use Rattle.std.specs.Option.{option_map, option_map_or}
 use Rattle.clap.proofs.WalkLemmas.{first_value-rows}
 use Rattle.clap.specs.Words.{found_of}
