@@ -504,6 +504,46 @@ def publishes_while_it_serves(program):
             again.kill()
 
 
+def publishes_by_its_commands(program):
+    """`publish` and `dump` print the replies, and exit with 0 exactly if the status is 200."""
+    live = (EXAMPLES / "live.toml").read_text()
+    with tempfile.TemporaryDirectory() as folder:
+        to = f"127.0.0.1:{free_port()}"
+        server = Server(program, folder, profile=live, more=["--operator", to])
+        files = {
+            "stage.toml": (EXAMPLES / "scripts" / "stage.toml").read_bytes(),
+            "no_script.toml": b"x = [",
+            "large.toml": b"#" * 262145,
+            "largest.toml": b"schema = 1\nbase = 2\n" + b"#" * (262144 - 20),
+        }
+        for name, content in files.items():
+            pathlib.Path(folder, name).write_bytes(content)
+
+        def call(*words):
+            found = subprocess.run([program, *words], cwd=folder, capture_output=True)
+            return found.returncode, found.stdout, found.stderr
+
+        def publish(name):
+            return call("publish", "--to", to, name)
+
+        first = call("dump", "--to", to)
+        expect("first dump", (first[0], first[1][:10], first[2]), (0, b"schema = 1", b""))
+        expect("publish", publish("stage.toml"), (0, b"edition 2\n", b""))
+        expect("publish again", publish("stage.toml"), (1, b"stale 2\n", b""))
+        expect("publish no script", publish("no_script.toml"), (1, b"F1 NotToml\n", b""))
+        expect("publish 262145 bytes", publish("large.toml"), (1, b"", b""))
+        expect("publish 262144 bytes", publish("largest.toml"), (0, b"edition 3\n", b""))
+        expect("publish no file", publish("none.toml"), (1, b"", b"omaha: file none.toml\n"))
+        dump = call("dump", "--to", to)
+        pathlib.Path(folder, "dump.toml").write_bytes(dump[1])
+        expect("check of a dump", call("check", "dump.toml")[0], 0)
+        server.process.kill()
+        server.end()
+        line = f"omaha: net {to}\n".encode()
+        expect("publish to nobody", publish("stage.toml"), (1, b"", line))
+        expect("dump of nobody", call("dump", "--to", to), (1, b"", line))
+
+
 SCRIPT = """schema = 1
 base = {base}
 [[edit]]
@@ -579,6 +619,7 @@ def logs_whole_lines_of_all_workers(program):
 
 ALONE = [
     publishes_while_it_serves,
+    publishes_by_its_commands,
     never_goes_back_while_200_are_published,
     logs_whole_lines_of_all_workers,
     logs_each_reply,
