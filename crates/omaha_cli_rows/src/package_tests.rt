@@ -174,7 +174,7 @@ fn add_links(rt: &HostRuntime, folder: &str) -> io::Result<()> {
 }
 
 #[test]
-fn tells_links_and_unreadable_packages_from_missing_ones(rt: HostRuntime) -> Result<(), Fail> {
+fn reports_links_and_unreadable_packages_as_what_they_are(rt: HostRuntime) -> Result<(), Fail> {
     let folder = make_folder(&rt, "links").ok_or("no folder")?;
     let path = folder.as_str();
     add_links(&rt, path)?;
