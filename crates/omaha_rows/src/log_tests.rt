@@ -4,6 +4,7 @@ use crate::site::{Site, make_site, serve_logged, serve_reporting};
 use omaha_cli::Runtime;
 use std::fs;
 use std::net::{Net, TcpListener, TcpStream};
+use std::rt::Files;
 use std::test::Fail;
 use std::thread::join;
 
@@ -76,6 +77,37 @@ fn makes_its_log_and_ends_its_last_line(rt: HostRuntime) -> Result<(), Fail> {
     assert_eq!(rt; served.as_str(), "0 ready\nm0 0\n");
     let log = without_time(&rt, log?.as_str())?;
     let wanted = "127.0.0.1 - - [] \"GET /none HTTP/1.1\" 404 0 \"-\" \"-\"\n";
+    assert_eq!(rt; log.as_str(), wanted);
+    Ok(())
+}
+
+// A message, and one after the log was truncated, as `copytruncate` of `logrotate` does.
+fn ask_around_rotation<R: Net<Listener = TcpListener, Stream = TcpStream> + Files + AllocGlobal>(
+    rt: &R,
+    host: &str,
+    log: &str,
+) -> Option<()> {
+    exchange(rt, host, "GET /first HTTP/1.1~~")?;
+    fs::write(rt, log, b"").ok()?;
+    exchange(rt, host, "GET /second HTTP/1.1~~")?;
+    Some(())
+}
+
+#[test]
+fn appends_to_a_log_that_was_truncated(rt: HostRuntime) -> Result<(), Fail> {
+    let site = make_site(&rt, "rotated")?;
+    let path = format!(in rt.alloc(); "{}/access.log", site.folder.as_str())?;
+    let (served, asked) = join(
+        &rt,
+        || serve_logged(&rt, &site, "2", path.as_str()),
+        || ask_around_rotation(&rt, site.host.as_str(), path.as_str()),
+    );
+    let log = fs::read_to_string(&rt, path.as_str());
+    fs::remove_dir_all(&rt, site.folder.as_str())?;
+    asked.ok_or("no exchange")?;
+    assert!(rt; served.is_some());
+    let log = without_time(&rt, log?.as_str())?;
+    let wanted = "127.0.0.1 - - [] \"GET /second HTTP/1.1\" 404 0 \"-\" \"-\"\n";
     assert_eq!(rt; log.as_str(), wanted);
     Ok(())
 }
