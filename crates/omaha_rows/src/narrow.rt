@@ -1,4 +1,4 @@
-// An output that fails once it is full.
+// Outputs that fail: one once it is full, and one once.
 
 use std::io;
 use std::io::{ErrorKind, Write};
@@ -18,6 +18,30 @@ impl Write for Narrow {
         let count = buf.len().min(self.left);
         self.bytes.extend_from_slice(&buf[..count])?;
         self.left -= count;
+        Ok(count)
+    }
+
+    fn flush(&mut self) -> io::Result<()> {
+        Ok(())
+    }
+}
+
+/// A writer that fails once, after so many bytes.
+#[derive(Drop)]
+pub(crate) struct Failing {
+    pub(crate) bytes: Vec<u8>,
+    pub(crate) left: Option<usize>,
+}
+
+impl Write for Failing {
+    fn write(&mut self, buf: &[u8]) -> io::Result<usize> {
+        if self.left == Some(0) {
+            self.left = None;
+            return Err(io::Error::from(ErrorKind::StorageFull));
+        }
+        let count = buf.len().min(self.left.unwrap_or(usize::MAX));
+        self.bytes.extend_from_slice(&buf[..count])?;
+        self.left = self.left.map(|left| left.saturating_sub(count));
         Ok(count)
     }
 

@@ -3,6 +3,7 @@
 use crate::narrow::Narrow;
 use omaha_cli::{Runtime, run};
 use std::alloc::{AllocError, Global};
+use std::io::Write;
 use std::net::TcpListener;
 use std::test::Fail;
 use std::{env, fs, io, process};
@@ -32,15 +33,34 @@ cohort = [{ name = "stable", target = "1.0" }]
 release = [
     { version = "1.0", name = "large-1.0.bin", size = 65537, sha256 = "008ffc88d3c96a9f307524eb361e47c5222a887fc45fa0c1fb8d429c5c23b430" },
 ]
+
+[[app]]
+id = "minor"
+default = "stable"
+cohort = [{ name = "stable", target = "2.0" }]
+release = [
+    { version = "1.0", name = "minor-1.0.bin", size = 10, sha256 = "bf2cb58a68f684d95a3b78ef8f661c9a4e5b09e82cc8f9cc88cce90528caeb27" },
+    { version = "1.1", name = "minor-1.1.bin", size = 65536, sha256 = "bf718b6f653bebc184e1479f1935b8da974d701b893afcf49e701f3e2f9f9c5a" },
+    { version = "2.0", name = "minor-2.0.bin", size = 65537, sha256 = "008ffc88d3c96a9f307524eb361e47c5222a887fc45fa0c1fb8d429c5c23b430" },
+]
+diff = [
+    { from = "1.0", to = "1.1", name = "minor-1-11.bin", size = 3, sha256 = "9834876dcfb05cb167a5c24953eba58c4ac89b1adf57f28f2f9d09af107ee8f0" },
+    { from = "1.1", to = "2.0", name = "minor-11-2.bin", size = 1, sha256 = "ca978112ca1bbdcafac231b39a23dc4da786eff8147c4e72b9807785afee48bb" },
+]
 "#;
 
 const SECOND: &str = "abcdbcdecdefdefgefghfghighijhijkijkljklmklmnlmnomnopnopq";
 
 // A row is a file's name, its letter and how many of it there are. The last one isn't what the profile says.
-const LETTERS: [(&str, u8, usize); 4] = [
+const LETTERS: [(&str, u8, usize); 9] = [
     ("mini-3.0.bin", b'a', 65536),
     ("mini-1-2.bin", b'a', 10),
     ("mini-2-3.bin", b'a', 1),
+    ("minor-1.0.bin", b'a', 10),
+    ("minor-1.1.bin", b'a', 65536),
+    ("minor-2.0.bin", b'a', 65537),
+    ("minor-1-11.bin", b'a', 3),
+    ("minor-11-2.bin", b'a', 1),
     ("large-1.0.bin", b'b', 65537),
 ];
 
@@ -107,29 +127,35 @@ fn strings(alloc: Global, words: &[&str]) -> Result<Vec<String>, AllocError> {
     Ok(strings)
 }
 
-/// Runs the program with an output that takes so many bytes, and returns its status, its output and what it reports.
-pub(crate) fn run_within<R: Runtime>(rt: &R, words: &[&str], left: usize) -> Option<String> {
+// Runs the program with an output that takes so many bytes, and returns its status and its output.
+fn run_reporting<R: Runtime, F: Write + Send>(
+    rt: &R,
+    words: &[&str],
+    left: usize,
+    errors: &mut F,
+) -> Option<String> {
     let alloc = rt.alloc();
     let words = strings(alloc, words).ok()?;
     let mut written = Narrow {
         bytes: Vec::new(alloc),
         left,
     };
-    let mut told = Vec::new(alloc);
-    let status = run(rt, &words, &mut b"".as_slice(), &mut written, &mut told);
+    let status = run(rt, &words, &mut b"".as_slice(), &mut written, errors);
     let written = String::from_utf8(written.bytes).ok()?;
+    format!(in alloc; "{status} {written}").ok()
+}
+
+/// Runs the program with an output that takes so many bytes, and returns its status, its output and what it reports.
+pub(crate) fn run_within<R: Runtime>(rt: &R, words: &[&str], left: usize) -> Option<String> {
+    let mut told = Vec::new(rt.alloc());
+    let ended = run_reporting(rt, words, left, &mut told)?;
     let told = String::from_utf8(told).ok()?;
-    format!(in alloc; "{status} {written}{told}").ok()
+    format!(in rt.alloc(); "{ended}{told}").ok()
 }
 
-/// Runs the program with an output that takes all bytes.
-pub(crate) fn run_program<R: Runtime>(rt: &R, words: &[&str]) -> Option<String> {
-    run_within(rt, words, usize::MAX)
-}
-
-/// Serves a site with more arguments.
-pub(crate) fn serve_with<R: Runtime>(rt: &R, site: &Site, more: &[&str]) -> Option<String> {
-    let mut words = Vec::new(rt.alloc());
+// The arguments of a server of a site, and more.
+fn serve_words<'a>(alloc: Global, site: &'a Site, more: &[&'a str]) -> Option<Vec<&'a str>> {
+    let mut words = Vec::new(alloc);
     let first = [
         "serve",
         "--profile",
@@ -141,7 +167,24 @@ pub(crate) fn serve_with<R: Runtime>(rt: &R, site: &Site, more: &[&str]) -> Opti
     ];
     words.extend_from_slice(&first).ok()?;
     words.extend_from_slice(more).ok()?;
-    run_program(rt, words.as_slice())
+    Some(words)
+}
+
+/// Serves a site with more arguments.
+pub(crate) fn serve_with<R: Runtime>(rt: &R, site: &Site, more: &[&str]) -> Option<String> {
+    let words = serve_words(rt.alloc(), site, more)?;
+    run_within(rt, words.as_slice(), usize::MAX)
+}
+
+/// Serves a site with more arguments, and reports to a writer.
+pub(crate) fn serve_reporting<R: Runtime, F: Write + Send>(
+    rt: &R,
+    site: &Site,
+    more: &[&str],
+    errors: &mut F,
+) -> Option<String> {
+    let words = serve_words(rt.alloc(), site, more)?;
+    run_reporting(rt, words.as_slice(), usize::MAX, errors)
 }
 
 /// Serves so many sessions of a site.

@@ -9,7 +9,22 @@ use std::thread::join;
 // The fingerprint of the first release.
 const FIRST: &str = "1.ba7816bf8f01cfea414140de5dae2223b00361a396177a9cb410ff61f20015ad";
 
-// Walks as a client at a version, once the server listens, which takes a connection. The output takes so many bytes.
+// Walks with these options, once the server listens, which takes a connection. The output takes so many bytes.
+fn walk_with<R: Net<Listener = TcpListener, Stream = TcpStream> + Runtime>(
+    rt: &R,
+    site: &Site,
+    options: &[&str],
+    left: usize,
+) -> Option<String> {
+    connect(rt, site.host.as_str())?;
+    let mut words = Vec::new(rt.alloc());
+    let first = ["walk", "--to", site.host.as_str(), "--cohort", "stable:0"];
+    words.extend_from_slice(&first).ok()?;
+    words.extend_from_slice(options).ok()?;
+    run_within(rt, words.as_slice(), left)
+}
+
+// Walks as a client at a version, with an output that takes so many bytes.
 fn walk_within<R: Net<Listener = TcpListener, Stream = TcpStream> + Runtime>(
     rt: &R,
     site: &Site,
@@ -18,21 +33,8 @@ fn walk_within<R: Net<Listener = TcpListener, Stream = TcpStream> + Runtime>(
     fp: &str,
     left: usize,
 ) -> Option<String> {
-    connect(rt, site.host.as_str())?;
-    let words = [
-        "walk",
-        "--to",
-        site.host.as_str(),
-        "--app",
-        app,
-        "--version",
-        version,
-        "--fp",
-        fp,
-        "--cohort",
-        "stable:0",
-    ];
-    run_within(rt, &words, left)
+    let options = ["--app", app, "--version", version, "--fp", fp];
+    walk_with(rt, site, &options, left)
 }
 
 // Walks as such a client, with an output that takes all bytes.
@@ -44,6 +46,17 @@ fn walk<R: Net<Listener = TcpListener, Stream = TcpStream> + Runtime>(
     fp: &str,
 ) -> Option<String> {
     walk_within(rt, site, app, version, fp, usize::MAX)
+}
+
+// Walks from nothing with a prefix of versions.
+fn walk_pinned<R: Net<Listener = TcpListener, Stream = TcpStream> + Runtime>(
+    rt: &R,
+    site: &Site,
+    app: &str,
+    prefix: &str,
+) -> Option<String> {
+    let options = ["--app", app, "--version", "", "--prefix", prefix];
+    walk_with(rt, site, &options, usize::MAX)
 }
 
 // rule: Lines of a walk
@@ -90,6 +103,47 @@ fn walks_by_differentials_from_a_fingerprint(rt: HostRuntime) -> Result<(), Fail
     );
     let served = served.ok_or("no server")?;
     assert_eq!(rt; served.as_str(), "0 ready\nm0 11\n");
+    Ok(())
+}
+
+// A row is an app, a prefix of versions, how many sessions a walk from nothing needs, and how it ends: at the highest
+// release that the prefix allows, at once if it allows none, and at the target if it is empty.
+const PINNED: [(&str, &str, &str, &str); 5] = [
+    (
+        "mini",
+        "2",
+        "4",
+        "0 step 1 full 2.0 56\ndone 1 steps 56 bytes\n",
+    ),
+    ("mini", "4", "2", "0 done 0 steps 0 bytes\n"),
+    ("mini", "4.x", "2", "0 done 0 steps 0 bytes\n"),
+    (
+        "minor",
+        "1",
+        "6",
+        "0 step 1 full 1.0 10\nstep 2 diff 1.1 3\ndone 2 steps 13 bytes\n",
+    ),
+    (
+        "minor",
+        "",
+        "8",
+        "0 step 1 full 1.0 10\nstep 2 diff 1.1 3\nstep 3 diff 2.0 1\ndone 3 steps 14 bytes\n",
+    ),
+];
+
+#[test]
+fn walks_as_far_as_its_prefix_allows(rt: HostRuntime) -> Result<(), Fail> {
+    let site = make_site(&rt, "pinned")?;
+    for (app, prefix, sessions, wanted) in PINNED {
+        let (served, walked) = join(
+            &rt,
+            || serve(&rt, &site, sessions),
+            || walk_pinned(&rt, &site, app, prefix),
+        );
+        assert!(rt; served.is_some());
+        assert_eq!(rt; walked.as_deref(), Some(wanted), "{app} {prefix}");
+    }
+    fs::remove_dir_all(&rt, site.folder.as_str())?;
     Ok(())
 }
 
