@@ -20,11 +20,11 @@ use std::thread::Threads;
 const EMPTY: &[u8] =
     b"schema = 1\nmirror = [{ name = 'm0', codebase = 'http://m0.example/p/', budget = 0 }]";
 
-fn empty_mirrors(alloc: Global) -> Option<Vec<Mirror>>
+fn mirrors_in(alloc: Global, profile: &[u8]) -> Option<Vec<Mirror>>
     ensures { IfSome result (λ mirrors. AreMirrors mirrors.items) }
 {
     profile_toml::laws::mirrors();
-    match read_profile(alloc, EMPTY) {
+    match read_profile(alloc, profile) {
         Ok((_batch, mirrors)) => Some(mirrors),
         Err(_) => None,
     }
@@ -44,7 +44,7 @@ fn is_full(alloc: Global, edition: &Edition) -> bool {
 }
 
 fn fills<R: Threads + Wait + AllocGlobal>(rt: &R, alloc: Global) -> Option<bool> {
-    let mirrors = empty_mirrors(alloc)?;
+    let mirrors = mirrors_in(alloc, EMPTY)?;
     let edition = edition_of_batches(alloc, 4095).ok()?;
     let (press, _views) = open_edition(rt, alloc, edition, 1).ok()?;
     let mut operator = Operator {
@@ -60,6 +60,14 @@ fn fills<R: Threads + Wait + AllocGlobal>(rt: &R, alloc: Global) -> Option<bool>
     Some(is_said && is_full)
 }
 
+// Whether the edition of no batches has the number 0.
+fn is_empty(alloc: Global) -> bool {
+    match edition_of_batches(alloc, 0) {
+        Ok(edition) => edition.number() == 0,
+        Err(_) => false,
+    }
+}
+
 // rule: Publishing
 // rule: Stale base
 // rule: Reply to a script
@@ -67,7 +75,6 @@ fn fills<R: Threads + Wait + AllocGlobal>(rt: &R, alloc: Global) -> Option<bool>
 // rule: Room for 4096 batches
 #[test]
 fn takes_4096_batches_and_no_more(rt: HostRuntime) {
-    let first = edition_of_batches(rt.alloc(), 0);
-    assert!(rt; matches!(first, Ok(edition) if edition.number() == 0));
+    assert!(rt; is_empty(rt.alloc()));
     assert!(rt; fills(&rt, rt.alloc()) == Some(true));
 }
