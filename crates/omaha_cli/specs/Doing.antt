@@ -1,5 +1,5 @@
 -- What a command does; this project's profile.
-use Rattle.std.specs.Prelude.{⊤, Result}
+use Rattle.std.specs.Prelude.{◌≡◌, ⊤, Result}
 use Rattle.omaha_server.specs.Serving.{IsSilent}
 use Rattle.omaha_cli.specs.Comparing.{Compares}
 use Rattle.omaha_cli.specs.Describing.{PrintsDescriptions}
@@ -25,8 +25,10 @@ Does world (command.Describe paths) old new result = PrintsDescriptions world.st
 Does world (command.Explain code) old new result = Explains code old new result
 Does world (command.Serve serve) old new result = ServesOn world.files world.edges serve old new result
 Does world (command.Walk walk) old new result = WalksOn world.replies walk old new result
-Does world (command.Publish asked) old new result = Publishes world.files world.operated asked old new result
-Does world (command.Dump to) old new result = Dumps world.operated to old new result
+Does world (command.Publish asked) old new result =
+    Publishes world.files world.operated asked old.output new.output result × (new.input ≡ old.input)
+Does world (command.Dump to) old new result =
+    Dumps world.operated to old.output new.output result × (new.input ≡ old.input)
 
 -- the command logs nothing to the standard error
 abbrev pub IsSilentCommand : Command → Type 0

@@ -2,11 +2,11 @@
 use Rattle.std.specs.Prelude.{◌≡◌, ◌⊎◌, ℕ, List, codes, Result, Ok, Err}
 use Rattle.std.specs.Io.KnownBytes.{Appends}
 use Rattle.streams.specs.Reading.{IsWhole}
+use Rattle.streams.specs.Streams.{Known}
 use Rattle.streams.specs.Writing.{Breaks}
 use Rattle.http_client.specs.declared.posting.Reply.{Reply}
 use Rattle.omaha_arguments.specs.declared.command.Publication.{Publication}
 use Rattle.omaha_cli.specs.Once.{Files, IsUnreadable, max_profile}
-use Rattle.omaha_cli.specs.Streams.{Streams}
 use Rattle.omaha_cli.specs.declared.failure.Failure.{Failure}
 use Rattle.omaha_cli.specs.declared.failure.Failure.TheVariants as failure
 
@@ -21,33 +21,32 @@ IsRead files path (Err refusal) =
     ((refusal ≡ failure.File path) × IsUnreadable (files path)) ⊎ (refusal ≡ failure.Memory)
 
 -- the reply is printed, and the call succeeds exactly if its status is 200; or the writer failed within it
-abbrev pub PrintsReply : Reply → Streams → Streams → Result (Unit {0}) Failure → Type 0
-PrintsReply reply old new (Ok done) = (reply.status ≡ 200)
-    × Appends old.output.bytes new.output.bytes reply.body.items × (new.input ≡ old.input)
-PrintsReply reply old new (Err failure.Declined) = (reply.status ≡ 200 → ⊥)
-    × Appends old.output.bytes new.output.bytes reply.body.items × (new.input ≡ old.input)
-PrintsReply reply old new (Err failure.Write) =
-    Breaks old.output new.output reply.body.items × (new.input ≡ old.input)
-PrintsReply reply old new (Err other) = ⊥
+abbrev pub PrintsReply : Reply → Known → Known → Result (Unit {0}) Failure → Type 0
+PrintsReply reply before after (Ok done) =
+    (reply.status ≡ 200) × Appends before.bytes after.bytes reply.body.items
+PrintsReply reply before after (Err failure.Declined) =
+    (reply.status ≡ 200 → ⊥) × Appends before.bytes after.bytes reply.body.items
+PrintsReply reply before after (Err failure.Write) = Breaks before after reply.body.items
+PrintsReply reply before after (Err other) = ⊥
 
 -- rule: Call of an operator's listener
 -- the listener's reply to a body is printed; or there is none, and nothing is printed
-abbrev pub Calls : Listeners → List ℕ → List ℕ → Streams → Streams → Result (Unit {0}) Failure → Type 0
-Calls listeners to body old new result =
-    ((reply : Reply) × listeners to body reply × PrintsReply reply old new result)
-    ⊎ (((result ≡ Err (failure.Net to)) ⊎ (result ≡ Err failure.Memory)) × (new ≡ old))
+abbrev pub Calls : Listeners → List ℕ → List ℕ → Known → Known → Result (Unit {0}) Failure → Type 0
+Calls listeners to body before after result =
+    ((reply : Reply) × listeners to body reply × PrintsReply reply before after result)
+    ⊎ (((result ≡ Err (failure.Net to)) ⊎ (result ≡ Err failure.Memory)) × (after ≡ before))
 
 -- what was read is sent; or nothing is done
-abbrev pub CallsWith : Listeners → List ℕ → Result (List ℕ) Failure → Streams → Streams → Result (Unit {0}) Failure → Type 0
-CallsWith listeners to (Ok body) old new result = Calls listeners to body old new result
-CallsWith listeners to (Err refusal) old new result = (result ≡ Err refusal) × (new ≡ old)
+abbrev pub CallsWith : Listeners → List ℕ → Result (List ℕ) Failure → Known → Known → Result (Unit {0}) Failure → Type 0
+CallsWith listeners to (Ok body) before after result = Calls listeners to body before after result
+CallsWith listeners to (Err refusal) before after result = (result ≡ Err refusal) × (after ≡ before)
 
 -- the script's bytes are sent as they are
-abbrev pub Publishes : Files → Listeners → Publication → Streams → Streams → Result (Unit {0}) Failure → Type 0
-Publishes files listeners publication old new result =
+abbrev pub Publishes : Files → Listeners → Publication → Known → Known → Result (Unit {0}) Failure → Type 0
+Publishes files listeners publication before after result =
     (read : Result (List ℕ) Failure) × IsRead files publication.script read
-    × CallsWith listeners publication.to read old new result
+    × CallsWith listeners publication.to read before after result
 
 -- the word `dump` is sent
-abbrev pub Dumps : Listeners → List ℕ → Streams → Streams → Result (Unit {0}) Failure → Type 0
-Dumps listeners to old new result = Calls listeners to (codes "dump") old new result
+abbrev pub Dumps : Listeners → List ℕ → Known → Known → Result (Unit {0}) Failure → Type 0
+Dumps listeners to before after result = Calls listeners to (codes "dump") before after result

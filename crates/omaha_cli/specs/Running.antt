@@ -1,5 +1,5 @@
 -- How a run of the program ends, and what it prints and returns then; this project's profile.
-use Rattle.std.specs.Prelude.{◌≡◌, ◌⊎◌, ℕ, nat_eq, if◌then◌else◌, List, ◌∷◌, [], ◌++◌, codes, Ok, Err}
+use Rattle.std.specs.Prelude.{◌≡◌, ◌⊎◌, Bool, true, false, ℕ, nat_eq, if◌then◌else◌, List, ◌∷◌, [], ◌++◌, codes, Ok, Err}
 use Rattle.std.specs.Io.KnownBytes.{Appends}
 use Rattle.streams.specs.Streams.{Known}
 use Rattle.streams.specs.Writing.{Breaks, IsWritten}
@@ -72,12 +72,18 @@ abbrev pub IsPrinted : Failure → Known → Known → Type 0
 IsPrinted refusal before after =
     IsWritten before after (failure_line refusal) ⊎ IsWritten before after (failure_line failure.Memory)
 
+-- the operator's listener declined, and said why on the standard output
+abbrev pub is_declined : Failure → Bool
+is_declined failure.Declined = true
+is_declined other = false
+
 -- what is printed on the standard error after an ending
 abbrev pub IsReported : Ending → Known → Known → Type 0
 IsReported ending.Replied before after = after ≡ before
 IsReported ending.Shown before after = after ≡ before
-IsReported (ending.Failed failure.Declined) before after = after ≡ before
-IsReported (ending.Failed refusal) before after = IsPrinted refusal before after
+IsReported (ending.Failed refusal) before after =
+    ((is_declined refusal ≡ true) × (after ≡ before))
+    ⊎ ((is_declined refusal ≡ false) × IsPrinted refusal before after)
 IsReported (ending.Mistaken text) before after = IsWritten before after text
 
 -- a command, if the arguments ask for one, logs nothing to the standard error

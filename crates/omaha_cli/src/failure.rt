@@ -1,5 +1,6 @@
-ghost use Rattle.std.specs.Prelude.{Some};
+ghost use Rattle.std.specs.Prelude.{◌≡◌, Some};
 ghost use Rattle.omaha_cli.specs.Failures.{failure_string};
+ghost use Rattle.omaha_cli.specs.Running.{is_declined};
 
 use catalogue::Refused;
 use omaha_json::RequestFault;
@@ -106,6 +107,18 @@ impl fmt::Display for Failure {
 }
 
 impl Error for Failure {}
+
+impl Failure {
+    /// Whether it is `Declined`, of which standard error says nothing.
+    pub(crate) fn is_declined(&self) -> bool
+        ensures { result ≡ is_declined self.now }
+    {
+        match self {
+            Failure::Declined => true,
+            _ => false,
+        }
+    }
+}
 
 impl From<AllocError> for Failure {
     ghost use Rattle.std.specs.Prelude.{◌≡◌};

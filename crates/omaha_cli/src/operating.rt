@@ -2,11 +2,9 @@
 
 ghost use Rattle.std.specs.Prelude.{IfErr, IfOk, Ok, Err};
 ghost use Rattle.omaha_cli.specs.Operating.{Calls, Dumps, IsRead, PrintsReply, Publishes};
-ghost use Rattle.streams.specs.Streams.{Known};
 
 use crate::failure::Failure;
 use crate::once::MAX_PROFILE;
-use crate::printing::print;
 use http_client::{LinkFault, Reply};
 use omaha_arguments::Publication;
 use omaha_client::Connector;
@@ -28,15 +26,12 @@ fn read_file<R: Disk>(rt: &R, alloc: Global, path: &Text) -> Result<Vec<u8>, Fai
 
 // Prints a reply, and succeeds if its status is 200.
 fn print_reply<W: WriteWhole>(reply: &Reply, writer: &mut W) -> Result<(), Failure>
-    ensures { (input : Known) → PrintsReply reply.now
-        (record { input = input; output = W.output writer.old })
-        (record { input = input; output = W.output writer.new }) result }
+    ensures { PrintsReply reply.now (W.output writer.old) (W.output writer.new) result }
 {
-    print(reply.body.as_slice(), writer)?;
-    if reply.status == 200 {
-        Ok(())
-    } else {
-        Err(Failure::Declined)
+    match writer.write_whole(&reply.body) {
+        Ok(()) if reply.status == 200 => Ok(()),
+        Ok(()) => Err(Failure::Declined),
+        Err(_) => Err(Failure::Write),
     }
 }
 
@@ -49,9 +44,7 @@ fn call<R: Connector, W: WriteWhole>(
     body: &[u8],
     writer: &mut W,
 ) -> Result<(), Failure>
-    ensures { (input : Known) → Calls (R.operated rt.now) to.now body.now
-        (record { input = input; output = W.output writer.old })
-        (record { input = input; output = W.output writer.new }) result }
+    ensures { Calls (R.operated rt.now) to.now body.now (W.output writer.old) (W.output writer.new) result }
 {
     match rt.operate_at(alloc, to.as_str(), body) {
         Ok(reply) => print_reply(&reply, writer),
@@ -70,9 +63,7 @@ pub(crate) fn publish_on<R: Disk + Connector, W: WriteWhole>(
     asked: &Publication,
     writer: &mut W,
 ) -> Result<(), Failure>
-    ensures { (input : Known) → Publishes (R.file_at rt.now) (R.operated rt.now) asked.now
-        (record { input = input; output = W.output writer.old })
-        (record { input = input; output = W.output writer.new }) result }
+    ensures { Publishes (R.file_at rt.now) (R.operated rt.now) asked.now (W.output writer.old) (W.output writer.new) result }
 {
     match read_file(rt, alloc, &asked.script) {
         Ok(script) => call(rt, alloc, &asked.to, script.as_slice(), writer),
@@ -89,9 +80,7 @@ pub(crate) fn dump_on<R: Connector, W: WriteWhole>(
     to: &Text,
     writer: &mut W,
 ) -> Result<(), Failure>
-    ensures { (input : Known) → Dumps (R.operated rt.now) to.now
-        (record { input = input; output = W.output writer.old })
-        (record { input = input; output = W.output writer.new }) result }
+    ensures { Dumps (R.operated rt.now) to.now (W.output writer.old) (W.output writer.new) result }
 {
     call(rt, alloc, to, b"dump", writer)
 }

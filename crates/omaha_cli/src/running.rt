@@ -163,7 +163,7 @@ fn report<F: WriteWhole>(alloc: Global, ending: &Ending, errors: &mut F)
     match ending {
         Ending::Replied => {}
         Ending::Shown => {}
-        Ending::Failed(Failure::Declined) => {}
+        Ending::Failed(failure) if failure.is_declined() => {}
         Ending::Failed(failure) => print_failure(alloc, failure, errors),
         Ending::Mistaken(text) => offer(errors, text.as_str().as_bytes()),
     }
