@@ -44,7 +44,7 @@ publish, so keep it on the loopback. After the last session it prints one line f
 name, and how many bytes it was granted.
 
 If the command fails, it prints one line on standard error.
-  omaha: file F                F can't be read, has more than 256 MiB, or can't be opened for the log
+  omaha: file F                F can't be read, has over 256 MiB, or can't be opened for the log
   omaha: F3 BadEntry app[0].id the profile is invalid, with the location
   omaha: no place              a worker found no place among the readers of the editions
   omaha: net ADDR              ADDR is no address, is in use, or may not be listened on
