@@ -527,7 +527,7 @@ def publishes_by_its_commands(program):
             return call("publish", "--to", to, name)
 
         first = call("dump", "--to", to)
-        expect("first dump", (first[0], first[1][:10], first[2]), (0, b"schema = 1", b""))
+        expect("first dump", (first[0], first[1][:10], first[2]), (0, b"schema = 2", b""))
         expect("publish", publish("stage.toml"), (0, b"edition 2\n", b""))
         expect("publish again", publish("stage.toml"), (1, b"stale 2\n", b""))
         expect("publish no script", publish("no_script.toml"), (1, b"F1 NotToml\n", b""))
