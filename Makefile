@@ -7,6 +7,7 @@
 # make commands      runs the commands on the profiles of examples/, and verifies each track's
 #                    certificate; the program is built without a proof
 # make serving       tests the server and the walk, after make install, over the loopback
+# make cluster       tests three servers with nginx as their proxy, after make install; it needs nginx
 # make install       proves, builds and installs the program below PREFIX
 # make allocations   runs the program, after make install, with each of its allocations failing in
 #                    turn; it needs a C compiler
@@ -25,7 +26,7 @@ CRATES := $(wordlist 2,$(words $(MAKECMDGOALS)),$(MAKECMDGOALS))
 $(eval $(CRATES):;@:)
 endif
 
-.PHONY: demo test mutants commands serving install allocations bench load instructions $(CRATES)
+.PHONY: demo test mutants commands serving cluster install allocations bench load instructions $(CRATES)
 
 demo:
 	@examples/demo.py
@@ -46,6 +47,9 @@ commands:
 serving:
 	tests/serve.py
 	tests/walk.py
+
+cluster:
+	tests/cluster.py
 
 install:
 	@echo "proves the libraries of the program, $(JOBS) side by side; 35 minutes on four processors the first time"
