@@ -1,11 +1,11 @@
 -- The body of a reply: what came with its head, and what was read after.
-use Rattle.std.proofs.Common.{◌≡◌, ℕ, ◌-◌, ◌<◌, ◌≤◌, List, [], ◌∷◌, ◌++◌, length, take, drop, min, inr, Option, Some, Ok, Err, sym, subst, ap, ◌∙◌, arith, append_assoc, append-nil, length-append}
+use Rattle.std.proofs.Common.{◌≡◌, ℕ, ◌-◌, ◌<◌, ◌≤◌, List, [], ◌∷◌, ◌++◌, length, take, drop, min, inr, Option, Some, Result, Ok, Err, refl, sym, subst, ap, ◌∙◌, arith, append_assoc, append-nil, length-append}
 use Rattle.std.specs.Io.KnownBytes.{Consumes}
 use Rattle.std.proofs.lemmas.List.{take-append-drop, take_all, drop_all, length-drop, length-take-le}
 use Rattle.http_wire.specs.Devices.{Came}
 use Rattle.http_client_heads.specs.Starts.{StartFound}
 use Rattle.http_client_heads.specs.declared.start.Start.{Start}
-use Rattle.http_client.specs.Replies.{Announces, ReplyRead, RestRead}
+use Rattle.http_client.specs.Replies.{Announces, PostedWithin, ReplyRead, RestRead, failed_writes}
 use Rattle.http_client.specs.declared.fault.LinkFault.{LinkFault}
 use Rattle.http_client.specs.declared.fault.LinkFault.TheVariants as fault
 use Rattle.http_client.specs.declared.posting.Reply.{Reply}
@@ -126,3 +126,19 @@ reply_broken limit old between new held first body start count fault.Write consu
 reply_broken limit old between new held first body start count (fault.Head other) consumed found least is_first rest = absurd rest
 reply_broken limit old between new held first body start count fault.Long consumed found least is_first rest = absurd rest
 reply_broken limit old between new held first body start count fault.Status consumed found least is_first rest = absurd rest
+
+-- what was read is within the limit, or a fault of a post; if a write failed, nothing was read
+pub posted_within :
+    (limit : ℕ) (old new : Option (List ℕ)) (result : Result Reply LinkFault) →
+    (failed_writes result ≡ 0 → ReplyRead limit old new result) →
+    PostedWithin limit result
+posted_within limit old new (Ok reply) read = let (bytes, rest, consumed, announced, short) = read refl in short
+posted_within limit old new (Err fault.Address) read = absurd (read refl)
+posted_within limit old new (Err fault.Status) read = absurd (read refl)
+posted_within limit old new (Err fault.Connect) read = tt
+posted_within limit old new (Err fault.Memory) read = tt
+posted_within limit old new (Err fault.Write) read = tt
+posted_within limit old new (Err fault.Read) read = tt
+posted_within limit old new (Err (fault.Head why)) read = tt
+posted_within limit old new (Err fault.Ended) read = tt
+posted_within limit old new (Err fault.Long) read = tt

@@ -65,9 +65,20 @@ ReplyRead limit old new (Err fault.Memory) = ⊤
 ReplyRead limit old new (Err fault.Read) = ⊤
 ReplyRead limit old new (Err other) = ⊥
 
--- the body of a reply with the status 200, and of no other
-abbrev pub body_of : Reply → Result (List ℕ) LinkFault
-body_of reply = if reply.status == 200 then Ok reply.body.items else Err fault.Status
+-- a fault of a post to a host: one that neither an address nor the status of a reply can be
+abbrev pub IsPostFault : LinkFault → Type 0
+IsPostFault fault.Address = ⊥
+IsPostFault fault.Status = ⊥
+IsPostFault other = ⊤
+
+-- the body of a reply keeps to the limit, whatever its status; or why there is no reply
+abbrev pub PostedWithin : ℕ → Result Reply LinkFault → Type 0
+PostedWithin limit (Ok reply) = length reply.body.items ≤ limit
+PostedWithin limit (Err why) = IsPostFault why
+
+-- a reply with the status 200, and no other
+abbrev pub accepted_reply : Reply → Result Reply LinkFault
+accepted_reply reply = if reply.status == 200 then Ok reply else Err fault.Status
 
 -- rule: Request that a link writes
 -- the request was written whole; or memory ran out before it; or a write failed

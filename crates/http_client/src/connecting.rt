@@ -1,5 +1,6 @@
 ghost use Rattle.std.specs.Prelude.{◌≡◌, ◌<◌, ◌≤◌, length, IfOk};
 ghost use Rattle.http_client.specs.Bodies.{left_of};
+ghost use Rattle.http_client.specs.Replies.{PostedWithin};
 
 use crate::body::Body;
 use crate::fault::LinkFault;
@@ -44,6 +45,7 @@ fn post_on<A: Ledger, B: Ledger>(
     requires write_name { writes.name ≡ B.name }
     requires write_parts { writes.parts ≡ B.parts }
     requires some_writes { 0 < writes.parts }
+    ensures { PostedWithin limit result }
 {
     let mut source = Reading::<&TcpStream, A>::new(stream, reads);
     let mut sink = Writing::<&TcpStream, B>::new(stream, writes);
@@ -93,7 +95,9 @@ fn post_once(
     stream: &TcpStream,
     post: &Post<'_>,
     limit: u64,
-) -> Result<Reply, LinkFault> {
+) -> Result<Reply, LinkFault>
+    ensures { PostedWithin limit result }
+{
     let (reads, writes) = (Blank::new(1), Blank::new(1));
     post_on::<Brand, Brand>(alloc, stream, reads, writes, post, limit)
 }
@@ -109,7 +113,9 @@ pub fn post_to<R: Net<Listener = TcpListener, Stream = TcpStream>>(
     seconds: u64,
     post: &Post<'_>,
     limit: u64,
-) -> Result<Reply, LinkFault> {
+) -> Result<Reply, LinkFault>
+    ensures { PostedWithin limit result }
+{
     let Ok(stream) = connect_limited(rt, post.host, seconds) else {
         return Err(LinkFault::Connect);
     };

@@ -5,6 +5,7 @@ ghost use Rattle.update_client.specs.Installing.{posted};
 use crate::body::Body;
 use crate::connecting::{open_at, post_to, read_from};
 use crate::fault::LinkFault;
+use crate::posting::Reply;
 use http_client_heads::Post;
 use std::alloc::Global;
 use std::net::{Net, TcpListener, TcpStream};
@@ -56,15 +57,19 @@ impl<'a, R: Net<Listener = TcpListener, Stream = TcpStream>> HttpLink<'a, R> {
 }
 
 impl<'a, R: Net<Listener = TcpListener, Stream = TcpStream>> HttpLink<'a, R> {
-    // The body of the reply to an update check.
-    fn check(&self, alloc: Global, body: &[u8]) -> Result<Vec<u8>, LinkFault> {
+    // rule: Reply that a link reads
+    // The reply to an update check.
+    fn check(&self, alloc: Global, body: &[u8]) -> Result<Reply, LinkFault>
+        ensures status { IfOk result (λ reply. reply.status ≡ 200) }
+        ensures within { IfOk result (λ reply. length reply.body.items ≤ MAX_REPLY) }
+    {
         let post = Post {
             host: self.host,
             path: UPDATE_PATH,
             kind: "application/json",
             body,
         };
-        post_to(alloc, self.rt, self.seconds, &post, MAX_REPLY)?.into_body()
+        post_to(alloc, self.rt, self.seconds, &post, MAX_REPLY)?.error_for_status()
     }
 }
 
@@ -85,8 +90,8 @@ impl<'a, R: Net<Listener = TcpListener, Stream = TcpStream>> Link for HttpLink<'
     fn post(&mut self, alloc: Global, body: &[u8]) -> Result<Vec<u8>, Failed> {
         match self.check(alloc, body) {
             Ok(reply) => {
-                self.posts.push(&(Trace::of(body), Trace::of(&reply)));
-                Ok(reply)
+                self.posts.push(&(Trace::of(body), Trace::of(&reply.body)));
+                Ok(reply.body)
             }
             Err(_) => {
                 self.failures.push(&Failed);

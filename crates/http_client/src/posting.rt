@@ -1,7 +1,6 @@
 ghost use Rattle.std.specs.Prelude.{◌≡◌, ◌+◌, ◌≤◌, ◌<◌, length, vec_len};
-ghost use Rattle.std.specs.Result.{result_map_both};
 ghost use Rattle.http_client_heads.specs.Requests.{post_request};
-ghost use Rattle.http_client.specs.Replies.{ReplyRead, RequestWritten, RestRead, body_of, failed_reads, failed_writes};
+ghost use Rattle.http_client.specs.Replies.{ReplyRead, RequestWritten, RestRead, accepted_reply, failed_reads, failed_writes};
 
 use crate::fault::LinkFault;
 use crate::reading::{BLOCK, read_head, read_more};
@@ -19,15 +18,14 @@ pub struct Reply {
 }
 
 impl Reply {
-    /// Returns the body of a reply with the status 200; `Status` of any other.
-    pub fn into_body(self) -> Result<Vec<u8>, LinkFault>
-        ensures { result_map_both (λ body. body.items) (λ fault. fault) result ≡ body_of self }
+    /// Returns a reply with the status 200 unchanged; `Status` for any other.
+    pub fn error_for_status(self) -> Result<Reply, LinkFault>
+        ensures { result ≡ accepted_reply self }
     {
         if self.status != 200 {
             return Err(LinkFault::Status);
         }
-        let Reply { status: _, body } = self;
-        Ok(body)
+        Ok(self)
     }
 }
 

@@ -1,6 +1,7 @@
 // What can reach a server.
 
-ghost use Rattle.std.specs.Prelude.{IfOk};
+ghost use Rattle.std.specs.Prelude.{IfErr, IfOk};
+ghost use Rattle.http_client.specs.Replies.{IsPostFault};
 ghost use Rattle.omaha_client.specs.Walking.{IsWalkOver};
 
 use crate::walking::walk_app;
@@ -48,7 +49,8 @@ pub trait Connector {
     ///
     /// The address is `HOST:PORT`, as above. A reply may be as long as memory allows. Errors are those of `post_to`.
     fn operate_at(&self, alloc: Global, address: &str, body: &[u8]) -> Result<Reply, LinkFault>
-        ensures { IfOk result (λ reply. operated self.now address.now body.now reply) };
+        ensures ok { IfOk result (λ reply. operated self.now address.now body.now reply) }
+        ensures err { IfErr result IsPostFault };
 }
 
 impl<R: Net<Listener = TcpListener, Stream = TcpStream>> Connector for R {

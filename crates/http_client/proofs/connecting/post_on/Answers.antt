@@ -1,0 +1,6 @@
+use Rattle.std.proofs.Common.{None}
+use Rattle.http_client.proofs.ReplyLemmas.{posted_within}
+use Rattle.http_client.proofs.connecting.post_on.Goals as goal
+
+pub returns : goal.returns
+returns g c = posted_within c.args.limit None None c.post_over.result c.post_over.ensures.read
