@@ -8,9 +8,10 @@ which takes some minutes; `--keep` keeps the folder for the next time. The catal
 cohorts, each of which has both targets; from each release there are differentials to each of the `--next` releases
 that follow. The program prints milliseconds by the clock of the machine; of each figure the least of the runs counts.
 
-`tables` is all tables of the catalogue, by each number of workers. `publish` is the next edition after a batch that
-sets the share of one cohort, beside `of the app`, which is all tables of a catalogue of one such app. `KiB` is by how
-much the peak memory grows for an edition that is kept beside the one before it.
+`tables` is all tables of the catalogue, by each number of workers, made the second time: before the first of them the
+allocator of glibc joins the small pieces of memory that making the catalogue freed. `publish` is the next edition
+after a batch that sets the share of one cohort, beside `of the app`, which is all tables of a catalogue of one such
+app. `KiB` is by how much the peak memory grows for an edition that is kept beside the one before it.
 """
 
 import argparse
@@ -74,8 +75,11 @@ fn built<R: Threads + Wait + Clock>(rt: &R, alloc: Global, catalogue: &Catalogue
     Ok((passed_since(rt, start), tables.len() as u64))
 }
 
+// The tables are made twice, and the second time counts: the first large allocation after the catalogue was made has the
+// allocator join all small pieces that making it freed.
 fn run_build<R: Threads + Wait + Clock>(rt: &R, alloc: Global, apps: u64, releases: u64, next: u64, workers: u64) -> Result<(u64, u64), ReadError<Refused>> {
     let catalogue = catalogue_of(alloc, apps, releases, next)?;
+    built(rt, alloc, &catalogue, workers)?;
     Ok(built(rt, alloc, &catalogue, workers)?)
 }
 

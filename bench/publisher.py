@@ -285,12 +285,12 @@ def crates_below(name, lines):
 
 
 def build(folder, name, below, line, source):
-    """The program of a name, of a line of `crates.txt` and a source, built over copies of the crates that one needs."""
+    """The program of a name, of a line of `crates.txt` and a source, built over copies of the crates that some need."""
     program = folder / f"crates/{name}/out/{name}"
     if not program.exists():
         text = (TOP / "crates.txt").read_text()
         lines = dict(each.split(":", 1) for each in text.splitlines() if ":" in each and not each.startswith("#"))
-        names = crates_below(below, lines)
+        names = set().union(*(crates_below(each, lines) for each in below.split()))
         for each in names:
             if not (folder / "crates" / each).exists():
                 ignored = shutil.ignore_patterns("out", "must-fail")

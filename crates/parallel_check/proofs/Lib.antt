@@ -1,1 +1,1 @@
-mod TurnedLemmas
+mod UnbrokenLemmas

@@ -1,74 +1,106 @@
 //! The first wrong row of a table, searched for by several threads.
 
-ghost use Rattle.std.specs.Prelude.{◌≡◌, ◌↔◌, ◌<◌, find, length, IfErr, IfOk, IsOk, MatchOption};
-ghost use Rattle.std.specs.List.{range_with_len};
+ghost use Rattle.std.specs.Prelude.{◌≡◌, ◌↔◌, ◌+◌, ◌<◌, ◌≤◌, IfErr, IfOk, IsOk, IsTrue, MatchOption, length};
+ghost use Rattle.price_cert.specs.Best.{ArePricesSmall};
 ghost use Rattle.price_cert.specs.Laws.{ArePrices};
 ghost use Rattle.price_cert.specs.Rules.{AreCertified, IsFirstWrong};
-ghost use Rattle.parallel_check.specs.Turned.{is_wrong};
+ghost use Rattle.parallel_check.specs.Pieces.{AreUnbroken, IsPieceUnbroken};
 
+use crate::pieces::{PIECES, are_prices_small, is_piece_unbroken, unbroken_above, unbroken_below};
 use payload_graph::Graph;
-use price_cert::{Certified, Prices, Row, Wrong, broken_at, into_certified, passes};
+use price_cert::{Certified, Prices, Row, Wrong, broken_at, check, into_certified};
+use rayon::current_num_threads;
 use rayon::prelude::*;
 use std::thread::Threads;
 
-fn is_wrong(graph: &Graph, rows: &[Row], turned: usize) -> bool
-    requires sized { length rows.now ≡ length graph.now.doors }
-    requires there { turned < length rows.now }
-    ensures { result ≡ is_wrong graph.now rows.now turned }
-{
-    broken_at(graph, rows, rows.len() - 1 - turned).is_some()
-}
+/// The number of rows from which on the threads cost less than they save.
+const MIN_ROWS: usize = 384;
 
-// How many rows are above the highest wrong one, if there is a wrong one.
-fn rows_above_wrong(rt: &(impl Threads + Sync), graph: &Graph, rows: &[Row]) -> Option<usize>
-    requires { length rows.now ≡ length graph.now.doors }
-    ensures { result ≡ find (is_wrong graph.now rows.now) (range_with_len 0 (length rows.now)) }
+// Whether each piece names the best payloads, each tested by a thread.
+fn are_pieces_unbroken(rt: &(impl Threads + Sync), graph: &Graph, rows: &[Row]) -> bool
+    requires sized { length rows.now ≡ length graph.now.doors }
+    requires small { ArePricesSmall rows.now }
+    ensures { IsTrue result → AreUnbroken graph.now rows.now 0 graph.now.target × AreUnbroken graph.now rows.now (graph.now.target + 1) (length rows.now) }
 {
-    (0..rows.len()).into_par_iter().find_first(
+    (0..PIECES).into_par_iter().with_min_len(1).all(
         rt,
-        |turned: &usize| -> bool
+        |piece: usize| -> bool
             requires sized { length rows.now ≡ length graph.now.doors }
-            requires there { turned.now < length rows.now }
-            ensures { result ≡ is_wrong graph.entry.now rows.entry.now turned.now }
-        { is_wrong(graph, rows, *turned) },
+            requires small { ArePricesSmall rows.now }
+            requires piece { piece < 2 }
+            ensures { IsTrue result → IsPieceUnbroken graph.entry.now rows.entry.now piece }
+        { is_piece_unbroken(graph, rows, piece) },
     )
 }
 
-// The first wrong row, from the highest version; the threads look at all rows.
-fn first_wrong(rt: &(impl Threads + Sync), graph: &Graph, rows: &[Row]) -> Option<Wrong>
-    requires { length rows.now ≡ length graph.now.doors }
-    ensures { MatchOption result (AreCertified graph.now rows.now) (IsFirstWrong graph.now rows.now) }
+// Whether a table of best payloads is found by threads.
+fn passes_in_pieces(rt: &(impl Threads + Sync), graph: &Graph, rows: &[Row]) -> bool
+    requires sized { length rows.now ≡ length graph.now.doors }
+    requires small { ArePricesSmall rows.now }
+    ensures { IsTrue result → AreCertified graph.now rows.now }
 {
-    let above = match rows_above_wrong(rt, graph, rows) {
-        Some(above) => above,
-        None => return None,
-    };
-    let row = rows.len() - 1 - above;
-    match broken_at(graph, rows, row) {
-        Some(rule) => Some(Wrong { row, rule }),
-        None => None,
+    let _bounded = graph.doors();
+    if rows.len() < MIN_ROWS || current_num_threads(rt) == 1 {
+        return false;
     }
+    rows[graph.target()] == Row::End && are_pieces_unbroken(rt, graph, rows)
 }
 
-// The first wrong row, which is searched for only if the table doesn't pass in one go.
-fn find_wrong(rt: &(impl Threads + Sync), graph: &Graph, rows: &[Row]) -> Option<Wrong>
-    requires { length rows.now ≡ length graph.now.doors }
+// From which index on all rows name the best payloads, or the end at the target.
+fn unbroken_from(graph: &Graph, rows: &[Row]) -> usize
+    requires sized { length rows.now ≡ length graph.now.doors }
+    requires small { ArePricesSmall rows.now }
+    ensures within { result ≤ length rows.now }
+    ensures unbroken { AreUnbroken graph.now rows.now result (length rows.now) }
+{
+    let _bounded = graph.doors();
+    let target = graph.target();
+    let above = unbroken_above(graph, rows, target + 1, rows.len());
+    if above > target + 1 {
+        return above;
+    }
+    if rows[target] != Row::End {
+        return target + 1;
+    }
+    unbroken_below(graph, rows, 0, target)
+}
+
+// The first wrong row, of which it is known that it is before an index.
+fn first_wrong(graph: &Graph, rows: &[Row], end: usize) -> Option<Wrong>
+    requires sized { length rows.now ≡ length graph.now.doors }
+    requires within { end ≤ length rows.now }
+    requires unbroken { AreUnbroken graph.now rows.now end (length rows.now) }
     ensures { MatchOption result (AreCertified graph.now rows.now) (IsFirstWrong graph.now rows.now) }
 {
-    if passes(graph, rows) {
+    for from in (0..end).rev() {
+        if let Some(rule) = broken_at(graph, rows, from) {
+            return Some(Wrong { row: from, rule });
+        }
+    }
+    None
+}
+
+// The first wrong row of a table whose prices are small.
+fn find_wrong(rt: &(impl Threads + Sync), graph: &Graph, rows: &[Row]) -> Option<Wrong>
+    requires sized { length rows.now ≡ length graph.now.doors }
+    requires small { ArePricesSmall rows.now }
+    ensures { MatchOption result (AreCertified graph.now rows.now) (IsFirstWrong graph.now rows.now) }
+{
+    if passes_in_pieces(rt, graph, rows) {
         None
     } else {
-        first_wrong(rt, graph, rows)
+        first_wrong(graph, rows, unbroken_from(graph, rows))
     }
 }
 
 // rule: Certified table
 /// Checks a table of prices against the graph of its track, and returns what `check` of `price_cert` does.
 ///
-/// The table has the graph's key and a row for each release. A right table passes in one go along its releases, by
-/// the calling thread. Of any other table as many threads as there are processors look at the rows; the result is
-/// the first wrong row from the highest version, with the first rule that it breaks, and the table. It takes no
-/// memory.
+/// The table has the graph's key and a row for each release. If there are several processors and at least 384
+/// rows, two threads test a half of the rows each, in one go along the releases. If a row doesn't pass, the calling
+/// thread goes along all of them, from the highest version, until it finds the first wrong row. So a wrong table takes
+/// as few steps as a right one. If a price is above that of 511 packages of the largest size, it calls `check`. It
+/// takes no memory.
 pub fn check_parallel(
     rt: &(impl Threads + Sync),
     graph: &Graph,
@@ -83,6 +115,9 @@ pub fn check_parallel(
     ensures wrong { IfErr result (λ refusal. IsFirstWrong graph.now prices.rows refusal.0) }
     ensures given_back { IfErr result (λ refusal. refusal.1 ≡ prices) }
 {
+    if !are_prices_small(prices.rows.as_slice()) {
+        return check(graph, prices);
+    }
     match find_wrong(rt, graph, prices.rows.as_slice()) {
         Some(wrong) => Err((wrong, prices)),
         None => Ok(into_certified(graph, prices)),

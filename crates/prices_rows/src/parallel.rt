@@ -185,7 +185,10 @@ fn several_threads_find_the_same_row(rt: HostRuntime) {
 
 const LARGEST: &str = "0 561850441793536|certified
 0 561850441793537|wrong 0 C2
-510 1099511627775|wrong 510 C3";
+100 none|wrong 100 C2
+400 0|wrong 400 C3
+510 1099511627775|wrong 510 C3
+511 none|wrong 511 C1";
 
 #[test]
 fn several_threads_check_512_releases(rt: HostRuntime) -> Result<(), Fail> {

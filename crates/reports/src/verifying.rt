@@ -75,7 +75,7 @@ fn judge<R: Threads + Sync>(
 ///
 /// Fails, in this order, with the first wrong line among the first five; `NoTrack` if the edition has no
 /// table of that track; the first wrong line of the others; and the first wrong row from the highest
-/// version, with the first rule that it breaks. As many threads as there are processors look for a wrong row.
+/// version, with the first rule that it breaks. Two threads may check the rows.
 pub fn verify<R: Threads + Sync>(
     rt: &R,
     alloc: Global,
