@@ -2,6 +2,7 @@
 use Rattle.std.specs.Prelude.{ℕ, List, [], ◌∷◌, map, Option, Some, None, bytes_eq, if◌then◌else◌}
 use Rattle.std.specs.Borrow.{Bor}
 use Rattle.std.specs.Option.{option_or}
+use Rattle.explanations.specs.declared.budgets.TheConstants.{BUDGETS}
 use Rattle.explanations.specs.declared.certificates.TheConstants.{CERTIFICATES}
 use Rattle.explanations.specs.declared.edits.TheConstants.{EDITS}
 use Rattle.explanations.specs.declared.profiles.TheConstants.{PROFILES}
@@ -22,8 +23,9 @@ entries_of table = map (λ entry. (entry.0.now, entry.1.now)) table
 -- what the code's entry says, which is in one of the tables; none if no table has one
 abbrev pub explanation_of : List ℕ → Option (List ℕ)
 explanation_of code =
-    option_or (option_or (option_or (option_or (option_or
+    option_or (option_or (option_or (option_or (option_or (option_or
     (string_in (map (λ entry. (entry.0.now, entry.1.now)) EDITS) code)
+    (string_in (map (λ entry. (entry.0.now, entry.1.now)) BUDGETS) code))
     (string_in (map (λ entry. (entry.0.now, entry.1.now)) PROFILES) code))
     (string_in (map (λ entry. (entry.0.now, entry.1.now)) REQUESTS) code))
     (string_in (map (λ entry. (entry.0.now, entry.1.now)) CERTIFICATES) code))

@@ -3,6 +3,7 @@
 ghost use Rattle.std.specs.Prelude.{◌≡◌, option_map};
 ghost use Rattle.explanations.specs.Explaining.{entries_of, explanation_of, string_in};
 
+use crate::budgets::BUDGETS;
 use crate::certificates::CERTIFICATES;
 use crate::edits::EDITS;
 use crate::profiles::PROFILES;
@@ -32,6 +33,7 @@ pub fn explain(code: &str) -> Option<&'static str>
     ensures { option_map (λ text. text.now) result ≡ explanation_of code.now }
 {
     find(&EDITS, code)
+        .or(find(&BUDGETS, code))
         .or(find(&PROFILES, code))
         .or(find(&REQUESTS, code))
         .or(find(&CERTIFICATES, code))
@@ -52,6 +54,7 @@ fn push_all(lines: &mut String, table: &[(&'static str, &'static str)]) -> Resul
 pub fn list(alloc: Global) -> Result<String, AllocError> {
     let mut lines = String::new(alloc);
     push_all(&mut lines, &EDITS)?;
+    push_all(&mut lines, &BUDGETS)?;
     push_all(&mut lines, &PROFILES)?;
     push_all(&mut lines, &REQUESTS)?;
     push_all(&mut lines, &CERTIFICATES)?;

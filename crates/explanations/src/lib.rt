@@ -7,6 +7,7 @@
 
 #![tactic(auto)]
 
+mod budgets;
 mod certificates;
 mod edits;
 mod explaining;

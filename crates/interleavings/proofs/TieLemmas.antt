@@ -1,5 +1,5 @@
 -- The contracts of the program's functions as events.
-use Rattle.std.proofs.Common.{◌≡◌, ℕ, suc, ◌+◌, ◌&&◌, Bool, true, false, eqb, ltb, cond, List, [], ◌∷◌, ◌++◌, length, Option, None, Some, Result, Ok, Err, ◌⊎◌, inl, inr, refl, sym, ap, ◌∙◌, subst, arith}
+use Rattle.std.proofs.Common.{◌≡◌, ℕ, suc, ◌+◌, ◌&&◌, max, Bool, true, false, eqb, ltb, cond, List, [], ◌∷◌, ◌++◌, length, Option, None, Some, Result, Ok, Err, ◌⊎◌, inl, inr, refl, sym, ap, ◌∙◌, subst, arith}
 use Rattle.std.specs.Option.{is_some}
 use Rattle.std.specs.Result.{is_ok}
 use Rattle.std.proofs.lemmas.Bool.{and_from, and_left, and_right, cond-false, cond-true, eq-eqb, false≢true, le-leb, le-ltb, leb-true, lt-ltb, ne_eqb}
@@ -22,8 +22,8 @@ use Rattle.service_desks.specs.Scripts.{IsPublished, IsScriptReply, publish_repl
 use Rattle.service_desks.specs.Workers.{stock_of}
 use Rattle.update_desk.specs.Asking.{asks_of}
 use Rattle.interleavings.specs.Jobs.{Pending, bytes_asked, outcomes_by_app, outcomes_of}
-use Rattle.interleavings.specs.Services.{is_published, published}
-use Rattle.interleavings.specs.Ties.{AnswersAreOfPending, FullIsNotPublished, GrantsAreBooked, NextIsPublished, PressPublishes, RejectedIsNotPublished, RoomIsTested, ScriptsArePublished, WorkersReplyByOneHistory}
+use Rattle.interleavings.specs.Services.{is_published, published, with_budget}
+use Rattle.interleavings.specs.Ties.{AnswersAreOfPending, FullIsNotPublished, GrantsAreBooked, NextIsPublished, PressPublishes, RaisesAreEvents, RejectedIsNotPublished, RoomIsTested, ScriptsArePublished, WorkersReplyByOneHistory}
 
 module _ (history : History) (batch : List Edit) where
   taken : is_published history (length history) batch ≡ true → published history (length history)
@@ -84,16 +84,32 @@ pub room_is_tested : RoomIsTested
 room_is_tested account bytes =
     (leb-true (account.total + bytes) account.budget, le-leb (account.total + bytes) account.budget)
 
+same-account : (one other : Account) → one.total ≡ other.total → one.budget ≡ other.budget → one ≡ other
+same-account one other total budget =
+    ap (λ (n : ℕ). record { budget = one.budget; total = n }) total
+    ∙ ap (λ (n : ℕ). record { budget = n; total = other.total }) budget
+
 pub grants_are_booked : GrantsAreBooked
 grants_are_booked books mirror bytes new grants =
     let own = ap (λ (b : Bool). (books mirror).total + cond b bytes 0) (eq-eqb mirror mirror refl) in
     same-account (record (books mirror) { total = (books mirror).total + cond (eqb mirror mirror) bytes 0 }) new
     (own ∙ sym grants.total) (sym grants.budget)
-  where
-    same-account : (one other : Account) → one.total ≡ other.total → one.budget ≡ other.budget → one ≡ other
-    same-account one other total budget =
-        ap (λ (n : ℕ). record { budget = one.budget; total = n }) total
-        ∙ ap (λ (n : ℕ). record { budget = n; total = other.total }) budget
+
+-- the budget of the mirror itself
+own_budget : (books : ℕ → Account) (mirror bytes : ℕ) →
+    with_budget books mirror bytes mirror ≡ record (books mirror) { budget = max (books mirror).budget bytes }
+own_budget books mirror bytes =
+    ap (λ (b : Bool). record (books mirror) { budget = cond b (max (books mirror).budget bytes) (books mirror).budget }) (eq-eqb mirror mirror refl)
+
+pub raises_are_events : RaisesAreEvents
+raises_are_events books mirror bytes new (inl (above, raises)) =
+    own_budget books mirror bytes
+    ∙ same-account (record (books mirror) { budget = max (books mirror).budget bytes }) new (sym raises.total)
+    (omega (arith, above, raises.budget))
+raises_are_events books mirror bytes new (inr (below, same)) =
+    own_budget books mirror bytes
+    ∙ same-account (record (books mirror) { budget = max (books mirror).budget bytes }) (books mirror) refl (omega (arith, below))
+    ∙ sym same
 
 -- the outcomes of a plan, without those of apps that nothing was chosen for
 record HasOutcomes (plan : List (Option Choice)) (outcomes : List (Option ℕ)) : Type 0 where

@@ -1,5 +1,5 @@
 -- Which events the contracts of the program's functions are: each law reads one contract as an event.
-use Rattle.std.specs.Prelude.{◌≡◌, ◌≤◌, ◌⊎◌, ◌↔◌, ℕ, true, List, ◌++◌, length, Result, Ok, Err}
+use Rattle.std.specs.Prelude.{◌≡◌, ◌<◌, ◌≤◌, ◌⊎◌, ◌↔◌, ℕ, true, List, ◌++◌, length, Result, Ok, Err}
 use Rattle.catalogue.specs.declared.edit.Edit.{Edit}
 use Rattle.catalogue.specs.declared.fault.Refused.{Refused}
 use Rattle.catalogue_laws.specs.Histories.{History, LeadsTo}
@@ -7,7 +7,7 @@ use Rattle.editions.specs.Editions.{Continues, content_of}
 use Rattle.editions.specs.declared.fault.NextError.TheVariants as error
 use Rattle.http_desks.specs.declared.desk.DeskStatus.{DeskStatus}
 use Rattle.mirror_ledger.specs.Asks.{Ask}
-use Rattle.mirror_ledger.specs.Budgets.{Account, Grants, HasRoom}
+use Rattle.mirror_ledger.specs.Budgets.{Account, Grants, HasRoom, Raises}
 use Rattle.omaha_json.specs.ReplyWriting.{reply_bytes}
 use Rattle.omaha_json.specs.declared.reply.Reply.{Reply}
 use Rattle.omaha_json.specs.declared.request.Request.{Request}
@@ -22,7 +22,7 @@ use Rattle.update_desk.specs.Answering.{IsReply, Stock}
 use Rattle.update_desk.specs.Asking.{asks_of}
 use Rattle.interleavings.specs.Jobs.{Pending, is_decided, outcomes_of}
 use Rattle.interleavings.specs.Laws.{IsReplyOf}
-use Rattle.interleavings.specs.Services.{has_room, published, with_grant}
+use Rattle.interleavings.specs.Services.{has_room, published, with_budget, with_grant}
 
 -- `Edition::next`, from the edition that is published: an edition that it returns has the published history
 abbrev pub NextIsPublished : Type 0
@@ -59,6 +59,13 @@ abbrev pub GrantsAreBooked : Type 0
 GrantsAreBooked =
     (books : ℕ → Account) (mirror bytes : ℕ) (new : Account) →
     Grants (books mirror) new bytes → with_grant books mirror bytes mirror ≡ new
+
+-- `Book::raise` is a raise of the mirror's budget to so many bytes, also if these are fewer and it changes nothing
+abbrev pub RaisesAreEvents : Type 0
+RaisesAreEvents =
+    (books : ℕ → Account) (mirror bytes : ℕ) (new : Account) →
+    (((books mirror).budget ≤ bytes) × Raises (books mirror) new bytes) ⊎ ((bytes < (books mirror).budget) × (new ≡ books mirror)) →
+    with_budget books mirror bytes mirror ≡ new
 
 -- a reply in bytes, and what was asked for it, are those of a reply in the making whose choices are all decided
 pub record IsOfPending (stock : Stock) (request : Request) (moment : ℕ) (before after : List Ask)

@@ -5,7 +5,7 @@ ghost use Rattle.interleavings.specs.Headline.{OffersLeadToTargets, RepliesSayTr
 ghost use Rattle.interleavings.specs.Laws.{BatchesArePublishedInTurn, BatchesArePublishedWhole, JobsGoByWhatWasSeen, PlansAreByPrices, PublishedIsAccepted, PublishedStays, RepliesAreOfOneCatalogue, SeenIsPublished, SeenNeverFalls, SharesAreOfJobs, TotalsAreWithinBudgets};
 ghost use Rattle.interleavings.specs.Requests.{RepliesAreToGivenRequests};
 ghost use Rattle.interleavings.specs.Runs.{BudgetEnds, BudgetRaised, DropAfterGrant, FailedConditions, PublishBetween, StalePublish};
-ghost use Rattle.interleavings.specs.Ties.{AnswersAreOfPending, FullIsNotPublished, GrantsAreBooked, NextIsPublished, PressPublishes, RejectedIsNotPublished, RoomIsTested, ScriptsArePublished, WorkersReplyByOneHistory};
+ghost use Rattle.interleavings.specs.Ties.{AnswersAreOfPending, FullIsNotPublished, GrantsAreBooked, NextIsPublished, PressPublishes, RaisesAreEvents, RejectedIsNotPublished, RoomIsTested, ScriptsArePublished, WorkersReplyByOneHistory};
 ghost use Rattle.interleavings.specs.Wrong.{EntriesBreak, GrantsBreak, PlansAndRepliesBreak, PublishesBreak};
 
 // rule: Service
@@ -98,8 +98,8 @@ pub fn plans()
     theorems::laws::plans();
 }
 
-/// States which events the contracts of `Edition::next`, `Press::publish`, `Book::grant`, `update_desk::reply_to`, a
-/// worker's desk and the operator's desk are.
+/// States which events the contracts of `Edition::next`, `Press::publish`, `Book::grant`, `Book::raise`,
+/// `update_desk::reply_to`, a worker's desk and the operator's desk are.
 pub fn ties()
     ensures next { NextIsPublished }
     ensures rejected { RejectedIsNotPublished }
@@ -107,6 +107,7 @@ pub fn ties()
     ensures press { PressPublishes }
     ensures room { RoomIsTested }
     ensures grants { GrantsAreBooked }
+    ensures raises { RaisesAreEvents }
     ensures answers { AnswersAreOfPending }
     ensures workers { WorkersReplyByOneHistory }
     ensures scripts { ScriptsArePublished }

@@ -1,2 +1,4 @@
+mod NamedLemmas
 mod PairLemmas
+mod RaisingLemmas
 mod TillLemmas

@@ -1,7 +1,7 @@
 -- What became of jobs with tills.
-use Rattle.std.proofs.Common.{◌≡◌, ◌∙◌, ℕ, suc, arith, Bool, length, nat_eq, true, List, [], ◌∷◌, All, Result, Ok, Err, ap, sym, map, refl, subst}
+use Rattle.std.proofs.Common.{◌≡◌, ◌∙◌, ◌&&◌, ℕ, suc, arith, Bool, false, length, nat_eq, true, List, [], ◌∷◌, All, Result, Ok, Err, ap, sym, map, refl, subst}
 use Rattle.std.specs.List.{AllZip}
-use Rattle.std.proofs.lemmas.Bool.{eqb-true}
+use Rattle.std.proofs.lemmas.Bool.{eqb-true, false≢true}
 use Rattle.std.proofs.lemmas.List.{length-map}
 use Rattle.std.proofs.lemmas.Slice.Zip.{AllZip-long}
 use Rattle.records.specs.declared.mirror.Mirror.{Mirror}
@@ -10,6 +10,11 @@ use Rattle.mirror_ledger.specs.Asks.{Ask}
 use Rattle.mirror_ledger.specs.Running.{end_of, till_of}
 use Rattle.mirror_ledger.specs.Tills.{AreOpened, HaveWorked, IsFresh, WorksAs}
 use Rattle.mirror_ledger.specs.declared.job.WithTill.{WithTill}
+
+-- each of two tests that are both true
+pub both-true : (a b : Bool) → (a && b) ≡ true → (a ≡ true) × (b ≡ true)
+both-true true b is = (refl, is)
+both-true false b is = absurd (false≢true is)
 
 module _ {J T E : Type 0} (comes_to : Bool → List Mirror → J → List Ask → E → Type 0) (mirrors_of : T → List Mirror)
     (asks_of : T → List Ask) (Alone : T → Type 0) (single : Bool) (mirrors : List Mirror) where
@@ -69,10 +74,12 @@ module _ {J T E : Type 0} (comes_to : Bool → List Mirror → J → List Ask �
 
 module _ {T : Type 0} {mirrors_of : T → List Mirror} {asks_of : T → List Ask} {Alone : T → Type 0} {mirrors : List Mirror} where
   -- tills that were opened for some workers are fresh
-  pub AreFresh : {tills : List T} (workers : ℕ) → AreOpened mirrors_of asks_of Alone mirrors tills → length tills ≡ workers →
-      All (IsFresh mirrors_of asks_of Alone (nat_eq workers 1) mirrors) tills
-  AreFresh {tills} workers opened many k d below = record {
+  pub AreFresh : {tills : List T} (fixed : Bool) (workers : ℕ) → AreOpened mirrors_of asks_of Alone fixed mirrors tills → length tills ≡ workers →
+      All (IsFresh mirrors_of asks_of Alone (fixed && nat_eq workers 1) mirrors) tills
+  AreFresh {tills} fixed workers opened many k d below = record {
     mirrored = opened.mirrored k d below;
     unused = opened.unused k d below;
-    alone = λ is. opened.alone (many ∙ eqb-true workers 1 is) k d below;
+    alone = λ is.
+        let both = both-true fixed (nat_eq workers 1) is in
+        opened.alone both.0 (many ∙ eqb-true workers 1 both.1) k d below;
   }

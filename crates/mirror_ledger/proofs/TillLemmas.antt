@@ -1,13 +1,13 @@
 -- What tills were granted, and what they begin with.
-use Rattle.std.proofs.Common.{◌≡◌, ◌∙◌, ℕ, ◌+◌, ◌<◌, ◌≤◌, List, [], ◌∷◌, ◌++◌, All, Result, Ok, Err, ap, arith, length, map, slice_index, subst}
+use Rattle.std.proofs.Common.{◌≡◌, ◌∙◌, ℕ, ◌+◌, ◌<◌, ◌≤◌, Bool, true, List, [], ◌∷◌, ◌++◌, All, Result, Ok, Err, ap, arith, length, map, slice_index, subst, sym}
 use Rattle.std.specs.Result.{OnErr}
 use Rattle.std.proofs.lemmas.List.{length-map, map-append}
 use Rattle.std.proofs.lemmas.List.Elements.{All-weaker}
 use Rattle.std.proofs.lemmas.List.Sums.{sum_by_push}
 use Rattle.records.specs.declared.mirror.Mirror.{Mirror}
 use Rattle.mirror_ledger.specs.Asks.{AreTallied, AreUnused, Ask, granted_at}
-use Rattle.mirror_ledger.specs.Named.{budget_at, totals_of}
-use Rattle.mirror_ledger.specs.Order.{HaveOnePart}
+use Rattle.mirror_ledger.specs.Named.{AreFixed, budget_at, totals_of}
+use Rattle.mirror_ledger.specs.Order.{IsAlone}
 use Rattle.mirror_ledger.specs.Tills.{AreOpened, AreTotalsOf, granted_by}
 
 -- what tills were granted is what the last one was, and the others
@@ -36,41 +36,50 @@ AreTallied-unused first second third fourth asks unused =
     rw unused.none_asked
     (record { at_first = unused.at_first; at_second = unused.at_second; at_third = unused.at_third; at_fourth = unused.at_fourth })
 
--- tills of workers whose shares are 0, over books of these mirrors whose ledgers have a part for each
+-- tills of workers whose shares are 0, over books of these mirrors whose ledgers have a part for each, and the most that
+-- their budgets may come to
 pub AreOpened-unused :
     {T : Type 0} (mirrors_of : T → List Mirror) (first second third fourth : T → ℕ) (asks_of : T → List Ask)
-    (one two three four workers : ℕ) (books mirrors : List Mirror) (tills : List T) →
+    (one two three four workers m1 m2 m3 m4 : ℕ) (fixed : Bool) (books mirrors : List Mirror) (tills : List T) →
     books ≡ mirrors →
     All (λ till. mirrors_of till ≡ books) tills →
     All (λ till. AreUnused (first till) (second till) (third till) (fourth till) (asks_of till)) tills →
     length tills ≡ workers →
     one ≡ workers → two ≡ workers → three ≡ workers → four ≡ workers →
-    AreOpened mirrors_of asks_of (λ _. HaveOnePart one two three four) mirrors tills
-AreOpened-unused {T} mirrors_of first second third fourth asks_of one two three four workers books mirrors tills same given unused many a b c d =
+    (fixed ≡ true → AreFixed mirrors m1 m2 m3 m4) →
+    AreOpened mirrors_of asks_of (λ till. IsAlone (mirrors_of till) one two three four m1 m2 m3 m4) fixed mirrors tills
+AreOpened-unused {T} mirrors_of first second third fourth asks_of one two three four workers m1 m2 m3 m4 fixed books mirrors tills same given unused many a b c d tops =
     let Unused : T → Type 0 = λ till. AreUnused (first till) (second till) (third till) (fourth till) (asks_of till) in
+    let mirrored = All-weaker (λ till. mirrors_of till ≡ books) (λ till. mirrors_of till ≡ mirrors) (λ till its. its ∙ same) tills given in
     record {
-      mirrored = All-weaker (λ till. mirrors_of till ≡ books) (λ till. mirrors_of till ≡ mirrors) (λ till its. its ∙ same) tills given;
+      mirrored = mirrored;
       unused = All-weaker Unused (λ till. asks_of till ≡ []) (λ till none. none.none_asked) tills unused;
-      alone = λ single.
-          let parts : HaveOnePart one two three four = record {
-            at_first = omega arith;
-            at_second = omega arith;
-            at_third = omega arith;
-            at_fourth = omega arith;
-          } in
-          All-weaker Unused (λ _. HaveOnePart one two three four) (λ till none. parts) tills unused;
+      alone = λ is single.
+          All-weaker (λ till. mirrors_of till ≡ mirrors) (λ till. IsAlone (mirrors_of till) one two three four m1 m2 m3 m4)
+          (λ till its.
+          record {
+            parts =
+                record {
+                  at_first = omega (arith, a, many, single);
+                  at_second = omega (arith, b, many, single);
+                  at_third = omega (arith, c, many, single);
+                  at_fourth = omega (arith, d, many, single);
+                };
+            fixed = subst (λ (all : List Mirror). AreFixed all m1 m2 m3 m4) (sym its) (tops is);
+          })
+          tills mirrored;
     }
 
 -- the totals of books that are closed by what the tills' asks came to
 pub AreTotalsOf-parts :
-    (books mirrors : List Mirror) (workers : List (List Ask)) (totals : List ℕ) (first second third fourth : ℕ) →
+    (fixed : Bool) (books mirrors : List Mirror) (workers : List (List Ask)) (totals : List ℕ) (first second third fourth : ℕ) →
     books ≡ mirrors →
     totals ≡ totals_of books first second third fourth →
     first ≡ granted_by workers 0 → second ≡ granted_by workers 1 → third ≡ granted_by workers 2 → fourth ≡ granted_by workers 3 →
-    ((index : ℕ) → index < length books → slice_index totals index ≤ budget_at books index) →
-    AreTotalsOf mirrors workers totals
-AreTotalsOf-parts books mirrors workers totals first second third fourth same summed one two three four within =
-    subst (λ (all : List Mirror). AreTotalsOf all workers totals) same
+    (fixed ≡ true → (index : ℕ) → index < length books → slice_index totals index ≤ budget_at books index) →
+    AreTotalsOf fixed mirrors workers totals
+AreTotalsOf-parts fixed books mirrors workers totals first second third fourth same summed one two three four within =
+    subst (λ (all : List Mirror). AreTotalsOf fixed all workers totals) same
     (record {
       sums = summed
           ∙ ap (λ (k : ℕ). totals_of books k second third fourth) one

@@ -21,11 +21,18 @@ pub record Grants (old new : Account) (bytes : ℕ) : Type 0 where
   pub total : new.total ≡ old.total + bytes
   pub budget : new.budget ≡ old.budget
 
+-- rule: Raise of a budget
+-- the budget is another, and what was granted did not change
+pub record Raises (old new : Account) (bytes : ℕ) : Type 0 where
+  pub budget : new.budget ≡ bytes
+  pub total : new.total ≡ old.total
+
 -- rule: Budget of a mirror
--- what holds of every book: its ledger counts the total, which is within the budget; the budget is that
--- of the ledger's name, at most 2^60
-pub record IsKept (named counted : ℕ) (account : Account) : Type 0 where
+-- what holds of every book: its ledger counts the total, which is within the budget; the budget is between the first
+-- one and the most that it may come to, by the ledger's name, and at most 2^60
+pub record IsKept (first most counted : ℕ) (account : Account) : Type 0 where
   pub adds_up : counted ≡ account.total
   pub within : account.total ≤ account.budget
-  pub carried : account.budget ≡ named
+  pub from : first ≤ account.budget
+  pub to : account.budget ≤ most
   pub bounded : account.budget ≤ 2 ^ 60

@@ -1,6 +1,8 @@
 pub mod Asks
 pub mod Budgets
+pub mod FaultStrings
 pub mod Named
 pub mod Order
+pub mod Raising
 pub mod Running
 pub mod Tills

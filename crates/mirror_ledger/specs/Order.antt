@@ -1,8 +1,8 @@
--- Which mirror grants an ask of a worker that is alone; this project's profile.
+-- Which mirror grants an ask of a worker that is alone, if no budget is raised; this project's profile.
 use Rattle.std.specs.Prelude.{◌≡◌, ℕ, ◌+◌, ◌<◌, ◌≤◌, List, length, Option, None, Some}
 use Rattle.records.specs.declared.mirror.Mirror.{Mirror}
 use Rattle.mirror_ledger.specs.Asks.{Ask, granted_at}
-use Rattle.mirror_ledger.specs.Named.{budget_at}
+use Rattle.mirror_ledger.specs.Named.{AreFixed, budget_at}
 
 -- the mirror at an index has room for the bytes, beside what it granted of some asks
 abbrev pub HasRoomAt : List Mirror → List Ask → ℕ → ℕ → Type 0
@@ -20,9 +20,14 @@ IsFirstWithRoom mirrors asks bytes None = AreFullBefore mirrors asks bytes (leng
 IsFirstWithRoom mirrors asks bytes (Some first) =
     (first < length mirrors) × HasRoomAt mirrors asks bytes first × AreFullBefore mirrors asks bytes first
 
--- one worker is alone: each of the four ledgers has one part
+-- each of four ledgers has one part
 pub record HaveOnePart (first second third fourth : ℕ) : Type 0 where
   pub at_first : first ≡ 1
   pub at_second : second ≡ 1
   pub at_third : third ≡ 1
   pub at_fourth : fourth ≡ 1
+
+-- one worker is alone: each ledger has one part, and no budget may be raised
+pub record IsAlone (mirrors : List Mirror) (first second third fourth : ℕ) (one two three four : ℕ) : Type 0 where
+  pub parts : HaveOnePart first second third fourth
+  pub fixed : AreFixed mirrors one two three four

@@ -6,23 +6,25 @@ use Rattle.mirror_ledger.specs.Asks.{Ask, granted_at}
 use Rattle.mirror_ledger.specs.Named.{budget_at, totals_of}
 
 -- rule: Tills of workers
--- tills that have asked for nothing yet, all of the same mirrors; one that has no other beside it is alone
+-- tills that have asked for nothing yet, all of the same mirrors; one that has no other beside it is alone, if no budget
+-- may be raised
 pub record AreOpened {T : Type 0} (mirrors_of : T → List Mirror) (asks_of : T → List Ask) (Alone : T → Type 0)
-    (mirrors : List Mirror) (tills : List T) : Type 0 where
+    (fixed : Bool) (mirrors : List Mirror) (tills : List T) : Type 0 where
   pub mirrored : All (λ till. mirrors_of till ≡ mirrors) tills
   pub unused : All (λ till. asks_of till ≡ []) tills
-  pub alone : length tills ≡ 1 → All Alone tills
+  pub alone : fixed ≡ true → length tills ≡ 1 → All Alone tills
 
 -- what the mirror at an index granted, by the asks of each worker
 abbrev pub granted_by : List (List Ask) → ℕ → ℕ
 granted_by workers index = sum_by (λ (asks : List Ask). granted_at index asks) workers
 
--- each mirror's total: what it granted to all workers, and no more than its budget
-pub record AreTotalsOf (mirrors : List Mirror) (workers : List (List Ask)) (totals : List ℕ) : Type 0 where
+-- each mirror's total: what it granted to all workers, and no more than its first budget, if no budget may be raised
+pub record AreTotalsOf (fixed : Bool) (mirrors : List Mirror) (workers : List (List Ask)) (totals : List ℕ) : Type 0 where
   pub sums : totals ≡ totals_of mirrors (granted_by workers 0) (granted_by workers 1) (granted_by workers 2) (granted_by workers 3)
-  pub within : (index : ℕ) → index < length mirrors → slice_index totals index ≤ budget_at mirrors index
+  pub within : fixed ≡ true → (index : ℕ) → index < length mirrors → slice_index totals index ≤ budget_at mirrors index
 
--- a till of these mirrors that has asked for nothing yet, and has no other beside it if it is single
+-- a till of these mirrors that has asked for nothing yet, and has no other beside it and no budget that may be raised,
+-- if it is single
 pub record IsFresh {T : Type 0} (mirrors_of : T → List Mirror) (asks_of : T → List Ask) (Alone : T → Type 0)
     (single : Bool) (mirrors : List Mirror) (till : T) : Type 0 where
   pub mirrored : mirrors_of till ≡ mirrors

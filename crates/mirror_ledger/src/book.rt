@@ -1,19 +1,24 @@
 //! The book of one mirror.
 
 ghost use Rattle.std.specs.Prelude.{◌≡◌, ◌↔◌, ℕ, ◌+◌, ◌-◌, ◌^◌, ◌<◌, ◌≤◌, IfErr, IsOk, OnOk, OnErr};
-ghost use Rattle.mirror_ledger.specs.Budgets.{Account, Grants, HasRoom, bytes_left};
+ghost use Rattle.mirror_ledger.specs.Budgets.{Account, Grants, HasRoom, Raises, bytes_left};
 
 use std::marker::{Brand, Model};
 use std::sync::ledger;
 use std::sync::ledger::{Blank, Ledger};
 
-/// The name of a mirror's ledger, which also has the mirror's budget, for contracts.
+/// The name of a mirror's ledger, which also has the mirror's first budget and the most that it may come to, for
+/// contracts.
 pub trait BudgetName: Ledger {
     ghost budget: { ℕ };
+
+    ghost most: { ℕ };
 }
 
 impl BudgetName for Brand {
     ghost budget = { 0 };
+
+    ghost most = { 0 };
 }
 
 // rule: Budget of a mirror
@@ -34,7 +39,7 @@ impl<P: BudgetName> Model for Book<P> {
 
     ghost view = { λ b. record { budget = b.budget; total = b.total } };
 
-    ghost invariant = { λ b. IsKept P.budget b.counted.total (record { budget = b.budget; total = b.total }) };
+    ghost invariant = { λ b. IsKept P.budget P.most b.counted.total (record { budget = b.budget; total = b.total }) };
 }
 
 /// A worker's part of a mirror's book, which contracts see as the bytes that the worker was granted.
@@ -60,12 +65,20 @@ pub struct NoRoom {
     pub left: u64,
 }
 
+/// The budget is above the one that was asked for.
+#[derive(Debug, Drop)]
+pub struct Lower {
+    /// The budget in bytes.
+    pub now: u64,
+}
+
 impl<P: BudgetName> Book<P> {
     /// Opens the book of a budget in bytes, and its ledger with all parts.
     pub(crate) fn open(blank: Blank, budget: u64) -> (Book<P>, ledger::Share<P>)
         requires name { blank.name ≡ P.name }
         requires parts { blank.parts ≡ P.parts }
         requires budget { budget ≡ P.budget }
+        requires most { budget ≤ P.most }
         requires bounded { budget ≤ 2 ^ 60 }
         ensures budget { result.0.budget ≡ budget }
         ensures total { result.0.total ≡ 0 }
@@ -94,7 +107,8 @@ impl<P: BudgetName> Book<P> {
         ensures left { IfErr result (λ refusal. refusal.left ≡ bytes_left self.old) }
         ensures err { OnErr result ((self.new ≡ self.old) × (share.new ≡ share.old)) }
 
-        ensures budget { self.old.budget ≡ P.budget }
+        ensures from { P.budget ≤ self.old.budget }
+        ensures to { self.old.budget ≤ P.most }
         ensures within { share.old ≤ self.old.total }
         ensures whole { P.parts ≡ 1 → share.old ≡ self.old.total }
     {
@@ -109,11 +123,39 @@ impl<P: BudgetName> Book<P> {
         Ok(())
     }
 
+    // rule: Raise of a budget
+    /// Raises the budget to a number of bytes, at most 2^60.
+    ///
+    /// What was granted stays. If the budget is above that, it returns `Lower` and changes nothing. It takes no memory.
+    pub fn raise(&mut self, budget: u64) -> Result<(), Lower>
+        requires most { budget ≤ P.most }
+        requires bounded { budget ≤ 2 ^ 60 }
+        ensures succeeds { IsOk result ↔ (self.old.budget ≤ budget) }
+        ensures raised { OnOk result (Raises self.old self.new budget) }
+        ensures lower { IfErr result (λ refusal. (refusal.now ≡ self.old.budget) × (budget < refusal.now) × (refusal.now ≤ 2 ^ 60)) }
+        ensures err { OnErr result (self.new ≡ self.old) }
+    {
+        if budget < self.budget {
+            return Err(Lower { now: self.budget });
+        }
+        self.budget = budget;
+        Ok(())
+    }
+
+    /// The present budget, in bytes.
+    pub fn budget(&self) -> u64
+        ensures budget { result ≡ self.now.budget }
+        ensures from { P.budget ≤ result }
+        ensures bounded { result ≤ 2 ^ 60 }
+    {
+        self.budget
+    }
+
     /// Returns the total, which is the amount of all parts of the ledger and within the budget.
     pub(crate) fn gather(&mut self, all: &mut ledger::Share<P>) -> u64
         requires { all.old.parts ≡ P.parts }
         ensures total { result ≡ all.old.amount }
-        ensures within { result ≤ P.budget }
+        ensures within { result ≤ P.most }
     {
         self.counted.audit(all);
         self.total

@@ -2,7 +2,7 @@
 
 ghost use Rattle.std.specs.Prelude.{◌≡◌, ◌↔◌, ◌+◌, ◌++◌, ◌∷◌, [], ◌<◌, true, if◌then◌else◌, length, IfSome, Some};
 ghost use Rattle.mirror_ledger.specs.Asks.{AreTallied, booked};
-ghost use Rattle.mirror_ledger.specs.Order.{HaveOnePart, HasRoomAt, IsFirstWithRoom};
+ghost use Rattle.mirror_ledger.specs.Order.{HasRoomAt, IsAlone, IsFirstWithRoom};
 
 use crate::asks::AskList;
 use crate::book::{Book, BudgetName, Share};
@@ -10,9 +10,9 @@ use records::Mirror;
 use std::marker::Model;
 use std::sync::{Mutex, Wait};
 
-/// The books of one to four mirrors, which contracts see as the list of these mirrors.
+/// The books of one to four mirrors, which contracts see as the list of these mirrors with their first budgets.
 ///
-/// Each book is under a lock of its own. A place without a mirror has a book of the budget 0, which
+/// Each book is under a lock of its own. A place without a mirror has a book of the first budget 0, which
 /// nothing asks.
 #[derive(Drop)]
 pub struct Books<A: BudgetName, B: BudgetName, C: BudgetName, D: BudgetName> {
@@ -55,7 +55,7 @@ pub struct Shares<A: BudgetName, B: BudgetName, C: BudgetName, D: BudgetName> {
 }
 
 impl<A: BudgetName, B: BudgetName, C: BudgetName, D: BudgetName> Books<A, B, C, D> {
-    /// Borrows the mirrors, as they were handed in.
+    /// Borrows the mirrors, as they were handed in: with their first budgets.
     pub fn given(&self) -> &[Mirror]
         ensures { result.now ≡ self.now }
     {
@@ -77,7 +77,7 @@ impl<A: BudgetName, B: BudgetName, C: BudgetName, D: BudgetName> Shares<A, B, C,
         ensures third { self.new.third ≡ self.old.third + (if result then booked 2 bytes (Some index) else 0) }
         ensures fourth { self.new.fourth ≡ self.old.fourth + (if result then booked 3 bytes (Some index) else 0) }
         ensures asks { self.new.asks ≡ self.old.asks }
-        ensures alone { HaveOnePart A.parts B.parts C.parts D.parts
+        ensures alone { IsAlone books.now A.parts B.parts C.parts D.parts A.most B.most C.most D.most
             → AreTallied self.old.first self.old.second self.old.third self.old.fourth self.old.asks
             → ((result ≡ true) ↔ HasRoomAt books.now self.old.asks bytes index) }
     {
@@ -101,7 +101,7 @@ impl<A: BudgetName, B: BudgetName, C: BudgetName, D: BudgetName> Shares<A, B, C,
         ensures third { self.new.third ≡ self.old.third + booked 2 bytes result }
         ensures fourth { self.new.fourth ≡ self.old.fourth + booked 3 bytes result }
         ensures asks { self.new.asks ≡ self.old.asks }
-        ensures alone { HaveOnePart A.parts B.parts C.parts D.parts
+        ensures alone { IsAlone books.now A.parts B.parts C.parts D.parts A.most B.most C.most D.most
             → AreTallied self.old.first self.old.second self.old.third self.old.fourth self.old.asks
             → IsFirstWithRoom books.now self.old.asks bytes result }
     {
@@ -119,10 +119,10 @@ impl<A: BudgetName, B: BudgetName, C: BudgetName, D: BudgetName> Shares<A, B, C,
     /// Grants bytes on the first mirror that has room for them, and returns its index.
     ///
     /// The mirrors are asked in the order in which they were handed in; `None` if none has room. If the
-    /// ledgers have one part each, and so no other worker asks, a mirror has room exactly if the bytes,
-    /// with all that it granted to this worker, are within its budget. The bytes are added to that
-    /// mirror's total and to the share of it. Each ask joins the list of asks. It takes no memory, and may
-    /// wait for a lock.
+    /// ledgers have one part each, and so no other worker asks, and no budget may be raised, a mirror has
+    /// room exactly if the bytes, with all that it granted to this worker, are within its budget. The
+    /// bytes are added to that mirror's total and to the share of it. Each ask joins the list of asks. It
+    /// takes no memory, and may wait for a lock.
     pub fn grant_first<R: Wait>(
         &mut self,
         rt: &R,
@@ -137,7 +137,7 @@ impl<A: BudgetName, B: BudgetName, C: BudgetName, D: BudgetName> Shares<A, B, C,
         ensures fourth { self.new.fourth ≡ self.old.fourth + booked 3 bytes result }
         ensures tally { AreTallied self.old.first self.old.second self.old.third self.old.fourth self.old.asks
             → AreTallied self.new.first self.new.second self.new.third self.new.fourth self.new.asks }
-        ensures alone { HaveOnePart A.parts B.parts C.parts D.parts
+        ensures alone { IsAlone books.now A.parts B.parts C.parts D.parts A.most B.most C.most D.most
             → AreTallied self.old.first self.old.second self.old.third self.old.fourth self.old.asks
             → IsFirstWithRoom books.now self.old.asks bytes result }
     {

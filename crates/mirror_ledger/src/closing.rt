@@ -1,7 +1,7 @@
 //! How books are closed.
 
 ghost use Rattle.std.specs.Prelude.{◌≡◌, ℕ, ◌+◌, ◌<◌, ◌≤◌, IfOk, length, map, slice_index, sum_by, vec_len};
-ghost use Rattle.mirror_ledger.specs.Named.{budget_at, totals_of};
+ghost use Rattle.mirror_ledger.specs.Named.{AreFixed, budget_at, totals_of};
 ghost use Rattle.mirror_ledger.specs.Tills.{granted_by};
 
 use crate::book::{BudgetName, Share};
@@ -101,7 +101,7 @@ pub(crate) fn close_parts<A: BudgetName, B: BudgetName, C: BudgetName, D: Budget
     requires fourth { parts.fourth.parts ≡ D.parts }
     ensures totals { IfOk result (λ totals. totals.items ≡ totals_of books
         parts.first.amount parts.second.amount parts.third.amount parts.fourth.amount) }
-    ensures within { IfOk result (λ totals.
+    ensures within { AreFixed books A.most B.most C.most D.most → IfOk result (λ totals.
         (index : ℕ) → index < length books → slice_index totals.items index ≤ budget_at books index) }
 {
     let count = books.given.len();
@@ -120,7 +120,8 @@ pub(crate) fn close_parts<A: BudgetName, B: BudgetName, C: BudgetName, D: Budget
 /// Closes the books, and returns each mirror's total in bytes.
 ///
 /// All shares of these books are handed in, and no others: as many as the ledgers have parts. A total is
-/// the sum of the mirror's shares and within its budget. Out of memory is the only error.
+/// the sum of the mirror's shares, and within its budget as it then is, which is the first one if no budget may be
+/// raised. Out of memory is the only error.
 pub fn close<A: BudgetName, B: BudgetName, C: BudgetName, D: BudgetName, R: Wait>(
     rt: &R,
     alloc: Global,
@@ -137,7 +138,7 @@ pub fn close<A: BudgetName, B: BudgetName, C: BudgetName, D: BudgetName, R: Wait
         (sum_by (λ s. s.second) shares.items)
         (sum_by (λ s. s.third) shares.items)
         (sum_by (λ s. s.fourth) shares.items)) }
-    ensures within { IfOk result (λ totals.
+    ensures within { AreFixed books A.most B.most C.most D.most → IfOk result (λ totals.
         (index : ℕ) → index < length books → slice_index totals.items index ≤ budget_at books index) }
 {
     close_parts(rt, alloc, books, gathered(shares))

@@ -2,11 +2,12 @@
 //!
 //! `open_books` makes a `Book` for each mirror, under a `Mutex` of its own, and `Shares` for each worker.
 //! `Shares::grant_first` grants bytes on the first mirror that has room for them; `close` gathers all
-//! shares and returns each mirror's total, which is the sum of its shares and within its budget. A `Hand`
-//! is a `Till` over the books: what serves update checks knows its till alone. `work_with_tills` does all
-//! this for a `Work`, and hides the names of the ledgers; `run_with_tills` does it for jobs in threads. Read
-//! `specs/Budgets.antt` for what a grant does, `specs/Asks.antt` for how shares follow from the asks of a worker, and
-//! `specs/Tills.antt` for what work comes to.
+//! shares and returns each mirror's total, which is the sum of its shares. A book keeps its total within its
+//! budget, which the `Budgets` of the books report and raise. A `Hand` is a `Till` over the books: what serves update
+//! checks knows its till alone. `work_with_tills` does all this for a `Work`, and hides the names of the ledgers;
+//! `run_with_tills` does it for jobs in threads, beside a job that may raise budgets. Read `specs/Budgets.antt` for
+//! what a grant and a raise do, `specs/Raising.antt` for what a raise comes to, `specs/Asks.antt` for how shares
+//! follow from the asks of a worker, and `specs/Tills.antt` for what work comes to.
 //!
 //! It does not measure downloads: a mirror's total counts what clients were offered.
 
@@ -15,19 +16,23 @@
 mod asks;
 mod book;
 mod books;
+mod budgets;
 mod closing;
 mod job;
 mod opening;
+mod raise_error;
 mod running;
 mod till;
 mod working;
 
 pub use crate::asks::AskList;
-pub use crate::book::{Book, BudgetName, NoRoom, Share};
+pub use crate::book::{Book, BudgetName, Lower, NoRoom, Share};
 pub use crate::books::{Books, Shares};
+pub use crate::budgets::Budgets;
 pub use crate::closing::close;
-pub use crate::job::TillJob;
+pub use crate::job::{BudgetJob, TillJob};
 pub use crate::opening::{Blanks, open_books};
+pub use crate::raise_error::RaiseError;
 pub use crate::running::{Ran, run_with_tills};
 pub use crate::till::{Hand, Till};
 pub use crate::working::{Work, work_with_tills};

@@ -108,8 +108,8 @@ fn split_shares<A: BudgetName, B: BudgetName, C: BudgetName, D: BudgetName>(
 /// Opens a book for each mirror, with the total 0, and shares of 0 for each worker.
 ///
 /// There are 1 to 4 mirrors of budgets to 2^60, and 1 to 8 workers. The four ledgers have a part for
-/// each worker, and their names carry the mirrors' budgets, 0 after the last mirror. Out of memory is
-/// the only error.
+/// each worker, and their names carry the mirrors' budgets, 0 after the last mirror, and the most that
+/// each may be raised to. Out of memory is the only error.
 pub fn open_books<A: BudgetName, B: BudgetName, C: BudgetName, D: BudgetName, R: Wait>(
     rt: &R,
     alloc: Global,
@@ -122,10 +122,10 @@ pub fn open_books<A: BudgetName, B: BudgetName, C: BudgetName, D: BudgetName, R:
     requires bounded { are_bounded mirrors.items ≡ true }
     requires some_worker { 0 < workers }
     requires few_workers { workers ≤ 8 }
-    requires first { IsNamed blanks.first A.name A.parts A.budget workers mirrors.items 0 }
-    requires second { IsNamed blanks.second B.name B.parts B.budget workers mirrors.items 1 }
-    requires third { IsNamed blanks.third C.name C.parts C.budget workers mirrors.items 2 }
-    requires fourth { IsNamed blanks.fourth D.name D.parts D.budget workers mirrors.items 3 }
+    requires first { IsNamed blanks.first A.name A.parts A.budget A.most workers mirrors.items 0 }
+    requires second { IsNamed blanks.second B.name B.parts B.budget B.most workers mirrors.items 1 }
+    requires third { IsNamed blanks.third C.name C.parts C.budget C.most workers mirrors.items 2 }
+    requires fourth { IsNamed blanks.fourth D.name D.parts D.budget D.most workers mirrors.items 3 }
     ensures given { IfOk result (λ opened. opened.0 ≡ mirrors.items) }
     ensures workers { IfOk result (λ opened. vec_len opened.1 ≡ workers) }
     ensures unused { IfOk result (λ opened. All (λ s. AreUnused s.first s.second s.third s.fourth s.asks) opened.1.items) }

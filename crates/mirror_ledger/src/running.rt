@@ -1,17 +1,18 @@
 //! Jobs with tills in threads, over books that are opened for them and closed after them.
 
-ghost use Rattle.std.specs.Prelude.{◌≡◌, ◌<◌, ◌≤◌, Bool, List, All, IfOk, IfSome, length, map, nat_eq, true, vec_len};
+ghost use Rattle.std.specs.Prelude.{◌≡◌, ◌&&◌, ◌<◌, ◌≤◌, Bool, List, All, IfOk, IfSome, length, map, nat_eq, not, true, vec_len};
 ghost use Rattle.std.specs.List.{AllZip};
 ghost use Rattle.records.specs.declared.mirror.Mirror.{Mirror};
 ghost use Rattle.worker_threads.specs.Jobs.{EndsAs};
 ghost use Rattle.mirror_ledger.specs.Asks.{Ask};
-ghost use Rattle.mirror_ledger.specs.Named.{IsNamed, are_bounded};
+ghost use Rattle.mirror_ledger.specs.Named.{AreTops, IsNamed, are_bounded};
+ghost use Rattle.mirror_ledger.specs.Raising.{AreNamed};
 ghost use Rattle.mirror_ledger.specs.Running.{end_of, till_of};
 ghost use Rattle.mirror_ledger.specs.Tills.{AreTotalsOf, HaveWorked, IsFresh};
 
 use crate::book::BudgetName;
 use crate::closing::{close_parts, gather_tills};
-use crate::job::{TillJob, WithTill};
+use crate::job::{BudgetJob, TillJob, WithBudgets, WithTill};
 use crate::opening::{Blanks, open_books};
 use crate::till::Till;
 use crate::working::tills_of;
@@ -24,7 +25,7 @@ use worker_threads::{Gate, OwnJob, run_together};
 
 /// What jobs with tills came to.
 #[derive(Drop)]
-pub struct Ran<J: TillJob + Drop, O: OwnJob> {
+pub struct Ran<J: TillJob + Drop, O: BudgetJob> {
     /// What each job came to, in order, or the job, which did not begin.
     pub ends: Vec<Result<J::End, J>>,
     /// What the own job came to, if it began.
@@ -123,7 +124,7 @@ fn run_over<
     C: BudgetName + Send + Sync,
     D: BudgetName + Send + Sync,
     J: TillJob + Send + Drop,
-    O: OwnJob,
+    O: BudgetJob,
     G: Gate + Sync,
     R: Threads + Wait + Sync,
 >(
@@ -138,36 +139,42 @@ fn run_over<
     requires some_mirror { 0 < vec_len mirrors }
     requires few_mirrors { vec_len mirrors ≤ 4 }
     requires bounded { are_bounded mirrors.items ≡ true }
+    requires named { AreNamed mirrors.items }
     requires some_worker { 0 < vec_len jobs }
     requires few_workers { vec_len jobs ≤ 8 }
-    requires first { IsNamed blanks.first A.name A.parts A.budget (vec_len jobs) mirrors.items 0 }
-    requires second { IsNamed blanks.second B.name B.parts B.budget (vec_len jobs) mirrors.items 1 }
-    requires third { IsNamed blanks.third C.name C.parts C.budget (vec_len jobs) mirrors.items 2 }
-    requires fourth { IsNamed blanks.fourth D.name D.parts D.budget (vec_len jobs) mirrors.items 3 }
+    requires first { IsNamed blanks.first A.name A.parts A.budget A.most (vec_len jobs) mirrors.items 0 }
+    requires second { IsNamed blanks.second B.name B.parts B.budget B.most (vec_len jobs) mirrors.items 1 }
+    requires third { IsNamed blanks.third C.name C.parts C.budget C.most (vec_len jobs) mirrors.items 2 }
+    requires fourth { IsNamed blanks.fourth D.name D.parts D.budget D.most (vec_len jobs) mirrors.items 3 }
+    requires tops { AreTops (O.raises own.old) mirrors.items A.most B.most C.most D.most }
     ensures works { IfOk result (λ ran. (asks : List (List Ask))
-        × HaveWorked (J.comes_to (nat_eq (vec_len jobs) 1) mirrors.items) jobs.items asks ran.ends.items
-        × AreTotalsOf mirrors.items asks ran.totals.items) }
-    ensures own { IfOk result (λ ran. IfSome ran.own (O.comes_to own.old)) }
+        × HaveWorked (J.comes_to (not (O.raises own.old) && nat_eq (vec_len jobs) 1) mirrors.items) jobs.items asks ran.ends.items
+        × AreTotalsOf (not (O.raises own.old)) mirrors.items asks ran.totals.items) }
+    ensures own { IfOk result (λ ran. IfSome ran.own (O.comes_to mirrors.items own.old)) }
 {
     let (books, shares) = open_books::<A, B, C, D, R>(rt, alloc, blanks, mirrors, jobs.len())?;
     let tills = tills_of(alloc, &books, shares)?;
-    let (tills, ends, own) = work_together(rt, alloc, gate, jobs, tills, own)?;
+    let mut beside = WithBudgets {
+        job: own,
+        budgets: &books,
+    };
+    let (tills, ends, own) = work_together(rt, alloc, gate, jobs, tills, &mut beside)?;
     let parts = gather_tills(tills);
     let totals = close_parts(rt, alloc, books, parts)?;
     Ok(Ran { ends, own, totals })
 }
 
 // rule: Jobs with tills
-/// Does 1 to 8 jobs in a thread each, which begin together or not at all, with a till each over 1 to 4 mirrors of
-/// budgets to 2^60, and the caller's own job beside them; returns what each came to, and each mirror's total in bytes.
+/// Does 1 to 8 jobs in a thread each, which begin together or not at all, with a till each over 1 to 4 valid mirrors, no
+/// two of one name, and the caller's own job beside them; returns what each came to, and each mirror's total in bytes.
 ///
 /// Opens the mirrors' books for it and closes them after it. A total is what the mirror granted to all workers, and
-/// within its budget. `gate` is called once in each thread before its job begins. Where a thread can't be started no
-/// job begins, the own one neither, and each other is given back. Out of memory is the only error, before the jobs or
-/// after them.
+/// within its budget as it then is: the first one, if the own job may raise none. `gate` is called once in each thread
+/// before its job begins. Where a thread can't be started no job begins, the own one neither, and each other is given
+/// back. Out of memory is the only error, before the jobs or after them.
 pub fn run_with_tills<
     J: TillJob + Send + Drop,
-    O: OwnJob,
+    O: BudgetJob,
     G: Gate + Sync,
     R: Threads + Wait + Sync,
 >(
@@ -181,12 +188,13 @@ pub fn run_with_tills<
     requires some_mirror { 0 < vec_len mirrors }
     requires few_mirrors { vec_len mirrors ≤ 4 }
     requires bounded { are_bounded mirrors.items ≡ true }
+    requires named { AreNamed mirrors.items }
     requires some_worker { 0 < vec_len jobs }
     requires few_workers { vec_len jobs ≤ 8 }
     ensures works { IfOk result (λ ran. (asks : List (List Ask))
-        × HaveWorked (J.comes_to (nat_eq (vec_len jobs) 1) mirrors.items) jobs.items asks ran.ends.items
-        × AreTotalsOf mirrors.items asks ran.totals.items) }
-    ensures own { IfOk result (λ ran. IfSome ran.own (O.comes_to own.old)) }
+        × HaveWorked (J.comes_to (not (O.raises own.old) && nat_eq (vec_len jobs) 1) mirrors.items) jobs.items asks ran.ends.items
+        × AreTotalsOf (not (O.raises own.old)) mirrors.items asks ran.totals.items) }
+    ensures own { IfOk result (λ ran. IfSome ran.own (O.comes_to mirrors.items own.old)) }
 {
     let blanks = Blanks::new(jobs.len() as u64);
     run_over::<Brand, Brand, Brand, Brand, J, O, G, R>(rt, alloc, blanks, mirrors, gate, jobs, own)

@@ -3,7 +3,7 @@
 ghost use Rattle.std.specs.Prelude.{◌≡◌, ℕ, ◌+◌, ◌++◌, ◌∷◌, [], ◌<◌, List, length, IfSome};
 ghost use Rattle.records.specs.declared.mirror.Mirror.{Mirror};
 ghost use Rattle.mirror_ledger.specs.Asks.{AreTallied, Ask, booked};
-ghost use Rattle.mirror_ledger.specs.Order.{HaveOnePart, IsFirstWithRoom};
+ghost use Rattle.mirror_ledger.specs.Order.{IsAlone, IsFirstWithRoom};
 
 use crate::book::BudgetName;
 use crate::books::{Books, Shares};
@@ -12,13 +12,14 @@ use std::sync::Wait;
 
 /// What grants the bytes of update checks on mirrors.
 pub trait Till {
-    // The mirrors, in the order in which they are asked.
+    // The mirrors with their first budgets, in the order in which they are asked.
     ghost mirrors: { Self → List Mirror };
 
     // What was asked so far: the bytes, and the index of the mirror that granted them.
     ghost asks: { Self → List Ask };
 
-    // That nothing else is granted on these mirrors: what they granted so far is what was asked here.
+    // That nothing else is granted on these mirrors, and no budget is raised: what they granted so far is what was asked
+    // here.
     ghost alone: { Self → Type 0 };
 
     /// Borrows the mirrors.
@@ -27,8 +28,8 @@ pub trait Till {
 
     /// Grants bytes on a mirror, and returns its index; `None` if no mirror has room.
     ///
-    /// The ask joins the list of asks. If nothing else is granted on these mirrors, the first one that has
-    /// room grants the bytes. It takes no memory, and may wait for a lock.
+    /// The ask joins the list of asks. If nothing else is granted on these mirrors and no budget is raised, the first
+    /// one that has room grants the bytes. It takes no memory, and may wait for a lock.
     fn grant_first<R: Wait>(&mut self, rt: &R, bytes: u64) -> Option<usize>
         ensures asks { asks self.new ≡ asks self.old ++ (bytes, result) ∷ [] }
         ensures mirrors { mirrors self.new ≡ mirrors self.old }
@@ -72,7 +73,7 @@ impl<'a, A: BudgetName, B: BudgetName, C: BudgetName, D: BudgetName> Till for Ha
 
     ghost asks = { λ hand. hand.shares.asks };
 
-    ghost alone = { λ _. HaveOnePart A.parts B.parts C.parts D.parts };
+    ghost alone = { λ hand. IsAlone hand.books.now A.parts B.parts C.parts D.parts A.most B.most C.most D.most };
 
     fn given(&self) -> &[Mirror] {
         self.books.given()
@@ -86,9 +87,10 @@ impl<'a, A: BudgetName, B: BudgetName, C: BudgetName, D: BudgetName> Till for Ha
         ensures second { self.new.shares.second ≡ self.old.shares.second + booked 1 bytes result }
         ensures third { self.new.shares.third ≡ self.old.shares.third + booked 2 bytes result }
         ensures fourth { self.new.shares.fourth ≡ self.old.shares.fourth + booked 3 bytes result }
-        ensures first_with_room { HaveOnePart A.parts B.parts C.parts D.parts
+        ensures first_with_room { IsAlone self.old.books.now A.parts B.parts C.parts D.parts A.most B.most C.most D.most
             → IsFirstWithRoom self.old.books.now self.old.shares.asks bytes result }
-        ensures alone { HaveOnePart A.parts B.parts C.parts D.parts → HaveOnePart A.parts B.parts C.parts D.parts }
+        ensures alone { IsAlone self.old.books.now A.parts B.parts C.parts D.parts A.most B.most C.most D.most
+            → IsAlone self.new.books.now A.parts B.parts C.parts D.parts A.most B.most C.most D.most }
     {
         self.shares.grant_first(rt, self.books, bytes)
     }

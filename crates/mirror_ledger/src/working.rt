@@ -1,10 +1,10 @@
 //! Work by tills, over books that are opened for it and closed after it.
 
-ghost use Rattle.std.specs.Prelude.{◌≡◌, ◌⊎◌, ◌<◌, ◌≤◌, List, All, IfOk, OnErr, length, map, true, vec_len};
+ghost use Rattle.std.specs.Prelude.{◌≡◌, ◌⊎◌, ◌<◌, ◌≤◌, Bool, List, All, IfOk, OnErr, length, map, not, true, vec_len};
 ghost use Rattle.records.specs.declared.mirror.Mirror.{Mirror};
 ghost use Rattle.mirror_ledger.specs.Asks.{AreUnused, Ask};
-ghost use Rattle.mirror_ledger.specs.Named.{IsNamed, are_bounded};
-ghost use Rattle.mirror_ledger.specs.Order.{HaveOnePart};
+ghost use Rattle.mirror_ledger.specs.Named.{AreFixed, AreTops, IsNamed, are_bounded};
+ghost use Rattle.mirror_ledger.specs.Order.{IsAlone};
 ghost use Rattle.mirror_ledger.specs.Tills.{AreOpened, AreTotalsOf};
 
 use crate::book::BudgetName;
@@ -28,7 +28,7 @@ pub trait Work<R> {
     /// Does the work, with the tills of the workers.
     fn work<T: Till + Send + Drop>(&mut self, rt: &R, tills: &mut Vec<T>) -> Self::End
         ensures many { vec_len tills.new ≡ vec_len tills.old }
-        ensures works { (mirrors : List Mirror) → AreOpened T.mirrors T.asks T.alone mirrors tills.old.items
+        ensures works { (mirrors : List Mirror) → AreOpened T.mirrors T.asks T.alone true mirrors tills.old.items
             → comes_to self.old self.new mirrors (map T.asks tills.new.items) result };
 }
 
@@ -44,9 +44,10 @@ pub(crate) fn tills_of<'a, A: BudgetName, B: BudgetName, C: BudgetName, D: Budge
     requires third { vec_len shares ≡ C.parts }
     requires fourth { vec_len shares ≡ D.parts }
     ensures many { IfOk result (λ tills. vec_len tills ≡ vec_len shares) }
-    ensures opened { IfOk result (λ tills. (mirrors : List Mirror) → books.now ≡ mirrors
-        → AreOpened (λ till. till.books.now) (λ till. till.shares.asks) (λ _. HaveOnePart A.parts B.parts C.parts D.parts)
-        mirrors tills.items) }
+    ensures opened { IfOk result (λ tills. (rises : Bool) (mirrors : List Mirror) → books.now ≡ mirrors
+        → AreTops rises mirrors A.most B.most C.most D.most
+        → AreOpened (λ till. till.books.now) (λ till. till.shares.asks)
+        (λ till. IsAlone till.books.now A.parts B.parts C.parts D.parts A.most B.most C.most D.most) (not rises) mirrors tills.items) }
 {
     let mut shares = shares;
     let mut tills = Vec::new(alloc);
@@ -77,12 +78,13 @@ fn work_over<
     requires bounded { are_bounded mirrors.items ≡ true }
     requires some_worker { 0 < workers }
     requires few_workers { workers ≤ 8 }
-    requires first { IsNamed blanks.first A.name A.parts A.budget workers mirrors.items 0 }
-    requires second { IsNamed blanks.second B.name B.parts B.budget workers mirrors.items 1 }
-    requires third { IsNamed blanks.third C.name C.parts C.budget workers mirrors.items 2 }
-    requires fourth { IsNamed blanks.fourth D.name D.parts D.budget workers mirrors.items 3 }
+    requires first { IsNamed blanks.first A.name A.parts A.budget A.most workers mirrors.items 0 }
+    requires second { IsNamed blanks.second B.name B.parts B.budget B.most workers mirrors.items 1 }
+    requires third { IsNamed blanks.third C.name C.parts C.budget C.most workers mirrors.items 2 }
+    requires fourth { IsNamed blanks.fourth D.name D.parts D.budget D.most workers mirrors.items 3 }
+    requires fixed { AreFixed mirrors.items A.most B.most C.most D.most }
     ensures ok { IfOk result (λ ended. (asks : List (List Ask)) × (length asks ≡ workers)
-        × J.comes_to job.old job.new mirrors.items asks ended.0 × AreTotalsOf mirrors.items asks ended.1.items) }
+        × J.comes_to job.old job.new mirrors.items asks ended.0 × AreTotalsOf true mirrors.items asks ended.1.items) }
     ensures err { OnErr result ((job.new ≡ job.old)
         ⊎ ((asks : List (List Ask)) × (end : J.End) × J.comes_to job.old job.new mirrors.items asks end)) }
 {
@@ -98,8 +100,9 @@ fn work_over<
 /// Works with a till for each of 1 to 8 workers, over 1 to 4 mirrors of budgets to 2^60, and returns how the work
 /// ended and each mirror's total in bytes.
 ///
-/// Opens the mirrors' books for it and closes them after it. A total is what the mirror granted to all workers,
-/// and within its budget. Out of memory is the only error: before the work, which is then as it was, or after it.
+/// Opens the mirrors' books for it and closes them after it; no budget is raised. A total is what the mirror granted to
+/// all workers, and within its budget. Out of memory is the only error: before the work, which is then as it was, or
+/// after it.
 pub fn work_with_tills<J: Work<R>, R: Wait>(
     rt: &R,
     alloc: Global,
@@ -113,7 +116,7 @@ pub fn work_with_tills<J: Work<R>, R: Wait>(
     requires some_worker { 0 < workers }
     requires few_workers { workers ≤ 8 }
     ensures ok { IfOk result (λ ended. (asks : List (List Ask)) × (length asks ≡ workers)
-        × J.comes_to job.old job.new mirrors.items asks ended.0 × AreTotalsOf mirrors.items asks ended.1.items) }
+        × J.comes_to job.old job.new mirrors.items asks ended.0 × AreTotalsOf true mirrors.items asks ended.1.items) }
     ensures err { OnErr result ((job.new ≡ job.old)
         ⊎ ((asks : List (List Ask)) × (end : J.End) × J.comes_to job.old job.new mirrors.items asks end)) }
 {

@@ -58,4 +58,5 @@ IsAskable (command.Explain code) = ⊤
 IsAskable (command.Serve serve) = ⊤
 IsAskable (command.Walk walk) = IsAppid walk.app
 IsAskable (command.Publish publication) = ⊤
+IsAskable (command.Raise raise) = ⊤
 IsAskable (command.Dump listener) = ⊤

@@ -22,6 +22,8 @@ pub enum Command {
     Walk(Walk),
     /// To publish a script to a running server.
     Publish(Publication),
+    /// To raise a mirror's budget on a running server.
+    Raise(Raise),
     /// To print the profile that a running server has published: its operator's listener, as `HOST:PORT`.
     Dump(Text),
 }
@@ -65,6 +67,17 @@ pub struct Publication {
     pub to: Text,
     /// The path of the script.
     pub script: Text,
+}
+
+/// What the command `raise` is asked to do.
+#[derive(Drop)]
+pub struct Raise {
+    /// The operator's listener, as `HOST:PORT`.
+    pub to: Text,
+    /// The mirror's name, as it was given.
+    pub name: Text,
+    /// The budget in bytes, as it was given.
+    pub budget: Text,
 }
 
 /// What the command `check` is asked to do with a folder of packages.

@@ -11,7 +11,9 @@ ghost use Rattle.omaha_arguments.specs.WalkArguments.{IsAskable};
 use crate::command::{Command, Once};
 use crate::error::{ArgumentError, argument_error};
 use crate::once_arguments::{once_command, read_once};
-use crate::operator_arguments::{dump_command, publish_command, read_dump, read_publication};
+use crate::operator_arguments::{
+    dump_command, publish_command, raise_command, read_dump, read_publication, read_raise,
+};
 use crate::options::{Making, optional_string, strings_in};
 use crate::report_arguments::{
     certify_command, check_command, describe_command, explain_command, read_comparison,
@@ -60,6 +62,7 @@ fn omaha_command<'a>(alloc: Global) -> Making<'a>
     let program = plain_command(alloc);
     let program = with_command(program, serve_command(alloc));
     let program = with_command(program, publish_command(alloc));
+    let program = with_command(program, raise_command(alloc));
     let program = with_command(program, dump_command(alloc));
     let program = with_command(program, check_command(alloc));
     let program = with_command(program, walk_command(alloc));
@@ -97,6 +100,9 @@ fn read_command(alloc: Global, name: &str, matches: &ArgMatches<'_>) -> Result<C
     }
     if name == "publish" {
         return Ok(Command::Publish(read_publication(alloc, matches)?));
+    }
+    if name == "raise" {
+        return Ok(Command::Raise(read_raise(alloc, matches)?));
     }
     if name == "dump" {
         return Ok(Command::Dump(read_dump(alloc, matches)?));

@@ -1,11 +1,11 @@
-// The arguments of the operator's commands `publish` and `dump`, as `clap` reads them.
+// The arguments of the operator's commands `publish`, `raise` and `dump`, as `clap` reads them.
 
 ghost use Rattle.std.specs.Prelude.{◌≡◌, IfOk};
 ghost use Rattle.clap.specs.Words.{found_of, rows_of};
 ghost use Rattle.omaha_arguments.specs.Options.{IsMade};
-ghost use Rattle.omaha_arguments.specs.OperatorArguments.{dump_app, dump_in, publication_in, publish_app};
+ghost use Rattle.omaha_arguments.specs.OperatorArguments.{dump_app, dump_in, publication_in, publish_app, raise_app, raise_in};
 
-use crate::command::Publication;
+use crate::command::{Publication, Raise};
 use crate::options::{Making, string_in, titled, with_wanted, with_wanted_option};
 use clap::ArgMatches;
 use std::alloc::{AllocError, Global};
@@ -45,6 +45,34 @@ failed, 2 if the arguments are invalid.
 Example, against `omaha serve` with `--operator 127.0.0.1:8081`:
   omaha publish --to 127.0.0.1:8081 stage.toml";
 
+const NAME: &str = "The mirror's name";
+
+const BUDGET: &str = "The budget in bytes, from the present one to 1152921504606846976 (2^60)";
+
+const RAISE: &str = "Raises a mirror's budget on a running server.";
+
+const AFTER_RAISE: &str =
+    "The budget counts all that the mirror was granted since the server started.
+`omaha raise` sends NAME and BUDGET as they are, and prints the server's reply:
+  `raised m0 510`              the mirror `m0` has a budget of 510 bytes
+  `refused B1 UnknownMirror`   no mirror has the name
+  `refused B2 TooHigh`         the budget is above 2^60
+  `refused B3 Lower 510`       the mirror has a budget of 510 bytes, which is above the new one
+  `bad raise`                  NAME is empty or has a space, or BUDGET is no decimal number
+`omaha explain B3` explains a code. A raise is lost with the server: put it into the profile too.
+
+If the command fails, it prints one line on standard error.
+  omaha: net ADDR   the server can't be reached at ADDR, or its reply isn't whole
+  omaha: write      standard output failed
+  omaha: memory     out of memory
+The budget may be raised after a failure. Raise it again: that changes nothing more.
+
+Exit status: 0 if the budget was raised, 1 if the server gave another reply or the command failed,
+2 if the arguments are invalid.
+
+Example, against `omaha serve` with `--operator 127.0.0.1:8081`:
+  omaha raise --to 127.0.0.1:8081 eu 1000000000";
+
 const DUMP: &str = "Prints the profile that a running server has published.";
 
 const AFTER_DUMP: &str = "The profile is a TOML file that `omaha serve` and `omaha check` read.
@@ -68,6 +96,15 @@ pub(crate) fn publish_command<'a>(alloc: Global) -> Making<'a>
     with_wanted(alloc, command, "F", SCRIPT)
 }
 
+pub(crate) fn raise_command<'a>(alloc: Global) -> Making<'a>
+    ensures { IsMade raise_app result }
+{
+    let command = titled(alloc, "raise", RAISE, AFTER_RAISE);
+    let command = with_wanted_option(alloc, command, "to", "ADDR", TO);
+    let command = with_wanted(alloc, command, "NAME", NAME);
+    with_wanted(alloc, command, "BUDGET", BUDGET)
+}
+
 pub(crate) fn dump_command<'a>(alloc: Global) -> Making<'a>
     ensures { IsMade dump_app result }
 {
@@ -85,6 +122,16 @@ pub(crate) fn read_publication(
     let to = Text::copy_of(alloc, string_in(matches, "to"))?;
     let script = Text::copy_of(alloc, string_in(matches, "F"))?;
     Ok(Publication { to, script })
+}
+
+/// Reads the arguments of `raise`.
+pub(crate) fn read_raise(alloc: Global, matches: &ArgMatches<'_>) -> Result<Raise, AllocError>
+    ensures { IfOk result (λ raise. raise ≡ raise_in (rows_of (found_of matches.now))) }
+{
+    let to = Text::copy_of(alloc, string_in(matches, "to"))?;
+    let name = Text::copy_of(alloc, string_in(matches, "NAME"))?;
+    let budget = Text::copy_of(alloc, string_in(matches, "BUDGET"))?;
+    Ok(Raise { to, name, budget })
 }
 
 /// Reads the operator's listener that `dump` asks.

@@ -5,7 +5,7 @@ use Rattle.omaha_cli.specs.Comparing.{Compares}
 use Rattle.omaha_cli.specs.Describing.{PrintsDescriptions}
 use Rattle.omaha_cli.specs.Explaining.{Explains}
 use Rattle.omaha_cli.specs.Once.{Responds}
-use Rattle.omaha_cli.specs.Operating.{Dumps, Publishes}
+use Rattle.omaha_cli.specs.Operating.{Dumps, Publishes, Raises}
 use Rattle.omaha_cli.specs.Reports.{Reports}
 use Rattle.omaha_cli.specs.Serving.{ServesOn}
 use Rattle.omaha_cli.specs.Streams.{Streams}
@@ -27,6 +27,8 @@ Does world (command.Serve serve) old new result = ServesOn world.files world.edg
 Does world (command.Walk walk) old new result = WalksOn world.replies walk old new result
 Does world (command.Publish asked) old new result =
     Publishes world.files world.operated asked old.output new.output result × (new.input ≡ old.input)
+Does world (command.Raise asked) old new result =
+    Raises world.operated asked old.output new.output result × (new.input ≡ old.input)
 Does world (command.Dump to) old new result =
     Dumps world.operated to old.output new.output result × (new.input ≡ old.input)
 

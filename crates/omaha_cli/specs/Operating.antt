@@ -1,11 +1,12 @@
--- What the commands `publish` and `dump` do; this project's profile.
-use Rattle.std.specs.Prelude.{◌≡◌, ◌⊎◌, ℕ, List, codes, Result, Ok, Err}
+-- What the commands `publish`, `raise` and `dump` do; this project's profile.
+use Rattle.std.specs.Prelude.{◌≡◌, ◌⊎◌, ◌++◌, ℕ, List, codes, Result, Ok, Err}
 use Rattle.std.specs.Io.KnownBytes.{Appends}
 use Rattle.streams.specs.Reading.{IsWhole}
 use Rattle.streams.specs.Streams.{Known}
 use Rattle.streams.specs.Writing.{Breaks}
 use Rattle.http_client.specs.declared.posting.Reply.{Reply}
 use Rattle.omaha_arguments.specs.declared.command.Publication.{Publication}
+use Rattle.omaha_arguments.specs.declared.command.Raise.{Raise}
 use Rattle.omaha_cli.specs.Once.{Files, IsUnreadable, max_profile}
 use Rattle.omaha_cli.specs.declared.failure.Failure.{Failure}
 use Rattle.omaha_cli.specs.declared.failure.Failure.TheVariants as failure
@@ -46,6 +47,11 @@ abbrev pub Publishes : Files → Listeners → Publication → Known → Known �
 Publishes files listeners publication before after result =
     (read : Result (List ℕ) Failure) × IsRead files publication.script read
     × CallsWith listeners publication.to read before after result
+
+-- the word `raise`, the name and the budget are sent as they are, one space between
+abbrev pub Raises : Listeners → Raise → Known → Known → Result (Unit {0}) Failure → Type 0
+Raises listeners raise before after result =
+    Calls listeners raise.to (codes "raise " ++ raise.name ++ codes " " ++ raise.budget) before after result
 
 -- the word `dump` is sent
 abbrev pub Dumps : Listeners → List ℕ → Known → Known → Result (Unit {0}) Failure → Type 0

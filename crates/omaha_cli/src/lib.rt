@@ -9,7 +9,7 @@
 //!
 //! `serve` is served by `omaha_server`: read `specs/Serving.antt`. `check` with a folder of packages and `describe`
 //! print what `package_files` finds: read `specs/Comparing.antt` and `specs/Describing.antt`. `walk` is walked by
-//! `omaha_client`: read `specs/Walking.antt`; `publish` and `dump` post by it: read `specs/Operating.antt`.
+//! `omaha_client`: read `specs/Walking.antt`; `publish`, `raise` and `dump` post by it: read `specs/Operating.antt`.
 
 #![tactic(auto)]
 

@@ -1,12 +1,12 @@
-// The commands of an operator: `publish` and `dump`.
+// The commands of an operator: `publish`, `raise` and `dump`.
 
 ghost use Rattle.std.specs.Prelude.{IfErr, IfOk, Ok, Err};
-ghost use Rattle.omaha_cli.specs.Operating.{Calls, Dumps, IsRead, PrintsReply, Publishes};
+ghost use Rattle.omaha_cli.specs.Operating.{Calls, Dumps, IsRead, PrintsReply, Publishes, Raises};
 
 use crate::failure::Failure;
 use crate::once::MAX_PROFILE;
 use http_client::{LinkFault, Reply};
-use omaha_arguments::Publication;
+use omaha_arguments::{Publication, Raise};
 use omaha_client::Connector;
 use std::alloc::Global;
 use streams::{Disk, ReadFailure, WriteWhole};
@@ -68,6 +68,25 @@ pub(crate) fn publish_on<R: Disk + Connector, W: WriteWhole>(
     match read_file(rt, alloc, &asked.script) {
         Ok(script) => call(rt, alloc, &asked.to, script.as_slice(), writer),
         Err(failure) => Err(failure),
+    }
+}
+
+/// Posts the raise of a mirror's budget to an operator's listener, with the name and the budget as they were given, and
+/// prints the reply.
+///
+/// Fails as `publish_on` does without a file.
+pub(crate) fn raise_on<R: Connector, W: WriteWhole>(
+    rt: &R,
+    alloc: Global,
+    asked: &Raise,
+    writer: &mut W,
+) -> Result<(), Failure>
+    ensures { Raises (R.operated rt.now) asked.now (W.output writer.old) (W.output writer.new) result }
+{
+    let (name, budget) = (asked.name.as_str(), asked.budget.as_str());
+    match format!(in alloc; "raise {name} {budget}") {
+        Ok(body) => call(rt, alloc, &asked.to, body.as_str().as_bytes(), writer),
+        Err(_) => Err(Failure::Memory),
     }
 }
 

@@ -10,7 +10,7 @@ use crate::describing::describe_files;
 use crate::explaining::explain_code;
 use crate::failure::Failure;
 use crate::once::respond;
-use crate::operating::{dump_on, publish_on};
+use crate::operating::{dump_on, publish_on, raise_on};
 use crate::reporting::report_on;
 use crate::serving::serve_profile;
 use crate::walking::walk_on;
@@ -120,6 +120,7 @@ fn obey<
         Command::Serve(asked) => serve_profile(rt, asked, writer, errors),
         Command::Walk(asked) => walk_on(rt.alloc(), rt, asked, writer),
         Command::Publish(asked) => publish_on(rt, rt.alloc(), asked, writer),
+        Command::Raise(asked) => raise_on(rt, rt.alloc(), asked, writer),
         Command::Dump(to) => dump_on(rt, rt.alloc(), to, writer),
     }
 }

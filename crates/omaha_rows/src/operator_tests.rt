@@ -1,4 +1,4 @@
-// A server of two workers, and its operator, who publishes while it serves.
+// A server of two workers, and its operator, who publishes and raises a budget while it serves.
 
 use crate::client::{connect, exchange};
 use crate::message_tests::{OFFER, ask};
@@ -15,6 +15,16 @@ const SCRIPT: &str = concat!(
     r#"edit = [{ do = "set_target", app = "mini", cohort = "stable", target = "1.0" }]"#,
 );
 
+// The largest budget.
+const MOST: &str = "1152921504606846976";
+
+// What the operator's commands print, and how they end.
+const REPLIES: &str = "0 edition 2
+1 stale 2
+0 raised m0 1152921504606846976
+1 refused B3 Lower 1152921504606846976
+";
+
 // What clients and the operator get, one after the other.
 fn stage<R: Net<Listener = TcpListener, Stream = TcpStream> + Runtime>(
     rt: &R,
@@ -29,12 +39,17 @@ fn stage<R: Net<Listener = TcpListener, Stream = TcpStream> + Runtime>(
     let published = run_within(rt, &publish, usize::MAX)?;
     let second = exchange(rt, host, message.as_str())?;
     let stale = run_within(rt, &publish, usize::MAX)?;
+    let most = ["raise", "--to", operator, "m0", MOST];
+    let raised = run_within(rt, &most, usize::MAX)?;
+    let less = ["raise", "--to", operator, "m0", "1"];
+    let lower = run_within(rt, &less, usize::MAX)?;
     let dump = run_within(rt, &["dump", "--to", operator], usize::MAX)?;
     let offered = first.as_str().contains(OFFER);
     let withdrawn = second.as_str().contains(r#""status":"noupdate""#);
     let dumped = dump.as_str().starts_with("0 schema = ")
-        && dump.as_str().contains(r#"target = "1.0""#);
-    let replies = format!(in rt.alloc(); "{published}{stale}").ok()?;
+        && dump.as_str().contains(r#"target = "1.0""#)
+        && dump.as_str().contains("budget = 1152921504606846976\n");
+    let replies = format!(in rt.alloc(); "{published}{stale}{raised}{lower}").ok()?;
     let seen = format!(in rt.alloc(); "{offered} {withdrawn} {dumped}").ok()?;
     Some((replies, seen))
 }
@@ -62,7 +77,7 @@ fn publishes_while_it_serves(rt: HostRuntime) -> Result<(), Fail> {
                 "--sessions",
                 "2",
                 "--edits",
-                "3",
+                "5",
                 "--timeout",
                 "20",
             ];
@@ -72,7 +87,7 @@ fn publishes_while_it_serves(rt: HostRuntime) -> Result<(), Fail> {
     );
     fs::remove_dir_all(&rt, site.folder.as_str())?;
     let (replies, seen) = staged.ok_or("no exchange")?;
-    assert_eq!(rt; replies.as_str(), "0 edition 2\n1 stale 2\n");
+    assert_eq!(rt; replies.as_str(), REPLIES);
     assert_eq!(rt; seen.as_str(), "true true true");
     let served = served.ok_or("no server")?;
     assert_eq!(rt; served.as_str(), "0 ready\nm0 10\n");

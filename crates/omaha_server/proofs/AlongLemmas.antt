@@ -118,20 +118,22 @@ AreServed-along {D} mirrors sight asks Alone steps edges place listener sessions
           (record { sight = sight before; asks = first }) (part behind)) none (visits, many, along.1);
     }
 
--- what stays of the operator's desk: the mirrors
+-- what stays of the operator's desk: the mirrors, and the name of the press that it borrows
 pub AreOperated-along :
-    {D : Type 0} (mirrors : D → List Mirror) (history : D → History) (steps : D → Call → D → Type 0) (edges : Edges) (place : Place)
+    {D N : Type 0} (name : D → N) (mirrors : D → List Mirror) (history : D → History) (steps : D → Call → D → Type 0) (edges : Edges) (place : Place)
     (listener : TcpListener) (before behind : D)
     → ((old : D) (call : Call) (new : D) → steps old call new →
-    (mirrors new ≡ mirrors old) × IsOperatorCall (mirrors old) (history old) call (history new))
+    (name new ≡ name old) × (mirrors new ≡ mirrors old) × IsOperatorCall (mirrors old) (history old) call (history new))
     → VisitsAt edges place listener place.edits (λ d. codes "/operate") (λ d. codes "text/plain") steps before behind
-    → AreOperated edges place listener (mirrors before) (history before)
-AreOperated-along {D} mirrors history steps edges place listener before behind step (visits, many, served) =
-    let Kept : D → Type 0 = λ d. mirrors d ≡ mirrors before in
+    → (name behind ≡ name before) × AreOperated edges place listener (mirrors before) (history before)
+AreOperated-along {D} name mirrors history steps edges place listener before behind step (visits, many, served) =
+    let Kept : D → Type 0 = λ d. (name d ≡ name before) × (mirrors d ≡ mirrors before) in
     let follows : Follows history Kept steps (IsOperatorCall (mirrors before)) = λ old call new kept stepped.
-    let told = step old call new stepped in
-    (told.0 ∙ kept, subst (λ (m : List Mirror). IsOperatorCall m (history old) call (history new)) kept told.1) in
+    let told = step old call new stepped in (
+      (told.0 ∙ kept.0, told.1 ∙ kept.1),
+      subst (λ (m : List Mirror). IsOperatorCall m (history old) call (history new)) kept.1 told.2,
+    ) in
     let along = Visits-along history Kept steps (IsOperatorCall (mirrors before)) follows (λ stream. edges.accepts listener place.seconds stream)
     (codes "/operate") (codes "text/plain") IsTime (edges.sizes place.packages) (edges.reads place.packages)
-    visits before behind refl served in
-    record { after = history behind; visited = (visits, many, along.1) }
+    visits before behind (refl, refl) served in
+    (along.0.0, record { after = history behind; visited = (visits, many, along.1) })

@@ -10,9 +10,11 @@ use Rattle.records.specs.Forms.{is_cohort_name}
 use Rattle.records.specs.declared.mirror.Mirror.{Mirror}
 use Rattle.mirror_ledger.specs.Asks.{Ask}
 use Rattle.mirror_ledger.specs.Named.{are_bounded}
+use Rattle.mirror_ledger.specs.Raising.{AreNamed}
 use Rattle.mirror_ledger.specs.Tills.{AreOpened}
 use Rattle.catalogue_laws.specs.Histories.{History}
 use Rattle.omaha_json.specs.declared.request.Request.{Request}
+use Rattle.profile_toml.specs.Laws.{AreMirrors}
 use Rattle.publisher.specs.Heard.{GoesOn}
 use Rattle.publisher.specs.Sights.{Allows, Sight, fresh}
 use Rattle.same_batches.specs.Beginnings.{StartsWith}
@@ -20,6 +22,13 @@ use Rattle.service_desks.specs.Workers.{Replies, stock_of}
 use Rattle.update_desk.specs.Answering.{IsReply}
 use Rattle.update_desk.specs.Asking.{AreGranted, GrantsFirst}
 use Rattle.omaha_server.specs.Answering.{IsRepliedAlone, RepliesFor}
+
+-- the mirrors of a service have names of their own
+pub AreNamed-AreMirrors : (mirrors : List Mirror) → AreMirrors mirrors → AreNamed mirrors
+AreNamed-AreMirrors mirrors are = record { some = are.some; few = are.few; formed = are.formed; once = are.once }
+
+pub AreMirrors-AreNamed : (mirrors : List Mirror) → AreNamed mirrors → AreMirrors mirrors
+AreMirrors-AreNamed mirrors are = record { some = are.some; few = are.few; formed = are.formed; once = are.once }
 
 -- the budgets of valid mirrors are at most the maximum
 pub are_bounded-mirrors : (mirrors : List Mirror) → list_all is_mirror mirrors ≡ true → are_bounded mirrors ≡ true
@@ -43,13 +52,13 @@ only_till {T} asks_of (first ∷ rest) till asks same =
 pub alone_last :
     {T : Type 0} (mirrors_of : T → List Mirror) (asks_of : T → List Ask) (Alone : T → Type 0) (mirrors : List Mirror)
     (tills rest : List T) (till : T) →
-    tills ≡ rest ++ till ∷ [] → AreOpened mirrors_of asks_of Alone mirrors tills → length rest ≡ 0 →
+    tills ≡ rest ++ till ∷ [] → AreOpened mirrors_of asks_of Alone true mirrors tills → length rest ≡ 0 →
     (mirrors_of till ≡ mirrors) × (asks_of till ≡ []) × Alone till
 alone_last {T} mirrors_of asks_of Alone mirrors tills rest till same opened none =
     let one : length tills ≡ 1 = ap (λ (all : List T). length all) same ∙ length-append rest (till ∷ []) ∙ ap (λ (k : ℕ). k + 1) none in (
       (All-pop (λ t. mirrors_of t ≡ mirrors) tills rest (Some till) same opened.mirrored).1,
       (All-pop (λ t. asks_of t ≡ []) tills rest (Some till) same opened.unused).1,
-      (All-pop Alone tills rest (Some till) same (opened.alone one)).1,
+      (All-pop Alone tills rest (Some till) same (opened.alone refl one)).1,
     )
 
 -- all that was asked since nothing had been

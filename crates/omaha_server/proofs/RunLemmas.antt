@@ -1,8 +1,9 @@
 -- What the workers of a server and its operator came to, once all began.
-use Rattle.std.proofs.Common.{◌≡◌, ◌∙◌, ℕ, zero, suc, ◌<◌, All, Bool, List, [], ◌∷◌, Option, Some, None, Result, Ok, Err, IfOk, inl, inr, refl, ap, arith, get_or, length, map, nat_eq, subst, sym}
+use Rattle.std.proofs.Common.{◌≡◌, ◌∙◌, ℕ, zero, suc, ◌<◌, ◌&&◌, All, Bool, List, [], ◌∷◌, Option, Some, None, Result, Ok, Err, IfOk, inl, inr, refl, ap, arith, get_or, length, map, nat_eq, not, option_map, subst, sym}
 use Rattle.std.specs.Prelude.{IfSome, IsOk, IsSome}
 use Rattle.std.specs.Io.KnownBytes.{Appends}
 use Rattle.std.specs.List.{AllZip}
+use Rattle.std.specs.Option.{is_some}
 use Rattle.std.proofs.lemmas.Bool.{false≢true}
 use Rattle.std.proofs.lemmas.List.{length-map}
 use Rattle.std.proofs.lemmas.Slice.Zip.{AllZip-long}
@@ -16,7 +17,7 @@ use Rattle.records.specs.declared.mirror.Mirror.{Mirror}
 use Rattle.omaha_server.specs.Edges.{Edges}
 use Rattle.omaha_server.specs.Jobs.{AreClients, IsClients}
 use Rattle.omaha_server.specs.Runs.{HasServed, HaveRun, PrintsLines}
-use Rattle.omaha_server.specs.Serving.{AreServed, AreTotals, IsOperated, IsReady, PrintsTotals, Serves, ServesToEnd, portion_at}
+use Rattle.omaha_server.specs.Serving.{AreServed, AreTotals, IsOperated, IsReady, PrintsTotals, Serves, ServesToEnd, is_single, portion_at}
 use Rattle.omaha_server.specs.Totals.{names_of, totals_string}
 use Rattle.omaha_server.specs.declared.clients.Clients.{Clients}
 use Rattle.omaha_server.specs.declared.error.ServerError.{ServerError}
@@ -70,31 +71,39 @@ module _ {R W : Type 0} (edges_of : R → Edges) (setup : Setup R W) (listener :
 
   -- the totals of a server whose workers all began, and its operator's job
   pub AreTotals-run :
-      {O F X : Type 0} (operator : Option TcpListener) (Operated : F → Type 0) (jobs : List (Clients R W)) (count : ℕ)
+      {O F X : Type 0} (operator : Option TcpListener) (Operated : F → Type 0) (raises : Bool) (jobs : List (Clients R W)) (count : ℕ)
       (ran : Result (Ran (Clients R W) O (Unit {0}) F) X) (totals : List ℕ) →
       ((end : F) → Operated end → IsOperated (edges_of setup.rt.now) setup.place.now operator mirrors history) →
-      length jobs ≡ setup.place.now.workers → count ≡ setup.place.now.workers →
+      raises ≡ is_some operator → length jobs ≡ setup.place.now.workers → count ≡ setup.place.now.workers →
       AreClients setup listener history setup.place.now.workers jobs →
-      IfOk ran (λ done. (asks : List (List Ask)) × HaveWorked (comes (nat_eq count 1)) jobs asks done.ends.items × AreTotalsOf mirrors asks done.totals.items) →
+      IfOk ran (λ done. (asks : List (List Ask)) × HaveWorked (comes (not raises && nat_eq count 1)) jobs asks done.ends.items × AreTotalsOf (not raises) mirrors asks done.totals.items) →
       IfOk ran (λ done. IfSome done.own Operated) → HaveRun ran totals →
       AreTotals (edges_of setup.rt.now) setup.place.now listener operator (record { edition = history; mirrors = mirrors }) totals
-  AreTotals-run operator Operated jobs count (Err error) totals told many counted are works own run = absurd run
-  AreTotals-run {O} {F} operator Operated jobs count (Ok done) totals told many counted are works own run =
+  AreTotals-run operator Operated raises jobs count (Err error) totals told same many counted are works own run = absurd run
+  AreTotals-run {O} {F} operator Operated raises jobs count (Ok done) totals told same many counted are works own run =
       let (asks, worked, sums) = works in
       let here = subst (λ (n : ℕ). AreClients setup listener history n jobs) (sym many) are in
       record {
         asks = asks;
-        many = ap length worked.asked ∙ length-map worked.worked (λ its. its.0) ∙ AllZip-long (λ job its. WorksAs (comes (nat_eq count 1)) job its.0 its.1) jobs worked.worked worked.each ∙ many;
+        many = ap length worked.asked ∙ length-map worked.worked (λ its. its.0) ∙ AllZip-long (λ job its. WorksAs (comes (not raises && nat_eq count 1)) job its.0 its.1) jobs worked.worked worked.each ∙ many;
         served = λ worker d below.
-            subst (λ (n : ℕ). AreServed (edges_of setup.rt.now) setup.place.now listener (portion_at setup.place.now.sessions setup.place.now.workers worker) (nat_eq n 1) mirrors (fresh history) (get_or asks worker d)) counted
-            (all-served (nat_eq count 1) jobs asks done.ends.items worker d here worked run.2 (omega (arith, below, many)));
+            subst (λ (n : ℕ). AreServed (edges_of setup.rt.now) setup.place.now listener (portion_at setup.place.now.sessions setup.place.now.workers worker) (is_single operator n) mirrors (fresh history) (get_or asks worker d)) counted
+            (subst (λ (r : Bool). AreServed (edges_of setup.rt.now) setup.place.now listener (portion_at setup.place.now.sessions setup.place.now.workers worker) (not r && nat_eq count 1) mirrors (fresh history) (get_or asks worker d)) same
+            (all-served (not raises && nat_eq count 1) jobs asks done.ends.items worker d here worked run.2 (omega (arith, below, many))));
         operated = some-operated done.own run.1 own;
-        summed = subst (AreTotalsOf mirrors asks) (sym run.0) sums;
+        summed =
+            subst (λ (r : Bool). AreTotalsOf (not r) mirrors asks totals) same
+            (subst (AreTotalsOf (not raises) mirrors asks) (sym run.0) sums);
       }
     where
       some-operated : (end : Option F) → IsSome end → IfSome end Operated → IsOperated (edges_of setup.rt.now) setup.place.now operator mirrors history
       some-operated (Some end) some holds = told end holds
       some-operated None some holds = absurd (false≢true some)
+
+-- there is a listener as long as it is only looked at
+pub is_some-map : {A B : Type 0} (f : A → B) (option : Option A) (mapped : Option B) → option_map f option ≡ mapped → is_some option ≡ is_some mapped
+is_some-map f (Some value) mapped same = ap is_some same
+is_some-map f None mapped same = ap is_some same
 
 -- what follows for each value follows for the one that is there
 pub IfOk-map : {A E : Type 0} {P Q : A → Type 0} → ((value : A) → P value → Q value) → (result : Result A E) → IfOk result P → IfOk result Q

@@ -1,6 +1,7 @@
 -- What a server does from its start to its end; this project's profile.
-use Rattle.std.specs.Prelude.{◌≡◌, ◌⊎◌, ◌<◌, ℕ, Bool, true, false, nat_eq, List, [], codes, length, slice_index_or, Option, Some, None, Result, Ok, Err, IfErr, ⊤}
+use Rattle.std.specs.Prelude.{◌≡◌, ◌⊎◌, ◌&&◌, ◌<◌, ℕ, Bool, true, false, nat_eq, not, List, [], codes, length, slice_index_or, Option, Some, None, Result, Ok, Err, IfErr, ⊤}
 use Rattle.std.specs.Io.KnownBytes.{Appends}
+use Rattle.std.specs.Option.{is_some}
 use Rattle.std.specs.declared.net.tcp.TcpListener.{TcpListener}
 use Rattle.catalogue_laws.specs.Histories.{History}
 use Rattle.http_connections.specs.Connections.{IsSession, IsSessionOver, Visit, Visits, limit_of}
@@ -41,7 +42,11 @@ desk_path progress = codes "/service/update2/json"
 abbrev pub desk_type : Progress → List ℕ
 desk_type progress = codes "application/json"
 
--- a call of a worker's desk; if the worker is the only one, each new ask is granted by the first mirror with room
+-- a worker is single: the only one, without an operator who may raise budgets
+abbrev pub is_single : Option TcpListener → ℕ → Bool
+is_single operator workers = not (is_some operator) && nat_eq workers 1
+
+-- a call of a worker's desk; if the worker is single, each new ask is granted by the first mirror with room
 abbrev pub DeskSteps : Bool → List Mirror → Progress → Call → Progress → Type 0
 DeskSteps single mirrors before call after =
     IsCall mirrors before call after × (single ≡ true → GrantsFirst mirrors before.asks after.asks)
@@ -81,16 +86,17 @@ IsOperated edges place (Some listener) mirrors history = AreOperated edges place
 
 -- rule: Totals of a server
 -- each worker served its portion, with a view that has seen the service's edition, and the operator's connections were
--- served; the totals are the sums of what the workers asked for, and within the budgets
+-- served; the totals are the sums of what the workers asked for, and within the budgets of the service, if there is no
+-- operator who may raise them
 pub record AreTotals (edges : Edges) (place : Place) (listener : TcpListener) (operator : Option TcpListener)
     (service : Service) (totals : List ℕ) : Type 0 where
   pub asks : List (List Ask)
   pub many : length asks ≡ place.workers
   pub served : (worker : ℕ) (d : List Ask) → worker < place.workers →
-      AreServed edges place listener (portion_at place.sessions place.workers worker) (nat_eq place.workers 1)
+      AreServed edges place listener (portion_at place.sessions place.workers worker) (is_single operator place.workers)
       service.mirrors (fresh service.edition) (slice_index_or asks worker d)
   pub operated : IsOperated edges place operator service.mirrors service.edition
-  pub summed : AreTotalsOf service.mirrors asks totals
+  pub summed : AreTotalsOf (not (is_some operator)) service.mirrors asks totals
 
 -- the line that says that the server listens was printed
 abbrev pub IsReady : Known → Known → Type 0

@@ -1,10 +1,9 @@
 // The mirrors of a service.
 
-ghost use Rattle.std.specs.Prelude.{◌≡◌, IfOk};
+ghost use Rattle.std.specs.Prelude.{◌≡◌};
 ghost use Rattle.profile_toml.specs.Laws.{AreMirrors};
 
 use records::Mirror;
-use std::alloc::{AllocError, Global};
 use std::marker::Model;
 
 /// One to four mirrors, each valid and no two of one name, which contracts see as their list.
@@ -40,17 +39,6 @@ impl Mirrors {
         ensures valid { AreMirrors result.now }
     {
         self.list.as_slice()
-    }
-
-    /// Makes a copy.
-    pub fn copy(&self, alloc: Global) -> Result<Mirrors, AllocError>
-        ensures { IfOk result (λ copy. copy ≡ self.now) }
-    {
-        let mut list = Vec::new(alloc);
-        for mirror in self.list.as_slice() {
-            list.push(mirror.clone()?)?;
-        }
-        Ok(Mirrors { list })
     }
 
     /// Gives the list.

@@ -1,14 +1,18 @@
 // The connections of the operator.
 
+ghost use Rattle.std.specs.Prelude.{◌≡◌};
+ghost use Rattle.omaha_server.specs.Serving.{AreOperated};
+
 use crate::setup::Setup;
 use crate::system::System;
+use mirror_ledger::{BudgetJob, Budgets};
+use publisher::Press;
 use service_desks::Operator;
 use std::net::TcpListener;
 use std::sync::Wait;
 use std::thread::Threads;
 use std::time::Clock;
 use streams::WriteWhole;
-use worker_threads::OwnJob;
 
 /// The connections of the operator, as the job of the server's own thread. It is not `Drop`, since a press isn't.
 pub(crate) struct Operating<'a, 'b, R: Threads + Wait + AllocGlobal, W: WriteWhole> {
@@ -16,24 +20,45 @@ pub(crate) struct Operating<'a, 'b, R: Threads + Wait + AllocGlobal, W: WriteWho
     pub(crate) setup: &'a Setup<'a, 'b, R, W>,
     /// What accepts them, if there is an operator.
     pub(crate) listener: Option<&'a TcpListener>,
-    /// The operator's desk.
-    pub(crate) desk: Operator<'a, R>,
+    /// The press of what is served.
+    pub(crate) press: Press,
+}
+
+// Serves the connections of a listener by the operator's desk.
+fn operate<R: System + Clock + Threads + Wait + AllocGlobal, W: WriteWhole, B: Budgets>(
+    setup: &Setup<'_, '_, R, W>,
+    listener: &TcpListener,
+    desk: &mut Operator<'_, R, B>,
+)
+    ensures same_press { desk.new.press.ghost_name ≡ desk.old.press.ghost_name }
+    ensures operated { AreOperated (R.edges setup.now.rt.now) setup.now.place.now listener.now (B.given desk.old.budgets.now) desk.old.press.now }
+{
+    setup.serve(listener, desk, setup.place.edits);
 }
 
 // rule: Sessions of an operator
-impl<R: System + Clock + Threads + Wait + AllocGlobal, W: WriteWhole> OwnJob
+impl<R: System + Clock + Threads + Wait + AllocGlobal, W: WriteWhole> BudgetJob
     for Operating<'_, '_, R, W> {
     ghost use Rattle.std.specs.Prelude.{option_map};
+    ghost use Rattle.std.specs.Option.{is_some};
     ghost use Rattle.omaha_server.specs.Serving.{IsOperated};
 
     type End = ();
 
-    ghost comes_to = { λ old _. IsOperated (R.edges old.setup.now.rt.now) old.setup.now.place.now (option_map (λ l. l.now) old.listener) old.desk.mirrors.now old.desk.press };
+    ghost raises = { λ own. is_some own.listener };
 
-    fn work(&mut self) {
+    ghost comes_to = { λ mirrors old _. IsOperated (R.edges old.setup.now.rt.now) old.setup.now.place.now (option_map (λ l. l.now) old.listener) mirrors old.press };
+
+    fn work<B: Budgets>(&mut self, budgets: &B) {
         if let Some(listener) = self.listener {
             let setup = self.setup;
-            setup.serve(listener, &mut self.desk, setup.place.edits);
+            let mut desk = Operator {
+                rt: setup.rt,
+                press: &mut self.press,
+                budgets,
+                workers: setup.place.workers,
+            };
+            operate(setup, listener, &mut desk);
         }
     }
 }

@@ -19,9 +19,8 @@ use crate::system::System;
 use crate::totals::{names_of, totals_string};
 use editions::Edition;
 use http_connections::print_ready;
-use mirror_ledger::{Ran, TillJob, run_with_tills};
+use mirror_ledger::{BudgetJob, Ran, TillJob, run_with_tills};
 use publisher::{Press, PublishError, View, open_edition};
-use service_desks::Operator;
 use std::alloc::{AllocError, Global};
 use std::fs::File;
 use std::net::TcpListener;
@@ -30,7 +29,7 @@ use std::thread::Threads;
 use std::time::Clock;
 use streams::WriteWhole;
 use values::Text;
-use worker_threads::{Gate, OwnJob};
+use worker_threads::Gate;
 
 // The listeners of a server.
 #[derive(Drop)]
@@ -104,7 +103,7 @@ fn all_began<E, J>(ends: &[Result<E, J>]) -> bool
 }
 
 // The totals of workers that all began, as the own job did.
-fn totals_in<J: TillJob + Drop, O: OwnJob>(
+fn totals_in<J: TillJob + Drop, O: BudgetJob>(
     ran: Result<Ran<J, O>, AllocError>,
 ) -> Result<Vec<u64>, ServerError>
     ensures ok { IfOk result (λ totals. HaveRun ran totals.items) }
@@ -128,33 +127,32 @@ fn run_workers<
     setup: &Setup<'_, '_, R, W>,
     listeners: &Listeners,
     gate: &G,
-    desk: Operator<'_, R>,
+    press: Press,
     mirrors: Mirrors,
     views: Vec<View>,
 ) -> (Press, Result<Vec<u64>, ServerError>)
-    requires mirrors { desk.mirrors.now ≡ mirrors }
     requires many { length views.items ≡ setup.now.place.now.workers }
-    requires views { All (λ sight. sight ≡ fresh desk.press) views.items }
+    requires views { All (λ sight. sight ≡ fresh press) views.items }
     ensures ok { IfOk result.1 (λ totals. AreTotals (R.edges setup.now.rt.now) setup.now.place.now listeners.now.clients listeners.now.operator
-        (record { edition = desk.entry.press; mirrors = mirrors }) totals.items) }
+        (record { edition = press; mirrors = mirrors }) totals.items) }
     ensures err { IfErr result.1 (λ error. (error ≡ Thread) ⊎ (error ≡ Memory)) }
 {
     let alloc = setup.rt.alloc();
     let Ok(jobs) = all_clients(alloc, setup, &listeners.clients, views) else {
-        return (desk.into_press(), Err(ServerError::Memory));
+        return (press, Err(ServerError::Memory));
     };
     let mut own = Operating {
         setup,
         listener: listeners.operator.as_ref(),
-        desk,
+        press,
     };
     let ran = run_with_tills(setup.rt, alloc, mirrors.into_vec(), gate, jobs, &mut own);
     let Operating {
         setup: _,
         listener: _,
-        desk,
+        press,
     } = own;
-    (desk.into_press(), totals_in(ran))
+    (press, totals_in(ran))
 }
 
 // Serves at the addresses of a place whose folder was found, over an edition that was published, and ends its press.
@@ -165,29 +163,28 @@ fn serve_press<
     G: Gate + Sync,
 >(
     setup: &Setup<'_, '_, R, W>,
-    desk: Operator<'_, R>,
+    press: Press,
     mirrors: Mirrors,
     views: Vec<View>,
     gate: &G,
     out: &mut O,
 ) -> Result<Vec<u64>, ServerError>
     requires folder { (R.edges setup.now.rt.now).folders setup.now.place.now.packages }
-    requires mirrors { desk.mirrors.now ≡ mirrors }
     requires many { length views.items ≡ setup.now.place.now.workers }
-    requires views { All (λ sight. sight ≡ fresh desk.press) views.items }
+    requires views { All (λ sight. sight ≡ fresh press) views.items }
     ensures ok { IfOk result (λ totals. HasServed (R.edges setup.now.rt.now) setup.now.place.now
-        (record { edition = desk.entry.press; mirrors = mirrors }) (O.output out.old) (O.output out.new) totals.items) }
+        (record { edition = press; mirrors = mirrors }) (O.output out.old) (O.output out.new) totals.items) }
     ensures err { IfErr result (λ error. IsUnlogged error
         × Stops (R.edges setup.now.rt.now) setup.now.place.now (O.output out.old) (O.output out.new) error) }
 {
     let listeners = match open_place(setup.rt, setup.place, out) {
         Ok(listeners) => listeners,
         Err(error) => {
-            desk.into_press().end(setup.rt);
+            press.end(setup.rt);
             return Err(error);
         }
     };
-    let (press, totals) = run_workers(setup, &listeners, gate, desk, mirrors, views);
+    let (press, totals) = run_workers(setup, &listeners, gate, press, mirrors, views);
     press.end(setup.rt);
     totals
 }
@@ -224,17 +221,9 @@ fn serve_with<
         return Err(ServerError::Folder);
     }
     let names = names_of(rt.alloc(), service.mirrors.as_slice())?;
-    let given = service.mirrors.copy(rt.alloc())?;
     let Service { edition, mirrors } = service;
-    let workers = place.workers;
-    let (press, views) = open_views(rt, rt.alloc(), edition, workers)?;
-    let desk = Operator {
-        rt,
-        press,
-        mirrors: given.as_slice(),
-        workers,
-    };
-    let totals = serve_press(setup, desk, mirrors, views, gate, out)?;
+    let (press, views) = open_views(rt, rt.alloc(), edition, place.workers)?;
+    let totals = serve_press(setup, press, mirrors, views, gate, out)?;
     print_totals(rt.alloc(), names.as_slice(), &totals, out)
 }
 

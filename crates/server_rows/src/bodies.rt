@@ -16,11 +16,13 @@ fn reports_days_and_seconds(rt: HostRuntime) {
     check_rows(&rt, Kind::Day, edition_of(rt.alloc(), MINI), DATES);
 }
 
-const STORED: &str =
+/// The stored request of `mini`.
+pub(crate) const STORED: &str =
     r#"{"request":{"app":[{"appid":"mini","cohort":"stable:0","packages":{"package":[{"fp":"1.ba7816bf8f01cfea414140de5dae2223b00361a396177a9cb410ff61f20015ad"}]},"updatecheck":{},"version":"1.0"}],"protocol":"3.1","sessionid":"abc"}}
 "#;
 
-const STORED_REPLY: &str = r#")]}'
+/// The reply to it.
+pub(crate) const STORED_REPLY: &str = r#")]}'
 {"response":{"app":[{"appid":"mini","cohort":"stable:0","cohortname":"stable","status":"ok","updatecheck":{"manifest":{"packages":{"package":[{"fp":"1.248d6a61d20638b8e5c026930c3e6039a33ce45964ff2167f6ecedd419db06c1","hash_sha256":"248d6a61d20638b8e5c026930c3e6039a33ce45964ff2167f6ecedd419db06c1","name":"mini-2.0.bin","size":56}]},"version":"2.0"},"status":"ok","urls":{"url":[{"codebase":"http://m0.example/p/"}]}}}],"daystart":{"elapsed_days":0,"elapsed_seconds":0},"protocol":"3.1"}}"#;
 
 // Whether the edition whose target is 2.0 replies so.

@@ -1,17 +1,11 @@
 // A history of 4096 batches, at an edition and at the desk of a press.
 
-ghost use Rattle.std.specs.Prelude.{IfSome};
-ghost use Rattle.profile_toml.specs.Laws.{AreMirrors};
-
 use crate::batches::TARGET;
-use crate::operator_tests::first_wrong;
+use crate::desk::{bodies_of, first_wrong, mirrors_in, replies_of};
 use crate::publishing::rejects;
-use catalogue::Mirror;
 use editions::Edition;
 use fixtures::edition_of_batches;
-use profile_toml::read_profile;
 use publisher::open_edition;
-use service_desks::Operator;
 use std::alloc::Global;
 use std::sync::Wait;
 use std::thread::Threads;
@@ -19,16 +13,6 @@ use std::thread::Threads;
 // A profile without apps, whose histories grow fast.
 const EMPTY: &[u8] =
     b"schema = 1\nmirror = [{ name = 'm0', codebase = 'http://m0.example/p/', budget = 0 }]";
-
-fn mirrors_in(alloc: Global, profile: &[u8]) -> Option<Vec<Mirror>>
-    ensures { IfSome result (λ mirrors. AreMirrors mirrors.items) }
-{
-    profile_toml::laws::mirrors();
-    match read_profile(alloc, profile) {
-        Ok((_batch, mirrors)) => Some(mirrors),
-        Err(_) => None,
-    }
-}
 
 // The scripts after 4095 batches, each with what it gets after those before it.
 const SCRIPTS: &str = r#"schema = 1~base = 4095 = 200 edition 4096
@@ -43,21 +27,15 @@ fn is_full(alloc: Global, edition: &Edition) -> bool {
     is_last && rejects(alloc, edition, TARGET, "edit 0: C1 UnknownApp")
 }
 
-fn fills<R: Threads + Wait + AllocGlobal>(rt: &R, alloc: Global) -> Option<bool> {
+fn fills<R: Threads + Wait + Sync + AllocGlobal>(rt: &R, alloc: Global) -> Option<bool> {
     let mirrors = mirrors_in(alloc, EMPTY)?;
     let edition = edition_of_batches(alloc, 4095).ok()?;
+    let bodies = bodies_of(alloc, SCRIPTS)?;
     let (press, _views) = open_edition(rt, alloc, edition, 1).ok()?;
-    let mut operator = Operator {
-        rt,
-        press,
-        mirrors: &mirrors,
-        workers: 1,
-    };
-    let is_said = first_wrong(&mut operator, SCRIPTS) == "none";
-    let press = operator.into_press();
+    let (press, replies) = replies_of(rt, press, mirrors, &bodies);
     let is_full = is_full(alloc, press.edition());
     press.end(rt);
-    Some(is_said && is_full)
+    Some(first_wrong(&replies?, SCRIPTS) == "none" && is_full)
 }
 
 // Whether the edition of no batches has the number 0.

@@ -25,9 +25,13 @@ mod cohort_texts;
 #[cfg(test)]
 mod connection;
 #[cfg(test)]
+mod corpus_tests;
+#[cfg(test)]
 mod crossing;
 #[cfg(test)]
 mod descriptions;
+#[cfg(test)]
+mod desk;
 #[cfg(test)]
 mod folder_tests;
 #[cfg(test)]
@@ -49,6 +53,8 @@ mod opened;
 #[cfg(test)]
 mod operator_tests;
 #[cfg(test)]
+mod out_of_memory_tests;
+#[cfg(test)]
 mod pins;
 #[cfg(test)]
 mod plans;
@@ -56,6 +62,8 @@ mod plans;
 mod press_tests;
 #[cfg(test)]
 mod publishing;
+#[cfg(test)]
+mod raising;
 #[cfg(test)]
 mod rows;
 #[cfg(test)]

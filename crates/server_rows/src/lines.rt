@@ -12,8 +12,8 @@ pub(crate) fn number_of(word: &str) -> u64 {
     word.parse().unwrap_or(0)
 }
 
-// Whether each budget is at most 2^60.
-fn are_bounded(mirrors: &[Mirror]) -> bool
+/// Whether each budget is at most 2^60.
+pub(crate) fn has_bounds(mirrors: &[Mirror]) -> bool
     ensures { result ≡ are_bounded mirrors.now }
 {
     mirrors.iter().all(|mirror| mirror.budget <= 1 << 60)
@@ -26,7 +26,7 @@ pub(crate) fn few_mirrors(alloc: Global, budgets: &str) -> Option<Vec<Mirror>>
     ensures bounded { IfSome result (λ mirrors. are_bounded mirrors.items ≡ true) }
 {
     let mirrors = mirrors_of(alloc, budgets).ok()?;
-    if mirrors.is_empty() || mirrors.len() > 4 || !are_bounded(&mirrors) {
+    if mirrors.is_empty() || mirrors.len() > 4 || !has_bounds(&mirrors) {
         return None;
     }
     Some(mirrors)

@@ -1,30 +1,62 @@
 // The asks of one worker.
 
 ghost use Rattle.std.specs.Prelude.{◌≡◌, ◌≤◌, ◌<◌, true, vec_len};
-ghost use Rattle.mirror_ledger.specs.Named.{are_bounded, IsNamed};
+ghost use Rattle.mirror_ledger.specs.Named.{are_bounded, are_rising, IsNamed};
 
 use crate::lines::{few_mirrors, number_of, push_numbers};
 use crate::rows::is_line;
 use fixtures::three_parts;
-use mirror_ledger::{Blanks, Book, Books, BudgetName, Share, Shares, close, open_books};
+use mirror_ledger::{Blanks, Book, Books, BudgetName, Budgets, Share, Shares, close, open_books};
 use records::Mirror;
 use std::alloc::{AllocError, Global};
 use std::marker::Brand;
 use std::sync::{Mutex, Wait};
 use values::Text;
 
-// The index of the mirror that grants each number of bytes, `-` for none.
+// The index of the mirror that grants a number of bytes, `-` for none.
+fn push_grant<A: BudgetName, B: BudgetName, C: BudgetName, D: BudgetName, R: Wait>(
+    rt: &R,
+    line: &mut String,
+    books: &Books<A, B, C, D>,
+    shares: &mut Shares<A, B, C, D>,
+    bytes: u64,
+) -> Result<(), AllocError> {
+    match shares.grant_first(rt, books, bytes) {
+        Some(index) => write!(line, " {index}"),
+        None => line.push_str(" -"),
+    }
+}
+
+// What raising the budget of the mirror of a name comes to.
+fn push_raise<A: BudgetName, B: BudgetName, C: BudgetName, D: BudgetName, R: Wait>(
+    rt: &R,
+    line: &mut String,
+    books: &Books<A, B, C, D>,
+    name: &str,
+    budget: &str,
+) -> Result<(), AllocError>
+    requires { are_rising A.most B.most C.most D.most ≡ true }
+{
+    match books.raise(rt, name, number_of(budget)) {
+        Ok(()) => line.push_str(" raised"),
+        Err(error) => write!(line, " {error}"),
+    }
+}
+
+// The index of the mirror that grants each number of bytes, `-` for none; or what a raise comes to, as `m0=510`.
 fn push_grants<A: BudgetName, B: BudgetName, C: BudgetName, D: BudgetName, R: Wait>(
     rt: &R,
     line: &mut String,
     books: &Books<A, B, C, D>,
     shares: &mut Shares<A, B, C, D>,
     asks: &str,
-) -> Result<(), AllocError> {
+) -> Result<(), AllocError>
+    requires { are_rising A.most B.most C.most D.most ≡ true }
+{
     for ask in asks.split(' ') {
-        match shares.grant_first(rt, books, number_of(ask)) {
-            Some(index) => write!(line, " {index}")?,
-            None => line.push_str(" -")?,
+        match ask.split_once('=') {
+            Some((name, budget)) => push_raise(rt, line, books, name, budget)?,
+            None => push_grant(rt, line, books, shares, number_of(ask))?,
         }
     }
     Ok(())
@@ -51,12 +83,28 @@ fn push_asks<A: BudgetName, B: BudgetName, C: BudgetName, D: BudgetName, R: Wait
     books: &Books<A, B, C, D>,
     shares: &mut Shares<A, B, C, D>,
     asks: &str,
-) -> Result<(), AllocError> {
+) -> Result<(), AllocError>
+    requires { are_rising A.most B.most C.most D.most ≡ true }
+{
     push_grants(rt, line, books, shares, asks)?;
     push_fifty(rt, line, &books.first, &mut shares.first)
 }
 
-// The indexes for one worker's asks, what the first mirror says of 50 bytes more, and the totals.
+// The present budgets.
+fn push_budgets<A: BudgetName, B: BudgetName, C: BudgetName, D: BudgetName, R: Wait>(
+    rt: &R,
+    alloc: Global,
+    line: &mut String,
+    books: &Books<A, B, C, D>,
+) -> Result<(), AllocError> {
+    line.push_str(" of")?;
+    for mirror in books.mirrors(rt, alloc)? {
+        write!(line, " {}", mirror.budget)?;
+    }
+    Ok(())
+}
+
+// The indexes for one worker's asks, what the first mirror says of 50 bytes more, the totals, and the budgets.
 fn opened<A: BudgetName, B: BudgetName, C: BudgetName, D: BudgetName, R: Wait>(
     rt: &R,
     alloc: Global,
@@ -67,23 +115,28 @@ fn opened<A: BudgetName, B: BudgetName, C: BudgetName, D: BudgetName, R: Wait>(
     requires some { 0 < vec_len mirrors }
     requires few { vec_len mirrors ≤ 4 }
     requires bounded { are_bounded mirrors.items ≡ true }
-    requires first { IsNamed blanks.first A.name A.parts A.budget 1 mirrors.items 0 }
-    requires second { IsNamed blanks.second B.name B.parts B.budget 1 mirrors.items 1 }
-    requires third { IsNamed blanks.third C.name C.parts C.budget 1 mirrors.items 2 }
-    requires fourth { IsNamed blanks.fourth D.name D.parts D.budget 1 mirrors.items 3 }
+    requires first { IsNamed blanks.first A.name A.parts A.budget A.most 1 mirrors.items 0 }
+    requires second { IsNamed blanks.second B.name B.parts B.budget B.most 1 mirrors.items 1 }
+    requires third { IsNamed blanks.third C.name C.parts C.budget C.most 1 mirrors.items 2 }
+    requires fourth { IsNamed blanks.fourth D.name D.parts D.budget D.most 1 mirrors.items 3 }
+    requires rising { are_rising A.most B.most C.most D.most ≡ true }
 {
     let (books, shares) = open_books::<A, B, C, D, R>(rt, alloc, blanks, mirrors, 1)?;
     let mut shares = shares;
     let mut line = String::new(alloc);
     let pushed = push_asks(rt, &mut line, &books, &mut shares[0], asks.as_str());
+    let mut budgets = String::new(alloc);
+    let told = push_budgets(rt, alloc, &mut budgets, &books);
     let totals = close(rt, alloc, books, shares)?;
     pushed?;
+    told?;
     push_numbers(&mut line, &totals)?;
+    line.push_str(budgets.as_str())?;
     Ok(line)
 }
 
-// What the asks of a worker come to.
-fn asked<R: Wait>(rt: &R, alloc: Global, budgets: &str, asks: &str) -> Option<String> {
+/// What the asks of a worker come to.
+pub(crate) fn asked<R: Wait>(rt: &R, alloc: Global, budgets: &str, asks: &str) -> Option<String> {
     let asks = Text::copy_of(alloc, asks).ok()?;
     let mirrors = few_mirrors(alloc, budgets)?;
     let blanks = Blanks::new(1);
@@ -91,18 +144,26 @@ fn asked<R: Wait>(rt: &R, alloc: Global, budgets: &str, asks: &str) -> Option<St
 }
 
 // Each row: budgets, asks, and then the indexes of the granting mirrors, what the first mirror says of 50 bytes
-// more (`granted`, or what is left), and the totals.
-const ROWS: &str = "500 1000|450 300 700 1 50| 0 1 1 0 -, 49, 451 1000
-1000|1000 0 1| 0 0 -, 0, 1000
-0|0 1| 0 -, 0, 0
-1|2 1 1 0| - 0 - 0, 0, 1
-1152921504606846976|1152921504606846975 1 1 0| 0 0 - 0, 0, 1152921504606846976
-1152921504606846976|18446744073709551615 1152921504606846926| - 0, granted, 1152921504606846976
-100 100|300| -, granted, 50 0
-100 100 100 100|60 60 60 60 60| 0 1 2 3 -, 40, 60 60 60 60
-400 300 700 50|450 300 700 1 50| 2 0 - 0 0, 49, 351 0 450 0
-0 10 0 5|1 10 5 0 4| 1 - 1 0 1, 0, 0 10 0 0
-10 20 30|30 20 10 1| 2 1 0 -, 0, 10 20 30";
+// more (`granted`, or what is left), the totals, and the present budgets.
+const ROWS: &str = "500 1000|450 300 700 1 50| 0 1 1 0 -, 49, 451 1000 of 500 1000
+1000|1000 0 1| 0 0 -, 0, 1000 of 1000
+0|0 1| 0 -, 0, 0 of 0
+1|2 1 1 0| - 0 - 0, 0, 1 of 1
+1152921504606846976|1152921504606846975 1 1 0| 0 0 - 0, 0, 1152921504606846976 of 1152921504606846976
+1152921504606846976|18446744073709551615 1152921504606846926| - 0, granted, 1152921504606846976 of 1152921504606846976
+100 100|300| -, granted, 50 0 of 100 100
+100 100 100 100|60 60 60 60 60| 0 1 2 3 -, 40, 60 60 60 60 of 100 100 100 100
+400 300 700 50|450 300 700 1 50| 2 0 - 0 0, 49, 351 0 450 0 of 400 300 700 50
+0 10 0 5|1 10 5 0 4| 1 - 1 0 1, 0, 0 10 0 0 of 0 10 0 5
+10 20 30|30 20 10 1| 2 1 0 -, 0, 10 20 30 of 10 20 30";
+
+// The same with raises, each `raised` or its fault.
+const RAISES: &str =
+    "500 1000|450 300 700 1 m0=510 50 m0=509 m0=510 9 1 m0=1152921504606846977 m9=0| 0 1 1 0 raised 0 B3 Lower 510 raised 0 - B2 TooHigh B1 UnknownMirror, 0, 510 1000 of 510 1000
+0|1 m0=0 1 m0=1 1 1 m0=52| - raised - raised 0 - raised, granted, 51 of 52
+10 20 30 40|m3=50 m2=40 m1=30 m0=20 50 40 30 20| raised raised raised raised 3 2 1 0, 0, 20 30 40 50 of 20 30 40 50
+10 20 30 40|m1=1152921504606846976 1152921504606846976 m4=1 m1=1152921504606846977 m1=20| raised 1 B1 UnknownMirror B2 TooHigh B3 Lower 1152921504606846976, 10, 0 1152921504606846976 0 0 of 10 1152921504606846976 30 40
+0 0|m1=5 5 m0=60 5| raised 1 raised 0, granted, 55 5 of 60 5";
 
 // Whether the asks of a row come to what it says.
 fn comes_to<R: Wait>(rt: &R, alloc: Global, row: &str) -> bool {
@@ -117,6 +178,17 @@ fn comes_to<R: Wait>(rt: &R, alloc: Global, row: &str) -> bool {
 #[test]
 fn asks_mirrors_in_their_order(rt: HostRuntime) {
     for row in ROWS.lines() {
+        assert!(rt; comes_to(&rt, rt.alloc(), row), "{row}");
+    }
+}
+
+// rule: Raise of a budget
+// rule: Raise by a name
+// rule: Printed fault of a raise
+// rule: Present budgets
+#[test]
+fn asks_mirrors_whose_budgets_are_raised(rt: HostRuntime) {
+    for row in RAISES.lines() {
         assert!(rt; comes_to(&rt, rt.alloc(), row), "{row}");
     }
 }

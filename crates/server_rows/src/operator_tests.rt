@@ -1,33 +1,12 @@
-// The operator's desk: scripts one after the other, and dumps.
+// The operator's desk: scripts and raises one after the other, and dumps.
 
-ghost use Rattle.std.specs.Prelude.{IfSome};
-ghost use Rattle.profile_toml.specs.Laws.{AreMirrors};
-
-use crate::answers::print_answer;
-use crate::rows::is_line;
-use catalogue::Mirror;
+use crate::desk::{bodies_of, first_wrong, replies_to};
 use fixtures::{CHAINED, catalogue_of_profile};
-use http_desks::Desk;
-use par_tables::Free;
 use profile_toml::read_profile;
 use profile_writer::write_profile;
-use publisher::{Press, open};
-use service_desks::Operator;
 use std::alloc::Global;
-use std::str;
 use std::sync::Wait;
 use std::thread::Threads;
-
-// What a body gets, in which `~` is the end of a line.
-fn send<R: Threads + Wait + AllocGlobal>(
-    operator: &mut Operator<'_, R>,
-    body: &str,
-) -> Option<String> {
-    let alloc = operator.rt.alloc();
-    let body = body.replace(alloc, "~", "\n").ok()?;
-    let answer = operator.answer(body.as_str().as_bytes(), 0);
-    print_answer(alloc, &answer)
-}
 
 // The scripts, each with what it gets after those before it.
 const SCRIPTS: &str = r#"schema = 1~base = 2 = 409 stale 1
@@ -48,68 +27,18 @@ Dump = 400 F1 NotToml
 schema = 2~base = 2 = 200 edition 3
 schema = 1~base = 3~edit = [{ do = "set_withdrawn", app = "demo", version = "3.0", on = false }] = 200 edition 4"#;
 
-// Whether a script gets what its row says.
-fn is_replied<R: Threads + Wait + AllocGlobal>(
-    operator: &mut Operator<'_, R>,
-    row: &str,
-) -> Option<bool> {
-    let (body, wanted) = row.rsplit_once(" = ")?;
-    let line = format!(in operator.rt.alloc(); "{wanted}\n").ok()?;
-    Some(is_line(send(operator, body), line.as_str()))
-}
-
-// The first row that doesn't get what it says, `none` if each does.
-pub(crate) fn first_wrong<R: Threads + Wait + AllocGlobal>(
-    operator: &mut Operator<'_, R>,
-    rows: &'static str,
-) -> &'static str {
-    for row in rows.lines() {
-        if is_replied(operator, row) != Some(true) {
-            return row;
-        }
-    }
-    "none"
-}
-
-// Whether a script of 4097 edits has too many.
-fn is_long<R: Threads + Wait + AllocGlobal>(operator: &mut Operator<'_, R>) -> Option<bool> {
-    let alloc = operator.rt.alloc();
+// A script of 4097 edits.
+fn long_script(alloc: Global) -> Option<String> {
     let edit = "{ do = \"set_share\", app = \"demo\", cohort = \"beta\", share = 1 },";
     let edits = edit.repeat(alloc, 4097).ok()?;
-    let body = format!(in alloc; "schema = 1~base = 4~edit = [{edits}]").ok()?;
-    Some(is_line(send(operator, body.as_str()), "400 F5 TooManyEdits\n"))
+    format!(in alloc; "schema = 1\nbase = 4\nedit = [{edits}]").ok()
 }
 
-// The press of a profile, with its mirrors.
-fn open_desk<R: Threads + Wait>(
-    rt: &R,
-    alloc: Global,
-    profile: &[u8],
-) -> Option<(Press, Vec<Mirror>)>
-    ensures { IfSome result (λ opened. AreMirrors opened.1.items) }
-{
-    profile_toml::laws::mirrors();
-    let Ok((batch, mirrors)) = read_profile(alloc, profile) else {
-        return None;
-    };
-    match open(rt, alloc, batch, 1, 2, &Free) {
-        Ok((press, _views)) => Some((press, mirrors)),
-        Err(_) => None,
-    }
-}
-
-fn performs<R: Threads + Wait + AllocGlobal>(rt: &R) -> Option<bool> {
-    let (press, mirrors) = open_desk(rt, rt.alloc(), CHAINED.as_bytes())?;
-    let mut operator = Operator {
-        rt,
-        press,
-        mirrors: &mirrors,
-        workers: 2,
-    };
-    let is_said = first_wrong(&mut operator, SCRIPTS) == "none";
-    let is_long = is_long(&mut operator) == Some(true);
-    operator.into_press().end(rt);
-    Some(is_said && is_long)
+fn performs<R: Threads + Wait + Sync + AllocGlobal>(rt: &R) -> Option<&'static str> {
+    let mut bodies = bodies_of(rt.alloc(), SCRIPTS)?;
+    bodies.push(long_script(rt.alloc())?.into_bytes()).ok()?;
+    let replies = replies_to(rt, CHAINED.as_bytes(), &bodies)?;
+    Some(first_wrong(&replies, SCRIPTS))
 }
 
 // rule: Lines of the operator's desk
@@ -117,29 +46,76 @@ fn performs<R: Threads + Wait + AllocGlobal>(rt: &R) -> Option<bool> {
 // rule: Performed script
 #[test]
 fn replies_to_scripts_one_after_the_other(rt: HostRuntime) {
-    assert!(rt; performs(&rt) == Some(true));
+    assert!(rt; performs(&rt) == Some("none"));
 }
 
-// What the desk of a profile dumps after a script.
-fn dump_after<R: Threads + Wait + AllocGlobal>(
+// The raises, each with what it gets after those before it.
+const RAISES: &str = r#"raise m0 1000000 = 200 raised m0 1000000
+raise m0 2000000~ = 200 raised m0 2000000
+raise m0 1999999 = 422 refused B3 Lower 2000000
+raise m0 0 = 422 refused B3 Lower 2000000
+raise m0 2000000 = 200 raised m0 2000000
+raise m9 1 = 422 refused B1 UnknownMirror
+raise M0 3000000 = 422 refused B1 UnknownMirror
+raise m9 1152921504606846977 = 422 refused B1 UnknownMirror
+raise m0 1152921504606846977 = 422 refused B2 TooHigh
+raise m0 18446744073709551615 = 422 refused B2 TooHigh
+raise m0 18446744073709551616 = 422 refused B2 TooHigh
+raise m0 100000000000000000000000000000 = 422 refused B2 TooHigh
+raise m0  3000000 = 400 bad raise
+raise  m0 3000000 = 400 bad raise
+raise m0 3000000  = 400 bad raise
+raise m0 3000000~~ = 400 bad raise
+raise m0 3000000^~ = 400 bad raise
+raise m0~3000000 = 400 bad raise
+raise m~0 3000000 = 400 bad raise
+raise m0 00 = 400 bad raise
+raise m0 03000000 = 400 bad raise
+raise m0 -1 = 400 bad raise
+raise m0 +3000000 = 400 bad raise
+raise m0 3e6 = 400 bad raise
+raise m0 0x10 = 400 bad raise
+raise m0 3 000000 = 400 bad raise
+raise m0  = 400 bad raise
+raise m0 = 400 bad raise
+raise  = 400 bad raise
+raise ~ = 400 bad raise
+raise = 400 F1 NotToml
+ raise m0 3000000 = 400 F1 NotToml
+Raise m0 3000000 = 400 F1 NotToml
+raise m0 1152921504606846976 = 200 raised m0 1152921504606846976
+raise m0 1152921504606846975 = 422 refused B3 Lower 1152921504606846976
+schema = 1~base = 1 = 200 edition 2"#;
+
+fn raises<R: Threads + Wait + Sync + AllocGlobal>(rt: &R) -> Option<&'static str> {
+    let bodies = bodies_of(rt.alloc(), RAISES)?;
+    let replies = replies_to(rt, CHAINED.as_bytes(), &bodies)?;
+    Some(first_wrong(&replies, RAISES))
+}
+
+// rule: Form of a raise
+// rule: Reply to a raise
+// rule: Raise of a budget
+#[test]
+fn raises_budgets_one_after_the_other(rt: HostRuntime) {
+    assert!(rt; raises(&rt) == Some("none"));
+}
+
+// What the desk of a profile dumps after a body.
+fn dump_after<R: Threads + Wait + Sync + AllocGlobal>(
     rt: &R,
-    profile: &[u8],
-    script: &[u8],
-) -> Option<Vec<u8>> {
-    let (press, mirrors) = open_desk(rt, rt.alloc(), profile)?;
-    let mut operator = Operator {
-        rt,
-        press,
-        mirrors: &mirrors,
-        workers: 2,
-    };
-    let _reply = operator.answer(script, 0);
-    let dump = operator.answer(b"dump", 0);
-    operator.into_press().end(rt);
-    match dump {
-        Ok(answer) => Some(answer.body),
-        Err(_) => None,
-    }
+    profile: &str,
+    body: &str,
+) -> Option<String> {
+    let alloc = rt.alloc();
+    let mut bodies = Vec::new(alloc);
+    bodies
+        .push(Vec::from_slice(alloc, body.as_bytes()).ok()?)
+        .ok()?;
+    bodies.push(Vec::from_slice(alloc, b"dump").ok()?).ok()?;
+    let replies = replies_to(rt, profile.as_bytes(), &bodies)?;
+    let dump = replies.get(1)?.as_str().strip_prefix("200 ")?;
+    String::from_str(alloc, dump).ok()
 }
 
 // The profile of a profile's catalogue and mirrors.
@@ -153,22 +129,26 @@ fn written(alloc: Global, profile: &'static str) -> Option<Vec<u8>> {
 }
 
 // Whether the dump of a profile is its profile, and that of the dump the same again.
-fn dumps<R: Threads + Wait + AllocGlobal>(rt: &R) -> Option<bool> {
-    let dump = dump_after(rt, CHAINED.as_bytes(), b"")?;
-    let again = dump_after(rt, &dump, b"")?;
+fn dumps<R: Threads + Wait + Sync + AllocGlobal>(rt: &R) -> Option<bool> {
+    let dump = dump_after(rt, CHAINED, "")?;
+    let again = dump_after(rt, dump.as_str(), "")?;
     let wanted = written(rt.alloc(), CHAINED)?;
-    Some(dump == wanted && again == dump)
+    Some(dump.as_str().as_bytes() == wanted.as_slice() && again.as_str() == dump.as_str())
 }
 
-const WITHDRAWAL: &str =
+/// A script that withdraws 3.0.
+pub(crate) const WITHDRAWAL: &str =
     "schema = 1\nbase = 1\nedit = [{ do = \"set_withdrawn\", app = \"demo\", version = \"3.0\", on = true }]";
 
-// Whether a dump has what was published before it, and that of the dump too.
-fn dumps_the_newest<R: Threads + Wait + AllocGlobal>(rt: &R) -> Option<bool> {
-    let dump = dump_after(rt, CHAINED.as_bytes(), WITHDRAWAL.as_bytes())?;
-    let again = dump_after(rt, &dump, b"")?;
-    let has_withdrawn = str::from_utf8(&dump).ok()?.contains("withdrawn = true");
-    Some(has_withdrawn && again == dump)
+// Whether a dump has what was sent before it, and that of the dump too.
+fn dumps_after<R: Threads + Wait + Sync + AllocGlobal>(
+    rt: &R,
+    body: &str,
+    sign: &str,
+) -> Option<bool> {
+    let dump = dump_after(rt, CHAINED, body)?;
+    let again = dump_after(rt, dump.as_str(), "")?;
+    Some(dump.as_str().contains(sign) && again.as_str() == dump.as_str())
 }
 
 // rule: Dump
@@ -176,5 +156,12 @@ fn dumps_the_newest<R: Threads + Wait + AllocGlobal>(rt: &R) -> Option<bool> {
 #[test]
 fn dumps_what_is_published(rt: HostRuntime) {
     assert!(rt; dumps(&rt) == Some(true));
-    assert!(rt; dumps_the_newest(&rt) == Some(true));
+    assert!(rt; dumps_after(&rt, WITHDRAWAL, "withdrawn = true") == Some(true));
+}
+
+// rule: Present budgets
+#[test]
+fn dumps_the_present_budgets(rt: HostRuntime) {
+    assert!(rt; dumps_after(&rt, "raise m0 1000001", "budget = 1000001\n") == Some(true));
+    assert!(rt; dumps_after(&rt, "raise m0 999999", "budget = 1000000\n") == Some(true));
 }

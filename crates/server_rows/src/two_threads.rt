@@ -87,10 +87,10 @@ fn run_twice<
     requires some { 0 < vec_len mirrors }
     requires few { vec_len mirrors ≤ 4 }
     requires bounded { are_bounded mirrors.items ≡ true }
-    requires first { IsNamed blanks.first A.name A.parts A.budget 2 mirrors.items 0 }
-    requires second { IsNamed blanks.second B.name B.parts B.budget 2 mirrors.items 1 }
-    requires third { IsNamed blanks.third C.name C.parts C.budget 2 mirrors.items 2 }
-    requires fourth { IsNamed blanks.fourth D.name D.parts D.budget 2 mirrors.items 3 }
+    requires first { IsNamed blanks.first A.name A.parts A.budget A.most 2 mirrors.items 0 }
+    requires second { IsNamed blanks.second B.name B.parts B.budget B.most 2 mirrors.items 1 }
+    requires third { IsNamed blanks.third C.name C.parts C.budget C.most 2 mirrors.items 2 }
+    requires fourth { IsNamed blanks.fourth D.name D.parts D.budget D.most 2 mirrors.items 3 }
 {
     let (books, shares) = open_books::<A, B, C, D, R>(rt, alloc, blanks, mirrors, 2)?;
     let (shares, granted) = ask_both(rt, &books, shares, times);

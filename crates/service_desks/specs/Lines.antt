@@ -2,6 +2,8 @@
 use Rattle.std.specs.Prelude.{ℕ, List, ◌++◌, codes, decimal}
 use Rattle.catalogue.specs.FaultStrings.{fault_string}
 use Rattle.catalogue.specs.declared.fault.Refused.{Refused}
+use Rattle.mirror_ledger.specs.FaultStrings.{fault_string as raise_fault_string}
+use Rattle.mirror_ledger.specs.declared.raise_error.RaiseError.{RaiseError}
 use Rattle.profile_toml.specs.FaultStrings.{fault_string as script_fault_string}
 use Rattle.profile_toml.specs.declared.fault.ProfileFault.{ProfileFault}
 
@@ -26,3 +28,15 @@ full_line = codes "history full\n"
 -- the fault of a script
 abbrev pub script_line : ProfileFault → List ℕ
 script_line fault = script_fault_string fault ++ codes "\n"
+
+-- the mirror whose budget was raised, and the budget that it has, as it was sent
+abbrev pub raised_line : List ℕ → List ℕ → List ℕ
+raised_line name digits = codes "raised " ++ name ++ codes " " ++ digits ++ codes "\n"
+
+-- why a budget was not raised
+abbrev pub unraised_line : RaiseError → List ℕ
+unraised_line fault = codes "refused " ++ raise_fault_string fault ++ codes "\n"
+
+-- the body is no valid raise
+abbrev pub invalid_raise_line : List ℕ
+invalid_raise_line = codes "bad raise\n"

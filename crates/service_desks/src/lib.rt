@@ -15,6 +15,7 @@ mod dumps;
 mod held_view;
 mod lines;
 mod operator;
+mod raises;
 mod replying;
 mod scripts;
 mod worker;

@@ -6,11 +6,12 @@ ghost use Rattle.service_desks.specs.Replies.{bytes_of, status_of};
 
 use catalogue::Refused;
 use http_desks::{Answer, DeskStatus, Off};
+use mirror_ledger::RaiseError;
 use profile_toml::ProfileFault;
 use std::alloc::Global;
 use std::fmt;
 
-/// What the operator's desk says of a script.
+/// What the operator's desk says of a script or of a raise.
 #[derive(Clone, Copy)]
 pub(crate) enum Line<'a> {
     /// It was published as the edition of this number.
@@ -23,6 +24,12 @@ pub(crate) enum Line<'a> {
     HistoryFull,
     /// It is no script.
     Invalid(&'a ProfileFault),
+    /// The budget of the mirror of this name was raised to this number of bytes.
+    Raised(&'a str, &'a str),
+    /// No budget was raised.
+    Unraised(RaiseError),
+    /// It is no valid raise.
+    InvalidRaise,
 }
 
 // rule: Lines of the operator's desk
@@ -40,6 +47,9 @@ impl fmt::Display for Line<'_> {
             }
             Line::HistoryFull => write!(f, "history full\n"),
             Line::Invalid(fault) => write!(f, "{fault}\n"),
+            Line::Raised(name, digits) => write!(f, "raised {name} {digits}\n"),
+            Line::Unraised(fault) => write!(f, "refused {fault}\n"),
+            Line::InvalidRaise => write!(f, "bad raise\n"),
         }
     }
 }
@@ -53,6 +63,9 @@ fn status_of(line: &Line<'_>) -> DeskStatus
         Line::Refused(_) => DeskStatus::UnprocessableContent,
         Line::HistoryFull => DeskStatus::UnprocessableContent,
         Line::Invalid(_) => DeskStatus::BadRequest,
+        Line::Raised(_, _) => DeskStatus::Success,
+        Line::Unraised(_) => DeskStatus::UnprocessableContent,
+        Line::InvalidRaise => DeskStatus::BadRequest,
     }
 }
 

@@ -1,49 +1,40 @@
-ghost use Rattle.std.specs.Prelude.{◌≡◌, ◌≤◌, codes};
+ghost use Rattle.std.specs.Prelude.{◌≡◌, ◌≤◌, codes, true};
 ghost use Rattle.profile_toml.specs.Laws.{AreMirrors};
 
 use crate::dumps::dump;
+use crate::raises::perform_raise;
 use crate::scripts::perform_script;
-use catalogue::Mirror;
 use http_desks::{Answer, Declared, Desk, Off};
+use mirror_ledger::Budgets;
 use publisher::Press;
 use std::sync::Wait;
 use std::thread::Threads;
 
 // rule: Operator's desk
-/// The operator's desk over a press, which it holds: it publishes scripts and dumps the catalogue.
+/// The operator's desk over a press and the budgets of mirrors: it publishes scripts, raises budgets and dumps the
+/// catalogue.
 ///
 /// It replies to the messages to `/operate`. The body `dump` gets 200 and the profile of the published edition and the
-/// mirrors; any other body is a script, as for `perform_script`. It is off only if memory runs out, and then nothing is
-/// published. It knows no package. It is not `Drop`, since a press isn't: take the press back by `into_press`.
-pub struct Operator<'a, R: Threads + Wait + AllocGlobal> {
+/// mirrors, with their present budgets. A body that begins with `raise ` is to be like `raise m0 510`, and gets 200 and
+/// `raised m0 510`; 422 and `refused B1 UnknownMirror`, `refused B2 TooHigh` or `refused B3 Lower 510`; or 400 and
+/// `bad raise`. Any other body is a script, as for `perform_script`. It is off only if memory runs out, and then
+/// nothing is published or raised. It knows no package.
+#[derive(Drop)]
+pub struct Operator<'a, R: Threads + Wait + AllocGlobal, B: Budgets> {
     /// What starts threads and has the memory of editions and replies.
     pub rt: &'a R,
     /// The press.
-    pub press: Press,
-    /// The mirrors of the packages: one to four valid ones, no two of one name.
-    pub mirrors: &'a [Mirror],
+    pub press: &'a mut Press,
+    /// The budgets of one to four valid mirrors of the packages, no two of one name; they may be raised.
+    pub budgets: &'a B,
     /// In how many pieces the tables of an edition are made, from 1 to 16.
     pub workers: usize,
-    ghost listed: { AreMirrors mirrors.now },
+    ghost listed: { AreMirrors (B.given budgets.now) },
+    ghost rising: { B.rises budgets.now ≡ true },
     ghost counted: { (1 ≤ workers) × (workers ≤ 16) },
 }
 
-impl<'a, R: Threads + Wait + AllocGlobal> Operator<'a, R> {
-    /// Gives the press back.
-    pub fn into_press(self) -> Press
-        ensures { result ≡ self.entry.press }
-    {
-        let Operator {
-            rt: _,
-            press,
-            mirrors: _,
-            workers: _,
-        } = self;
-        press
-    }
-}
-
-impl<R: Threads + Wait + AllocGlobal> Desk for Operator<'_, R> {
+impl<R: Threads + Wait + AllocGlobal, B: Budgets> Desk for Operator<'_, R, B> {
     ghost use Rattle.std.specs.Prelude.{◌≡◌};
     ghost use Rattle.service_desks.specs.Operators.{IsCall};
 
@@ -52,7 +43,8 @@ impl<R: Threads + Wait + AllocGlobal> Desk for Operator<'_, R> {
     ghost content_type = { λ _. codes "text/plain" };
 
     ghost steps = { λ old call new.
-        (new.mirrors.now ≡ old.mirrors.now) × IsCall old.mirrors.now old.press call new.press };
+        (new.press.ghost_name ≡ old.press.ghost_name) × (B.given new.budgets.now ≡ B.given old.budgets.now)
+        × IsCall (B.given old.budgets.now) old.press.now call new.press.now };
 
     fn path(&self) -> &str {
         "/operate"
@@ -65,9 +57,11 @@ impl<R: Threads + Wait + AllocGlobal> Desk for Operator<'_, R> {
     fn answer(&mut self, body: &[u8], _moment: u64) -> Result<Answer, Off> {
         let alloc = self.rt.alloc();
         if body == b"dump".as_slice() {
-            dump(alloc, &self.press, self.mirrors)
+            dump(self.rt, alloc, self.press, self.budgets)
+        } else if body.starts_with(b"raise ") {
+            perform_raise(self.rt, alloc, self.budgets, body)
         } else {
-            perform_script(self.rt, alloc, &mut self.press, self.workers, body)
+            perform_script(self.rt, alloc, self.press, self.workers, body)
         }
     }
 

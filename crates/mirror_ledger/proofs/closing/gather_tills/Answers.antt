@@ -1,4 +1,4 @@
-use Rattle.std.proofs.Common.{◌≡◌, ◌∙◌, ℕ, ◌+◌, ap, arith, sym, zero-add}
+use Rattle.std.proofs.Common.{◌∙◌, ℕ, ◌+◌, ap, arith, sym, zero-add}
 use Rattle.mirror_ledger.proofs.TillLemmas.{taken_back}
 use Rattle.mirror_ledger.proofs.closing.gather_tills.Goals as goal
 

@@ -1,4 +1,6 @@
-use Rattle.std.proofs.Common.{◌≡◌, arith, length, map, nat_eq, vec_len}
+use Rattle.std.proofs.Common.{◌≡◌, ◌&&◌, List, arith, length, map, nat_eq, not, subst, sym, vec_len}
+use Rattle.records.specs.declared.mirror.Mirror.{Mirror}
+use Rattle.mirror_ledger.specs.Named.{AreFixed}
 use Rattle.mirror_ledger.proofs.PairLemmas.{AreFresh}
 use Rattle.mirror_ledger.proofs.TillLemmas.{AreTotalsOf-parts}
 use Rattle.mirror_ledger.proofs.running.run_over.Goals as goal
@@ -6,15 +8,20 @@ use Rattle.mirror_ledger.proofs.running.run_over.Goals as goal
 pub returns-clause-works : goal.returns-clause-works
 returns-clause-works g c =
     let mirrors = c.args.mirrors.items in
-    let opened = c.in_ok-tills.ensures.opened mirrors c.in_ok-books.ensures.given in
+    let rises = g.O.BudgetJob.raises c.args.own.now in
+    let opened = c.in_ok-tills.ensures.opened rises mirrors c.in_ok-books.ensures.given c.requires.tops in
     let many : length c.in_ok-tills.tills.items ≡ vec_len c.args.jobs = omega (arith, c.in_ok-tills.ensures.many, c.in_ok-books.ensures.workers, c.len.ensures, c.in_ok-tills.tills.ok.0) in
-    let fresh = AreFresh (vec_len c.args.jobs) opened many in
+    let fresh = AreFresh (not rises) (vec_len c.args.jobs) opened many in
     let asks = map (λ t. t.shares.asks) c.in_ok-tills-2.tills.items in
     let parts = c.gather_tills-parts.result in
     let gathered = c.gather_tills-parts.ensures in (
       asks,
-      c.in_ok-tills-2.ensures.works (nat_eq (vec_len c.args.jobs) 1) mirrors fresh,
-      AreTotalsOf-parts _ mirrors asks c.in_ok-totals.totals.items
+      c.in_ok-tills-2.ensures.works (not rises && nat_eq (vec_len c.args.jobs) 1) mirrors fresh,
+      AreTotalsOf-parts (not rises) _ mirrors asks c.in_ok-totals.totals.items
           parts.first.amount parts.second.amount parts.third.amount parts.fourth.amount c.in_ok-books.ensures.given
-          c.in_ok-totals.ensures.totals gathered.first.1 gathered.second.1 gathered.third.1 gathered.fourth.1 c.in_ok-totals.ensures.within,
+          c.in_ok-totals.ensures.totals gathered.first.1 gathered.second.1 gathered.third.1 gathered.fourth.1
+          (λ is.
+          c.in_ok-totals.ensures.within
+          (subst (λ (all : List Mirror). AreFixed all g.A.BudgetName.most g.B.BudgetName.most g.C.BudgetName.most g.D.BudgetName.most)
+          (sym c.in_ok-books.ensures.given) (c.requires.tops.fixed is))),
     )

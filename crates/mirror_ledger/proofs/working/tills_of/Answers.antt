@@ -1,4 +1,4 @@
-use Rattle.std.proofs.Common.{◌≡◌, Some, arith, vec_len}
+use Rattle.std.proofs.Common.{◌≡◌, Some, arith, not, vec_len}
 use Rattle.std.proofs.lemmas.List.Elements.{All-pop, All-push}
 use Rattle.mirror_ledger.specs.Asks.{AreUnused}
 use Rattle.mirror_ledger.proofs.TillLemmas.{AreOpened-unused}
@@ -7,11 +7,12 @@ use Rattle.mirror_ledger.proofs.working.tills_of.Goals as goal
 pub returns-clause-opened : goal.returns-clause-opened
 returns-clause-opened g c =
     let (many, left, mirrored, unused) = c.loop-next.invariant in
-    λ mirrors same.
+    λ rises mirrors same tops.
     AreOpened-unused (λ t. t.books.now) (λ t. t.shares.first) (λ t. t.shares.second) (λ t. t.shares.third) (λ t. t.shares.fourth) (λ t. t.shares.asks)
-    g.A.Ledger.parts g.B.Ledger.parts g.C.Ledger.parts g.D.Ledger.parts (vec_len c.args.shares) _ mirrors c.loop-next.tills.items same mirrored unused
+    g.A.Ledger.parts g.B.Ledger.parts g.C.Ledger.parts g.D.Ledger.parts (vec_len c.args.shares)
+    g.A.BudgetName.most g.B.BudgetName.most g.C.BudgetName.most g.D.BudgetName.most (not rises) _ mirrors c.loop-next.tills.items same mirrored unused
     (omega (arith, c.loop-next.tills.ok.0, many, c.in_default.ensures.cases))
-    (omega (arith, c.requires.first)) (omega (arith, c.requires.second)) (omega (arith, c.requires.third)) (omega (arith, c.requires.fourth))
+    (omega (arith, c.requires.first)) (omega (arith, c.requires.second)) (omega (arith, c.requires.third)) (omega (arith, c.requires.fourth)) tops.fixed
 
 pub loop-next-preserved : goal.loop-next-preserved
 loop-next-preserved g c =

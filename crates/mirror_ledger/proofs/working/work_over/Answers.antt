@@ -1,15 +1,18 @@
-use Rattle.std.proofs.Common.{arith, inr, map}
+use Rattle.std.proofs.Common.{List, arith, false, inr, map, subst, sym, true}
+use Rattle.records.specs.declared.mirror.Mirror.{Mirror}
+use Rattle.mirror_ledger.specs.Named.{AreFixed}
+use Rattle.mirror_ledger.proofs.NamedLemmas.{AreTops-fixed}
 use Rattle.mirror_ledger.proofs.TillLemmas.{AreTotalsOf-parts, OnErr-any, length-asks}
 use Rattle.mirror_ledger.proofs.working.work_over.Goals as goal
 
 pub returns-in_err-totals-clause-err : goal.returns-in_err-totals-clause-err
 returns-in_err-totals-clause-err g c =
-    let worked = c.work-end.ensures.works c.args.mirrors.items (c.in_ok-tills.ensures.opened c.args.mirrors.items c.in_ok-books.ensures.given) in
+    let worked = c.work-end.ensures.works c.args.mirrors.items (c.in_ok-tills.ensures.opened false c.args.mirrors.items c.in_ok-books.ensures.given (AreTops-fixed c.args.mirrors.items _ _ _ _ c.requires.fixed)) in
     OnErr-any c.from_residual-in_err-totals.result (inr (map (λ t. t.shares.asks) c.work-end.new.tills.items, c.work-end.result, worked))
 
 pub returns-clause-ok : goal.returns-clause-ok
 returns-clause-ok g c =
-    let worked = c.work-end.ensures.works c.args.mirrors.items (c.in_ok-tills.ensures.opened c.args.mirrors.items c.in_ok-books.ensures.given) in
+    let worked = c.work-end.ensures.works c.args.mirrors.items (c.in_ok-tills.ensures.opened false c.args.mirrors.items c.in_ok-books.ensures.given (AreTops-fixed c.args.mirrors.items _ _ _ _ c.requires.fixed)) in
     let parts = c.gather_tills-parts.result in
     let gathered = c.gather_tills-parts.ensures in (
       map (λ t. t.shares.asks) c.work-end.new.tills.items,
@@ -22,7 +25,11 @@ returns-clause-ok g c =
         c.in_ok-books.ensures.workers,
       ),
       worked,
-      AreTotalsOf-parts _ c.args.mirrors.items (map (λ t. t.shares.asks) c.work-end.new.tills.items) c.in_ok-totals.totals.items
+      AreTotalsOf-parts true _ c.args.mirrors.items (map (λ t. t.shares.asks) c.work-end.new.tills.items) c.in_ok-totals.totals.items
           parts.first.amount parts.second.amount parts.third.amount parts.fourth.amount c.in_ok-books.ensures.given
-          c.in_ok-totals.ensures.totals gathered.first.1 gathered.second.1 gathered.third.1 gathered.fourth.1 c.in_ok-totals.ensures.within,
+          c.in_ok-totals.ensures.totals gathered.first.1 gathered.second.1 gathered.third.1 gathered.fourth.1
+          (λ is.
+          c.in_ok-totals.ensures.within
+          (subst (λ (all : List Mirror). AreFixed all g.A.BudgetName.most g.B.BudgetName.most g.C.BudgetName.most g.D.BudgetName.most)
+          (sym c.in_ok-books.ensures.given) c.requires.fixed)),
     )

@@ -4,6 +4,7 @@ use Rattle.omaha_arguments.proofs.command_line.omaha_command.Goals as goal
 pub returns : goal.returns
 returns c =
     c.with_command.ensures _ _ refl
+    (c.with_command-program-10.ensures _ _ refl
     (c.with_command-program-9.ensures _ _ refl
     (c.with_command-program-8.ensures _ _ refl
     (c.with_command-program-7.ensures _ _ refl
@@ -14,6 +15,7 @@ returns c =
     (c.with_command-program-2.ensures _ _ refl
     (c.with_command-program.ensures _ _ refl c.plain_command-program.ensures c.serve_command.ensures)
     c.publish_command.ensures)
+    c.raise_command.ensures)
     c.dump_command.ensures)
     c.check_command.ensures)
     c.walk_command.ensures)

@@ -16,5 +16,5 @@ returns-clause-serves g c =
     let served =
     subst (λ (h : History). HasServed edges place (record { edition = h; mirrors = c.args.service.mirrors }) old between totals) c.in_ok-press.ensures.press
     c.in_ok-totals.ensures.ok in
-    Serves-printed edges place c.args.service old between totals folder served c.as_slice-3.result.now (g.O.WriteWhole.output c.print_totals.new.out)
-    c.print_totals.result (c.as_slice-3.ensures ∙ c.in_ok-names.ensures ∙ ap names_of c.as_slice.ensures.list) (rw c.deref.ensures.value at c.print_totals.ensures)
+    Serves-printed edges place c.args.service old between totals folder served c.as_slice-2.result.now (g.O.WriteWhole.output c.print_totals.new.out)
+    c.print_totals.result (c.as_slice-2.ensures ∙ c.in_ok-names.ensures ∙ ap names_of c.as_slice.ensures.list) (rw c.deref.ensures.value at c.print_totals.ensures)

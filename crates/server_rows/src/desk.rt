@@ -1,0 +1,175 @@
+// The operator's desk over books that are opened for it.
+
+ghost use Rattle.std.specs.Prelude.{◌≡◌, ⊤, IfOk, IfSome, true, vec_len};
+ghost use Rattle.profile_toml.specs.Laws.{AreMirrors};
+
+use crate::answers::print_answer;
+use crate::lines::has_bounds;
+use catalogue::Mirror;
+use http_desks::{Desk, Off};
+use mirror_ledger::{BudgetJob, Budgets, Till, TillJob, run_with_tills};
+use par_tables::Free;
+use profile_toml::read_profile;
+use publisher::{Press, open};
+use service_desks::Operator;
+use std::alloc::{AllocError, Global};
+use std::sync::Wait;
+use std::thread::Threads;
+
+// What a body gets. If memory ran out, nothing is to be published, and the body is sent again.
+fn send<R: Threads + Wait + AllocGlobal, B: Budgets>(
+    rt: &R,
+    press: &mut Press,
+    budgets: &B,
+    body: &[u8],
+) -> Option<String>
+    requires mirrors { AreMirrors (B.given budgets.now) }
+    requires rises { B.rises budgets.now ≡ true }
+{
+    let before = press.edition().number();
+    let mut operator = Operator {
+        rt,
+        press,
+        budgets,
+        workers: 2,
+    };
+    match operator.answer(body, 0) {
+        Err(Off::Memory) if operator.press.edition().number() == before => {
+            print_answer(rt.alloc(), &operator.answer(body, 0))
+        }
+        answer => print_answer(rt.alloc(), &answer),
+    }
+}
+
+// Bodies that are sent one after the other.
+struct Sending<'a, R> {
+    rt: &'a R,
+    press: Press,
+    bodies: &'a [Vec<u8>],
+}
+
+impl<R: Threads + Wait + AllocGlobal> BudgetJob for Sending<'_, R> {
+    type End = Option<Vec<String>>;
+
+    ghost raises = { λ _. true };
+
+    ghost comes_to = { λ _ _ _. ⊤ };
+
+    fn work<B: Budgets>(&mut self, budgets: &B) -> Option<Vec<String>> {
+        let mut replies = Vec::new(self.rt.alloc());
+        for body in self.bodies {
+            let reply = send(self.rt, &mut self.press, budgets, body)?;
+            replies.push(reply).ok()?;
+        }
+        Some(replies)
+    }
+}
+
+// The work of a worker that asks for nothing.
+#[derive(Drop)]
+struct Idle;
+
+impl TillJob for Idle {
+    type End = ();
+
+    ghost comes_to = { λ _ _ _ _ _. ⊤ };
+
+    fn work<T: Till + Drop>(self, till: T) -> (T, ()) {
+        (till, ())
+    }
+}
+
+fn one_idle(alloc: Global) -> Result<Vec<Idle>, AllocError>
+    ensures { IfOk result (λ jobs. vec_len jobs ≡ 1) }
+{
+    let mut jobs = Vec::new(alloc);
+    jobs.push(Idle)?;
+    Ok(jobs)
+}
+
+/// What bodies get that are sent to the desk of a press one after the other, and the press.
+pub(crate) fn replies_of<R: Threads + Wait + Sync + AllocGlobal>(
+    rt: &R,
+    press: Press,
+    mirrors: Vec<Mirror>,
+    bodies: &[Vec<u8>],
+) -> (Press, Option<Vec<String>>)
+    requires { AreMirrors mirrors.items }
+{
+    let mut own = Sending { rt, press, bodies };
+    let replies = match one_idle(rt.alloc()) {
+        Ok(jobs) if has_bounds(&mirrors) => {
+            match run_with_tills(rt, rt.alloc(), mirrors, &Free, jobs, &mut own) {
+                Ok(ran) => ran.own.flatten(),
+                Err(_) => None,
+            }
+        }
+        _ => None,
+    };
+    let Sending {
+        rt: _,
+        press,
+        bodies: _,
+    } = own;
+    (press, replies)
+}
+
+/// The mirrors of a profile.
+pub(crate) fn mirrors_in(alloc: Global, profile: &[u8]) -> Option<Vec<Mirror>>
+    ensures { IfSome result (λ mirrors. AreMirrors mirrors.items) }
+{
+    profile_toml::laws::mirrors();
+    match read_profile(alloc, profile) {
+        Ok((_batch, mirrors)) => Some(mirrors),
+        Err(_) => None,
+    }
+}
+
+/// What bodies get that are sent to the desk of a profile one after the other.
+pub(crate) fn replies_to<R: Threads + Wait + Sync + AllocGlobal>(
+    rt: &R,
+    profile: &[u8],
+    bodies: &[Vec<u8>],
+) -> Option<Vec<String>> {
+    let alloc = rt.alloc();
+    let mirrors = mirrors_in(alloc, profile)?;
+    let Ok((batch, _mirrors)) = read_profile(alloc, profile) else {
+        return None;
+    };
+    let Ok((press, _views)) = open(rt, alloc, batch, 1, 2, &Free) else {
+        return None;
+    };
+    let (press, replies) = replies_of(rt, press, mirrors, bodies);
+    press.end(rt);
+    replies
+}
+
+/// The bodies of rows, each of a body and what it gets, with ` = ` between; `~` is a line feed and `^` a carriage return.
+pub(crate) fn bodies_of(alloc: Global, rows: &str) -> Option<Vec<Vec<u8>>> {
+    let mut bodies = Vec::new(alloc);
+    for row in rows.lines() {
+        let (body, _wanted) = row.rsplit_once(" = ")?;
+        let body = body.replace(alloc, "~", "\n").ok()?;
+        let body = body.as_str().replace(alloc, "^", "\r").ok()?;
+        bodies.push(body.into_bytes()).ok()?;
+    }
+    Some(bodies)
+}
+
+/// The first row that doesn't get what it says, `none` if each does.
+pub(crate) fn first_wrong(replies: &[String], rows: &'static str) -> &'static str {
+    for (index, row) in rows.lines().enumerate() {
+        let wanted = match row.rsplit_once(" = ") {
+            Some((_body, wanted)) => wanted,
+            None => "",
+        };
+        let reply = match replies.get(index) {
+            Some(reply) => reply.as_str(),
+            None => "",
+        };
+        if reply.strip_suffix("\n") != Some(wanted) {
+            return row;
+        }
+    }
+    "none"
+}

@@ -1,0 +1,2 @@
+mod MirrorLemmas
+mod RaiseLemmas

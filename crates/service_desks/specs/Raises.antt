@@ -1,0 +1,85 @@
+-- What a raise of a budget comes to that is sent to the operator's desk; this project's profile.
+use Rattle.std.specs.Prelude.{◌≡◌, ℕ, ◌-◌, ◌==◌, ◌&&◌, not, Bool, if◌then◌else◌, List, codes, drop, length, nat_eq, nat_lt, slice_index, take, Result, Ok, Err, Option, None, Some}
+use Rattle.std.specs.Char.{is_ascii_digit}
+use Rattle.std.specs.List.{after_first, before_first, ends_with, list_all, starts_with}
+use Rattle.std.specs.Str.{is_utf8}
+use Rattle.std.specs.Str.Parse.{digits_value}
+use Rattle.http_desks.specs.declared.desk.DeskStatus.{DeskStatus}
+use Rattle.http_desks.specs.declared.desk.DeskStatus.TheVariants as status
+use Rattle.http_desks.specs.declared.desk.Off.{Off}
+use Rattle.http_desks.specs.declared.desk.Off.TheVariants as off
+use Rattle.mirror_ledger.specs.Raising.{RaisesTo}
+use Rattle.mirror_ledger.specs.declared.raise_error.RaiseError.{RaiseError}
+use Rattle.records.specs.declared.mirror.Mirror.{Mirror}
+use Rattle.service_desks.specs.Lines.{invalid_raise_line, raised_line, unraised_line}
+
+-- what a body begins with that asks for a raise
+abbrev pub raise_word : List ℕ
+raise_word = codes "raise "
+
+-- the body asks for a raise
+abbrev pub is_raise : List ℕ → Bool
+is_raise body = starts_with nat_eq body raise_word
+
+-- a space
+abbrev pub is_space : ℕ → Bool
+is_space byte = byte == 32
+
+-- without the line feed at its end, if it has one
+abbrev pub without_feed : List ℕ → List ℕ
+without_feed text = if ends_with nat_eq text (codes "\n") then take (length text - 1) text else text
+
+-- what follows the word, on its line
+abbrev pub line_of : List ℕ → List ℕ
+line_of body = without_feed (drop 6 body)
+
+-- the name and the number of a line: what is before its first space, and what is after it
+abbrev pub name_of : List ℕ → List ℕ
+name_of line = before_first is_space line
+
+abbrev pub digits_of : List ℕ → List ℕ
+digits_of line = after_first is_space line
+
+-- one or more bytes, no line feed
+abbrev pub is_name : List ℕ → Bool
+is_name name = nat_lt 0 (length name) && list_all (λ byte. not (byte == 10)) name
+
+-- a zero before further digits
+abbrev pub has_leading_zero : List ℕ → Bool
+has_leading_zero digits = nat_lt 1 (length digits) && (slice_index digits 0 == 48)
+
+-- one or more digits, without leading zeros
+abbrev pub is_number : List ℕ → Bool
+is_number digits = nat_lt 0 (length digits) && list_all is_ascii_digit digits && not (has_leading_zero digits)
+
+-- rule: Form of a raise
+-- the name and the digits of a body that asks for a raise, if it is a valid one: `raise NAME BUDGET` in UTF-8, one space
+-- between them, and at most one line feed after them
+abbrev pub raise_of : List ℕ → Option (List ℕ × List ℕ)
+raise_of body =
+    if is_utf8 (line_of body) && is_name (name_of (line_of body)) && is_number (digits_of (line_of body))
+    then Some (name_of (line_of body), digits_of (line_of body))
+    else None
+
+-- the reply to a raise
+abbrev pub raise_reply : List ℕ → List ℕ → Result (Unit {0}) RaiseError → DeskStatus × List ℕ
+raise_reply name digits (Ok done) = (status.Success, raised_line name digits)
+raise_reply name digits (Err refused) = (status.UnprocessableContent, unraised_line refused)
+
+-- a budget was raised, or was not, and the reply says which
+pub record IsRaiseReply (mirrors : List Mirror) (name digits : List ℕ) (reply : DeskStatus × List ℕ) : Type 0 where
+  pub outcome : Result (Unit {0}) RaiseError
+  pub raised : RaisesTo mirrors name (digits_value 10 digits) outcome
+  pub replied : reply ≡ raise_reply name digits outcome
+
+-- the reply to a body that asks for a raise, valid or not
+abbrev pub IsReplyToRaise : List Mirror → Option (List ℕ × List ℕ) → DeskStatus × List ℕ → Type 0
+IsReplyToRaise mirrors (Some asked) reply = IsRaiseReply mirrors asked.0 asked.1 reply
+IsReplyToRaise mirrors None reply = reply ≡ (status.BadRequest, invalid_raise_line)
+
+-- rule: Reply to a raise
+-- what a body comes to that asks for a raise of a budget of these mirrors, unless memory runs out
+abbrev pub RaisesBy : List Mirror → List ℕ → Result (DeskStatus × List ℕ) Off → Type 0
+RaisesBy mirrors body (Ok reply) = IsReplyToRaise mirrors (raise_of body) reply
+RaisesBy mirrors body (Err off.Memory) = Unit {0}
+RaisesBy mirrors body (Err off.Closed) = ⊥
