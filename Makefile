@@ -1,6 +1,6 @@
 # make demo          prints requests of examples/ and their replies, by the program built without a
 #                    proof; after make install it also starts the server
-# make test          the gate: the rules' marks, the words to avoid, every proof from nothing, must-fail
+# make test          the gate: the rules' marks, the words to avoid, the corpus, every proof from nothing, must-fail
 #                    edits, tests and the program, whose main is run with each exit status
 # make mutants CRATE..  tries the edits that the gate doesn't, of these crates or of all; the prover
 #                    must reject each
@@ -9,8 +9,11 @@
 # make serving       tests the server and the walk, after make install, over the loopback
 # make cluster       tests three servers with nginx as their proxy, after make install; it needs nginx
 # make install       proves, builds and installs the program below PREFIX
-# make allocations   runs the program, after make install, with each of its allocations failing in
-#                    turn; it needs a C compiler
+# make allocations   runs the program, after make install, and the tests of single calls without
+#                    memory, which it proves and builds, with each allocation failing in turn; it
+#                    needs a C compiler
+# make fuzz          gives the program, after make install, changed cases of tests/corpus for ten
+#                    minutes, and judges each by a model
 # make bench         times the program, after make install, on large profiles beside the tomllib of
 #                    Python, 3.11 or newer
 # make load          measures the server, after make install, beside nginx; it needs wrk
@@ -26,7 +29,7 @@ CRATES := $(wordlist 2,$(words $(MAKECMDGOALS)),$(MAKECMDGOALS))
 $(eval $(CRATES):;@:)
 endif
 
-.PHONY: demo test mutants commands serving cluster install allocations bench load instructions $(CRATES)
+.PHONY: demo test mutants commands serving cluster install allocations fuzz bench load instructions $(CRATES)
 
 demo:
 	@examples/demo.py
@@ -36,6 +39,7 @@ test:
 	cmp crates/omaha/src/main.rt crates/omaha_usage/src/main.rt
 	tests/rules.py
 	tests/words.py
+	tests/corpus.py
 	rt ci
 
 mutants:
@@ -59,7 +63,12 @@ install:
 	install -m 755 crates/omaha/out/omaha $(DESTDIR)$(PREFIX)/bin/omaha
 
 allocations:
+	for crate in profile_rows prices_rows protocol_rows server_rows; do \
+		(cd crates/$$crate && rt test -- without_memory) || exit 1; done
 	tests/allocations.py
+
+fuzz:
+	tests/fuzz.py
 
 bench:
 	bench/profiles.py

@@ -1,37 +1,54 @@
 #!/usr/bin/env python3
-"""Runs the built program with each of its allocations failing in turn.
+"""Runs the built program, and each test without memory, with each allocation failing in turn.
 
-A small library before the C library's `malloc` and `realloc` lets the Nth call fail, for N from 1
-until a run has no Nth call. Each run must either end with the status 1, the line `omaha: memory` and
-no reply, or go on without that memory and write the whole reply with the status 0.
+    tests/allocations.py [--program FILE] [NAME ..]
 
-It needs the program, which `make install` builds, and a C compiler.
+`make allocations` runs it, after `make install`. A small library before the C library's `malloc` and `realloc` lets the Nth
+call fail, for N from 1 until a run has no Nth call. It prints a line for each sweep: its name, how many allocations it has,
+how many runs there were, and how many were wrong; NAME is a sweep alone, or the first part of the names of some.
+
+A run of a command must end with the status 1, the line `omaha: memory` and no output, or go on without that memory and print
+what it prints with memory. A run of `serve` has two workers and an operator. It is asked for updates, packages and a dump, a
+script is published and a budget raised; what it rejects since memory ran out it does when it is asked again. A run of a test must pass.
+
+It needs a C compiler, the program, and the tests whose names end in `_without_memory`, which `make allocations` builds.
 """
 
+import argparse
+import contextlib
 import os
+import pathlib
+import shutil
 import subprocess
 import sys
 import tempfile
 
-TOP = os.path.dirname(os.path.dirname(os.path.abspath(__file__)))
-PROGRAM = f"{TOP}/crates/omaha/out/omaha"
-PROFILE = f"{TOP}/examples/staged.toml"
-REQUEST = f"{TOP}/examples/beta.json"
+from fuzzing import server
+from fuzzing.server import Connection, Wrong
+
+TOP = pathlib.Path(__file__).resolve().parent.parent
+EXAMPLES = TOP / "examples"
+# the crates that have tests without memory
+CRATES = ["profile_rows", "prices_rows", "protocol_rows", "server_rows"]
+LIMIT = 20
+SHOWN = 5
 
 SHIM = r"""
 #define _GNU_SOURCE
 #include <dlfcn.h>
+#include <stdatomic.h>
 #include <stdlib.h>
 #include <unistd.h>
 
-static long calls, failing = -1;
+static atomic_long calls;
+static long failing = -1;
 
 static int fails(void) {
     if (failing < 0) {
         const char *text = getenv("FAILING_CALL");
         failing = text ? atol(text) : 0;
     }
-    if (++calls != failing) return 0;
+    if (atomic_fetch_add(&calls, 1) + 1 != failing) return 0;
     if (write(atoi(getenv("TELL_AT")), "x", 1) != 1) _exit(99);
     return 1;
 }
@@ -53,50 +70,269 @@ void *realloc(void *old, size_t size) {
 def built(folder):
     """Compiles the library before `malloc`, and returns its path."""
     source, library = f"{folder}/failing.c", f"{folder}/failing.so"
-    with open(source, "w") as it:
-        it.write(SHIM)
+    pathlib.Path(source).write_text(SHIM)
     subprocess.run(["cc", "-O1", "-shared", "-fPIC", "-o", library, source, "-ldl"], check=True)
     return library
 
 
-def run(library, call):
-    """Runs the program with that call failing: its status, output, faults, and whether there was one."""
-    reads, writes = os.pipe()
-    shim = {"LD_PRELOAD": library, "FAILING_CALL": str(call), "TELL_AT": str(writes)}
-    with open(REQUEST, "rb") as request:
-        ran = subprocess.run(
-            [PROGRAM, "once", "--profile", PROFILE, "--moment", "1767229261"],
-            stdin=request,
-            capture_output=True,
-            pass_fds=[writes],
-            env={**os.environ, **shim},
-        )
-    os.close(writes)
-    with os.fdopen(reads, "rb") as told:
-        return ran.returncode, ran.stdout, ran.stderr, bool(told.read())
+class Shim:
+    """The library with a call that fails, and whether that call came."""
+
+    def __init__(self, library, call):
+        self.reads, self.writes = os.pipe()
+        own = {"LD_PRELOAD": library, "FAILING_CALL": str(call), "TELL_AT": str(self.writes)}
+        self.start = {"env": {**os.environ, **own}, "pass_fds": [self.writes]}
+
+    def came(self):
+        """Whether the call came; only once, after the process has ended."""
+        os.close(self.writes)
+        with os.fdopen(self.reads, "rb") as told:
+            return bool(told.read())
+
+
+def run(words, shim, data=b"", folder=None):
+    """The exit status of a command, its output and its errors."""
+    try:
+        ran = subprocess.run(words, input=data, capture_output=True, timeout=LIMIT, cwd=folder, **shim.start)
+    except subprocess.TimeoutExpired:
+        return "no end", b"", b""
+    return ran.returncode, ran.stdout, ran.stderr
+
+
+class Command:
+    """A command that fails as a whole, or prints what it prints with memory."""
+
+    def __init__(self, name, words, data=b"", status=0):
+        self.name, self.words, self.data, self.status, self.wanted = name, words, data, status, None
+
+    def once(self, program, shim):
+        found = run([program, *self.words], shim, self.data)
+        if self.wanted is None:
+            self.wanted = found
+            return None if found[0] == self.status else f"with memory: {found!r:.300}"
+        return None if found == self.wanted or self.fails(*found) else f"{found!r:.300}"
+
+    def fails(self, status, output, errors):
+        """Whether a run failed as it may without memory."""
+        return (status, output, errors) == (1, b"", b"omaha: memory\n")
+
+
+class Calling(Command):
+    """A command that calls a server: its link and its installer report that memory ran out as failures of their own.
+
+    Whole lines may come before the failure.
+    """
+
+    def __init__(self, name, words, lines, status=0):
+        super().__init__(name, words, b"", status)
+        self.lines = (b"omaha: memory\n", *lines)
+
+    def fails(self, status, output, errors):
+        return status == 1 and errors in self.lines and self.wanted[1].startswith(output) and output[-1:] in (b"", b"\n")
+
+
+class Test:
+    """A test of a crate, which passes whatever call fails."""
+
+    def __init__(self, name, full, tests):
+        self.name, self.full, self.tests = name, full, tests
+
+    def once(self, _program, shim):
+        found = run([self.tests, self.full], shim)
+        return None if found[0] == 0 else f"{found!r:.400}"
+
+
+UPDATE = b'{"request":{"protocol":"3.1","app":[{"appid":"mini","cohort":"stable:7","updatecheck":{}}]}}'
+SCRIPT = (EXAMPLES / "scripts" / "stage.toml").read_bytes()
+
+
+def posted(path, body):
+    return b"POST " + path + b" HTTP/1.1\r\nConnection: close\r\nContent-Length: %d\r\n\r\n" % len(body) + body
+
+
+class Serving:
+    """A server with two workers and an operator; a message that it rejects since memory ran out is sent again."""
+
+    name = "serve, with publish, raise and dump"
+    messages = [
+        ("clients", posted(b"/service/update2/json", UPDATE)),
+        ("clients", b"GET /p/mini-1.0.bin HTTP/1.1\r\nConnection: close\r\n\r\n"),
+        ("operator", posted(b"/operate", SCRIPT)),
+        ("clients", posted(b"/service/update2/json", UPDATE)),
+        ("operator", posted(b"/operate", b"dump")),
+        ("operator", posted(b"/operate", b"raise m0 2000000000000")),
+        ("operator", posted(b"/operate", b"schema = 1\nbase = 2\n[[edit]]\ndo = 'set_share'\napp = 'x'\ncohort = 'y'\nshare = 1\n")),
+        ("clients", posted(b"/service/update2/json", b"{")),
+    ]  # fmt: skip
+
+    def __init__(self, folder):
+        self.folder, self.wanted, self.total = pathlib.Path(folder), None, None
+        shutil.copytree(EXAMPLES / "packages", self.folder / "packages")
+        shutil.copy(EXAMPLES / "live.toml", self.folder / "live.toml")
+
+    def once(self, program, shim):
+        ports = {"clients": server.free_port(), "operator": server.free_port()}
+        self.left = {"clients": 6, "operator": 6}
+        words = [program, "serve", "--profile", "live.toml", "--packages", "packages", "--workers", "2", "--timeout", "1"]
+        words += ["--listen", f"127.0.0.1:{ports['clients']}", "--operator", f"127.0.0.1:{ports['operator']}"]
+        words += ["--sessions", str(self.left["clients"]), "--edits", str(self.left["operator"]), "--log", "log"]
+        process = subprocess.Popen(words, cwd=self.folder, stdout=subprocess.PIPE, stderr=subprocess.PIPE, **shim.start)
+        try:
+            return self.judge(process, ports)
+        except (Wrong, OSError) as wrong:
+            return f"{wrong}"
+        finally:
+            process.kill()
+            process.communicate()
+
+    def judge(self, process, ports):
+        """What is wrong with a run, `None` if nothing is."""
+        if process.stdout.readline() != b"ready\n":
+            ended = process.communicate(timeout=LIMIT)[1], process.returncode
+            return None if self.wanted and ended == (b"omaha: memory\n", 1) else f"before ready: {ended}"
+        failed, replies = 0, []
+        for to, message in self.messages:
+            reply = self.send(ports, to, message)
+            while self.wanted and failed == 0 and reply != self.wanted[len(replies)]:
+                if reply and (reply[0] not in (200, 500) or (reply[0] == 200 and not reply[2])):
+                    return f"message {len(replies)}: {reply!r:.200}"
+                failed, reply = failed + 1, self.send(ports, to, message)
+            replies.append(reply)
+        for to, port in ports.items():
+            for _ in range(self.left[to]):
+                with contextlib.suppress(ConnectionRefusedError):
+                    server.Connection(port).socket.close()
+        return self.judge_end(process, replies)
+
+    def send(self, ports, to, message):
+        """The status of the reply, its body, and whether that is a part; `None` without a reply."""
+        self.left[to] -= 1
+        try:
+            with Connection(ports[to]) as connection:
+                connection.send(message)
+                reply = connection.read()
+        except ConnectionRefusedError:
+            return None
+        if reply is None:
+            return None
+        body = reply.body.partition(b'"daystart"')[0]
+        return reply.status, body, len(reply.body) < reply.length
+
+    def judge_end(self, process, replies):
+        output, errors = process.communicate(timeout=LIMIT)
+        total = int(output.split()[1]) if output.startswith(b"m0 ") else None
+        if self.wanted is None:
+            self.wanted, self.total = replies, total
+            are = [reply and reply[0] for reply in replies] == [200, 200, 200, 200, 200, 200, 422, 400]
+            return None if are and (process.returncode, errors) == (0, b"") else f"with memory: {replies!r:.300} {errors}"
+        if (process.returncode, output, errors) == (1, b"", b"omaha: memory\n"):
+            return None
+        if (process.returncode, output, errors) == (1, b"", b"omaha: thread\n") and not any(replies):
+            return None
+        if replies != self.wanted:
+            return f"replies {replies!r:.300}, end {process.returncode} {output} {errors}"
+        # a reply that was rejected may have been granted before, once
+        extra = (total or 0) - self.total
+        is_total = extra in (0, 1960, 2600, 3480, 188, 235)
+        return None if (process.returncode, errors, is_total) == (0, b"", True) else f"end: {process.returncode} {output} {errors}"
+
+
+def commands():
+    """The commands that are swept."""
+    staged, chains, served = (str(EXAMPLES / "staged.toml"), str(EXAMPLES / "chains.toml"), str(server.PROFILE))
+    request = (EXAMPLES / "beta.json").read_bytes()
+    track, packages = ["demo", "stable", "target", "no"], str(EXAMPLES / "packages")
+    return [
+        Command("once", ["once", "--profile", staged, "--moment", "1767229261"], request),
+        Command("once, no request", ["once", "--profile", staged], b"{", 1),
+        Command("check", ["check", served, "--workers", "2"]),
+        Command("certify", ["certify", chains, *track]),
+        Command("verify", ["verify", chains, str(EXAMPLES / "chains.prices")]),
+        Command("verify, wrong line", ["verify", staged, str(EXAMPLES / "chains.prices")], b"", 1),
+        Command("check, with packages", ["check", str(EXAMPLES / "mini.toml"), "--packages", packages]),
+        Command("describe", ["describe", f"{packages}/mini-1.0.bin", f"{packages}/mini-2.0.bin"]),
+        Command("explain", ["explain"]),
+    ]
+
+
+def calls(port, operator, script):
+    """The commands that call a running server."""
+    to, at = f"127.0.0.1:{port}", f"127.0.0.1:{operator}"
+    net = [f"omaha: net {at}\n".encode()]
+    return [
+        Calling("walk", ["walk", "--to", to, "--app", "mini", "--version", ""], [b"omaha: U1 Link\n", b"omaha: U5 Install\n"]),
+        Calling("publish", ["publish", "--to", at, script], net, 1),
+        Calling("raise", ["raise", "--to", at, "m0", "1000000000000"], net),
+        Calling("dump", ["dump", "--to", at], net),
+    ]
+
+
+@contextlib.contextmanager
+def serving(program, folder):
+    """A server with all its memory, and the commands that call it; its script is stale, so that it is never published."""
+    port, operator = server.free_port(), server.free_port()
+    profile, script = pathlib.Path(folder, "called.toml"), pathlib.Path(folder, "stale.toml")
+    profile.write_text((EXAMPLES / "mini.toml").read_text().replace("127.0.0.1:8080", f"127.0.0.1:{port}"))
+    script.write_text("schema = 1\nbase = 0\n")
+    words = ["--packages", str(EXAMPLES / "packages"), "--listen", f"127.0.0.1:{port}", "--operator", f"127.0.0.1:{operator}"]
+    process = subprocess.Popen([program, "serve", "--profile", str(profile), *words], stdout=subprocess.PIPE)
+    try:
+        process.stdout.readline()
+        yield calls(port, operator, str(script))
+    finally:
+        process.kill()
+        process.communicate()
+
+
+def tests_of(crate):
+    """The tests of a crate whose names end in `_without_memory`, by the names of their calls."""
+    path = str(TOP / "crates" / crate / "out" / f"{crate}_tests")
+    if not os.path.isfile(path):
+        sys.exit(f"{path} isn't built: make allocations builds it")
+    listed = subprocess.run([path, "--list"], capture_output=True, text=True, check=True).stdout
+    full = [line.removesuffix(": test") for line in listed.splitlines() if line.endswith("_without_memory: test")]
+    return [Test(name.rsplit("::", 1)[-1].removesuffix("_without_memory"), name, path) for name in full]
+
+
+def sweep(library, program, swept):
+    """Lets each call fail until a run has no such call: how many runs were wrong."""
+    shim = Shim(library, 0)
+    found = swept.once(program, shim)
+    if shim.came() or found:
+        print(f"{swept.name}: with memory: {found}")
+        return 1
+    call, wrong = 0, 0
+    while True:
+        call += 1
+        shim = Shim(library, call)
+        found = swept.once(program, shim)
+        if not shim.came():
+            break
+        if found:
+            wrong += 1
+            if wrong <= SHOWN:
+                print(f"  {swept.name}, call {call}: {found}")
+    print(f"{swept.name}: {call - 1} allocations, {call - 1} runs, {wrong} wrong", flush=True)
+    return wrong
 
 
 def main():
-    if not os.path.isfile(PROGRAM):
-        sys.exit(f"{PROGRAM} isn't built: make install builds it")
-    with tempfile.TemporaryDirectory() as folder:
+    reader = argparse.ArgumentParser(description="Lets each allocation fail in turn.")
+    reader.add_argument("--program", default=str(TOP / "crates" / "omaha" / "out" / "omaha"))
+    reader.add_argument("names", nargs="*", metavar="NAME")
+    arguments = reader.parse_args()
+    if not os.path.isfile(arguments.program):
+        sys.exit(f"{arguments.program} isn't built: make install builds it")
+    with tempfile.TemporaryDirectory(prefix="omaha-allocations-") as folder:
         library = built(folder)
-        status, reply, faults, failed = run(library, 0)
-        if failed or (status, faults) != (0, b"") or not reply.startswith(b")]}'\n"):
-            sys.exit(f"without a failing call: status {status}, {faults!r}")
-        call, refused, went_on = 1, 0, 0
-        while True:
-            status, output, faults, failed = run(library, call)
-            if not failed:
-                break
-            if (status, output, faults) == (1, b"", b"omaha: memory\n"):
-                refused += 1
-            elif (status, output, faults) == (0, reply, b""):
-                went_on += 1
-            else:
-                sys.exit(f"call {call} failing: status {status}, {output[:60]!r}, {faults[:60]!r}")
-            call += 1
-    print(f"{call - 1} allocations: {refused} end in `omaha: memory`, {went_on} can be done without")
+        with serving(arguments.program, folder) as called:
+            tests = [test for crate in CRATES for test in tests_of(crate)]
+            swept = [*tests, *commands(), *called, Serving(folder)]
+            chosen = [it for it in swept if not arguments.names or any(it.name.startswith(name) for name in arguments.names)]
+            wrong = sum(sweep(library, arguments.program, it) for it in chosen)
+    print(f"{len(chosen)} sweeps, {wrong} wrong")
+    if wrong:
+        sys.exit(1)
 
 
 if __name__ == "__main__":

@@ -544,6 +544,98 @@ def publishes_by_its_commands(program):
         expect("dump of nobody", call("dump", "--to", to), (1, b"", line))
 
 
+def raises_by_its_command(program):
+    """`raise` prints the reply; a dump has the raised budget, and no publish changes it."""
+    live = (EXAMPLES / "live.toml").read_text().replace("1000000000000", "1000")
+    with tempfile.TemporaryDirectory() as folder:
+        to = f"127.0.0.1:{free_port()}"
+        server = Server(program, folder, profile=live, more=["--operator", to])
+
+        def call(*words):
+            return run(program, folder, *words)
+
+        def raise_to(name, budget):
+            return call("raise", "--to", to, name, budget)
+
+        def budget():
+            return re.search(rb"budget = (\d+)", call("dump", "--to", to)[0])[1]
+
+        expect("an offer above the budget", operate_client(server), "error-internal")
+        expect("first budget", budget(), b"1000")
+        expect("a raise", raise_to("m0", "1960"), (b"raised m0 1960\n", b"", 0))
+        expect("an offer within the budget", operate_client(server), "ok")
+        expect("an offer above the rest", operate_client(server), "error-internal")
+        expect("a smaller one", raise_to("m0", "1959"), (b"refused B3 Lower 1960\n", b"", 1))
+        expect("an unknown mirror", raise_to("m9", "1"), (b"refused B1 UnknownMirror\n", b"", 1))
+        expect("too high", raise_to("m0", "9" * 40), (b"refused B2 TooHigh\n", b"", 1))
+        expect("no number", raise_to("m0", "1e9"), (b"bad raise\n", b"", 1))
+        expect("two words", raise_to("m0 ", "2000"), (b"bad raise\n", b"", 1))
+        expect("no name", raise_to("", "2000"), (b"bad raise\n", b"", 1))
+        script = (EXAMPLES / "scripts" / "stage.toml")
+        expect("a publish", call("publish", "--to", to, script), (b"edition 2\n", b"", 0))
+        expect("the budget after it", budget(), b"1960")
+        server.process.kill()
+        server.end()
+        expect("a raise of nobody", raise_to("m0", "2000"), (b"", f"omaha: net {to}\n".encode(), 1))
+
+
+def operate_client(server):
+    """The status of an update check for `mini`."""
+    with server.connect() as connection:
+        connection.sendall(post(ASK, b"Connection: close\r\n"))
+        _, body, _ = read_reply(connection)
+        return json.loads(body[5:])["response"]["app"][0]["updatecheck"]["status"]
+
+
+def raises_while_two_workers_serve(program):
+    """From the budget 0 to that of 60 offers, by one offer at a time: as many offers are made as the total says."""
+    live = (EXAMPLES / "live.toml").read_text().replace("1000000000000", "0")
+    with tempfile.TemporaryDirectory() as folder:
+        operator = free_port()
+        words = ["--operator", f"127.0.0.1:{operator}", "--edits", "60", "--workers", "2"]
+        server = Server(program, folder, sessions=2, profile=live, more=words)
+        made = []
+
+        def ask_on_and_on():
+            with server.connect() as connection:
+                kept = b""
+                for _ in range(400):
+                    connection.sendall(post(ASK))
+                    _, body, kept = read_reply(connection, kept)
+                    made.append(json.loads(body[5:])["response"]["app"][0]["updatecheck"]["status"])
+
+        clients = [threading.Thread(target=ask_on_and_on) for _ in range(2)]
+        for client in clients:
+            client.start()
+        raised = [operate(operator, f"raise m0 {1960 * count}".encode()) for count in range(1, 61)]
+        for client in clients:
+            client.join()
+        expect("raises", raised, [(200, f"raised m0 {1960 * count}\n".encode()) for count in range(1, 61)])
+        expect("statuses", set(made) <= {"ok", "error-internal"}, True)
+        expect("no more offers than the budget", made.count("ok") <= 60, True)
+        total = 1960 * made.count("ok")
+        expect("output and status", server.end(), (f"ready\nm0 {total}\n".encode(), b"", 0))
+
+
+def accepts_again_after_it_could_not(program):
+    """No more files for a while: the clients that come meanwhile are served later, or their connections end."""
+    with tempfile.TemporaryDirectory() as folder:
+        server = Server(program, folder)
+        expect("before", operate_client(server), "ok")
+        process = server.process.pid
+        was = resource.prlimit(process, resource.RLIMIT_NOFILE)
+        resource.prlimit(process, resource.RLIMIT_NOFILE, (3, was[1]))
+        with server.connect() as connection:
+            connection.settimeout(0.5)
+            connection.sendall(post(ASK, b"Connection: close\r\n"))
+            with contextlib.suppress(TimeoutError, ConnectionResetError):
+                expect("a reply without files", connection.recv(65536), b"")
+        resource.prlimit(process, resource.RLIMIT_NOFILE, was)
+        expect("after", [operate_client(server) for _ in range(3)], ["ok"] * 3)
+        server.process.kill()
+        expect("nothing on standard error", server.end()[1], b"")
+
+
 SCRIPT = """schema = 1
 base = {base}
 [[edit]]
@@ -620,6 +712,9 @@ def logs_whole_lines_of_all_workers(program):
 ALONE = [
     publishes_while_it_serves,
     publishes_by_its_commands,
+    raises_by_its_command,
+    raises_while_two_workers_serve,
+    accepts_again_after_it_could_not,
     never_goes_back_while_200_are_published,
     logs_whole_lines_of_all_workers,
     logs_each_reply,

@@ -14,6 +14,8 @@ mod client;
 #[cfg(test)]
 mod connection_tests;
 #[cfg(test)]
+mod corpus_tests;
+#[cfg(test)]
 mod counter;
 #[cfg(test)]
 mod desks;

@@ -78,7 +78,9 @@ const PROFILES: &str = "1_omaha:_file_nowhere.toml~ | once --profile nowhere.tom
 1_omaha:_file_fifo~ | publish --to 127.0.0.1:9 fifo
 1_omaha:_memory~ | publish --to 127.0.0.1:9 large.toml
 1_omaha:_net_127.0.0.1:9~ | publish --to 127.0.0.1:9 broken.toml
-1_omaha:_net_no%0Aaddress~ | dump --to no~address";
+1_omaha:_net_no%0Aaddress~ | dump --to no~address
+1_omaha:_net_127.0.0.1:9~ | raise --to 127.0.0.1:9 m0 510
+1_omaha:_net_127.0.0.1:9~ | raise --to 127.0.0.1:9 m9 x";
 
 // rule: Maximum of a profile
 #[test]
@@ -158,6 +160,9 @@ const MISTAKES: &str =
 2_error:_the_following_required_arguments_were_not_provided:~ | publish a
 2_error:_the_following_required_arguments_were_not_provided:~ | dump
 2_error:_unexpected_argument_'a'_found~ | dump --to b a
+2_error:_the_following_required_arguments_were_not_provided:~ | raise --to a m0
+2_error:_the_following_required_arguments_were_not_provided:~ | raise m0 5
+2_error:_unexpected_argument_'b'_found~ | raise --to a m0 5 b
 2_error:_unrecognized_subcommand_'a%C2%9Bb'~ | a\u{9b}b
 2_error:_unexpected_argument_'%1B[31m'_found~ | once \u{1b}[31m
 2_error:_the_following_required_arguments_were_not_provided:~ | serve --profile staged.toml
@@ -206,6 +211,7 @@ fn prints_help_and_version(rt: HostRuntime) {
         ("walk --help", "U8 Busy"),
         ("publish --help", "history full"),
         ("dump --help", "omaha dump --to"),
+        ("raise --help", "refused B3 Lower 510"),
         ("--version", "omaha 0.2.0\n"),
         ("-V", "omaha 0.2.0\n"),
     ];

@@ -4,6 +4,7 @@ use crate::ending::{failed, replied};
 use crate::shelf::Shelf;
 use catalogue::Fault;
 use explanations::{explain, list};
+use mirror_ledger::RaiseError;
 use omaha_cli::Failure;
 use omaha_json::RequestFault;
 use package_files::DescribeError;
@@ -56,6 +57,29 @@ fn is_edit_explained(alloc: Global, fault: Fault) -> bool {
 fn explains_each_fault_of_an_edit(rt: HostRuntime) {
     for fault in EDITS {
         assert!(rt; is_edit_explained(rt.alloc(), fault), "{fault}");
+    }
+}
+
+// Whether a fault of a raise has an explanation that begins with it, or with what comes before its number.
+fn is_raise_explained(alloc: Global, fault: RaiseError) -> bool {
+    match format!(in alloc; "{fault}") {
+        Ok(line) => {
+            let head = head_of(line.as_str());
+            line.as_str()
+                .starts_with(head.strip_suffix(" N").unwrap_or(head))
+        }
+        Err(_) => false,
+    }
+}
+
+#[test]
+fn explains_each_fault_of_a_raise(rt: HostRuntime) {
+    for fault in [
+        RaiseError::UnknownMirror,
+        RaiseError::TooHigh,
+        RaiseError::Lower(510),
+    ] {
+        assert!(rt; is_raise_explained(rt.alloc(), fault), "{fault}");
     }
 }
 

@@ -11,6 +11,8 @@ mod chained;
 #[cfg(test)]
 mod command_tests;
 #[cfg(test)]
+mod corpus_tests;
+#[cfg(test)]
 mod devices;
 #[cfg(test)]
 mod ending;

@@ -4,6 +4,7 @@ use crate::budget_tests::{ENOUGH, SCARCE};
 use crate::chained::{
     BETA, CHAINED, ELSEWHERE, HELD_BETA, OF_NONE, STABLE, TOO_LOW, UNKNOWN, UNPRICED, ZERO_FIRST,
 };
+use crate::corpus_tests::corpus_file;
 use crate::ending::{Ending, ends_over, shows};
 use crate::runs::ends_as_wanted;
 use crate::staged::{STAGED, UNRELEASED};
@@ -102,35 +103,43 @@ impl<R: Threads + Sync + Wait> Shelf<R> {
 /// A file that is read, fails, or has no end.
 #[derive(Drop)]
 pub(crate) struct Page {
-    // Its index among the files; of an empty file there is none.
-    place: usize,
-    // How many of its bytes were read.
+    // Its bytes, and how many of them were read.
+    bytes: Vec<u8>,
     done: usize,
     is_broken: bool,
     is_endless: bool,
 }
 
 impl Page {
-    // A file without bytes.
-    fn empty() -> Page {
+    // A file of these bytes.
+    fn of(bytes: Vec<u8>) -> Page {
         Page {
-            place: FILES.len(),
+            bytes,
             done: 0,
             is_broken: false,
             is_endless: false,
         }
     }
 
+    // A file without bytes.
+    fn empty(alloc: Global) -> Page {
+        Page::of(Vec::new(alloc))
+    }
+
     // The bytes that were not read yet.
-    fn left(&self) -> &'static [u8] {
-        match FILES.get(self.place) {
-            Some((_, text)) => {
-                let bytes = text.as_bytes();
-                &bytes[self.done.min(bytes.len())..]
-            }
-            None => b"".as_slice(),
+    fn left(&self) -> &[u8] {
+        &self.bytes[self.done.min(self.bytes.len())..]
+    }
+}
+
+// What a file has, among those above and those of the corpus.
+fn bytes_of(alloc: Global, path: &str) -> Option<&'static [u8]> {
+    for (name, text) in FILES.as_slice() {
+        if path == *name {
+            return Some(text.as_bytes());
         }
     }
+    corpus_file(alloc, path)
 }
 
 impl LogFile for Page {
@@ -189,28 +198,26 @@ impl<R> Files for Shelf<R> {
         if path == BROKEN {
             return Ok(Page {
                 is_broken: true,
-                ..Page::empty()
+                ..Page::empty(self.alloc)
             });
         }
         if path == "/dev/zero" {
             return Ok(Page {
                 is_endless: true,
-                ..Page::empty()
+                ..Page::empty(self.alloc)
             });
         }
         if path == LARGE {
             return Err(io::Error::from(ErrorKind::OutOfMemory));
         }
-        for (place, (name, _)) in FILES.iter().enumerate() {
-            if path == *name {
-                return Ok(Page {
-                    place,
-                    ..Page::empty()
-                });
-            }
+        if let Some(bytes) = bytes_of(self.alloc, path) {
+            return match Vec::from_slice(self.alloc, bytes) {
+                Ok(bytes) => Ok(Page::of(bytes)),
+                Err(_) => Err(io::Error::from(ErrorKind::OutOfMemory)),
+            };
         }
         if path == "fifo" {
-            return Ok(Page::empty());
+            return Ok(Page::empty(self.alloc));
         }
         Err(io::Error::from(ErrorKind::NotFound))
     }
@@ -229,12 +236,10 @@ impl<R> Files for Shelf<R> {
         if path == LARGE {
             return Err(io::Error::from(ErrorKind::OutOfMemory));
         }
-        for (name, text) in FILES.as_slice() {
-            if path == *name {
-                return Ok(Metadata::of_file(text.len() as u64));
-            }
+        match bytes_of(self.alloc, path) {
+            Some(bytes) => Ok(Metadata::of_file(bytes.len() as u64)),
+            None => Err(io::Error::from(ErrorKind::NotFound)),
         }
-        Err(io::Error::from(ErrorKind::NotFound))
     }
 
     // The same of a file of the folder `.`, where the one that can't be read may not be seen.

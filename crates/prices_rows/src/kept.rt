@@ -66,7 +66,8 @@ impl<R: Clock> Gate for Holder<'_, R> {
     }
 }
 
-fn are_same(left: &[Certified], right: &[Certified]) -> bool {
+/// Whether two lists of tables have the same keys and rows.
+pub(crate) fn are_same(left: &[Certified], right: &[Certified]) -> bool {
     if left.len() != right.len() {
         return false;
     }

@@ -22,6 +22,8 @@ mod kept;
 #[cfg(test)]
 mod offers;
 #[cfg(test)]
+mod out_of_memory_tests;
+#[cfg(test)]
 mod outcomes;
 #[cfg(test)]
 mod parallel;

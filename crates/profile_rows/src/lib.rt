@@ -13,6 +13,8 @@ mod floors;
 #[cfg(test)]
 mod limits;
 #[cfg(test)]
+mod out_of_memory_tests;
+#[cfg(test)]
 mod profiles;
 #[cfg(test)]
 mod rewriting;

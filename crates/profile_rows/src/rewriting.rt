@@ -14,8 +14,12 @@ fn catalogue_of(alloc: Global, batch: &Batch) -> Result<Catalogue, ReadError<Ref
     Catalogue::empty(alloc).applied(batch)
 }
 
-// Writes the catalogue of a batch.
-fn written(alloc: Global, batch: &Batch, mirrors: &[Mirror]) -> Result<Vec<u8>, ReadError<Refused>>
+/// Writes the catalogue of a batch.
+pub(crate) fn written(
+    alloc: Global,
+    batch: &Batch,
+    mirrors: &[Mirror],
+) -> Result<Vec<u8>, ReadError<Refused>>
     requires { AreMirrors mirrors.now }
 {
     let catalogue = catalogue_of(alloc, batch)?;

@@ -84,8 +84,15 @@ fn check_unknown(rt: &impl Abort, alloc: Global, want: &str) -> Result<(), Alloc
     check_reply(rt, alloc, app, want)
 }
 
-const UNKNOWN: &str = r#")]}'
+/// The reply for an unknown app.
+pub(crate) const UNKNOWN: &str = r#")]}'
 {"response":{"app":[{"appid":"\"\\\n","status":"error-unknownApplication"}],"daystart":{"elapsed_days":6940,"elapsed_seconds":3661},"protocol":"3.1"}}"#;
+
+/// The bytes that are written for it.
+pub(crate) fn unknown_bytes(alloc: Global) -> Result<Vec<u8>, AllocError> {
+    let app = app_of(alloc, "\"\\\n", AppState::Unknown)?;
+    written(alloc, app)
+}
 
 const PLAIN: &str = r#")]}'
 {"response":{"app":[{"appid":"é","cohort":"beta:7","cohortname":"beta","status":"ok"}],"daystart":{"elapsed_days":6940,"elapsed_seconds":3661},"protocol":"3.1"}}"#;

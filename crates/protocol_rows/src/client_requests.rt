@@ -75,8 +75,16 @@ fn check_request(rt: &impl Abort, alloc: Global, ask: AppAsk, want: &str) -> Res
     Ok(())
 }
 
-const DOWNGRADE: &str =
+/// The request of a client that may be downgraded.
+pub(crate) const DOWNGRADE: &str =
     r#"{"request":{"app":[{"appid":"demo","cohort":"","cohorthint":"be\"ta","packages":{"package":[{"fp":"1.x"}]},"updatecheck":{"rollback_allowed":true,"targetversionprefix":"4.","updatedisabled":false},"version":"1.0"}],"protocol":"3.1","sessionid":"abc"}}"#;
+
+/// The bytes that are written for it.
+pub(crate) fn downgrade_bytes(alloc: Global) -> Result<Vec<u8>, AllocError> {
+    let ask = downgrade(alloc)?;
+    let session = Text::copy_of(alloc, "abc")?;
+    written(alloc, session, ask)
+}
 
 // rule: Bytes of a request
 #[test]

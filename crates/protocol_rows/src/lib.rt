@@ -14,9 +14,13 @@ mod body;
 #[cfg(test)]
 mod client_requests;
 #[cfg(test)]
+mod corpus_tests;
+#[cfg(test)]
 mod countdown;
 #[cfg(test)]
 mod link;
+#[cfg(test)]
+mod out_of_memory_tests;
 #[cfg(test)]
 mod replies;
 #[cfg(test)]

@@ -58,8 +58,8 @@ fn client_in_session(alloc: Global, line: &str) -> Result<Client, AllocError> {
     with_word(alloc, client, word.as_str())
 }
 
-// A client of `demo`: `VERSION FP COHORT`, and perhaps such a word.
-fn client_of(alloc: Global, line: &str) -> Result<Client, AllocError> {
+/// A client of `demo`: `VERSION FP COHORT`, and perhaps such a word.
+pub(crate) fn client_of(alloc: Global, line: &str) -> Result<Client, AllocError> {
     let line = format!(in alloc; "abc {line}")?;
     client_in_session(alloc, line.as_str())
 }

@@ -1,0 +1,174 @@
+// Calls that run out of memory: what is then as before, and that the same call with memory succeeds.
+//
+// In the gate no allocation fails. `make allocations` lets each one of a test fail in turn, so of two tries one fails at most.
+
+use crate::rewriting::written;
+use catalogue::{Batch, Catalogue, Refused};
+use profile_toml::{read_profile, read_script};
+use std::alloc::Global;
+use values::ReadError;
+
+// Whether one of two tries came to what it should, and none to anything else; `None` is a try that ran out of memory.
+fn are_right(first: Option<bool>, second: Option<bool>) -> bool {
+    first != Some(false) && second != Some(false) && (first.is_some() || second.is_some())
+}
+
+// An app of two releases and a differential, as it is written.
+const WRITTEN: &str = r#"schema = 2
+
+[[app]]
+default = "stable"
+id = "demo"
+
+[[app.cohort]]
+name = "stable"
+target = "2.0"
+
+[[app.diff]]
+from = "1.0"
+name = "demo-1.0-2.0.bin"
+sha256 = "1212121212121212121212121212121212121212121212121212121212121212"
+size = 300
+to = "2.0"
+
+[[app.release]]
+audience = ["stable"]
+name = "demo-1.0.bin"
+sha256 = "1111111111111111111111111111111111111111111111111111111111111111"
+size = 1000
+version = "1.0"
+
+[[app.release]]
+floor = "1.0"
+name = "demo-2.0.bin"
+sha256 = "2222222222222222222222222222222222222222222222222222222222222222"
+size = 1200
+version = "2.0"
+
+[[mirror]]
+budget = 1000
+codebase = "http://m0.example/p/"
+name = "m0"
+"#;
+
+// Whether a profile is read as its edits and its mirror.
+fn reads_profile(alloc: Global) -> Option<bool> {
+    match read_profile(alloc, WRITTEN.as_bytes()) {
+        Ok((batch, mirrors)) => Some(batch.edits().len() == 7 && mirrors.len() == 1),
+        Err(ReadError::Memory) => None,
+        Err(ReadError::Fault(_)) => Some(false),
+    }
+}
+
+// rule: Tables of a profile
+#[test]
+fn read_profile_without_memory(rt: HostRuntime) {
+    assert!(rt; are_right(reads_profile(rt.alloc()), reads_profile(rt.alloc())));
+}
+
+const SCRIPT: &str = "schema = 1
+base = 7
+edit = [
+    { do = 'add_cohort', app = 'demo', cohort = 'beta' },
+    { do = 'set_audience', app = 'demo', version = '1.0', cohorts = ['beta', 'stable'] },
+]
+";
+
+// Whether a script is read as its base and its edits.
+fn reads_script(alloc: Global) -> Option<bool> {
+    match read_script(alloc, SCRIPT.as_bytes()) {
+        Ok((base, batch)) => Some(base == 7 && batch.edits().len() == 2),
+        Err(ReadError::Memory) => None,
+        Err(ReadError::Fault(_)) => Some(false),
+    }
+}
+
+// rule: Tables of a script
+#[test]
+fn read_script_without_memory(rt: HostRuntime) {
+    assert!(rt; are_right(reads_script(rt.alloc()), reads_script(rt.alloc())));
+}
+
+// Whether a profile is written as it is.
+fn writes_profile(alloc: Global) -> Option<bool> {
+    profile_toml::laws::mirrors();
+    let Ok((batch, mirrors)) = read_profile(alloc, WRITTEN.as_bytes()) else {
+        return None;
+    };
+    let bytes = written(alloc, &batch, mirrors.as_slice()).ok()?;
+    Some(bytes.as_slice() == WRITTEN.as_bytes())
+}
+
+// rule: Written app
+#[test]
+fn write_profile_without_memory(rt: HostRuntime) {
+    assert!(rt; are_right(writes_profile(rt.alloc()), writes_profile(rt.alloc())));
+}
+
+fn batch_of(alloc: Global) -> Option<Batch> {
+    match read_profile(alloc, WRITTEN.as_bytes()) {
+        Ok((batch, _mirrors)) => Some(batch),
+        Err(_) => None,
+    }
+}
+
+// Whether a catalogue has the app with its releases and its differential.
+fn is_made(catalogue: &Catalogue) -> bool {
+    catalogue.apps().len() == 1
+        && catalogue.releases(0).len() == 2
+        && catalogue.diffs(0).len() == 1
+        && catalogue.package("demo-2.0.bin").is_some()
+}
+
+// Applies a batch, and again if memory ran out and nothing was changed.
+fn apply_again(catalogue: &mut Catalogue, batch: &Batch) -> Result<(), ReadError<Refused>> {
+    match catalogue.apply(batch) {
+        Err(ReadError::Memory) if catalogue.apps().is_empty() => catalogue.apply(batch),
+        applied => applied,
+    }
+}
+
+fn applies(alloc: Global) -> Option<bool> {
+    let batch = batch_of(alloc)?;
+    let mut catalogue = Catalogue::empty(alloc);
+    let applied = apply_again(&mut catalogue, &batch);
+    Some(applied.is_ok() && is_made(&catalogue))
+}
+
+// rule: Batch
+#[test]
+fn apply_without_memory(rt: HostRuntime) {
+    assert!(rt; are_right(applies(rt.alloc()), applies(rt.alloc())));
+}
+
+fn catalogue_of(alloc: Global) -> Option<Catalogue> {
+    let batch = batch_of(alloc)?;
+    Catalogue::empty(alloc).applied(&batch).ok()
+}
+
+// Whether a catalogue's copy is like it, and the catalogue as it was.
+fn copies_catalogue(alloc: Global) -> Option<bool> {
+    let catalogue = catalogue_of(alloc)?;
+    let copy = catalogue.copy();
+    if !is_made(&catalogue) {
+        return Some(false);
+    }
+    Some(is_made(&copy.ok()?))
+}
+
+#[test]
+fn catalogue_copy_without_memory(rt: HostRuntime) {
+    assert!(rt; are_right(copies_catalogue(rt.alloc()), copies_catalogue(rt.alloc())));
+}
+
+// Whether the copy of a batch makes the catalogue that the batch makes.
+fn copies_batch(alloc: Global) -> Option<bool> {
+    let copy = batch_of(alloc)?.copy().ok()?;
+    let catalogue = Catalogue::empty(alloc).applied(&copy).ok()?;
+    Some(is_made(&catalogue))
+}
+
+#[test]
+fn batch_copy_without_memory(rt: HostRuntime) {
+    assert!(rt; are_right(copies_batch(rt.alloc()), copies_batch(rt.alloc())));
+}
