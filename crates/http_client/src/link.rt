@@ -17,7 +17,7 @@ pub const UPDATE_PATH: &str = "/service/update2/json";
 /// The most bytes that the body of the reply to an update check may have.
 pub const MAX_REPLY: u64 = 1_048_576;
 
-/// The link to a server over TCP, with a connection for each post and each download.
+/// The link to a server over TCP, with a connection for each post and each download; a post ends the download before it.
 ///
 /// It posts to a host, and downloads from wherever an address says. Each read and each write of a connection
 /// has a time limit.
@@ -87,7 +87,9 @@ impl<'a, R: Net<Listener = TcpListener, Stream = TcpStream>> Link for HttpLink<'
 
     ghost failures = { λ link. length link.failures };
 
+    // Without the connection of the last download: a server of one worker may wait for its end.
     fn post(&mut self, alloc: Global, body: &[u8]) -> Result<Vec<u8>, Failed> {
+        self.stream = None;
         match self.check(alloc, body) {
             Ok(reply) => {
                 self.posts.push(&(Trace::of(body), Trace::of(&reply.body)));
