@@ -275,8 +275,6 @@ def serving(program, folder):
     profile.write_text((EXAMPLES / "mini.toml").read_text().replace("127.0.0.1:8080", f"127.0.0.1:{port}"))
     script.write_text("schema = 1\nbase = 0\n")
     words = ["--packages", str(EXAMPLES / "packages"), "--listen", f"127.0.0.1:{port}", "--operator", f"127.0.0.1:{operator}"]
-    # (one worker alone waits a second for a client that keeps its download open)
-    words += ["--workers", "2"]
     process = subprocess.Popen([program, "serve", "--profile", str(profile), *words], stdout=subprocess.PIPE)
     try:
         process.stdout.readline()
