@@ -302,8 +302,8 @@ fn is_dash(path: &str) -> bool
 
 // rule: Run of a server
 // rule: Edges of a server
-/// Serves a service's update checks and its packages, takes the operator's scripts, and prints the mirrors' totals at
-/// the end.
+/// Serves a service's update checks and its packages, takes the operator's scripts and raises of budgets, and prints the
+/// mirrors' totals at the end.
 ///
 /// Opens the log, if there is to be one, looks for the folder of packages, publishes the edition, binds the addresses,
 /// prints `ready`, opens books of the mirrors' budgets, and lets its workers begin together, each in a thread of its

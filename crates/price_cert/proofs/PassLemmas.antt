@@ -25,7 +25,7 @@ list_all-each p each [] = refl
 list_all-each p each (x ∷ xs) = and_from (p x) (list_all p xs) (each x) (list_all-each p each xs)
 
 -- the row of the target breaks no rule
-unbroken-target : (net : Net) (rows : List Row) → broken_rule net rows net.target End ≡ None
+pub unbroken-target : (net : Net) (rows : List Row) → broken_rule net rows net.target End ≡ None
 unbroken-target net rows =
     unbroken (ends_at_target net.target net.target End) (meets_bounds net rows net.target End) true true
     (eq-eqb net.target net.target refl)
@@ -37,7 +37,7 @@ unbroken-target net rows =
     at_most (Some rest) bytes = le-leb 0 (bytes + rest) (omega arith)
 
 -- nor does the best row of another release
-unbroken-best :
+pub unbroken-best :
     (net : Net) (rows : List Row) (from : ℕ) → (from ≡ net.target → ⊥) → (row : Row) →
     IsBest rows (edges_from net from) row → broken_rule net rows from row ≡ None
 unbroken-best net rows from apart row best =

@@ -1,10 +1,10 @@
 //! The desks of a service that publishes: a worker's, which replies to update checks, and the operator's, which
-//! publishes scripts and dumps the catalogue.
+//! publishes scripts, raises budgets and dumps the catalogue.
 //!
 //! A `Worker` is the `Desk` of `http_desks` that enters the published edition for each request, and replies from that
 //! edition alone, by what its till grants: read `specs/Entries.antt` and `specs/Workers.antt`. An `Operator` is the
-//! desk that holds the press: read `specs/Scripts.antt` and `specs/Operators.antt`. `perform_script` publishes a script
-//! without a desk.
+//! desk that borrows the press and the budgets: read `specs/Scripts.antt`, `specs/Raises.antt` and
+//! `specs/Operators.antt`. `perform_script` publishes a script without a desk.
 //!
 //! It opens no press and no books, reads no stream and starts no session.
 
