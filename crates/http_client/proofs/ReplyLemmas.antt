@@ -6,8 +6,8 @@ use Rattle.http_wire.specs.Devices.{Came}
 use Rattle.http_client_heads.specs.Starts.{StartFound}
 use Rattle.http_client_heads.specs.declared.start.Start.{Start}
 use Rattle.http_client.specs.Replies.{Announces, PostedWithin, ReplyRead, RestRead, failed_writes}
-use Rattle.http_client.specs.declared.fault.LinkFault.{LinkFault}
-use Rattle.http_client.specs.declared.fault.LinkFault.TheVariants as fault
+use Rattle.http_client_heads.specs.declared.fault.LinkFault.{LinkFault}
+use Rattle.http_client_heads.specs.declared.fault.LinkFault.TheVariants as fault
 use Rattle.http_client.specs.declared.posting.Reply.{Reply}
 use Rattle.http_client.proofs.KnownLemmas.{Consumes-then}
 
@@ -123,7 +123,12 @@ reply_broken limit old between new held first body start count fault.Memory cons
 reply_broken limit old between new held first body start count fault.Address consumed found least is_first rest = absurd rest
 reply_broken limit old between new held first body start count fault.Connect consumed found least is_first rest = absurd rest
 reply_broken limit old between new held first body start count fault.Write consumed found least is_first rest = absurd rest
-reply_broken limit old between new held first body start count (fault.Head other) consumed found least is_first rest = absurd rest
+reply_broken limit old between new held first body start count fault.NoHead consumed found least is_first rest = absurd rest
+reply_broken limit old between new held first body start count fault.ManyFields consumed found least is_first rest = absurd rest
+reply_broken limit old between new held first body start count fault.TransferCoding consumed found least is_first rest = absurd rest
+reply_broken limit old between new held first body start count fault.NoLength consumed found least is_first rest = absurd rest
+reply_broken limit old between new held first body start count fault.TwoLengths consumed found least is_first rest = absurd rest
+reply_broken limit old between new held first body start count fault.BadLength consumed found least is_first rest = absurd rest
 reply_broken limit old between new held first body start count fault.Long consumed found least is_first rest = absurd rest
 reply_broken limit old between new held first body start count fault.Status consumed found least is_first rest = absurd rest
 
@@ -133,12 +138,17 @@ pub posted_within :
     (failed_writes result ≡ 0 → ReplyRead limit old new result) →
     PostedWithin limit result
 posted_within limit old new (Ok reply) read = let (bytes, rest, consumed, announced, short) = read refl in short
-posted_within limit old new (Err fault.Address) read = absurd (read refl)
-posted_within limit old new (Err fault.Status) read = absurd (read refl)
+posted_within limit old new (Err fault.Address) read = absurd (read refl).0
+posted_within limit old new (Err fault.Status) read = absurd (read refl).0
 posted_within limit old new (Err fault.Connect) read = tt
 posted_within limit old new (Err fault.Memory) read = tt
 posted_within limit old new (Err fault.Write) read = tt
 posted_within limit old new (Err fault.Read) read = tt
-posted_within limit old new (Err (fault.Head why)) read = tt
+posted_within limit old new (Err fault.NoHead) read = tt
+posted_within limit old new (Err fault.ManyFields) read = tt
+posted_within limit old new (Err fault.TransferCoding) read = tt
+posted_within limit old new (Err fault.NoLength) read = tt
+posted_within limit old new (Err fault.TwoLengths) read = tt
+posted_within limit old new (Err fault.BadLength) read = tt
 posted_within limit old new (Err fault.Ended) read = tt
 posted_within limit old new (Err fault.Long) read = tt

@@ -2,8 +2,8 @@
 use Rattle.std.specs.Prelude.{◌≡◌, ◌+◌, ◌⊎◌, ℕ, List, [], ◌++◌, take, drop, Option, Result, Ok, Err}
 use Rattle.std.specs.Io.KnownBytes.{Consumes, IsAtEnd, Keeps}
 use Rattle.http_client.specs.declared.body.Body.{Body}
-use Rattle.http_client.specs.declared.fault.LinkFault.{LinkFault}
-use Rattle.http_client.specs.declared.fault.LinkFault.TheVariants as fault
+use Rattle.http_client_heads.specs.declared.fault.LinkFault.{LinkFault}
+use Rattle.http_client_heads.specs.declared.fault.LinkFault.TheVariants as fault
 use Rattle.http_client.specs.Replies.{Announces, HeadFails}
 
 -- the bytes that were read after the head, and not yet handed on

@@ -4,10 +4,11 @@ use Rattle.std.specs.Io.KnownBytes.{Appends, Consumes, IsAtEnd, Keeps}
 use Rattle.httparse.specs.Grammar.{ResponseHead, ReadsResponse, status_code}
 use Rattle.http_wire.specs.Devices.{Came}
 use Rattle.http_wire.specs.Sending.{AppendsPart}
+use Rattle.http_client_heads.specs.Lengths.{IsHeadFault}
 use Rattle.http_client_heads.specs.Starts.{StartFound, length_after}
 use Rattle.http_client_heads.specs.declared.start.Start.{Start}
-use Rattle.http_client.specs.declared.fault.LinkFault.{LinkFault}
-use Rattle.http_client.specs.declared.fault.LinkFault.TheVariants as fault
+use Rattle.http_client_heads.specs.declared.fault.LinkFault.{LinkFault}
+use Rattle.http_client_heads.specs.declared.fault.LinkFault.TheVariants as fault
 use Rattle.http_client.specs.declared.posting.Reply.{Reply}
 
 -- bytes that are a head with that status, which announces a body of that size, and then the rest
@@ -23,11 +24,10 @@ IsBroken other = ⊥
 
 -- why a head was not read: other bytes, or fewer
 abbrev pub HeadFails : Option (List ℕ) → Option (List ℕ) → List ℕ → LinkFault → Type 0
-HeadFails old new bytes (fault.Head why) = Consumes old new bytes × StartFound bytes (Err why)
 HeadFails old new bytes fault.Ended = Consumes old new bytes × StartFound bytes (Ok None) × IsAtEnd new
 HeadFails old new bytes fault.Memory = ⊤
 HeadFails old new bytes fault.Read = ⊤
-HeadFails old new bytes other = ⊥
+HeadFails old new bytes why = IsHeadFault why × Consumes old new bytes × StartFound bytes (Err why)
 
 -- the bytes that were read begin with a head; or why not
 abbrev pub HeadRead : Option (List ℕ) → Option (List ℕ) → List ℕ → Result Start LinkFault → Type 0
@@ -55,15 +55,14 @@ abbrev pub ReplyRead : ℕ → Option (List ℕ) → Option (List ℕ) → Resul
 ReplyRead limit old new (Ok reply) = (bytes : List ℕ) × (rest : List ℕ) × Consumes old new bytes
     × Announces bytes reply.status (length reply.body.items) (reply.body.items ++ rest)
     × (length reply.body.items ≤ limit)
-ReplyRead limit old new (Err (fault.Head why)) =
-    (bytes : List ℕ) × Consumes old new bytes × StartFound bytes (Err why)
 ReplyRead limit old new (Err fault.Ended) =
     (bytes : List ℕ) × Consumes old new bytes × IsPart bytes × IsAtEnd new
 ReplyRead limit old new (Err fault.Long) = (bytes : List ℕ) × (code : ℕ) × (size : ℕ) × (rest : List ℕ)
     × Consumes old new bytes × Announces bytes code size rest × (limit < size)
 ReplyRead limit old new (Err fault.Memory) = ⊤
 ReplyRead limit old new (Err fault.Read) = ⊤
-ReplyRead limit old new (Err other) = ⊥
+ReplyRead limit old new (Err why) = IsHeadFault why
+    × ((bytes : List ℕ) × Consumes old new bytes × StartFound bytes (Err why))
 
 -- a fault of a post to a host: one that neither an address nor the status of a reply can be
 abbrev pub IsPostFault : LinkFault → Type 0

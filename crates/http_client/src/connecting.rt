@@ -3,10 +3,9 @@ ghost use Rattle.http_client.specs.Bodies.{left_of};
 ghost use Rattle.http_client.specs.Replies.{PostedWithin};
 
 use crate::body::Body;
-use crate::fault::LinkFault;
 use crate::opening::open_over;
 use crate::posting::{Reply, post_over};
-use http_client_heads::{Address, Post, parse_address};
+use http_client_heads::{Address, LinkFault, Post, parse_address};
 use http_devices::{Reading, Writing};
 use http_wire::Failed;
 use std::alloc::Global;

@@ -4,9 +4,8 @@ ghost use Rattle.update_client.specs.Installing.{posted};
 
 use crate::body::Body;
 use crate::connecting::{open_at, post_to, read_from};
-use crate::fault::LinkFault;
 use crate::posting::Reply;
-use http_client_heads::Post;
+use http_client_heads::{LinkFault, Post};
 use std::alloc::Global;
 use std::net::{Net, TcpListener, TcpStream};
 use update_client::{Failed, Link, Trace};

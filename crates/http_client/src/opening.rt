@@ -4,9 +4,8 @@ ghost use Rattle.http_client.specs.Bodies.{BodyOpened};
 ghost use Rattle.http_client.specs.Replies.{RequestWritten, failed_reads, failed_writes};
 
 use crate::body::Body;
-use crate::fault::LinkFault;
 use crate::reading::{BLOCK, read_head};
-use http_client_heads::{Address, get_request};
+use http_client_heads::{Address, LinkFault, get_request};
 use http_wire::{Sink, Source, send};
 use std::alloc::Global;
 

@@ -2,9 +2,8 @@ ghost use Rattle.std.specs.Prelude.{◌≡◌, ◌+◌, ◌≤◌, ◌<◌, leng
 ghost use Rattle.http_client_heads.specs.Requests.{post_request};
 ghost use Rattle.http_client.specs.Replies.{ReplyRead, RequestWritten, RestRead, accepted_reply, failed_reads, failed_writes};
 
-use crate::fault::LinkFault;
 use crate::reading::{BLOCK, read_head, read_more};
-use http_client_heads::{Post, post_request};
+use http_client_heads::{LinkFault, Post, post_request};
 use http_wire::{Sink, Source, send};
 use std::alloc::Global;
 

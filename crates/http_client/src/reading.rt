@@ -2,8 +2,7 @@ ghost use Rattle.std.specs.Prelude.{◌≡◌, ◌+◌, ◌-◌, ◌<◌, ◌≤
 ghost use Rattle.http_wire.specs.Devices.{Given};
 ghost use Rattle.http_client.specs.Replies.{HeadRead, IsBroken, failed_reads};
 
-use crate::fault::LinkFault;
-use http_client_heads::{MAX_HEAD, Start, read_start};
+use http_client_heads::{LinkFault, MAX_HEAD, Start, read_start};
 use http_wire::Source;
 
 /// How many bytes a read of a head or of a post's reply takes at most.

@@ -3,7 +3,7 @@
 use Rattle.std.specs.Prelude.{ℕ, Bool, ◌&&◌, ◌||◌, ◌==◌, not, nat_lt, List, length, Option, None, Some, Result, Ok, Err, if◌then◌else◌, bytes_eq, codes}
 use Rattle.std.specs.List.{list_all, position_or_len, before_first, after_first}
 use Rattle.std.specs.Char.{is_ascii_alphanumeric, is_ascii_hexdigit}
-use Rattle.http_client_heads.specs.declared.fault.ReplyFault.{ReplyFault}
+use Rattle.http_client_heads.specs.declared.fault.LinkFault.{LinkFault}
 use Rattle.http_client_heads.specs.Lengths.{length_in}
 use Rattle.http_client_heads.specs.declared.address.Address.{Address}
 
@@ -51,7 +51,7 @@ split_at mark text =
     else None
 
 -- a number as a port, if it is below 65536
-abbrev pub port_of : Result ℕ ReplyFault → Option ℕ
+abbrev pub port_of : Result ℕ LinkFault → Option ℕ
 port_of (Ok number) = if nat_lt number 65536 then Some number else None
 port_of (Err why) = None
 

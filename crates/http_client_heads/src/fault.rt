@@ -1,6 +1,20 @@
-/// Why the head of a reply is rejected.
+use std::alloc::AllocError;
+
+/// Why a post or a download failed.
+///
+/// A head that is rejected gives `NoHead` to `BadLength`, and nothing else does.
 #[derive(Clone, Copy, Debug, Drop, PartialEq, Eq)]
-pub enum ReplyFault {
+pub enum LinkFault {
+    /// The address of a download is invalid.
+    Address,
+    /// No connection could be made, or a time limit could not be set.
+    Connect,
+    /// Out of memory.
+    Memory,
+    /// A write failed.
+    Write,
+    /// A read failed.
+    Read,
     /// No head, whatever follows, or no whole head in `MAX_HEAD` bytes.
     NoHead,
     /// More than `MAX_FIELDS` fields.
@@ -13,4 +27,21 @@ pub enum ReplyFault {
     TwoLengths,
     /// A `Content-Length` that isn't a decimal number below 2^64.
     BadLength,
+    /// The input ended before the head or, at a post, before the body.
+    Ended,
+    /// The body of a post's reply is announced with more bytes than the caller's limit.
+    Long,
+    /// The reply has another status than 200; so a redirect as well.
+    Status,
+}
+
+impl From<AllocError> for LinkFault {
+    ghost use Rattle.std.specs.Prelude.{◌≡◌};
+    ghost use Rattle.http_client_heads.specs.declared.fault.LinkFault.TheVariants.{Memory};
+
+    ghost from_gives = { λ _ fault. fault ≡ Memory };
+
+    fn from(_refused: AllocError) -> LinkFault {
+        LinkFault::Memory
+    }
 }

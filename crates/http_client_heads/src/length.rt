@@ -1,9 +1,9 @@
-ghost use Rattle.std.specs.Prelude.{◌≡◌, ◌∷◌, [], length, map, All, MatchOption};
+ghost use Rattle.std.specs.Prelude.{◌≡◌, ◌∷◌, [], length, map, All, IfErr, MatchOption};
 ghost use Rattle.httparse.specs.Spans.{IsHeaderWithin, header_bytes};
 ghost use Rattle.http_heads.specs.Fields.{is_named, values_named};
-ghost use Rattle.http_client_heads.specs.Lengths.{body_length, length_in};
+ghost use Rattle.http_client_heads.specs.Lengths.{IsHeadFault, body_length, length_in};
 
-use crate::fault::ReplyFault;
+use crate::fault::LinkFault;
 use httparse::spans::HeaderSpan;
 
 // The first length that is too long: 2^64.
@@ -39,21 +39,22 @@ fn find_value<'a>(
 }
 
 /// Returns the number that decimal digits write, if it is below 2^64.
-pub(crate) fn read_length(value: &[u8]) -> Result<u64, ReplyFault>
-    ensures { result ≡ length_in value.now }
+pub(crate) fn read_length(value: &[u8]) -> Result<u64, LinkFault>
+    ensures value { result ≡ length_in value.now }
+    ensures err { IfErr result IsHeadFault }
 {
     if value.is_empty() {
-        return Err(ReplyFault::BadLength);
+        return Err(LinkFault::BadLength);
     }
     let mut number: u128 = 0;
     for byte in value {
         if !byte.is_ascii_digit() {
-            return Err(ReplyFault::BadLength);
+            return Err(LinkFault::BadLength);
         }
         number = (number * 10 + u128::from(*byte - b'0')).min(TOO_LONG);
     }
     if number >= TOO_LONG {
-        return Err(ReplyFault::BadLength);
+        return Err(LinkFault::BadLength);
     }
     Ok(number as u64)
 }
@@ -64,18 +65,19 @@ pub(crate) fn read_length(value: &[u8]) -> Result<u64, ReplyFault>
 /// `fields` are places in `buf`. In this order: a `Transfer-Encoding`; no `Content-Length`, or two; one that isn't a
 /// decimal number below 2^64.
 #[tactic(auto, unfolding(crate::specs::Lengths::body_length))]
-pub fn body_length(buf: &[u8], fields: &[HeaderSpan]) -> Result<u64, ReplyFault>
+pub fn body_length(buf: &[u8], fields: &[HeaderSpan]) -> Result<u64, LinkFault>
     requires { All (IsHeaderWithin (length buf.now)) fields.now }
-    ensures { result ≡ body_length (map (header_bytes buf.now) fields.now) }
+    ensures value { result ≡ body_length (map (header_bytes buf.now) fields.now) }
+    ensures err { IfErr result IsHeadFault }
 {
     if find_value(buf, fields, b"transfer-encoding").is_some() {
-        return Err(ReplyFault::TransferCoding);
+        return Err(LinkFault::TransferCoding);
     }
     let Some((value, rest)) = find_value(buf, fields, b"content-length") else {
-        return Err(ReplyFault::NoLength);
+        return Err(LinkFault::NoLength);
     };
     if find_value(buf, rest, b"content-length").is_some() {
-        return Err(ReplyFault::TwoLengths);
+        return Err(LinkFault::TwoLengths);
     }
     read_length(value)
 }

@@ -1,7 +1,7 @@
 ghost use Rattle.std.specs.Prelude.{◌≡◌};
 ghost use Rattle.http_client_heads.specs.Starts.{StartFound};
 
-use crate::fault::ReplyFault;
+use crate::fault::LinkFault;
 use crate::length::body_length;
 use httparse::spans::{EMPTY_HEADER_SPAN, parse_response};
 use httparse::{Error, Status};
@@ -29,7 +29,7 @@ pub struct Start {
 /// Returns `None` if there are less than `MAX_HEAD` bytes, and more can make them a head. Errors are those
 /// of `body_length` after a whole head, and before it: bytes that can't become a head, `MAX_HEAD` bytes or
 /// more without a whole head, more than `MAX_FIELDS` fields.
-pub fn read_start(bytes: &[u8]) -> Result<Option<Start>, ReplyFault>
+pub fn read_start(bytes: &[u8]) -> Result<Option<Start>, LinkFault>
     ensures { StartFound bytes.now result }
 {
     let mut fields = [EMPTY_HEADER_SPAN; MAX_FIELDS];
@@ -45,8 +45,8 @@ pub fn read_start(bytes: &[u8]) -> Result<Option<Start>, ReplyFault>
             }
         }
         Ok(Status::Partial) if bytes.len() < MAX_HEAD => Ok(None),
-        Ok(Status::Partial) => Err(ReplyFault::NoHead),
-        Err(Error::TooManyHeaders) => Err(ReplyFault::ManyFields),
-        Err(_) => Err(ReplyFault::NoHead),
+        Ok(Status::Partial) => Err(LinkFault::NoHead),
+        Err(Error::TooManyHeaders) => Err(LinkFault::ManyFields),
+        Err(_) => Err(LinkFault::NoHead),
     }
 }
