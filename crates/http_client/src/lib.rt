@@ -19,7 +19,7 @@ mod reading;
 
 pub use crate::body::Body;
 pub use crate::connecting::post_to;
-pub pub use crate::link::{HttpLink, MAX_REPLY, UPDATE_PATH};
+pub use crate::link::{HttpLink, MAX_REPLY, UPDATE_PATH};
 pub use crate::opening::open_over;
 pub use crate::posting::{Reply, post_over};
 pub use http_client_heads::LinkFault;

@@ -1,1 +1,2 @@
 mod JobLemmas
+mod PortionLemmas

@@ -2,7 +2,7 @@
 //!
 //! `run_together` gives each `Job` a thread of its own, lets all begin once each has one, does the caller's `OwnJob`
 //! beside them, and returns what each came to; a job that did not begin is given back. A `Gate` is called as a thread
-//! begins. `portion_of` divides a number among workers. Read `specs/Jobs.antt` and `specs/Portions.antt`.
+//! begins. `portion_of` divides a number among workers, whose portions add up to it. Read `specs/Jobs.antt` and `specs/Portions.antt`.
 //!
 //! It does not promise that a job ends.
 
@@ -10,6 +10,7 @@
 
 mod gate;
 mod job;
+pub mod laws;
 mod portion;
 mod start;
 mod started;
