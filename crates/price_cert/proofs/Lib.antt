@@ -4,7 +4,7 @@ mod InductionLemmas
 mod LeastLemmas
 mod OpeningLemmas
 mod PairLemmas
-mod PassLemmas
+pub mod PassLemmas
 mod RuleLemmas
 mod SmallLemmas
 mod StepLemmas
