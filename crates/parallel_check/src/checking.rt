@@ -40,7 +40,7 @@ fn passes_in_pieces(rt: &(impl Threads + Sync), graph: &Graph, rows: &[Row]) -> 
     ensures { IsTrue result → AreCertified graph.now rows.now }
 {
     let _bounded = graph.doors();
-    if rows.len() < MIN_ROWS {
+    if rows.len() < MIN_ROWS || current_num_threads(rt) == 1 {
         return false;
     }
     rows[graph.target()] == Row::End && are_pieces_unbroken(rt, graph, rows)
@@ -96,11 +96,11 @@ fn find_wrong(rt: &(impl Threads + Sync), graph: &Graph, rows: &[Row]) -> Option
 // rule: Certified table
 /// Checks a table of prices against the graph of its track, and returns what `check` of `price_cert` does.
 ///
-/// The table has the graph's key and a row for each release. If there are at least 384 rows, two threads test a half
-/// of the rows each, in one go along the releases. If a row doesn't pass, the calling thread goes along all of them,
-/// from the highest version, until it finds the first wrong row. So a wrong table takes as few steps as a right one.
-/// On one processor, or if a price is above that of 511 packages of the largest size, it calls `check`. It takes no
-/// memory.
+/// The table has the graph's key and a row for each release. If there are several processors and at least 384
+/// rows, two threads test a half of the rows each, in one go along the releases. If a row doesn't pass, the calling
+/// thread goes along all of them, from the highest version, until it finds the first wrong row. So a wrong table takes
+/// as few steps as a right one. If a price is above that of 511 packages of the largest size, it calls `check`. It
+/// takes no memory.
 pub fn check_parallel(
     rt: &(impl Threads + Sync),
     graph: &Graph,
@@ -115,7 +115,7 @@ pub fn check_parallel(
     ensures wrong { IfErr result (λ refusal. IsFirstWrong graph.now prices.rows refusal.0) }
     ensures given_back { IfErr result (λ refusal. refusal.1 ≡ prices) }
 {
-    if current_num_threads(rt) == 1 || !are_prices_small(prices.rows.as_slice()) {
+    if !are_prices_small(prices.rows.as_slice()) {
         return check(graph, prices);
     }
     match find_wrong(rt, graph, prices.rows.as_slice()) {
