@@ -32,8 +32,8 @@ fn read_opening<S: Source>(alloc: Global, source: &mut S) -> Result<Body, LinkFa
 // rule: Request that a link writes
 /// Requests the download at an address, and reads the head of the reply.
 ///
-/// Errors: `Memory`, `Write`, and of the reply `Read`, `Head`, `Ended` and `Status`, which say that the input failed,
-/// that the head is rejected, that it isn't whole, or that its status isn't 200.
+/// Errors: `Memory`, `Write`, and of the reply `Read`, those of `read_start`, `Ended` and `Status`, which say that the
+/// input failed, that the head is rejected, that it isn't whole, or that its status isn't 200.
 pub fn open_over<S: Source, W: Sink>(
     alloc: Global,
     source: &mut S,

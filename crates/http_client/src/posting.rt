@@ -74,8 +74,8 @@ fn read_reply<S: Source>(alloc: Global, source: &mut S, limit: u64) -> Result<Re
 // rule: Request that a link writes
 /// Posts, and returns the reply, whatever its status; its body may have as many bytes as the limit.
 ///
-/// Errors: `Memory`, `Write`, and of the reply `Read`, `Head`, `Long` and `Ended`, which say that the input
-/// failed, that the head is rejected, that more bytes are announced than the limit, or that the reply isn't whole.
+/// Errors: `Memory`, `Write`, and of the reply `Read`, those of `read_start`, `Long` and `Ended`, which say that the
+/// input failed, that the head is rejected, that more bytes are announced than the limit, or that the reply isn't whole.
 pub fn post_over<S: Source, W: Sink>(
     alloc: Global,
     source: &mut S,
