@@ -1,8 +1,9 @@
 //! Rows of requests and replies whose bytes and records were worked out by hand, of a server and of a client.
 //!
 //! `requests` has the bytes of requests, hostile ones too, and `bodies` records of replies;
-//! `client_requests` what a client writes and `replies` what it reads; `walks` and
-//! `update_client_replies` an update client over memory: what its downloads hold, and how far it goes.
+//! `client_requests` what a client writes and `replies` what it reads; `walks`,
+//! `failing_walks` and `update_client_replies` an update client over memory: what its downloads hold, and how far it
+//! goes, whatever call of its link or its installer fails.
 //! It holds tests alone. The laws of `omaha_json` have further rows.
 
 #![tactic(auto)]
@@ -18,6 +19,8 @@ mod corpus_tests;
 #[cfg(test)]
 mod countdown;
 #[cfg(test)]
+mod failing_walks;
+#[cfg(test)]
 mod link;
 #[cfg(test)]
 mod out_of_memory_tests;
@@ -29,6 +32,8 @@ mod requests;
 mod rows;
 #[cfg(test)]
 mod shelf;
+#[cfg(test)]
+mod two_steps;
 #[cfg(test)]
 mod update_client_replies;
 #[cfg(test)]

@@ -2,17 +2,16 @@
 //
 // In the gate no allocation fails. `make allocations` lets each one of a test fail in turn, so of two tries one fails at most.
 
-ghost use Rattle.std.specs.Prelude.{◌≡◌, []};
-
 use crate::bodies::{UNKNOWN, unknown_bytes};
 use crate::client_requests::{DOWNGRADE, downgrade_bytes};
 use crate::link::Played;
 use crate::shelf::Shelf;
+use crate::two_steps::{replies_at, walk_from};
 use crate::walks::client_of;
 use omaha_json::read_request;
 use omaha_json_client::read_reply;
 use std::alloc::Global;
-use update_client::{Client, Fault, Walk};
+use update_client::{Client, Fault};
 use values::ReadError;
 
 // Whether one of two tries came to what it should, and none to anything else; `None` is a try that ran out of memory.
@@ -74,60 +73,17 @@ fn write_request_without_memory(rt: HostRuntime) {
     assert!(rt; are_right(writes_request(rt.alloc()), writes_request(rt.alloc())));
 }
 
-// The replies to a client at a version, and the bodies of its downloads.
-fn replies_at(version: &str) -> (&str, &str) {
-    match version {
-        "0" => (
-            "1 offer s:7 1.0 a- abc;1 offer s:7 2.0 b- abcd*14 abcdefghijk;1 check noupdate",
-            "abc abcdefghijk",
-        ),
-        "1.0" => (
-            "1 offer s:7 2.0 b- abcd*14 abcdefghijk;1 check noupdate",
-            "abcdefghijk",
-        ),
-        _ => ("1 check noupdate", ""),
-    }
-}
-
-// Whether the commits of a client at a version are those that lead there.
-fn are_commits(version: &str, log: &str) -> bool {
-    match version {
-        "0" => log.is_empty(),
-        "1.0" => log == "full 1.0 a-0 3;",
-        "2.0" => log.ends_with("diff 2.0 b-0 11;"),
-        _ => false,
-    }
-}
-
-// What a walk over a sound link comes to, and whether the commits are those of the client's version and nothing is
-// staged.
-fn walk_on(
-    client: &mut Client,
-    link: &mut Played<'_>,
-    shelf: &mut Shelf,
-    alloc: Global,
-) -> (Result<Walk, ReadError<Fault>>, bool)
-    requires { shelf.old.staged.items ≡ [] }
-{
-    let mut block = [0; 4096];
-    let walked = client.walk(alloc, link, shelf, &mut block);
-    let is_kept = shelf.staged.is_empty() && are_commits(client.version(), shelf.log.as_str());
-    (walked, is_kept)
-}
-
 // Whether a client that begins as it is walks to 2.0; `None` if it ran out of memory and is at its last commit.
 fn walks_from(alloc: Global, client: &mut Client) -> Option<bool> {
     let start = String::from_str(alloc, client.version()).ok()?;
     let (replies, bodies) = replies_at(start.as_str());
     let mut link = Played::new(alloc, replies, bodies, 65536, u64::MAX);
     let mut shelf = Shelf::new(alloc, u64::MAX);
-    let (walked, is_kept) = walk_on(client, &mut link, &mut shelf, alloc);
+    let (walked, is_kept) = walk_from(start.as_str(), client, &mut link, &mut shelf, alloc);
     match walked {
         Ok(_) => Some(client.version() == "2.0"),
-        Err(ReadError::Memory) if is_kept || start.as_str() != "0" => None,
-        Err(ReadError::Fault(Fault::Link | Fault::Install)) if is_kept || start.as_str() != "0" => {
-            None
-        }
+        Err(ReadError::Memory) if is_kept => None,
+        Err(ReadError::Fault(Fault::Link | Fault::Install)) if is_kept => None,
         Err(_) => Some(false),
     }
 }
@@ -137,6 +93,17 @@ fn walks_twice(alloc: Global, client: &mut Client) -> bool {
     let first = walks_from(alloc, client);
     let second = walks_from(alloc, client);
     first != Some(false) && second != Some(false) && client.version() == "2.0"
+}
+
+// Whether a client with a prefix is made of its strings.
+fn makes_client(alloc: Global) -> Option<bool> {
+    let client = client_of(alloc, "1.0 a s pin:2.").ok()?;
+    Some(client.version() == "1.0" && client.fp() == "a" && client.cohort() == "s")
+}
+
+#[test]
+fn client_new_without_memory(rt: HostRuntime) {
+    assert!(rt; are_right(makes_client(rt.alloc()), makes_client(rt.alloc())));
 }
 
 fn walks(alloc: Global) -> Option<bool> {
