@@ -13,6 +13,12 @@ pub(crate) const ABC: [u8; 32] = [
     0xb0, 0x03, 0x61, 0xa3, 0x96, 0x17, 0x7a, 0x9c, 0xb4, 0x10, 0xff, 0x61, 0xf2, 0x00, 0x15, 0xad,
 ];
 
+// SHA-256 of 200000 bytes `a`, as sha256sum prints it.
+const LETTERS: [u8; 32] = [
+    0x22, 0x87, 0xd2, 0x07, 0xf2, 0x4a, 0x94, 0x1f, 0xf3, 0xb5, 0x6c, 0x04, 0xc8, 0xa2, 0x5a, 0xd5,
+    0x6b, 0x63, 0xe3, 0x02, 0x32, 0x07, 0xb3, 0xbb, 0x5b, 0x4a, 0xc0, 0xc9, 0x86, 0x9d, 0x74, 0xbe,
+];
+
 const EMPTY_REPLY: &[u8] =
     b")]}'\n{\"response\":{\"app\":[],\"daystart\":{\"elapsed_days\":0,\"elapsed_seconds\":0},\"protocol\":\"3.1\"}}";
 
@@ -38,7 +44,8 @@ fn reply_to(body: &[u8]) -> (DeskStatus, &[u8]) {
     (DeskStatus::Success, body)
 }
 
-/// Replies to some bodies with a status, to one as an update service, and to others with the body.
+/// Replies to some bodies with a status, to one as an update service, and to others with the body. Its packages are
+/// `abc`, and one of 200000 letters.
 #[derive(Drop)]
 pub(crate) struct Echo {
     pub(crate) alloc: Global,
@@ -77,6 +84,12 @@ impl Desk for Echo {
         if name == b"none.bin".as_slice() {
             return None;
         }
+        if name == b"letters.bin".as_slice() {
+            return Some(Declared {
+                size: 200_000,
+                hash: LETTERS,
+            });
+        }
         Some(Declared { size: 3, hash: ABC })
     }
 }
@@ -111,6 +124,33 @@ impl Packages for Files {
         }
         let count = into.len();
         into.copy_from_slice(&file[..count]);
+        Ok(())
+    }
+}
+
+/// Files of bytes `a`, whose blocks can be read but the one at a place.
+#[derive(Drop)]
+pub(crate) struct Letters {
+    pub(crate) size: u64,
+    pub(crate) broken: u64,
+}
+
+impl Packages for Letters {
+    ghost reads = { λ _ _ _ _ _. Unit {0} };
+
+    ghost sizes = { λ _ _ _. Unit {0} };
+
+    fn size(&self, _name: &[u8]) -> Option<u64> {
+        Some(self.size)
+    }
+
+    fn read_at(&self, _name: &[u8], at: u64, into: &mut [u8]) -> Result<(), Failed> {
+        if at == self.broken {
+            return Err(Failed);
+        }
+        for byte in into.iter_mut() {
+            *byte = b'a';
+        }
         Ok(())
     }
 }

@@ -1,5 +1,6 @@
-//! Rows of HTTP: heads, bodies, replies, packages and sessions over devices in memory that give and take
-//! pieces; the devices of a server; connections, posts and downloads over the loopback; and the access log.
+//! Rows of HTTP: heads, bodies, replies, packages, sessions, posts and downloads over devices in memory that give
+//! and take pieces, and of which a call may fail; the devices of a server; connections, posts and downloads over the
+//! loopback; and the access log.
 //!
 //! It has tests alone, so that the crates of HTTP are proved once.
 
@@ -25,6 +26,10 @@ mod device_tests;
 mod devices;
 #[cfg(test)]
 mod exchange_tests;
+#[cfg(test)]
+mod failing_client_tests;
+#[cfg(test)]
+mod failing_session_tests;
 #[cfg(test)]
 mod folder_tests;
 #[cfg(test)]

@@ -1,10 +1,10 @@
 ghost use Rattle.std.specs.Prelude.{◌≡◌, length};
 
+use crate::desks::Letters;
 use crate::devices::Kept;
 use crate::lines::columns;
 use crate::rows::wrong_row;
-use http_desks::{Packages, send_package};
-use http_wire::Failed;
+use http_desks::send_package;
 use std::alloc::Global;
 
 // SHA-256 of a million bytes `a`, as NIST's examples of FIPS 180 have it.
@@ -15,32 +15,6 @@ const MILLION: &[u8] = &[
 
 // Another.
 const OTHER: &[u8] = b"0123456789abcdef0123456789abcdef";
-
-// A file of bytes `a`, which can be read up to a place.
-#[derive(Drop)]
-struct Letters {
-    readable: u64,
-}
-
-impl Packages for Letters {
-    ghost reads = { λ _ _ _ _ _. Unit {0} };
-
-    ghost sizes = { λ _ _ _. Unit {0} };
-
-    fn size(&self, _name: &[u8]) -> Option<u64> {
-        Some(self.readable)
-    }
-
-    fn read_at(&self, _name: &[u8], at: u64, into: &mut [u8]) -> Result<(), Failed> {
-        if at >= self.readable {
-            return Err(Failed);
-        }
-        for byte in into.iter_mut() {
-            *byte = b'a';
-        }
-        Ok(())
-    }
-}
 
 // Sends a package of letters; returns how that ended.
 fn send_letters(
@@ -59,8 +33,8 @@ fn send_letters(
     }
 }
 
-// Each row: the size of a package of letters, how many of them can be read, whether its digest is that of a million, how
-// many writes don't fail; then how many letters are sent, and how that ends.
+// Each row: the size of a package of letters, where it can't be read, whether its digest is that of a million, how many
+// writes don't fail; then how many letters are sent, and how that ends.
 const ROWS: &str = "\
 1000000|1000000|another|99|983040|cut
 1048576|1048576|another|99|983040|cut
@@ -78,14 +52,14 @@ const ROWS: &str = "\
 
 /// Whether so much of a package is sent as its row says.
 pub(crate) fn is_sent_so(alloc: Global, row: &str) -> Option<bool> {
-    let [size, readable, digest, good, sent, how] = columns(row);
+    let [size, broken, digest, good, sent, how] = columns(row);
+    let size = size.parse().unwrap_or(0);
     let block = vec![in alloc; 0; 65536].ok()?.leak();
-    let packages = Letters {
-        readable: readable.parse().unwrap_or(0),
-    };
+    let broken = broken.parse().unwrap_or(0);
+    let packages = Letters { size, broken };
     let hash = if digest == "million" { MILLION } else { OTHER };
     let mut sink = Kept::new(alloc, 65536, good.parse().unwrap_or(0));
-    let end = send_letters(&mut sink, block, &packages, size.parse().unwrap_or(0), hash);
+    let end = send_letters(&mut sink, block, &packages, size, hash);
     Some(sent.parse() == Ok(sink.bytes.len()) && end == how)
 }
 

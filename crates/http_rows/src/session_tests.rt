@@ -3,6 +3,7 @@ use crate::devices::{Kept, Pieces};
 use crate::lines::{columns, expand, make_head};
 use crate::rows::wrong_row;
 use crate::writers::Stopped;
+use http_desks::Packages;
 use http_sessions::{End, Fault, Served, serve};
 use std::alloc::Global;
 
@@ -55,16 +56,15 @@ fn end_of(served: Result<Served, Fault>) -> (u32, &'static str) {
     }
 }
 
-// Serves what a connection sends, and returns how many replies were begun and how the session ended.
-fn serve_pieces(rt: &HostRuntime, source: &mut Pieces<'_>, sink: &mut Kept) -> (u32, &'static str) {
-    end_of(serve(
-        rt,
-        source,
-        sink,
-        &mut Echo { alloc: rt.alloc() },
-        &Files,
-        &Stopped,
-    ))
+/// Serves what a connection sends, and returns how many replies were begun and how the session ended.
+pub(crate) fn serve_pieces<R: AllocGlobal, P: Packages>(
+    rt: &R,
+    packages: &P,
+    source: &mut Pieces<'_>,
+    sink: &mut Kept,
+) -> (u32, &'static str) {
+    let mut desk = Echo { alloc: rt.alloc() };
+    end_of(serve(rt, source, sink, &mut desk, packages, &Stopped))
 }
 
 /// Whether a connection that gives and takes so many bytes a call gets what its row says.
@@ -73,7 +73,7 @@ pub(crate) fn is_served(rt: &HostRuntime, row: &str, piece: usize) -> Option<boo
     let sent = expand(rt.alloc(), sent)?;
     let replies = expand(rt.alloc(), replies)?;
     let mut sink = Kept::new(rt.alloc(), piece, usize::MAX);
-    let ended = serve_pieces(rt, &mut Pieces::new(sent, piece), &mut sink);
+    let ended = serve_pieces(rt, &Files, &mut Pieces::new(sent, piece), &mut sink);
     let is_ended = ended.1 == how && requests.parse() == Ok(ended.0);
     Some(is_ended && sink.bytes.as_slice() == replies)
 }
@@ -93,18 +93,11 @@ fn serves_sessions_however_they_are_cut(rt: HostRuntime) {
     }
 }
 
-// Whether a source that gives a byte a call, and fails after so many, and a sink that takes so many calls, lead to so
-// many replies, that end and so many bytes of replies.
-fn ends_with(
-    rt: &HostRuntime,
-    mut source: Pieces<'_>,
-    good: usize,
-    wanted: (u32, &str),
-    size: usize,
-) -> bool {
-    let mut sink = Kept::new(rt.alloc(), 1, good);
-    let ended = serve_pieces(rt, &mut source, &mut sink);
-    ended == wanted && sink.bytes.len() == size
+// Whether a connection that sends so much and no more gets no reply, and how its session ends.
+fn ends_without_reply(rt: &HostRuntime, sent: &[u8], how: &str) -> bool {
+    let mut sink = Kept::new(rt.alloc(), 1, usize::MAX);
+    let ended = serve_pieces(rt, &Files, &mut Pieces::new(sent, 7), &mut sink);
+    ended == (0, how) && sink.bytes.is_empty()
 }
 
 // A message of 30 bytes of body, cut before each byte.
@@ -116,51 +109,9 @@ const MESSAGE: &[u8] =
 fn gives_no_reply_to_a_part_of_a_message(rt: HostRuntime) {
     for end in 0..MESSAGE.len() {
         let how = if end == 0 { "finished" } else { "unfinished" };
-        let source = Pieces::new(&MESSAGE[..end], 7);
         assert!(rt;
-            ends_with(&rt, source, usize::MAX, (0, how), 0),
+            ends_without_reply(&rt, &MESSAGE[..end], how),
             "{end} bytes"
-        );
-    }
-}
-
-const TWO: &[u8] = b"GET / HTTP/1.1\r\n\r\nGET / HTTP/1.1\r\n\r\n";
-
-// Two messages of 18 bytes, each with a reply of 45.
-#[test]
-fn replies_to_whole_messages_before_a_read_that_fails(rt: HostRuntime) {
-    for good in 0..38 {
-        let wanted = if good < 37 {
-            (0, "read failed")
-        } else {
-            (2, "finished")
-        };
-        let source = Pieces {
-            left: TWO,
-            piece: 1,
-            good,
-            failed: false,
-        };
-        let size = good.min(36) / 18 * 45;
-        assert!(rt;
-            ends_with(&rt, source, usize::MAX, wanted, size),
-            "after {good} reads"
-        );
-    }
-}
-
-#[test]
-fn writes_a_first_part_before_a_write_that_fails(rt: HostRuntime) {
-    for good in 0..91 {
-        let wanted = if good < 90 {
-            (0, "write failed")
-        } else {
-            (2, "finished")
-        };
-        let source = Pieces::new(TWO, 100);
-        assert!(rt;
-            ends_with(&rt, source, good, wanted, good),
-            "after {good} writes"
         );
     }
 }
@@ -186,7 +137,7 @@ pub(crate) fn ends_so(rt: &HostRuntime, row: &str) -> Option<bool> {
     let [fields, count, start, requests, how, _] = columns(row);
     let sent = make_messages(rt.alloc(), fields, count)?;
     let mut sink = Kept::new(rt.alloc(), 1000, usize::MAX);
-    let ended = serve_pieces(rt, &mut Pieces::new(sent, 1000), &mut sink);
+    let ended = serve_pieces(rt, &Files, &mut Pieces::new(sent, 1000), &mut sink);
     let replies = sink.bytes.as_slice();
     let is_started = start.parse() == Ok(replies.len()) || replies.starts_with(start.as_bytes());
     Some(is_started && ended.1 == how && requests.parse() == Ok(ended.0))

@@ -1,0 +1,168 @@
+// Posts and downloads whose source or sink fails at one call, whichever it is.
+
+use crate::devices::{Kept, Pieces};
+use http_client::{Body, LinkFault, open_over, post_over};
+use http_client_heads::{Post, parse_address};
+use std::alloc::Global;
+use std::process::Abort;
+
+const ADDRESS: &str = "http://h:8080/p/a.bin?x=1";
+
+const REPLY: &[u8] = b"HTTP/1.1 200 OK\r\nContent-Length: 5\r\n\r\nhello";
+
+// The request of a post of `{}`, or of a download.
+fn request_of(kind: &str) -> &'static [u8] {
+    match kind {
+        "post" =>
+            b"POST /service/update2/json HTTP/1.1\r\nHost: h:8080\r\nContent-Type: application/json\r\nContent-Length: 2\r\nConnection: close\r\n\r\n{}",
+        _ => b"GET /p/a.bin?x=1 HTTP/1.1\r\nHost: h:8080\r\nConnection: close\r\n\r\n",
+    }
+}
+
+fn name_of(fault: LinkFault) -> &'static str {
+    match fault {
+        LinkFault::Read => "read failed",
+        LinkFault::Write => "write failed",
+        _ => "another fault",
+    }
+}
+
+// What a post comes to: `whole`, or which device failed.
+fn post(alloc: Global, source: &mut Pieces<'_>, sink: &mut Kept) -> &'static str {
+    let post = Post {
+        host: "h:8080",
+        path: "/service/update2/json",
+        kind: "application/json",
+        body: b"{}",
+    };
+    match post_over(alloc, source, sink, &post, 5) {
+        Ok(reply) if reply.body.as_slice() == b"hello".as_slice() => "whole",
+        Ok(_) => "another body",
+        Err(fault) => name_of(fault),
+    }
+}
+
+// Reads a body to its end, and on after each read that fails; returns how many fail.
+fn read_on(source: &mut Pieces<'_>, body: &mut Body, bytes: &mut Vec<u8>) -> Option<u32> {
+    let mut block = [0; 4];
+    let mut failed = 0u32;
+    for _ in 0..100 {
+        match body.read(source, &mut block) {
+            Ok(0) => return Some(failed),
+            Ok(count) => bytes.extend_from_slice(&block[..count]).ok()?,
+            Err(_) => failed = failed.saturating_add(1),
+        }
+    }
+    None
+}
+
+// What a body that was opened comes to.
+fn hand_on(alloc: Global, source: &mut Pieces<'_>, body: &mut Body) -> &'static str {
+    let mut bytes = Vec::new(alloc);
+    match read_on(source, body, &mut bytes) {
+        Some(failed) if bytes.as_slice() == b"hello".as_slice() => match failed {
+            0 => "whole",
+            1 => "read failed",
+            _ => "failed again",
+        },
+        _ => "another body",
+    }
+}
+
+// What a download comes to. If a read of the body fails, the rest is read afterwards.
+fn download(alloc: Global, source: &mut Pieces<'_>, sink: &mut Kept) -> &'static str {
+    let Some(address) = parse_address(ADDRESS) else {
+        return "no address";
+    };
+    match open_over(alloc, source, sink, &address) {
+        Ok(mut body) => hand_on(alloc, source, &mut body),
+        Err(fault) => name_of(fault),
+    }
+}
+
+fn ask(alloc: Global, kind: &str, source: &mut Pieces<'_>, sink: &mut Kept) -> &'static str {
+    match kind {
+        "post" => post(alloc, source, sink),
+        _ => download(alloc, source, sink),
+    }
+}
+
+// Lets each read fail until none does, and returns how many there are. A read gives so many bytes.
+fn count_reads<R: AllocGlobal + Abort>(rt: &R, kind: &str, piece: usize) -> usize {
+    for good in 0..1000 {
+        let mut source = Pieces {
+            left: REPLY,
+            piece,
+            good,
+            failed: false,
+        };
+        let mut sink = Kept::new(rt.alloc(), 1000, usize::MAX);
+        let came = ask(rt.alloc(), kind, &mut source, &mut sink);
+        assert!(rt;
+            sink.bytes.as_slice() == request_of(kind),
+            "{kind}, after {good} reads"
+        );
+        if came == "whole" {
+            return good;
+        }
+        assert_eq!(rt; came, "read failed", "{kind}, after {good} reads");
+    }
+    1000
+}
+
+// rule: Body that a link hands on
+// rule: Body that a link opens
+// rule: Reply that a link reads
+#[test]
+fn a_link_reports_each_failed_read(rt: HostRuntime) {
+    for (piece, reads) in [(1, 43), (7, 7), (1000, 1)] {
+        assert_eq!(rt;
+            count_reads(&rt, "post", piece),
+            reads,
+            "{piece} bytes a read"
+        );
+        assert_eq!(rt;
+            count_reads(&rt, "download", piece),
+            reads,
+            "{piece} bytes a read"
+        );
+    }
+}
+
+// Lets each write fail until none does, and returns how many there are. A write takes so many bytes.
+fn count_writes<R: AllocGlobal + Abort>(rt: &R, kind: &str, piece: usize) -> usize {
+    for good in 0..1000 {
+        let mut source = Pieces::new(REPLY, 1000);
+        let mut sink = Kept::new(rt.alloc(), piece, good);
+        let came = ask(rt.alloc(), kind, &mut source, &mut sink);
+        let is_part = request_of(kind).starts_with(&sink.bytes) && sink.calls == good;
+        assert!(rt; is_part, "{kind}, after {good} writes");
+        if came == "whole" && source.left.is_empty() {
+            return good;
+        }
+        assert_eq!(rt; came, "write failed", "{kind}, after {good} writes");
+        assert_eq!(rt;
+            source.left.len(),
+            REPLY.len(),
+            "{kind}, after {good} writes"
+        );
+    }
+    1000
+}
+
+// rule: Request that a link writes
+#[test]
+fn a_link_reads_nothing_after_each_failed_write(rt: HostRuntime) {
+    for (piece, writes, written) in [(1, 125, 62), (7, 18, 9), (1000, 1, 1)] {
+        assert_eq!(rt;
+            count_writes(&rt, "post", piece),
+            writes,
+            "{piece} bytes a write"
+        );
+        assert_eq!(rt;
+            count_writes(&rt, "download", piece),
+            written,
+            "{piece} bytes a write"
+        );
+    }
+}
