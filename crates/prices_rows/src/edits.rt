@@ -116,10 +116,10 @@ pub(crate) fn key_of(words: &str) -> TrackKey {
 const HEAD: &str =
     "schema = 1\nbase = 0\nedit = [\n{ do = \"add_app\", app = \"demo\", default = \"stable\" },\n";
 
-// Puts 512 releases at the end, whose packages have so many bytes.
-fn push_releases(script: &mut String, size: u64) -> Result<(), AllocError> {
-    for release in 1..513u64 {
-        let hash = release + 1000;
+// Puts so many releases at the end, whose packages have so many bytes.
+fn push_releases(script: &mut String, count: u16, size: u64) -> Result<(), AllocError> {
+    for release in 1..=count {
+        let hash = u32::from(release) + 1000;
         writeln!(
             script,
             r#"{{ do = "add_release", app = "demo", version = "{release}.0", name = "demo-{release}.bin", size = {size}, sha256 = "{hash:064}" }},"#
@@ -146,14 +146,21 @@ fn push_stones(script: &mut String) -> Result<(), AllocError> {
     Ok(())
 }
 
+fn push_target(script: &mut String, release: u16) -> Result<(), AllocError> {
+    write!(
+        script,
+        r#"{{ do = "set_target", app = "demo", cohort = "stable", target = "{release}.0" }},"#
+    )
+}
+
 // Puts a script of as many releases as there may be at the end, and perhaps the differentials between stones.
 fn push_largest(script: &mut String, size: u64, is_stony: bool) -> Result<(), AllocError> {
     script.push_str(HEAD)?;
-    push_releases(script, size)?;
+    push_releases(script, 512, size)?;
     if is_stony {
         push_stones(script)?;
     }
-    script.push_str(r#"{ do = "set_target", app = "demo", cohort = "stable", target = "512.0" },"#)
+    push_target(script, 512)
 }
 
 /// A script of 512 releases, each of so many bytes. If they are stones, each has a differential of 2^40 bytes to
@@ -161,5 +168,18 @@ fn push_largest(script: &mut String, size: u64, is_stony: bool) -> Result<(), Al
 pub(crate) fn largest(alloc: Global, size: u64, is_stony: bool) -> Option<&'static str> {
     let mut script = String::new(alloc);
     push_largest(&mut script, size, is_stony).ok()?;
+    Some(keep(alloc, script)?.as_str())
+}
+
+fn push_many(script: &mut String, count: u16) -> Result<(), AllocError> {
+    script.push_str(HEAD)?;
+    push_releases(script, count, 1000)?;
+    push_target(script, count)
+}
+
+/// A script of so many releases, each of 1000 bytes.
+pub(crate) fn many(alloc: Global, count: u16) -> Option<&'static str> {
+    let mut script = String::new(alloc);
+    push_many(&mut script, count).ok()?;
     Some(keep(alloc, script)?.as_str())
 }

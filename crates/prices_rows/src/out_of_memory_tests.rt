@@ -3,9 +3,11 @@
 // In the gate no allocation fails. `make allocations` lets each one of a test fail in turn, so of two tries one fails at most.
 
 use crate::asks::words_of;
-use crate::edits::{DEMO, catalogue_of, keep, key_of};
+use crate::edits::{DEMO, catalogue_of, keep, key_of, many};
 use crate::kept::are_same;
+use crate::parallel::is_checked;
 use catalogue::Catalogue;
+use editions::Edition;
 use par_tables::{Free, build, build_for, tables};
 use payload_graph::Graph;
 use price_cert::Certified;
@@ -107,4 +109,51 @@ fn read_prices_without_memory(rt: HostRuntime) {
 fn write_prices_without_memory(rt: HostRuntime) {
     let first = is_said(rt.alloc(), "rewrites", "the same");
     assert!(rt; are_right(first, is_said(rt.alloc(), "rewrites", "the same")));
+}
+
+// rule: Key of a certificate
+#[test]
+fn read_key_without_memory(rt: HostRuntime) {
+    let first = is_said(rt.alloc(), "names", "0 0 target no");
+    assert!(rt; are_right(first, is_said(rt.alloc(), "names", "0 0 target no")));
+}
+
+// Whether the table of four releases is checked.
+fn checks_few<R: Threads + Sync>(rt: &R, alloc: Global) -> Option<bool> {
+    is_checked(rt, alloc, catalogue_of(alloc, DEMO, "")?)
+}
+
+// The catalogue of as many releases as several threads need.
+fn catalogue_of_many(alloc: Global) -> Option<&'static Catalogue> {
+    catalogue_of(alloc, many(alloc, 384)?, "")
+}
+
+// Whether their table is checked, at once or again. The catalogue is made once, and again if memory ran out.
+fn checks_many<R: Threads + Sync>(rt: &R, alloc: Global) -> Option<bool> {
+    let catalogue = match catalogue_of_many(alloc) {
+        Some(catalogue) => catalogue,
+        None => catalogue_of_many(alloc)?,
+    };
+    let first = is_checked(rt, alloc, catalogue);
+    Some(are_right(first, is_checked(rt, alloc, catalogue)))
+}
+
+// rule: Certified table
+#[test]
+fn check_parallel_without_memory(rt: HostRuntime) {
+    let first = checks_few(&rt, rt.alloc());
+    assert!(rt; are_right(first, checks_few(&rt, rt.alloc())));
+    assert!(rt; checks_many(&rt, rt.alloc()) == Some(true));
+}
+
+fn is_empty(edition: &Edition) -> bool {
+    edition.number() == 0
+        && edition.batches().is_empty()
+        && edition.catalogue().apps().is_empty()
+        && edition.tables().is_empty()
+}
+
+#[test]
+fn edition_empty_without_memory(rt: HostRuntime) {
+    assert!(rt; is_empty(&Edition::empty(rt.alloc())));
 }

@@ -5,6 +5,7 @@ ghost use Rattle.std.specs.Prelude.{◌≡◌, ◌<◌, IfSome, length};
 use crate::chances::{key_of_seed, script_of};
 use crate::edits::{DEMO, catalogue_of, graph_of, keep, key_of, largest};
 use crate::outcomes::{find_wrong, push_wrong};
+use catalogue::Catalogue;
 use parallel_check::check_parallel;
 use payload_graph::{Graph, Kind};
 use price_cert::{Certified, Prices, Row, Rule, Wrong, check_pair, check_row};
@@ -54,6 +55,36 @@ fn broken_in_parts(graph: &Graph, prices: &Prices, row: usize) -> Option<Rule>
         _ if !are_bounded(graph, prices, row) => Some(Rule::C2),
         rule => rule,
     }
+}
+
+// What several threads find a graph's table to be, and the same table without its first price.
+fn found_twice<R: Threads + Sync>(
+    rt: &R,
+    alloc: Global,
+    graph: &Graph,
+) -> Option<[Option<Wrong>; 2]> {
+    let _within = graph.target();
+    let _numbered = graph.doors();
+    let _nearing = graph.differs();
+    let table = keep(alloc, solve(alloc, graph).ok()?)?;
+    let row = *table.rows().get(0)?;
+    let whole = find_in_parallel(rt, graph, with_row(table, 0, row)?);
+    let wrong = find_in_parallel(rt, graph, with_row(table, 0, Row::Nothing)?);
+    Some([whole, wrong])
+}
+
+/// Whether several threads certify the table of `stable`, and find the row that is wrong if its first price is missing.
+pub(crate) fn is_checked<R: Threads + Sync>(
+    rt: &R,
+    alloc: Global,
+    catalogue: &Catalogue,
+) -> Option<bool> {
+    let graph = graph_of(alloc, catalogue, &key_of("stable target no"))?;
+    let missing = Wrong {
+        row: 0,
+        rule: Rule::C2,
+    };
+    Some(found_twice(rt, alloc, graph)? == [None, Some(missing)])
 }
 
 // The first wrong row of a table, by its parts.

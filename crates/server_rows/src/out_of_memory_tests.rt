@@ -12,9 +12,10 @@ use crate::one_worker::asked;
 use crate::opened::serve_sent;
 use crate::plans::print_plan;
 use crate::press_tests::open_one;
+use cohorts::CohortText;
 use editions::{Edition, NextError};
-use fixtures::{CHAINED, edition_of, next_of, publish_edits};
-use publisher::{Press, PublishError};
+use fixtures::{CHAINED, edition_of, edition_of_batches, next_of, open_profile, publish_edits};
+use publisher::{Press, PublishError, View, open_edition};
 use std::alloc::Global;
 use std::str;
 use std::sync::Wait;
@@ -51,6 +52,43 @@ fn next_without_memory(rt: HostRuntime) {
     assert!(rt; are_right(makes_next(rt.alloc()), makes_next(rt.alloc())));
 }
 
+// Whether a press and two views are opened that have edition 1; `None` if memory ran out.
+fn are_opened<R: Wait>(rt: &R, opened: Result<(Press, Vec<View>), PublishError>) -> Option<bool> {
+    match opened {
+        Ok((press, views)) => {
+            let is_seen = views.len() == 2 && views[0].seen() == 1 && views[1].seen() == 1;
+            let number = press.edition().number();
+            press.end(rt);
+            Some(is_seen && number == 1)
+        }
+        Err(PublishError::Memory) => None,
+        Err(_) => Some(false),
+    }
+}
+
+fn opens<R: Threads + Wait>(rt: &R, alloc: Global) -> Option<bool> {
+    are_opened(rt, open_profile(rt, alloc, CHAINED, 2))
+}
+
+// rule: Opening
+#[test]
+fn open_without_memory(rt: HostRuntime) {
+    let first = opens(&rt, rt.alloc());
+    assert!(rt; are_right(first, opens(&rt, rt.alloc())));
+}
+
+fn opens_edition<R: Wait>(rt: &R, alloc: Global) -> Option<bool> {
+    let edition = edition_of_batches(alloc, 1).ok()?;
+    are_opened(rt, open_edition(rt, alloc, edition, 2))
+}
+
+// rule: Opening
+#[test]
+fn open_edition_without_memory(rt: HostRuntime) {
+    let first = opens_edition(&rt, rt.alloc());
+    assert!(rt; are_right(first, opens_edition(&rt, rt.alloc())));
+}
+
 // Whether a press publishes, at once or again.
 fn publishes<R: Threads + Wait>(rt: &R, alloc: Global, press: &mut Press) -> bool {
     let published = match publish_edits(rt, alloc, press, 1, EDITS) {
@@ -78,6 +116,18 @@ fn opens_and_publishes<R: Threads + Wait>(rt: &R, alloc: Global) -> Option<bool>
 fn publish_without_memory(rt: HostRuntime) {
     let first = opens_and_publishes(&rt, rt.alloc());
     assert!(rt; are_right(first, opens_and_publishes(&rt, rt.alloc())));
+}
+
+// Whether a name and a bucket are printed.
+fn prints_cohort(alloc: Global) -> Option<bool> {
+    let text = CohortText::print(alloc, "stable", 319).ok()?;
+    Some(text.as_str() == "stable:319")
+}
+
+// rule: Cohort text
+#[test]
+fn cohort_text_print_without_memory(rt: HostRuntime) {
+    assert!(rt; are_right(prints_cohort(rt.alloc()), prints_cohort(rt.alloc())));
 }
 
 // Whether a plan has its choice.
