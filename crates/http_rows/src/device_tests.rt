@@ -6,8 +6,11 @@ use crate::scripted::Scripted;
 use http_desks::Clock;
 use http_devices::{Reading, SystemClock, Writing};
 use http_wire::{Failed, Sink, Source};
+use std::io::ErrorKind;
 use std::marker::Brand;
 use std::sync::ledger::{Blank, Ledger};
+use std::time::Duration;
+use std::{io, time};
 
 // What three reads of four bytes come to.
 fn read_thrice<L: Ledger>(left: &[u8], blank: Blank) -> [Result<usize, Failed>; 3]
@@ -68,6 +71,39 @@ pub(crate) fn comes_to_its_ends(row: &str) -> bool {
 fn tries_an_interrupted_call_again(rt: HostRuntime) {
     let wrong = wrong_row(&rt, "device", 0, ROWS);
     assert!(rt; wrong.is_empty(), "{wrong}");
+}
+
+// A system whose clock is so many milliseconds after 1970, or can't be read.
+#[derive(Drop)]
+struct Timed {
+    milliseconds: Option<u64>,
+}
+
+impl time::Clock for Timed {
+    fn monotonic(&self) -> io::Result<Duration> {
+        Err(io::Error::from(ErrorKind::Unsupported))
+    }
+
+    fn since_1970(&self) -> io::Result<Duration> {
+        match self.milliseconds {
+            Some(milliseconds) => Ok(Duration::from_millis(milliseconds)),
+            None => Err(io::Error::from(ErrorKind::Unsupported)),
+        }
+    }
+}
+
+#[test]
+fn the_clock_gives_the_seconds_of_the_system(rt: HostRuntime) {
+    let rows = [
+        (Some(1_795_512_605_999), 1_795_512_605),
+        (Some(1_795_512_606_000), 1_795_512_606),
+        (Some(999), 0),
+        (None, 0),
+    ];
+    for (milliseconds, seconds) in rows {
+        let system = Timed { milliseconds };
+        assert!(rt; SystemClock::new(&system).now() == seconds, "{seconds}");
+    }
 }
 
 #[test]
