@@ -3,7 +3,7 @@
 use crate::client::{connect, exchange};
 use crate::message_tests::{OFFER, ask};
 use crate::site::{Site, make_site, serve, serve_logged, serve_with};
-use std::io::Read;
+use std::io::{Read, Write};
 use std::net::{Net, TcpListener, TcpStream};
 use std::os::fd::AsRawFd;
 use std::rt::Files;
@@ -61,6 +61,34 @@ fn waits_for_a_silent_client_as_long_as_its_arguments_say(rt: HostRuntime) -> Re
     fs::remove_dir_all(&rt, site.folder.as_str())?;
     let waited = waited.ok_or("no connection")?;
     assert!(rt; waited < 10, "{waited}");
+    let served = served.ok_or("no server")?;
+    assert_eq!(rt; served.as_str(), "0 ready\nm0 0\n");
+    Ok(())
+}
+
+// A client that asks for a package a thousand times, reads nothing, and stays.
+fn ask_and_read_nothing<R: Net<Listener = TcpListener, Stream = TcpStream> + AllocGlobal>(
+    rt: &R,
+    host: &str,
+) -> Option<TcpStream> {
+    let message = "GET /p/mini-3.0.bin HTTP/1.1\r\n\r\n";
+    let messages = message.repeat(rt.alloc(), 1000).ok()?;
+    let mut stream = connect(rt, host)?;
+    stream.write_all(messages.as_str().as_bytes()).ok()?;
+    Some(stream)
+}
+
+// The server ends once the client's connection takes no more, and the client stays until then.
+#[test]
+fn stops_waiting_for_a_client_that_reads_nothing(rt: HostRuntime) -> Result<(), Fail> {
+    let site = make_site(&rt, "unread")?;
+    let (served, stream) = join(
+        &rt,
+        || serve_with(&rt, &site, &["--sessions", "1", "--timeout", "2"]),
+        || ask_and_read_nothing(&rt, site.host.as_str()),
+    );
+    fs::remove_dir_all(&rt, site.folder.as_str())?;
+    assert!(rt; stream.is_some());
     let served = served.ok_or("no server")?;
     assert_eq!(rt; served.as_str(), "0 ready\nm0 0\n");
     Ok(())
