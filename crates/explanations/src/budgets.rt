@@ -23,7 +23,7 @@ Remedy: Give at most that number, which no mirror uses up.
         "B3",
         "B3 Lower N
 Found in: a raise of a budget.
-The mirror's budget is N bytes, above the one that was asked for; a running server lowers none.
+The mirror's budget is N bytes, above the one that was asked for; a running server makes no budget smaller.
 Usual cause: An earlier raise, or a number of bytes that leaves out those that were granted already.
 Remedy: Give at least N; for a lower budget start the server anew with another profile.
 ",

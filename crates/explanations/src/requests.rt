@@ -6,7 +6,7 @@ pub(crate) const REQUESTS: [(&str, &str); 5] = [
         "J1 NotJson
 Found in: a request.
 The request is not JSON.
-Usual cause: An empty body, another format, or text after the object.
+Usual cause: An empty body, another format, or bytes after the object.
 Remedy: Send one JSON object in UTF-8 and nothing else.
 ",
     ),

@@ -70,7 +70,7 @@ Remedy: Look at the versions of the printed steps.
 Found in: a walk.
 The server had no mirror with room for the package, and said `error-internal`.
 Usual cause: The budgets in the profile are used up.
-Remedy: Raise `budget` of a mirror, or start the server anew.
+Remedy: Raise a mirror's budget: `omaha raise --to ADDR NAME BUDGET`.
 ",
     ),
 ];

@@ -22,7 +22,7 @@ pub enum Entry {
 }
 
 // rule: Opening a package
-/// Returns what there is where a file can't be opened, by the system's error. Fails if memory ran out.
+/// Returns what there is if a file can't be opened, by the system's error. Fails if memory ran out.
 pub(crate) fn entry_of(error: &io::Error) -> Result<Entry, AllocError>
     ensures missing { error_kind error.now ≡ ErrorKind.NotFound → result ≡ Ok Missing }
     ensures memory { error_kind error.now ≡ ErrorKind.OutOfMemory → is_err result ≡ true }

@@ -26,7 +26,7 @@ unfoldable pub type_line : List ℕ → List ℕ
 type_line [] = []
 type_line (byte ∷ bytes) = codes "Content-Type: " ++ (byte ∷ bytes) ++ codes "\r\n"
 
--- the field that names the method, where another one was sent
+-- the field that names the method, if another one was sent
 unfoldable pub allow_line : Option Allow → List ℕ
 allow_line None = []
 allow_line (Some allow.Post) = codes "Allow: POST\r\n"

@@ -170,7 +170,7 @@ fn run_over<
 ///
 /// Opens the mirrors' books for it and closes them after it. A total is what the mirror granted to all workers, and
 /// within its budget as it then is: the first one, if the own job may raise none. `gate` is called once in each thread
-/// before its job begins. Where a thread can't be started no job begins, the own one neither, and each other is given
+/// before its job begins. If a thread can't be started, no job begins, the own one neither, and each other is given
 /// back. Out of memory is the only error, before the jobs or after them.
 pub fn run_with_tills<
     J: TillJob + Send + Drop,

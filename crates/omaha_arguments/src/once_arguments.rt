@@ -28,6 +28,7 @@ written nothing to standard output.
   omaha: edit 12: C11 UnknownRelease   an edit of the profile is rejected
   omaha: J1 NotJson                    the request is invalid
   omaha: read                          standard input failed, or has more than 262144 bytes
+  omaha: no place                      a reader of the editions found no place
   omaha: write                         standard output failed
   omaha: memory                        out of memory
 Control characters in F are printed as `%` and two hexadecimal digits.

@@ -59,6 +59,7 @@ const AFTER_RAISE: &str =
   `refused B2 TooHigh`         the budget is above 2^60
   `refused B3 Lower 510`       the mirror has a budget of 510 bytes, which is above the new one
   `bad raise`                  NAME is empty or has a space, or BUDGET is no decimal number
+                               without leading zeros
 `omaha explain B3` explains a code. A raise is lost with the server: put it into the profile too.
 
 If the command fails, it prints one line on standard error.

@@ -30,6 +30,7 @@ prints a line for each in place of that line, and then `omaha: packages N` on st
   mini-1.0.bin: missing                     DIR has no such file
   mini-2.0.bin: size 2599, declared 2600    it has another size
   mini-3.0.bin: sha256 differs              it has the size, and another SHA-256
+  mini-3.0.bin: not a regular file          it is a link, a folder or a pipe
   mini-3.0.bin: unreadable                  it couldn't be read to its end
 
 Exit status: 0 if the profile is valid and its packages agree, 1 if not or if the command failed, 2
@@ -81,9 +82,11 @@ const AFTER_DESCRIBE: &str =
   sha256 = \"656f60d8a092c8c25e0164886090b4ce46ba022eb801bdd480912ba47d1ac9f4\"
 
 If a file can't be described, prints nothing but one line on standard error:
-  omaha: file F: missing           there is no such file; a link or a folder is none
-  omaha: file F: unreadable        it couldn't be read to its end
-  omaha: file F: no package name   no profile can have its name: 1 to 128 of A-Z a-z 0-9 . _ -
+  omaha: file F: missing              there is no such file
+  omaha: file F: not a regular file   it is a link, a folder or a pipe
+  omaha: file F: unreadable           it couldn't be read to its end
+  omaha: file F: no package name      no profile can have its name: 1 to 128 of A-Z a-z 0-9 . _ -
+  omaha: file F: size 0, allowed 1 to 1099511627776
 
 Exit status: 0 if all files were described, 1 if the command failed, 2 if the arguments are invalid.
 

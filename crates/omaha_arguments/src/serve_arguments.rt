@@ -38,14 +38,17 @@ const LOG: &str = "Where to log each reply: a file, or - for standard error [def
 const AFTER_SERVE: &str =
     "Prints `ready` when it listens. It replies to `POST /service/update2/json` and sends the packages
 under `/p/`. Each worker is a thread that serves one connection after the other. An operator may
-`POST /operate` to the operator's address meanwhile: a script is published as the next edition, and
-`dump` gets the profile of what is published. Anybody who reaches that address may
-publish, so keep it on the loopback. After the last session it prints one line for each mirror: its
-name, and how many bytes it was granted.
+`POST /operate` to the operator's address meanwhile: a script is published as the next edition,
+`raise NAME BUDGET` raises a mirror's budget, and `dump` gets the profile of what is published.
+Anybody who reaches that address may publish and raise, so keep it on the loopback. After the last
+session it prints one line for each mirror: its name, and how many bytes it was granted.
 
 If the command fails, it prints one line on standard error.
   omaha: file F                F can't be read, has over 256 MiB, or can't be opened for the log
+  omaha: file DIR              there is no such folder of packages
   omaha: F3 BadEntry app[0].id the profile is invalid, with the location
+  omaha: edit 12: C11 UnknownRelease
+                               an edit of the profile is rejected
   omaha: no place              a worker found no place among the readers of the editions
   omaha: net ADDR              ADDR is no address, is in use, or may not be listened on
   omaha: thread                a worker's thread can't be started; no connection was accepted

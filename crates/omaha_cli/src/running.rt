@@ -177,9 +177,10 @@ fn report<F: WriteWhole>(alloc: Global, ending: &Ending, errors: &mut F)
 /// Without arguments, or with `once` and its options, it does what `respond` does; with `check`, `certify` or
 /// `verify` what `report_on` does; with `check F --packages DIR` it compares packages with files, with `describe`
 /// it describes files; with `serve` it serves until its last session; with `walk` it walks along a server's
-/// offers; with `publish` and `dump` it calls an operator's listener. It returns 0 if the command did that, or the help or
-/// the version was printed; 1 if the command failed, after one line on `errors`, or none if that listener declined; and 2 if the arguments are invalid, after `clap`'s message on `errors`. With `--log -` a
-/// server also logs its replies there.
+/// offers; with `publish`, `raise` and `dump` it calls an operator's listener. It returns 0 if the command did that, or
+/// the help or the version was printed; 1 if the command failed, after one line on `errors`, or none if that listener
+/// declined; and 2 if the arguments are invalid, after `clap`'s message on `errors`. With `--log -` a server also logs
+/// its replies there.
 pub fn run<
     R: Disk + Folders + System + Clock + Connector + AllocGlobal + Threads + Sync + Wait,
     I: ReadWhole,

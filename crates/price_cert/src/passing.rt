@@ -89,7 +89,7 @@ fn pass_above(graph: &Graph, rows: &[Row]) -> bool
 /// Whether each row but the target's names the best payload of its release, and that is the end.
 ///
 /// Such a table is certified. The table has a row for each release of the graph. It takes no memory, and a step for
-/// each release and each differential, and more where a floor ends the best full package.
+/// each release and each differential, and more if a floor ends the best full package.
 pub fn passes(graph: &Graph, rows: &[Row]) -> bool
     requires { length rows.now ≡ length graph.now.doors }
     ensures { IsTrue result → AreCertified graph.now rows.now }

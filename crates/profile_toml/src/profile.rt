@@ -53,7 +53,7 @@ fn read_entries(
 /// Reads a profile of schema 1 or 2: the edits that make its catalogue, and its one to four mirrors.
 ///
 /// Returns the first fault in the order of `ProfileFault`. Tables are read from the top: the
-/// profile's own keys, the mirrors, then each app with its cohorts and its releases. A table's
+/// profile's own keys, the mirrors, then each app with its cohorts, its releases and its differentials. A table's
 /// unknown keys are reported before its others, the least of them in byte order. TOML is what the
 /// crate `toml` reads: version 1.1, integers of 64 bits, at most 80 levels. What the edits say is
 /// not checked.

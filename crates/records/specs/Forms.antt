@@ -47,7 +47,7 @@ is_hash_digit byte = is_ascii_digit byte || (nat_le 97 byte && nat_le byte 102)
 unfoldable pub hash_of : List ℕ → Option (List ℕ)
 hash_of text = if list_all is_hash_digit text then result_ok (decode_sized text 32) else None
 
--- the hash that a string spells, or 32 zeros where it spells none
+-- the hash that a string spells, or 32 zeros if it spells none
 abbrev pub hash_named : List ℕ → List ℕ
 hash_named text = unwrap_or (hash_of text) (replicate 32 0)
 

@@ -78,7 +78,7 @@ abbrev pub zero_version : List ℕ
 zero_version = replicate 16 0
 
 -- rule: Version of a client's string
--- the version that a client's string counts as: `0` where it spells none
+-- the version that a client's string counts as: `0` if it spells none
 unfoldable pub lenient_version_of : List ℕ → List ℕ
 lenient_version_of text =
     unwrap_or (option_map (λ read. read.0) (components_of Lenient text)) zero_version

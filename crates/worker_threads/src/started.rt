@@ -6,7 +6,7 @@ ghost use Rattle.worker_threads.specs.Started.{Comes};
 
 use std::thread::{Promise, PromisedHandle, Threads};
 
-/// A thread; or what was to be its result, where there could be none.
+/// A thread; or what was to be its result, if there could be none.
 #[derive(Drop)]
 pub(crate) enum Started<T: Drop, P: Promise<T> + Drop> {
     /// The thread.

@@ -102,8 +102,8 @@ fn work_beside<O: OwnJob, R: Wait>(rt: &R, start: &Start, own: &mut O) -> Option
 /// Gives each job a thread of its own, lets all begin once each has one, does the caller's own job beside them, and
 /// returns what each came to, in order.
 ///
-/// `gate` is called once in each thread before its job begins, with the job's number from 0 and 0 tables. Where a
-/// thread can't be started no job begins, the own one neither, and each other is given back. Without memory for their
+/// `gate` is called once in each thread before its job begins, with the job's number from 0 and 0 tables. If a
+/// thread can't be started, no job begins, the own one neither, and each other is given back. Without memory for their
 /// list nothing is started, and all are given back.
 pub fn run_together<J: Job + Send + Drop, O: OwnJob, G: Gate + Sync, R: Threads + Wait + Sync>(
     rt: &R,
