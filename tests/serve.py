@@ -514,6 +514,7 @@ def publishes_by_its_commands(program):
             "stage.toml": (EXAMPLES / "scripts" / "stage.toml").read_bytes(),
             "no_script.toml": b"x = [",
             "large.toml": b"#" * 262145,
+            "huge.toml": b"#" * 8000000,
             "largest.toml": b"schema = 1\nbase = 2\n" + b"#" * (262144 - 20),
         }
         for name, content in files.items():
@@ -532,6 +533,7 @@ def publishes_by_its_commands(program):
         expect("publish again", publish("stage.toml"), (1, b"stale 2\n", b""))
         expect("publish no script", publish("no_script.toml"), (1, b"F1 NotToml\n", b""))
         expect("publish 262145 bytes", publish("large.toml"), (1, b"", b""))
+        expect("publish 8000000 bytes", publish("huge.toml"), (1, b"", b""))
         expect("publish 262144 bytes", publish("largest.toml"), (0, b"edition 3\n", b""))
         expect("publish no file", publish("none.toml"), (1, b"", b"omaha: file none.toml\n"))
         dump = call("dump", "--to", to)

@@ -5,7 +5,8 @@ use Rattle.std.proofs.lemmas.List.{take-append-drop, take_all, drop_all, length-
 use Rattle.http_wire.specs.Devices.{Came}
 use Rattle.http_client_heads.specs.Starts.{StartFound}
 use Rattle.http_client_heads.specs.declared.start.Start.{Start}
-use Rattle.http_client.specs.Replies.{Announces, PostedWithin, ReplyRead, RestRead, failed_writes}
+use Rattle.http_client.specs.Posts.{ReplyAwaited}
+use Rattle.http_client.specs.Replies.{Announces, PostedWithin, ReplyRead, RestRead}
 use Rattle.http_client_heads.specs.declared.fault.LinkFault.{LinkFault}
 use Rattle.http_client_heads.specs.declared.fault.LinkFault.TheVariants as fault
 use Rattle.http_client.specs.declared.posting.Reply.{Reply}
@@ -132,23 +133,23 @@ reply_broken limit old between new held first body start count fault.BadLength c
 reply_broken limit old between new held first body start count fault.Long consumed found least is_first rest = absurd rest
 reply_broken limit old between new held first body start count fault.Status consumed found least is_first rest = absurd rest
 
--- what was read is within the limit, or a fault of a post; if a write failed, nothing was read
+-- what was awaited is within the limit, or a fault of a post
 pub posted_within :
-    (limit : ℕ) (old new : Option (List ℕ)) (result : Result Reply LinkFault) →
-    (failed_writes result ≡ 0 → ReplyRead limit old new result) →
+    (limit : ℕ) (old new : Option (List ℕ)) (before after : ℕ) (result : Result Reply LinkFault) →
+    ReplyAwaited limit old new before after result →
     PostedWithin limit result
-posted_within limit old new (Ok reply) read = let (bytes, rest, consumed, announced, short) = read refl in short
-posted_within limit old new (Err fault.Address) read = absurd (read refl).0
-posted_within limit old new (Err fault.Status) read = absurd (read refl).0
-posted_within limit old new (Err fault.Connect) read = tt
-posted_within limit old new (Err fault.Memory) read = tt
-posted_within limit old new (Err fault.Write) read = tt
-posted_within limit old new (Err fault.Read) read = tt
-posted_within limit old new (Err fault.NoHead) read = tt
-posted_within limit old new (Err fault.ManyFields) read = tt
-posted_within limit old new (Err fault.TransferCoding) read = tt
-posted_within limit old new (Err fault.NoLength) read = tt
-posted_within limit old new (Err fault.TwoLengths) read = tt
-posted_within limit old new (Err fault.BadLength) read = tt
-posted_within limit old new (Err fault.Ended) read = tt
-posted_within limit old new (Err fault.Long) read = tt
+posted_within limit old new before after (Ok reply) awaited = let (bytes, rest, consumed, announced, short) = awaited.0 in short
+posted_within limit old new before after (Err fault.Address) awaited = absurd awaited.0.0
+posted_within limit old new before after (Err fault.Status) awaited = absurd awaited.0.0
+posted_within limit old new before after (Err fault.Connect) awaited = tt
+posted_within limit old new before after (Err fault.Memory) awaited = tt
+posted_within limit old new before after (Err fault.Write) awaited = tt
+posted_within limit old new before after (Err fault.Read) awaited = tt
+posted_within limit old new before after (Err fault.NoHead) awaited = tt
+posted_within limit old new before after (Err fault.ManyFields) awaited = tt
+posted_within limit old new before after (Err fault.TransferCoding) awaited = tt
+posted_within limit old new before after (Err fault.NoLength) awaited = tt
+posted_within limit old new before after (Err fault.TwoLengths) awaited = tt
+posted_within limit old new before after (Err fault.BadLength) awaited = tt
+posted_within limit old new before after (Err fault.Ended) awaited = tt
+posted_within limit old new before after (Err fault.Long) awaited = tt

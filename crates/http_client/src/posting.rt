@@ -1,6 +1,7 @@
 ghost use Rattle.std.specs.Prelude.{◌≡◌, ◌+◌, ◌≤◌, ◌<◌, length, vec_len};
 ghost use Rattle.http_client_heads.specs.Requests.{post_request};
-ghost use Rattle.http_client.specs.Replies.{ReplyRead, RequestWritten, RestRead, accepted_reply, failed_reads, failed_writes};
+ghost use Rattle.http_client.specs.Posts.{PostSent, ReplyAwaited, after_failed_write};
+ghost use Rattle.http_client.specs.Replies.{ReplyRead, RestRead, accepted_reply, failed_reads, failed_writes};
 
 use crate::reading::{BLOCK, read_head, read_more};
 use http_client_heads::{LinkFault, Post, post_request};
@@ -71,11 +72,27 @@ fn read_reply<S: Source>(alloc: Global, source: &mut S, limit: u64) -> Result<Re
     })
 }
 
+// What a reply comes to after a failed write: a whole reply is one, and every fault but `Memory` is that of the write.
+fn after_failed_write(reply: Result<Reply, LinkFault>) -> Result<Reply, LinkFault>
+    ensures { result ≡ after_failed_write reply }
+{
+    match reply {
+        Ok(reply) => Ok(reply),
+        Err(LinkFault::Memory) => Err(LinkFault::Memory),
+        Err(_) => Err(LinkFault::Write),
+    }
+}
+
+// rule: Post whose reply comes early
 // rule: Request that a link writes
 /// Posts, and returns the reply, whatever its status; its body may have as many bytes as the limit.
 ///
-/// Errors: `Memory`, `Write`, and of the reply `Read`, those of `read_start`, `Long` and `Ended`, which say that the
-/// input failed, that the head is rejected, that more bytes are announced than the limit, or that the reply isn't whole.
+/// If a write fails, the reply is read all the same: a server may reply before it has read the whole request, and close
+/// the connection.
+///
+/// Errors: `Memory`; `Write`, if a write failed and there is no whole reply; and of the reply `Read`, those of
+/// `read_start`, `Long` and `Ended`, which say that the input failed, that the head is rejected, that more bytes are
+/// announced than the limit, or that the reply isn't whole.
 pub fn post_over<S: Source, W: Sink>(
     alloc: Global,
     source: &mut S,
@@ -83,14 +100,14 @@ pub fn post_over<S: Source, W: Sink>(
     post: &Post<'_>,
     limit: u64,
 ) -> Result<Reply, LinkFault>
-    ensures read { failed_writes result ≡ 0 → ReplyRead limit (S.remaining source.old) (S.remaining source.new) result }
-    ensures written { RequestWritten (W.contents sink.old) (W.contents sink.new) (post_request post.now) result }
-    ensures reads { S.failures source.new ≡ S.failures source.old + failed_reads result }
-    ensures writes { W.failures sink.new ≡ W.failures sink.old + failed_writes result }
+    ensures awaited { ReplyAwaited limit (S.remaining source.old) (S.remaining source.new) (S.failures source.old) (S.failures source.new) result }
+    ensures sent { PostSent (W.contents sink.old) (W.contents sink.new) (W.failures sink.old) (W.failures sink.new) (post_request post.now) result }
 {
     let text = post_request(alloc, post)?;
-    let Ok(()) = send(sink, &text) else {
-        return Err(LinkFault::Write);
-    };
-    read_reply(alloc, source, limit)
+    let sent = send(sink, &text);
+    let reply = read_reply(alloc, source, limit);
+    match sent {
+        Ok(()) => reply,
+        Err(_) => after_failed_write(reply),
+    }
 }

@@ -129,6 +129,14 @@ fn a_link_reports_each_failed_read(rt: HostRuntime) {
     }
 }
 
+// What comes of a failed write, and how much of the reply is left: the reply to a post is read all the same.
+fn after_failed_write(kind: &str) -> (&'static str, usize) {
+    match kind {
+        "post" => ("whole", 0),
+        _ => ("write failed", REPLY.len()),
+    }
+}
+
 // Lets each write fail until none does, and returns how many there are. A write takes so many bytes.
 fn count_writes<R: AllocGlobal + Abort>(rt: &R, kind: &str, piece: usize) -> usize {
     for good in 0..1000 {
@@ -137,22 +145,22 @@ fn count_writes<R: AllocGlobal + Abort>(rt: &R, kind: &str, piece: usize) -> usi
         let came = ask(rt.alloc(), kind, &mut source, &mut sink);
         let is_part = request_of(kind).starts_with(&sink.bytes) && sink.calls == good;
         assert!(rt; is_part, "{kind}, after {good} writes");
-        if came == "whole" && source.left.is_empty() {
+        if !sink.failed && came == "whole" {
             return good;
         }
-        assert_eq!(rt; came, "write failed", "{kind}, after {good} writes");
-        assert_eq!(rt;
-            source.left.len(),
-            REPLY.len(),
+        let seen = (came, source.left.len());
+        assert!(rt;
+            seen == after_failed_write(kind),
             "{kind}, after {good} writes"
         );
     }
     1000
 }
 
+// rule: Post whose reply comes early
 // rule: Request that a link writes
 #[test]
-fn a_link_reads_nothing_after_each_failed_write(rt: HostRuntime) {
+fn a_link_reads_the_reply_to_a_post_after_each_failed_write(rt: HostRuntime) {
     for (piece, writes, written) in [(1, 125, 62), (7, 18, 9), (1000, 1, 1)] {
         assert_eq!(rt;
             count_writes(&rt, "post", piece),
@@ -164,5 +172,42 @@ fn a_link_reads_nothing_after_each_failed_write(rt: HostRuntime) {
             written,
             "{piece} bytes a write"
         );
+    }
+}
+
+// Replies to a post whose fourth write fails, how many reads of them are good, and what the post comes to.
+const EARLY: &[(&[u8], usize, &str)] = &[
+    (REPLY, 1, "whole"),
+    (REPLY, 0, "write failed"),
+    (b"", 1000, "write failed"),
+    (b"HTTP/1.1 200 OK\r\n", 1000, "write failed"),
+    (
+        b"HTTP/1.1 200 OK\r\nContent-Length: 5\r\n\r\nhell",
+        1000,
+        "write failed",
+    ),
+    (
+        b"HTTP/1.1 200 OK\r\nContent-Length: 6\r\n\r\nhello!",
+        1000,
+        "write failed",
+    ),
+    (b"HTTP/1.1 200 OK\r\n\r\nhello", 1000, "write failed"),
+    (b"hello", 1000, "write failed"),
+];
+
+// rule: Post whose reply comes early
+#[test]
+fn a_cut_post_without_a_whole_reply_is_a_failed_write(rt: HostRuntime) {
+    for (left, good, wanted) in EARLY {
+        let mut source = Pieces {
+            left,
+            piece: 1000,
+            good: *good,
+            failed: false,
+        };
+        let mut sink = Kept::new(rt.alloc(), 10, 3);
+        let came = post(rt.alloc(), &mut source, &mut sink);
+        let is_cut = sink.failed && sink.bytes.len() == 30;
+        assert!(rt; is_cut && came == *wanted, "{came}");
     }
 }

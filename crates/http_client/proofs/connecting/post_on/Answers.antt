@@ -3,4 +3,6 @@ use Rattle.http_client.proofs.ReplyLemmas.{posted_within}
 use Rattle.http_client.proofs.connecting.post_on.Goals as goal
 
 pub returns : goal.returns
-returns g c = posted_within c.args.limit None None c.post_over.result c.post_over.ensures.read
+returns g c =
+    posted_within c.args.limit None None c.new-source.result.failures c.post_over.new.source.failures
+    c.post_over.result c.post_over.ensures.awaited
