@@ -175,7 +175,7 @@ fn a_link_reads_the_reply_to_a_post_after_each_failed_write(rt: HostRuntime) {
     }
 }
 
-// Replies to a post whose fourth write fails, how many reads of them are good, and what the post comes to.
+// Replies to a post whose fourth write fails, how many reads of them succeed, and what the post comes to.
 const EARLY: &[(&[u8], usize, &str)] = &[
     (REPLY, 1, "whole"),
     (REPLY, 0, "write failed"),
