@@ -2,10 +2,10 @@
 """Counts retired words in documents, comments and names, and prints each place with a better word.
 
 It reads README, `docs/`, the documents of `examples/`, the comments of all code, specs, proofs and
-scripts, the docstrings, the strings of `--help`, and the names of the must-fail edits, of the functions, types, constants
-and modules of the code, and of the definitions in specs. Code between backticks is exempt, and so are the names of the
-public surface below, options and printed codes. `tests/words.py` fails if it finds one; `tests/words.py PATH ..` reads only the
-files whose path begins so.
+scripts, the docstrings, the strings of `--help` and of `explain`, and the names of the must-fail edits, of the functions,
+types, constants and modules of the code, and of the definitions in specs. Code between backticks is exempt, and so are
+the names of the public surface below, options and printed codes. `tests/words.py` fails if it finds one;
+`tests/words.py PATH ..` reads only the files whose path begins so.
 """
 
 import io
@@ -54,6 +54,9 @@ COMMENTS = {
 }
 HELP = re.compile(r"crates/omaha_arguments/src/\w+\.rt$")
 STRING = re.compile(r'^const \w+: &str =\s*"((?:[^"\\]|\\.)*)"', re.DOTALL | re.MULTILINE)
+EXPLANATIONS = re.compile(r"crates/explanations/src/\w+\.rt$")
+# (an explanation begins with a line of its code and name)
+EXPLANATION = re.compile(r'^ +"[^"\n]*\n((?:[^"\\]|\\.)*)"', re.DOTALL | re.MULTILINE)
 
 ITEM = re.compile(r"^\s*(?:pub(?:\(\w+\))? )?(?:const )?(?:fn|struct|enum|trait|const|static|type|mod) (\w+)", re.MULTILINE)
 DEFINITION = re.compile(r"^(?:abbrev pub|unfoldable pub|pub record|pub data|pub) (\w+)", re.MULTILINE)
@@ -91,9 +94,9 @@ def docstrings(text):
                 yield token.start[0] + below, line
 
 
-def help_of(text):
-    """The strings of the command line's help, line by line."""
-    for found in STRING.finditer(text):
+def strings(text, pattern):
+    """The strings that a file prints, line by line."""
+    for found in pattern.finditer(text):
         first = text.count("\n", 0, found.start()) + 1
         for below, line in enumerate(found.group(1).split("\n")):
             yield first + below, line
@@ -115,7 +118,9 @@ def prose(path, text):
     if suffix == ".antt" and "/specs/" in path:
         yield from names(text, DEFINITION)
     if HELP.search(path):
-        yield from help_of(text)
+        yield from strings(text, STRING)
+    if EXPLANATIONS.search(path):
+        yield from strings(text, EXPLANATION)
 
 
 def files():
