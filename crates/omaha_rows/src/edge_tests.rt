@@ -2,7 +2,10 @@
 
 use crate::client::{connect, exchange};
 use crate::message_tests::{OFFER, ask};
-use crate::site::{Site, make_site, serve, serve_logged, serve_with};
+use crate::site::{
+    Site, free_host, make_site, run_within, serve, serve_logged, serve_with, write_file,
+};
+use omaha_cli::Runtime;
 use std::io::{Read, Write};
 use std::net::{Net, TcpListener, TcpStream};
 use std::os::fd::AsRawFd;
@@ -157,5 +160,44 @@ fn no_pipe_is_a_log(rt: HostRuntime) -> Result<(), Fail> {
     let served = served.ok_or("no server")?;
     let wanted = format!(in rt.alloc(); "1 omaha: file {}\n", path.as_str())?;
     assert_eq!(rt; served.as_str(), wanted.as_str());
+    Ok(())
+}
+
+// What the publishing of a script comes to, once the server listens.
+fn publish_once<R: Net<Listener = TcpListener, Stream = TcpStream> + Runtime>(
+    rt: &R,
+    site: &Site,
+    operator: &str,
+    script: &str,
+) -> Option<String> {
+    let _client = connect(rt, site.host.as_str())?;
+    let words = ["publish", "--to", operator, script];
+    run_within(rt, &words, usize::MAX)
+}
+
+// The server replies when it has read the head, and reads little of the rest, so the command can't write it whole. The
+// reply has no body.
+// rule: Post whose reply comes early
+#[test]
+fn a_script_of_8_megabytes_gets_its_reply(rt: HostRuntime) -> Result<(), Fail> {
+    let site = make_site(&rt, "long")?;
+    let operator = free_host(&rt)?;
+    let operator = operator.as_str();
+    let script = vec![in rt.alloc(); b'#'; 8_000_000]?;
+    write_file(&rt, site.folder.as_str(), "long.toml", script.as_slice())?;
+    let script = format!(in rt.alloc(); "{}/long.toml", site.folder.as_str())?;
+    let (served, published) = join(
+        &rt,
+        || {
+            let more = ["--operator", operator, "--sessions", "1", "--edits", "1"];
+            serve_with(&rt, &site, &more)
+        },
+        || publish_once(&rt, &site, operator, script.as_str()),
+    );
+    fs::remove_dir_all(&rt, site.folder.as_str())?;
+    let published = published.ok_or("no command")?;
+    assert_eq!(rt; published.as_str(), "1 ");
+    let served = served.ok_or("no server")?;
+    assert_eq!(rt; served.as_str(), "0 ready\nm0 0\n");
     Ok(())
 }
