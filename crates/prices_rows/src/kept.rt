@@ -37,18 +37,30 @@ impl Gate for Counter {
     }
 }
 
-// Holds piece 0 until piece 1 has begun, for a million turns at most.
+// Holds each of two pieces until the other has begun, for 200000 turns at most.
 #[derive(Drop)]
 struct Holder<'a, R> {
     clock: &'a R,
-    began: AtomicU64,
+    first: AtomicU64,
+    second: AtomicU64,
     gave_up: AtomicU64,
 }
 
-impl<R: Clock> Holder<'_, R> {
-    fn hold(&self) {
-        for _turn in 0..1000000u32 {
-            if self.began.load(Ordering::SeqCst) == 1 {
+impl<'a, R: Clock> Holder<'a, R> {
+    fn new(clock: &'a R) -> Holder<'a, R> {
+        Holder {
+            clock,
+            first: AtomicU64::new(0),
+            second: AtomicU64::new(0),
+            gave_up: AtomicU64::new(0),
+        }
+    }
+
+    // Sets a piece's own mark, and waits for the other's.
+    fn meet(&self, own: &AtomicU64, other: &AtomicU64) {
+        own.store(1, Ordering::SeqCst);
+        for _turn in 0..200000u32 {
+            if other.load(Ordering::SeqCst) == 1 {
                 return;
             }
             thread::sleep(self.clock, Duration::from_micros(1));
@@ -60,8 +72,8 @@ impl<R: Clock> Holder<'_, R> {
 impl<R: Clock> Gate for Holder<'_, R> {
     fn begin(&self, piece: usize, _tables: usize) {
         match piece {
-            0 => self.hold(),
-            _ => self.began.store(1, Ordering::SeqCst),
+            0 => self.meet(&self.first, &self.second),
+            _ => self.meet(&self.second, &self.first),
         }
     }
 }
@@ -123,21 +135,19 @@ fn any_number_of_workers_makes_the_same_list(rt: HostRuntime) {
     assert!(rt; builds_by_any(&rt, rt.alloc(), DEMO, ONE) == Some(true));
 }
 
-// Whether two workers run at once.
-fn run_at_once<R: Threads + Sync + Clock>(rt: &R, alloc: Global) -> Option<bool> {
-    let holder = Holder {
-        clock: rt,
-        began: AtomicU64::new(0),
-        gave_up: AtomicU64::new(0),
-    };
+// Whether two workers make the list of a catalogue's tables at once.
+fn build_at_once<R: Threads + Sync + Clock>(rt: &R, alloc: Global) -> Option<bool> {
+    let holder = Holder::new(rt);
     let catalogue = catalogue_of(alloc, DEMO, "")?;
     let built = keep(alloc, build(rt, alloc, catalogue, 2, &holder).ok()?)?;
-    Some(built.len() == 4 && holder.gave_up.load(Ordering::SeqCst) == 0)
+    let whole = keep(alloc, tables(alloc, catalogue).ok()?)?;
+    let is_held = holder.gave_up.load(Ordering::SeqCst) == 0;
+    Some(is_held && built.len() == 4 && are_same(built, whole.as_slice()))
 }
 
 #[test]
 fn pieces_are_made_at_once(rt: HostRuntime) {
-    assert!(rt; run_at_once(&rt, rt.alloc()) == Some(true));
+    assert!(rt; build_at_once(&rt, rt.alloc()) == Some(true));
 }
 
 // The edition after a batch, and how many tables its gate counted.
