@@ -7,8 +7,9 @@
 `make fuzz` runs it, after `make install`. The kinds are update checks, heads and bodies that are cut anywhere, scripts,
 profiles, certificates, requests on standard input, and the replies that a client gets. A case is wrong if the program
 breaks down, does not end within 20 s, prints more than one line of failure, or does anything else than the models in
-`tests/fuzzing/` say. It first compares the outcome of each case of the corpus as it is. It prints a line for each kind, and saves each wrong case to a file for `--replay`. It makes as many
-cases as the time allows; the same seed and number of cases make the same cases.
+`tests/fuzzing/` say. It first compares the outcome of each case of the corpus as it is. It prints a line for each kind,
+and saves each wrong case to a file for `--replay`. It makes so many cases, as far as the time allows; the same seed and
+number of cases make the same cases.
 """
 
 import argparse
@@ -25,6 +26,8 @@ import time
 from fuzzing import corpus, kinds, replies
 
 TOP = pathlib.Path(__file__).resolve().parent.parent
+# files of a case are written and read once, so they are better in memory
+MEMORY = "/dev/shm" if os.access("/dev/shm", os.W_OK) else None
 KINDS = [kinds.Requests, kinds.Heads, kinds.Scripts, kinds.Profiles, kinds.Certificates, kinds.Once, replies.Replies]
 MOST_SAVED = 20
 
@@ -35,7 +38,8 @@ def read_arguments():
     reader.add_argument("--seed", type=int, default=1)
     reader.add_argument("--cases", type=int, default=1000000)
     reader.add_argument("--seconds", type=int, default=600)
-    reader.add_argument("--jobs", type=int, default=4)
+    # (a job waits for the program half of its time)
+    reader.add_argument("--jobs", type=int, default=2 * os.cpu_count())
     reader.add_argument("--kinds", default=",".join(kind.name for kind in KINDS))
     reader.add_argument("--saved", help="the folder for wrong cases; a new one if not given")
     reader.add_argument("--replay", metavar="FILE", help="runs a saved case again")
@@ -61,7 +65,7 @@ def run_batch(batch):
     kind = KINDS[number]
     outcome = Outcome(kind.name)
     if time.monotonic() < until:
-        with tempfile.TemporaryDirectory(prefix="omaha-fuzz-") as folder:
+        with tempfile.TemporaryDirectory(prefix="omaha-fuzz-", dir=MEMORY) as folder:
             made = kind(program, folder)
             made.run(made.make(random.Random(f"{seed}/{kind.name}/{index}"), count), outcome.record)
     return outcome
@@ -73,7 +77,7 @@ def check_corpus(arguments):
     for kind in KINDS:
         if kind is kinds.Requests or kind.name not in arguments.kinds.split(","):
             continue
-        with tempfile.TemporaryDirectory(prefix="omaha-fuzz-") as folder:
+        with tempfile.TemporaryDirectory(prefix="omaha-fuzz-", dir=MEMORY) as folder:
             made = kind(arguments.program, folder)
             for case in corpus.read_cases(made.folder_name()):
                 count += 1
@@ -138,7 +142,7 @@ def replay(arguments):
     kind = next(kind for kind in KINDS if kind.name == saved["kind"])
     outcome = Outcome(kind.name)
     case = kinds.Case(saved["bytes"].encode("latin-1"), saved["how"], saved["before"])
-    with tempfile.TemporaryDirectory(prefix="omaha-fuzz-") as folder:
+    with tempfile.TemporaryDirectory(prefix="omaha-fuzz-", dir=MEMORY) as folder:
         kind(arguments.program, folder).run([case], outcome.record)
     for wrong in outcome.wrong:
         print(f"wrong: {wrong['wrong']}")
