@@ -69,6 +69,8 @@ mod rows;
 #[cfg(test)]
 mod shelf;
 #[cfg(test)]
+mod together;
+#[cfg(test)]
 mod tracks;
 #[cfg(test)]
 mod two_threads;

@@ -116,8 +116,8 @@ fn is_within<'a, R: Wait>(ran: &Ran<Asking<'a, R>, Raising<'a, R>>, to: u64) -> 
         && ran.totals[0] <= to
 }
 
-// One mirror with the budget 0.
-const EMPTY: &[u8] =
+/// One mirror with the budget 0.
+pub(crate) const EMPTY: &[u8] =
     b"schema = 1\nmirror = [{ name = 'm0', codebase = 'http://m0.example/p/', budget = 0 }]";
 
 fn is_raised<R: Threads + Wait + Sync + AllocGlobal>(
