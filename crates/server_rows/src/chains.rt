@@ -131,13 +131,18 @@ fn offers_nothing_below_a_floor(rt: HostRuntime) {
     check_rows(&rt, Kind::Choice, edition, BELOW);
 }
 
-const DIFFERENTIAL: &str =
-    r#"{"appid":"demo","cohort":"stable:0","cohortname":"stable","status":"ok","updatecheck":{"manifest":{"packages":{"package":[{"fp":"1.2222222222222222222222222222222222222222222222222222222222222222","hash_sha256":"2222222222222222222222222222222222222222222222222222222222222222","hashdiff_sha256":"1212121212121212121212121212121212121212121212121212121212121212","name":"demo-2.0.bin","namediff":"demo-1.0-2.0.bin","size":1200,"sizediff":300}]},"version":"2.0"},"status":"ok","urls":{"url":[{"codebase":"http://m0.example/p/"},{"codebasediff":"http://m0.example/p/"}]}}} | {"appid":"demo","cohort":"stable:0","packages":{"package":[{"fp":"1.1111111111111111111111111111111111111111111111111111111111111111"}]},"updatecheck":{},"version":"1.0"}
-{"appid":"demo","cohort":"stable:0","cohortname":"stable","status":"ok","updatecheck":{"manifest":{"packages":{"package":[{"fp":"1.2222222222222222222222222222222222222222222222222222222222222222","hash_sha256":"2222222222222222222222222222222222222222222222222222222222222222","name":"demo-2.0.bin","size":1200}]},"version":"2.0"},"status":"ok","urls":{"url":[{"codebase":"http://m0.example/p/"}]}}} | {"appid":"demo","cohort":"stable:0","updatecheck":{},"version":"x.y"}"#;
+/// The reply to a client at 1.0, and what it asks.
+pub(crate) const DIFFERENTIAL: &str =
+    r#"{"appid":"demo","cohort":"stable:0","cohortname":"stable","status":"ok","updatecheck":{"manifest":{"packages":{"package":[{"fp":"1.2222222222222222222222222222222222222222222222222222222222222222","hash_sha256":"2222222222222222222222222222222222222222222222222222222222222222","hashdiff_sha256":"1212121212121212121212121212121212121212121212121212121212121212","name":"demo-2.0.bin","namediff":"demo-1.0-2.0.bin","size":1200,"sizediff":300}]},"version":"2.0"},"status":"ok","urls":{"url":[{"codebase":"http://m0.example/p/"},{"codebasediff":"http://m0.example/p/"}]}}} | {"appid":"demo","cohort":"stable:0","packages":{"package":[{"fp":"1.1111111111111111111111111111111111111111111111111111111111111111"}]},"updatecheck":{},"version":"1.0"}"#;
+
+// The same of a client whose version is none.
+const FULL: &str =
+    r#"{"appid":"demo","cohort":"stable:0","cohortname":"stable","status":"ok","updatecheck":{"manifest":{"packages":{"package":[{"fp":"1.2222222222222222222222222222222222222222222222222222222222222222","hash_sha256":"2222222222222222222222222222222222222222222222222222222222222222","name":"demo-2.0.bin","size":1200}]},"version":"2.0"},"status":"ok","urls":{"url":[{"codebase":"http://m0.example/p/"}]}}} | {"appid":"demo","cohort":"stable:0","updatecheck":{},"version":"x.y"}"#;
 
 // rule: Offer of a payload
 #[test]
 fn offers_a_differential_with_its_full_package(rt: HostRuntime) {
     let edition = edition_of(rt.alloc(), CHAINED);
     check_rows(&rt, Kind::Reply, edition, DIFFERENTIAL);
+    check_rows(&rt, Kind::Reply, edition, FULL);
 }

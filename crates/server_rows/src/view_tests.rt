@@ -1,5 +1,6 @@
 // Two threads that enter editions while a third publishes.
 
+use crate::chains::DIFFERENTIAL;
 use crate::rows::{Kind, is_found};
 use fixtures::{CHAINED, open_profile, publish_edits};
 use publisher::{Press, Receipt, View, meet};
@@ -7,21 +8,19 @@ use std::alloc::Global;
 use std::sync::Wait;
 use std::thread::{Threads, join};
 
-const OFFER: &str = "differential 0 for 300 | 1,stable:0,false";
-
-// A view, and whether its numbers never fell and each edition had the offer.
+// A view, and whether its numbers never fell and each edition had the reply.
 #[derive(Drop)]
 struct Entries {
     view: View,
     are_kept: bool,
 }
 
-// Enters once: the view, and the number of the edition; 0 if there was none or it had no such offer.
+// Enters once: the view, and the number of the edition; 0 if there was none or it had another reply.
 fn enter(alloc: Global, view: View) -> (View, u64) {
     match view.enter() {
         Ok(entered) => {
             let edition = entered.edition();
-            let number = match is_found(alloc, Kind::Choice, edition, OFFER) {
+            let number = match is_found(alloc, Kind::Reply, edition, DIFFERENTIAL) {
                 true => edition.number(),
                 false => 0,
             };
@@ -89,7 +88,7 @@ fn is_met(alloc: Global, press: &Press, entries: Entries, receipt: &Receipt) -> 
     are_kept && number == 101 && numbers == Some((101, 101))
 }
 
-// Whether two views of a press keep their numbers and the offer, and meet it at 101.
+// Whether two views of a press keep their numbers and the reply, and meet it at 101.
 fn are_met<R: Threads + Wait + Sync>(
     rt: &R,
     alloc: Global,
