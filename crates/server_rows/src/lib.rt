@@ -73,6 +73,8 @@ mod together;
 #[cfg(test)]
 mod tracks;
 #[cfg(test)]
+mod two_publishers;
+#[cfg(test)]
 mod two_threads;
 #[cfg(test)]
 mod view_tests;
