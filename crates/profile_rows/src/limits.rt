@@ -23,3 +23,44 @@ fn leaves_the_catalogues_limits_to_it(rt: HostRuntime) -> Result<(), Fail> {
     check_rows(&rt, rt.alloc(), Form::Applied, LIMITS)?;
     Ok(())
 }
+
+// An app's identifier and a package's name with each byte that they may have, and with one more byte, which for some
+// rows is next to those. The bytes `%`, `*` and `~` are written by their numbers.
+const BYTES: &str =
+    r#"> schema = 1~mirror = [{ name = "m", codebase = "http://m/", budget = 0 }]~[[app]]~default = 's'~
+1 apps, 0 releases, 1 cohorts | id = '!'
+1 apps, 0 releases, 1 cohorts | id = "\u007e"
+1 apps, 0 releases, 1 cohorts | id = "!#\"$\u0025&'()\u002a+,-./0123456789:;<=>?@ABCDEFGHIJKLMNOPQRSTUVWXYZ[\\]^_`abcdefghijklmnopqrstuvwxyz{|}\u007e"
+edit 0: C3 BadAppId | id = ' '
+edit 0: C3 BadAppId | id = 'a b'
+edit 0: C3 BadAppId | id = "\u0000"
+edit 0: C3 BadAppId | id = "\u001f"
+edit 0: C3 BadAppId | id = "\u007f"
+edit 0: C3 BadAppId | id = "\u0080"
+edit 0: C3 BadAppId | id = 'é'
+> schema = 1~mirror = [{ name = "m", codebase = "http://m/", budget = 0 }]~[[app]]~id = 'a'~default = 's'~[[app.release]]~version = '1'~size = 1~sha256 = '%64*1%'~
+1 apps, 1 releases, 1 cohorts | name = '-_.0123456789ABCDEFGHIJKLMNOPQRSTUVWXYZabcdefghijklmnopqrstuvwxyz'
+edit 1: C9 BadName | name = '.a'
+edit 1: C9 BadName | name = 'a b'
+edit 1: C9 BadName | name = 'a+b'
+edit 1: C9 BadName | name = 'a,b'
+edit 1: C9 BadName | name = 'a/b'
+edit 1: C9 BadName | name = 'a:b'
+edit 1: C9 BadName | name = 'a@b'
+edit 1: C9 BadName | name = 'a[b'
+edit 1: C9 BadName | name = 'a\b'
+edit 1: C9 BadName | name = 'a^b'
+edit 1: C9 BadName | name = 'a`b'
+edit 1: C9 BadName | name = 'a{b'
+edit 1: C9 BadName | name = "a\u007eb"
+edit 1: C9 BadName | name = "a\u0000b"
+edit 1: C9 BadName | name = "a\u007fb"
+edit 1: C9 BadName | name = 'aéb'"#;
+
+// rule: App identifier
+// rule: Package name
+#[test]
+fn bounds_the_bytes_of_names(rt: HostRuntime) -> Result<(), Fail> {
+    check_rows(&rt, rt.alloc(), Form::Applied, BYTES)?;
+    Ok(())
+}
