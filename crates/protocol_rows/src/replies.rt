@@ -193,6 +193,26 @@ fn reads_offers_at_their_limits(rt: HostRuntime) -> Result<(), Fail> {
     Ok(())
 }
 
+const VERSION_FRONT: &str = r#")]}'
+{"response":{"protocol":"3.1","app":[{"appid":"a","status":"ok","updatecheck":{"status":"ok","urls":{"url":[{"codebase":"u/"}]},"manifest":{"packages":{"package":[{"fp":"x","name":"n","size":1,"hash_sha256":"1111111111111111111111111111111111111111111111111111111111111111"}]}"#;
+
+const VERSION_BACK: &str = "}}}]}}";
+
+const VERSIONS: &str =
+    r#"0 0; a c n false 0 v2.0 fx u/n 1 1111111111111111111111111111111111111111111111111111111111111111 | ,"version":"2.0"
+K5 BadOffer 0 | 
+K5 BadOffer 0 | ,"version":2
+K5 BadOffer 0 | ,"version":2.0
+K5 BadOffer 0 | ,"version":null
+K5 BadOffer 0 | ,"versions":"2.0""#;
+
+// rule: Offer that is read
+#[test]
+fn reads_no_offer_without_its_version(rt: HostRuntime) -> Result<(), Fail> {
+    check_rows(&rt, rt.alloc(), VERSIONS, VERSION_FRONT, VERSION_BACK)?;
+    Ok(())
+}
+
 const ADDRESS_FRONT: &str = r#")]}'
 {"response":{"protocol":"3.1","app":[{"appid":"a","status":"ok","updatecheck":{"status":"ok","manifest":{"version":"2.0","packages":{"package":[{"fp":"x","name":"n","size":1,"hash_sha256":"1111111111111111111111111111111111111111111111111111111111111111","namediff":"m","sizediff":3,"hashdiff_sha256":"abababababababababababababababababababababababababababababababab"}]}},"urls":{"url":["#;
 
