@@ -8,6 +8,7 @@ use std::fs;
 use std::net::{Net, TcpListener, TcpStream};
 use std::test::Fail;
 use std::thread::join;
+use std::time::{Clock, Instant};
 
 // A script that leads the clients of the cohort to the release that they have.
 const SCRIPT: &str = concat!(
@@ -94,16 +95,27 @@ fn publishes_while_it_serves(rt: HostRuntime) -> Result<(), Fail> {
     Ok(())
 }
 
-// What a client gets while another one is silent.
-fn ask_beside_a_silent_one<R: Net<Listener = TcpListener, Stream = TcpStream> + AllocGlobal>(
+// What a server replies to an update check, and how many seconds that takes.
+fn ask_timed<R: Net<Listener = TcpListener, Stream = TcpStream> + Clock + AllocGlobal>(
     rt: &R,
-    site: &Site,
-) -> Option<String> {
-    let _silent = connect(rt, site.host.as_str())?;
+    host: &str,
+) -> Option<(String, u64)> {
     let message = ask(rt, 0)?;
-    exchange(rt, site.host.as_str(), message.as_str())
+    let start = Instant::now(rt).ok()?;
+    let reply = exchange(rt, host, message.as_str())?;
+    let waited = start.elapsed(rt).ok()?.as_secs();
+    Some((reply, waited))
 }
 
+// The same while another client is silent.
+fn ask_beside_a_silent_one<
+    R: Net<Listener = TcpListener, Stream = TcpStream> + Clock + AllocGlobal,
+>(rt: &R, host: &str) -> Option<(String, u64)> {
+    let _silent = connect(rt, host)?;
+    ask_timed(rt, host)
+}
+
+// Workers that served one after the other would reply once the silent client's time is over.
 // rule: Jobs of threads
 #[test]
 fn a_silent_client_holds_one_worker_alone(rt: HostRuntime) -> Result<(), Fail> {
@@ -111,14 +123,15 @@ fn a_silent_client_holds_one_worker_alone(rt: HostRuntime) -> Result<(), Fail> {
     let (served, offer) = join(
         &rt,
         || {
-            let more = ["--workers", "2", "--sessions", "2", "--timeout", "60"];
+            let more = ["--workers", "2", "--sessions", "2", "--timeout", "30"];
             serve_with(&rt, &site, &more)
         },
-        || ask_beside_a_silent_one(&rt, &site),
+        || ask_beside_a_silent_one(&rt, site.host.as_str()),
     );
     fs::remove_dir_all(&rt, site.folder.as_str())?;
-    let offer = offer.ok_or("no exchange")?;
+    let (offer, waited) = offer.ok_or("no exchange")?;
     assert!(rt; offer.as_str().contains(OFFER), "{offer}");
+    assert!(rt; waited < 15, "{waited}");
     let served = served.ok_or("no server")?;
     assert_eq!(rt; served.as_str(), "0 ready\nm0 10\n");
     Ok(())
