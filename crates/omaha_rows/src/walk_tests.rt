@@ -9,6 +9,33 @@ use std::thread::join;
 // The fingerprint of the first release.
 const FIRST: &str = "1.ba7816bf8f01cfea414140de5dae2223b00361a396177a9cb410ff61f20015ad";
 
+// A profile of two releases, with HOST for the address: a client without either gets both by fewer bytes than the last.
+const TWO_RELEASES: &str = r#"schema = 1
+mirror = [{ name = "m0", codebase = "http://HOST/p/", budget = 1000000 }]
+
+[[app]]
+id = "demo"
+default = "stable"
+cohort = [{ name = "stable", target = "2.0" }]
+release = [
+    { version = "1.0", name = "mini-1.0.bin", size = 3, sha256 = "ba7816bf8f01cfea414140de5dae2223b00361a396177a9cb410ff61f20015ad" },
+    { version = "2.0", name = "mini-2.0.bin", size = 56, sha256 = "248d6a61d20638b8e5c026930c3e6039a33ce45964ff2167f6ecedd419db06c1" },
+]
+diff = [
+    { from = "1.0", to = "2.0", name = "hello.bin", size = 11, sha256 = "b94d27b9934d3e08a52e52d7da7dabfac484efe37a5380ee9088f7ace2efcde9" },
+]
+"#;
+
+// Makes a site with the profile of two releases.
+fn make_two_releases(rt: &HostRuntime, end: &str) -> Result<Site, Fail> {
+    let site = make_site(rt, end)?;
+    let profile = TWO_RELEASES.replace(rt.alloc(), "HOST", site.host.as_str())?;
+    let folder = site.folder.as_str();
+    write_file(rt, folder, "mini.toml", profile.as_str().as_bytes())?;
+    write_file(rt, folder, "hello.bin", b"hello world")?;
+    Ok(site)
+}
+
 // Walks with these options, once the server listens, which takes a connection. The output takes so many bytes.
 fn walk_with<R: Net<Listener = TcpListener, Stream = TcpStream> + Runtime>(
     rt: &R,
@@ -66,17 +93,17 @@ fn walk_pinned<R: Net<Listener = TcpListener, Stream = TcpStream> + Runtime>(
 // rule: Walk over one catalogue
 #[test]
 fn walks_from_nothing_by_the_fewest_bytes(rt: HostRuntime) -> Result<(), Fail> {
-    let site = make_site(&rt, "nothing")?;
+    let site = make_two_releases(&rt, "nothing")?;
     let (served, walked) = join(
         &rt,
-        || serve(&rt, &site, "8"),
-        || walk(&rt, &site, "mini", "", ""),
+        || serve(&rt, &site, "6"),
+        || walk(&rt, &site, "demo", "", ""),
     );
     fs::remove_dir_all(&rt, site.folder.as_str())?;
     let walked = walked.ok_or("no walk")?;
     assert_eq!(rt;
         walked.as_str(),
-        "0 step 1 full 1.0 3\nstep 2 diff 2.0 10\nstep 3 diff 3.0 1\ndone 3 steps 14 bytes\n"
+        "0 step 1 full 1.0 3\nstep 2 diff 2.0 11\ndone 2 steps 14 bytes\n"
     );
     let served = served.ok_or("no server")?;
     assert_eq!(rt; served.as_str(), "0 ready\nm0 14\n");
@@ -108,7 +135,13 @@ fn walks_by_differentials_from_a_fingerprint(rt: HostRuntime) -> Result<(), Fail
 
 // A row is an app, a prefix of versions, how many sessions a walk from nothing needs, and how it ends: at the highest
 // release that the prefix allows, at once if it allows none, and at the target if it is empty.
-const PINNED: [(&str, &str, &str, &str); 5] = [
+const PINNED: [(&str, &str, &str, &str); 6] = [
+    (
+        "mini",
+        "",
+        "8",
+        "0 step 1 full 1.0 3\nstep 2 diff 2.0 10\nstep 3 diff 3.0 1\ndone 3 steps 14 bytes\n",
+    ),
     (
         "mini",
         "2",
