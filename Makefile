@@ -12,8 +12,8 @@
 # make allocations   runs the program, after make install, and the tests of single calls without
 #                    memory, which it proves and builds, with each allocation failing in turn; it
 #                    needs a C compiler
-# make fuzz          gives the program, after make install, changed cases of tests/corpus for ten
-#                    minutes, and judges each by a model
+# make fuzz          gives the program, after make install, a million changed cases of tests/corpus, or
+#                    as many as ten minutes allow, and judges each by a model
 # make bench         times the program, after make install, on large profiles beside the tomllib of
 #                    Python, 3.11 or newer
 # make load          measures the server, after make install, beside nginx; it needs wrk
