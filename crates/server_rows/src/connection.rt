@@ -6,10 +6,21 @@ use http_desks::Clock;
 use http_wire::{Failed, Sink, Source};
 use std::alloc::Global;
 
-/// Gives what the peer sent.
+/// Gives what the peer sent, at most `piece` bytes a call.
 #[derive(Drop)]
 pub(crate) struct Sent<'a> {
     pub(crate) left: &'a [u8],
+    pub(crate) piece: usize,
+}
+
+impl<'a> Sent<'a> {
+    /// Gives as much as a call asks for.
+    pub(crate) fn whole(left: &'a [u8]) -> Sent<'a> {
+        Sent {
+            left,
+            piece: usize::MAX,
+        }
+    }
 }
 
 impl Source for Sent<'_> {
@@ -18,7 +29,7 @@ impl Source for Sent<'_> {
     ghost failures = { λ _. 0 };
 
     fn read(&mut self, into: &mut [u8]) -> Result<usize, Failed> {
-        let count = self.left.len().min(into.len());
+        let count = self.left.len().min(into.len()).min(self.piece.max(1));
         into[..count].copy_from_slice(&self.left[..count]);
         self.left = &self.left[count..];
         Ok(count)

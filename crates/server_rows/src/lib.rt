@@ -29,6 +29,8 @@ mod corpus_tests;
 #[cfg(test)]
 mod crossing;
 #[cfg(test)]
+mod cut_tests;
+#[cfg(test)]
 mod descriptions;
 #[cfg(test)]
 mod desk;

@@ -8,14 +8,16 @@ use std::str;
 use std::sync::Wait;
 use std::thread::Threads;
 
-const REPLY: &str = r#")]}'
+/// The body of the reply to the message of one client.
+pub(crate) const REPLY: &str = r#")]}'
 {"response":{"app":[{"appid":"demo","cohort":"stable:0","cohortname":"stable","status":"ok","updatecheck":{"manifest":{"packages":{"package":[{"fp":"1.2222222222222222222222222222222222222222222222222222222222222222","hash_sha256":"2222222222222222222222222222222222222222222222222222222222222222","hashdiff_sha256":"1212121212121212121212121212121212121212121212121212121212121212","name":"demo-2.0.bin","namediff":"demo-1.0-2.0.bin","size":1200,"sizediff":300}]},"version":"2.0"},"status":"ok","urls":{"url":[{"codebase":"http://m0.example/p/"},{"codebasediff":"http://m0.example/p/"}]}}}],"daystart":{"elapsed_days":6940,"elapsed_seconds":3661},"protocol":"3.1"}}"#;
 
 /// The reply of a desk without room to the message of one client.
 pub(crate) const BUSY: &str = r#")]}'
 {"response":{"app":[{"appid":"demo","cohort":"stable:0","cohortname":"stable","status":"ok","updatecheck":{"status":"error-internal"}}],"daystart":{"elapsed_days":6940,"elapsed_seconds":3661},"protocol":"3.1"}}"#;
 
-fn whole(alloc: Global, body: &str) -> Result<String, AllocError> {
+/// The whole reply with a body.
+pub(crate) fn whole(alloc: Global, body: &str) -> Result<String, AllocError> {
     let length = body.len();
     format!(in alloc;
         "HTTP/1.1 200 OK\r\nContent-Type: application/json\r\nContent-Length: {length}\r\n\r\n{body}"

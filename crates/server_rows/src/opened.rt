@@ -29,6 +29,25 @@ fn end_of(served: &Result<Served, Fault>) -> &'static str {
     }
 }
 
+/// Serves a connection by the desk of a worker, and returns how the session ended.
+pub(crate) fn serve_at<R: Wait + AllocGlobal, T: Till>(
+    rt: &R,
+    desk: &mut Worker<'_, R, T>,
+    source: Sent<'_>,
+    sink: &mut Received,
+) -> &'static str {
+    let mut source = source;
+    let served = serve(
+        rt,
+        &mut source,
+        sink,
+        desk,
+        &Shelf { files: FILES },
+        &Stopped,
+    );
+    end_of(&served)
+}
+
 // The session of a connection.
 #[derive(Drop)]
 struct OneSession<'a> {
@@ -50,19 +69,12 @@ impl<R: Wait + AllocGlobal> Work<R> for OneSession<'_> {
             return "no till";
         };
         let mut desk = Worker::new(rt, view, till);
-        let served = serve(
-            rt,
-            &mut Sent { left: self.sent },
-            self.sink,
-            &mut desk,
-            &Shelf { files: FILES },
-            &Stopped,
-        );
+        let ended = serve_at(rt, &mut desk, Sent::whole(self.sent), self.sink);
         let (_view, till) = desk.into_parts();
         if tills.push(till).is_err() {
             unreachable!()
         }
-        end_of(&served)
+        ended
     }
 }
 
