@@ -7,6 +7,8 @@ A rule has one plain name, which is a heading in `docs/definitions/`. Its marks 
 - `// rule: NAME` above a test that shows it, or above the test's helper, in a crate whose name ends in `_rows`;
 - `# rule: NAME` in each edit that breaks it, in the crate's `must-fail/` or in `mutants/CRATE/`.
 
+A mark of `src/` or `specs/` is above the item's comment and its attributes.
+
 Every rule needs exactly one definition, a function, a test and an edit, and its heading must name the definition with its
 file and crate. The rules without a test or an edit are listed below with the reason.
 
@@ -70,6 +72,7 @@ NO_TEST = {
 }
 
 MARK = re.compile(r"^\s*(?:--|//|#) rule: (.+?)\s*$")
+COMMENT = re.compile(r"^\s*(?:--|//|#\[)")
 DEFINITION = re.compile(r"^\s*(?:abbrev pub|unfoldable pub|pub record|pub data|abbrev|record|pub)\s+([\w◌-]+)")
 FUNCTION = re.compile(
     r"^\s*(?:pub(?:\([a-z]+\))? )?(?:const )?fn (\w+)|^\s*impl.* for (\w+)"
@@ -107,6 +110,23 @@ def edits_of(crate):
     """The edits of a crate: those that the gate tries, then those that `make mutants` tries."""
     yield from files_below(os.path.join(CRATES, crate, "must-fail"), ".edit")
     yield from files_below(os.path.join(MUTANTS, crate), ".edit")
+
+
+def misplaced_marks(path):
+    """The places of the marks in a file that are below a comment or an attribute of their item."""
+    with open(path, encoding="utf-8") as file:
+        lines = file.read().split("\n")
+    for number, line in enumerate(lines[1:], 1):
+        before = lines[number - 1]
+        if MARK.match(line) and COMMENT.match(before) and not MARK.match(before):
+            yield f"{os.path.relpath(path, TOP)}:{number + 1}"
+
+
+def marked_files():
+    """The files whose marks are above an item."""
+    for crate in sorted(os.listdir(CRATES)):
+        yield from files_below(os.path.join(CRATES, crate, "specs"), ".antt")
+        yield from files_below(os.path.join(CRATES, crate, "src"), ".rt")
 
 
 def marks(path, item):
@@ -189,6 +209,9 @@ def faults_of(rules, headings):
             yield f"{name}: no test"
     for name in sorted((set(NO_EDIT) | set(NO_TEST)) - set(rules)):
         yield f"{name}: excepted, and no rule"
+    for path in marked_files():
+        for place in misplaced_marks(path):
+            yield f"{place}: the mark is below the item's comment or attribute"
 
 
 def in_crate(place):

@@ -42,10 +42,10 @@ fn parse_bucket(digits: &str) -> Option<u16>
 pub struct CohortText;
 
 impl CohortText {
+    // rule: Cohort text
     /// Reads the name and the bucket of a cohort text, or returns `None` if it is not well formed.
     ///
     /// It allocates nothing.
-    // rule: Cohort text
     pub fn parse(text: &str) -> Option<(&str, u16)>
         ensures { option_map (λ named. (named.0.now, named.1)) result ≡ parsed text.now }
     {

@@ -25,8 +25,8 @@ impl<'a> Model for Session<'a> {
     ghost invariant = { λ s. IsBucketOf s.text.now s.bucket };
 }
 
-// The bucket of a session, by the first four bytes of its SHA-256.
 // rule: Bucket of a session
+// The bucket of a session, by the first four bytes of its SHA-256.
 fn hash_session(session: &str) -> u16
     ensures { result ≡ session_bucket session.now }
 {

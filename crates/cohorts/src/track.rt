@@ -61,8 +61,8 @@ fn find_named(catalogue: &Catalogue, app: usize, named: Option<(&str, u16)>) -> 
     catalogue.find_cohort(app, name)
 }
 
-// The index of the cohort that serves a client.
 // rule: Cohort of a client
+// The index of the cohort that serves a client.
 fn find_serving(
     catalogue: &Catalogue,
     app: usize,
@@ -80,8 +80,8 @@ fn find_serving(
     hinted.or(sent).unwrap_or(0)
 }
 
-// The bucket that a cohort text names, else the session's.
 // rule: Bucket of a client
+// The bucket that a cohort text names, else the session's.
 fn choose_bucket(named: Option<(&str, u16)>, session: &mut Session<'_>) -> u16
     requires { IfSome named (λ named. named.1 < 1000) }
     ensures bucket { result ≡ option_map_or (λ named. named.1) named.entry (session_bucket session.old) }
@@ -123,8 +123,8 @@ fn read_pin(ask: &AppAsk) -> Pin
     }
 }
 
-// The track of a bucket in the cohort at an index.
 // rule: Rollback of a track
+// The track of a bucket in the cohort at an index.
 fn track_in(releases: &[Release], cohort: &Cohort, index: usize, bucket: u16, ask: &AppAsk) -> Track
     ensures { result ≡ track_in releases.now cohort.now index bucket ask.now }
 {

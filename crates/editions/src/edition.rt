@@ -70,8 +70,8 @@ fn followed(
     Ok(next)
 }
 
-// The tables of the next edition: those of the marked apps, and this edition's of the others.
 // rule: Tables of an edition
+// The tables of the next edition: those of the marked apps, and this edition's of the others.
 fn next_tables(
     alloc: Global,
     before: &Catalogue,
@@ -147,9 +147,9 @@ impl Edition {
         }
     }
 
-    // What a batch leads to, or why it has no next edition.
     // rule: Room for 4096 batches
     // rule: A rejected batch before a full history
+    // What a batch leads to, or why it has no next edition.
     fn draft(&self, batch: &Batch) -> Result<Draft, NextError>
         ensures ok { IfOk result (λ draft. IsDraft self.now batch.now draft) }
         ensures err { IfErr result (λ error. Continues self.now batch.now (Err error)) }
@@ -185,12 +185,12 @@ impl Edition {
         })
     }
 
+    // rule: The next edition
     /// Makes the edition with one more batch, and leaves this one as it is.
     ///
     /// The tables of the apps that no edit of the batch names are kept: they share their rows with this edition's.
     /// The calling thread makes those of the other apps. Returns the batch's first rejected edit if there is one,
     /// then `HistoryFull` if this edition holds 4096 batches.
-    // rule: The next edition
     pub fn next(&self, batch: Batch) -> Result<Edition, NextError>
         ensures { Continues self.now batch result }
     {

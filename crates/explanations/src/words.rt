@@ -33,10 +33,10 @@ Remedy: Try another port, or `ss -ltn` to see who has it; see that `ulimit -n` i
     (
         "place",
         "no place
-Found in: the views of the editions.
-There is no place among the readers of the published editions for each worker.
-Usual cause: None; the program asks for as many places as it makes room for.
-Remedy: Start it anew, and report it.
+Found in: the start of `serve`.
+There are fewer places for readers of the published edition than workers.
+Usual cause: An error in omaha: it makes a place for each worker.
+Remedy: Start it again, and report this.
 ",
     ),
     (

@@ -30,7 +30,8 @@ IsNotMemory fault.Memory = ⊥
 IsNotMemory other = ⊤
 
 -- rule: Post whose reply comes early
--- the reply was read, whether or not a write failed, or why not; if one failed, the reading has failed too
+-- the reply was read, also if a write failed, or why not; after a failed write without a reply, the reading came to
+-- another fault than memory's
 abbrev pub ReplyAwaited : ℕ → Option (List ℕ) → Option (List ℕ) → ℕ → ℕ → Result Reply LinkFault → Type 0
 ReplyAwaited limit old new before after (Err fault.Write) = (why : LinkFault)
     × IsNotMemory why × ReplyRead limit old new (no_reply why) × (after ≡ before + failed_reads (no_reply why))

@@ -50,8 +50,8 @@ fn count_reads<R: AllocGlobal + Abort>(rt: &R, piece: usize) -> usize {
     1000
 }
 
-// The last read finds the end of the input.
 // rule: Session
+// The last read finds the end of the input.
 #[test]
 fn replies_to_whole_messages_before_each_failed_read(rt: HostRuntime) {
     for (piece, reads) in [(1, 110), (1000, 2)] {
@@ -77,8 +77,8 @@ fn count_writes<R: AllocGlobal + Abort>(rt: &R, piece: usize) -> usize {
     1000
 }
 
-// A download has a write for its head and one for its bytes.
 // rule: Session
+// A download has a write for its head and one for its bytes.
 #[test]
 fn writes_a_first_part_of_the_replies_before_each_failed_write(rt: HostRuntime) {
     for (piece, writes) in [(1, 197), (1000, 4)] {

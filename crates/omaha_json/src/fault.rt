@@ -21,8 +21,8 @@ pub enum RequestFault {
     TooManyApps,
 }
 
-/// Writes the fault's code and name, and after a space the index of an invalid app.
 // rule: Printed fault of a request
+/// Writes the fault's code and name, and after a space the index of an invalid app.
 impl fmt::Display for RequestFault {
     ghost use Rattle.std.specs.Prelude.{Some};
     ghost use Rattle.omaha_json.specs.Faults.{fault_string};

@@ -166,12 +166,12 @@ impl Serialize for Reply {
     }
 }
 
+// rule: Bytes of a reply
 /// Writes a reply of the Omaha protocol 3.1, JSON form.
 ///
 /// The reply is the four bytes `)]}'`, a line feed and JSON with no space in it, its members in
 /// byte order of their names. No app and no reply to an update check may be `Other`, which has no
 /// JSON.
-// rule: Bytes of a reply
 pub fn write_reply(alloc: Global, reply: &Reply) -> Result<Vec<u8>, AllocError>
     requires { IsWritable reply.now }
     ensures { IfOk result (λ text. text.items ≡ reply_bytes reply.now) }

@@ -19,8 +19,8 @@ const MAX_APPS: usize = 256;
 
 const MAX_APPID: usize = 256;
 
-// Borrows a member that is a string, or the empty string.
 // rule: Missing member
+// Borrows a member that is a string, or the empty string.
 fn string_or_empty<'v>(json: &'v Value, name: &str) -> &'v str
     ensures { result.now ≡ string_or_empty_at name.now (view json.now) }
 {
@@ -44,8 +44,8 @@ fn is_set(json: &Value, name: &str) -> bool
     json.get(name).and_then(Value::as_bool).unwrap_or(false)
 }
 
-// Parses JSON as `serde_json` accepts it.
 // rule: JSON of a request
+// Parses JSON as `serde_json` accepts it.
 fn parse_json(alloc: Global, bytes: &[u8]) -> Result<Value, ReadError<RequestFault>>
     ensures { Reads view result (ok_or (json_of bytes.now) RequestFault.NotJson) }
 {
@@ -184,13 +184,13 @@ fn read_json_request(alloc: Global, json: &Value) -> Result<Request, ReadError<R
     Ok(Request { session, apps })
 }
 
+// rule: Faults of a request
 /// Reads a request of the Omaha protocol 3.1, JSON form.
 ///
 /// Returns the first fault in the order of `RequestFault`; every element of `app` is read before
 /// their number is checked. JSON is what `serde_json` accepts: UTF-8, the last of two members of
 /// one name, at most 127 levels of arrays and objects. A member of another type than the protocol's
 /// counts as missing, except `app` and `appid`.
-// rule: Faults of a request
 #[tactic(auto, unfolding(crate::specs::RequestReading::request_of_bytes))]
 pub fn read_request(alloc: Global, bytes: &[u8]) -> Result<Request, ReadError<RequestFault>>
     ensures { Reads (λ request. request) result (request_of_bytes bytes.now) }

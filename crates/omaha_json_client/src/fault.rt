@@ -22,8 +22,8 @@ pub enum ReplyFault {
     },
 }
 
-/// Writes the fault's code and name, and after a space the index of an invalid element.
 // rule: Printed fault of a reply
+/// Writes the fault's code and name, and after a space the index of an invalid element.
 impl fmt::Display for ReplyFault {
     ghost use Rattle.std.specs.Prelude.{Some};
     ghost use Rattle.omaha_json_client.specs.Faults.{fault_string};

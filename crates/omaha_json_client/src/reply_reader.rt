@@ -403,6 +403,7 @@ fn strip_guard(bytes: &[u8]) -> Option<&[u8]>
     bytes.strip_prefix(SCRIPT_GUARD)
 }
 
+// rule: Faults of a reply
 /// Reads a reply of the Omaha protocol 3.1, JSON form.
 ///
 /// Returns the first fault in the order of `ReplyFault`. The line feed after the first four bytes may
@@ -410,7 +411,6 @@ fn strip_guard(bytes: &[u8]) -> Option<&[u8]>
 /// 127 levels of arrays and objects. A status that this protocol does not name reads as `Other`, and
 /// so does an update check without a status. A differential is read if its three members and an
 /// address of it are all there; if they are and one is invalid, so is the offer.
-// rule: Faults of a reply
 #[tactic(auto, unfolding(crate::specs::ReplyReading::reply_of_bytes))]
 pub fn read_reply(alloc: Global, bytes: &[u8]) -> Result<Reply, ReadError<ReplyFault>>
     ensures { Reads (λ reply. reply) result (reply_of_bytes bytes.now) }

@@ -136,12 +136,12 @@ fn request_value(alloc: Global, request: &Request) -> Result<Value, AllocError>
     })
 }
 
+// rule: Bytes of a request
 /// Writes a request of the Omaha protocol 3.1, JSON form.
 ///
 /// The request is JSON with no space in it, its members in byte order of their names. It has at most
 /// 256 apps, each with an identifier of 1 to 256 bytes: what a server accepts. `omaha_json`'s
 /// `read_request` gives the same record back.
-// rule: Bytes of a request
 pub fn write_request(alloc: Global, request: &Request) -> Result<Vec<u8>, AllocError>
     requires { IsWritable request.now }
     ensures text { IfOk result (λ text. text.items ≡ request_bytes request.now) }

@@ -175,9 +175,9 @@ fn publish_once<R: Net<Listener = TcpListener, Stream = TcpStream> + Runtime>(
     run_within(rt, &words, usize::MAX)
 }
 
+// rule: Post whose reply comes early
 // The server replies when it has read the head, and reads little of the rest, so the command can't write it whole. The
 // reply has no body.
-// rule: Post whose reply comes early
 #[test]
 fn a_script_of_8_megabytes_gets_its_reply(rt: HostRuntime) -> Result<(), Fail> {
     let site = make_site(&rt, "long")?;

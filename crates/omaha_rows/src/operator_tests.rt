@@ -147,9 +147,9 @@ fn publish_before<R: Net<Listener = TcpListener, Stream = TcpStream> + Runtime>(
     format!(in rt.alloc(); "{published}{stale}{first} {second}").ok()
 }
 
-// Each worker serves one session, so each client is another worker's.
 // rule: Sessions of a server
 // rule: Sessions of an operator
+// Each worker serves one session, so each client is another worker's.
 #[test]
 fn each_worker_replies_by_what_was_published(rt: HostRuntime) -> Result<(), Fail> {
     let site = make_site(&rt, "each")?;
@@ -189,8 +189,8 @@ fn ask_beside_a_silent_one<
     ask_timed(rt, host)
 }
 
-// Workers that served one after the other would reply once the silent client's time is over.
 // rule: Jobs of threads
+// Workers that served one after the other would reply once the silent client's time is over.
 #[test]
 fn a_silent_client_holds_one_worker_alone(rt: HostRuntime) -> Result<(), Fail> {
     let site = make_site(&rt, "beside")?;

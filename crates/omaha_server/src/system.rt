@@ -16,7 +16,7 @@ use std::os::unix::fs::FileTypeExt;
 use std::rt::Files;
 use std::time::Clock;
 
-/// What a server asks of the system: a runtime with a network, files and a clock, or a test's setup-in for one.
+/// What a server asks of the system: a runtime with a network, files and a clock, or a test's stand-in for one.
 pub trait System {
     ghost use Rattle.omaha_server.specs.Edges.{Edges};
 

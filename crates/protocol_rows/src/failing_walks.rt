@@ -64,9 +64,9 @@ fn count_failures(rt: &impl Abort, alloc: Global, device: &str) -> u64 {
     100
 }
 
-// Of two files of 3 and 11 bytes: three posts, two that are opened, and 3 and 7 reads; 2 and 6 parts, and two commits.
 // rule: Client after a step
 // rule: Walk of a client
+// Of two files of 3 and 11 bytes: three posts, two that are opened, and 3 and 7 reads; 2 and 6 parts, and two commits.
 #[test]
 fn walks_on_from_its_last_commit_after_each_failed_call(rt: HostRuntime) {
     assert_eq!(rt; count_failures(&rt, rt.alloc(), "link"), 15);

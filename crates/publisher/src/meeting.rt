@@ -7,11 +7,11 @@ ghost use Rattle.publisher.specs.Sights.{Allows, Learns, fresh};
 use crate::press::Press;
 use crate::view::View;
 
+// rule: Meeting of a press and a view
 /// Notes a view of the press's history, and has it enter and leave one edition.
 ///
 /// Returns the view, with the number that it had seen before and the number of the published edition. If there is no
 /// entry, it returns `None` in place of the numbers, and the view has learnt the press's history.
-// rule: Meeting of a press and a view
 pub fn meet(press: &Press, view: View) -> (View, Option<(u64, u64)>)
     ensures numbers { IfSome result.1 (λ n. (n.0 ≡ view.seen) × (n.1 ≡ length press.now)) }
     ensures met { IfSome result.1 (λ _. (h : History) × (result.0 ≡ fresh h) × Allows view h × StartsWith h press.now) }

@@ -90,14 +90,14 @@ impl Press {
         shown
     }
 
+    // rule: Publishing
+    // rule: Stale base
     /// Publishes a batch on the base, the number of the edition that it was made for.
     ///
     /// Returns `Stale` if another edition is published, then the error of `Edition::next`; the published edition is
     /// then as before. A batch is published whole or not at all. The tables of the apps that it names are made in
     /// `workers` pieces, from 1 to 16, under `gate`, as `Edition::next_with` does. Then it waits for views that still
     /// read the edition before the published one.
-    // rule: Publishing
-    // rule: Stale base
     pub fn publish<R: Threads + Wait, G: Gate + Sync>(
         &mut self,
         rt: &R,
@@ -175,10 +175,10 @@ fn opened<R: Wait>(
     }
 }
 
+// rule: Opening
 /// Publishes an edition that was made before, and makes a press and so many views that have seen it.
 ///
 /// There are 1 to 8 views. Returns `NoPlace` if there is no place for a view.
-// rule: Opening
 pub fn open_edition<R: Wait>(
     rt: &R,
     alloc: Global,
@@ -200,11 +200,11 @@ pub fn open_edition<R: Wait>(
     opened(rt, alloc, writer, readers)
 }
 
+// rule: Opening
 /// Publishes edition 1, of one batch, and makes a press and so many views that have seen it.
 ///
 /// There are 1 to 8 views. The tables are made in `workers` pieces, from 1 to 16, under `gate`, as
 /// `Edition::next_with` does. Returns the batch's first rejected edit, then `NoPlace` if there is no place for a view.
-// rule: Opening
 pub fn open<R: Threads + Wait, G: Gate + Sync>(
     rt: &R,
     alloc: Global,

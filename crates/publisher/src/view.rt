@@ -70,12 +70,12 @@ impl View {
         }
     }
 
+    // rule: Entry of a view
     /// Enters the published edition, without waiting for the publisher and without memory.
     ///
     /// Its history begins with all that the view has seen or learnt. Returns the view if there is no entry: as it
     /// was if the press has ended; else lost, since the edition does not begin with what it has learnt. A lost view
     /// never enters again.
-    // rule: Entry of a view
     pub fn enter(self) -> Result<Entered, View>
         ensures entered { IfOk result (λ e. Allows self e) }
         ensures rises { IfOk result (λ e. self.seen ≤ length e) }
@@ -115,10 +115,10 @@ impl View {
         self.seen = self.seen.max(edition.number());
     }
 
+    // rule: Learnt history
     /// Notes the view what was published: each later entry's history begins with the receipt's.
     ///
     /// Meant for a receipt of the same `open`. After one of another, the view is mostly lost: it enters nothing more.
-    // rule: Learnt history
     pub fn learn(&mut self, receipt: &Receipt)
         ensures seen { self.new.seen ≡ max self.old.seen (length receipt.now) }
         ensures learnt { Learns self.old receipt.now self.new }
@@ -142,8 +142,8 @@ impl Entered {
         &self.reading.get().edition
     }
 
-    /// Leaves the edition, and gives the view back, which has seen just its history.
     // rule: Entry of a view
+    /// Leaves the edition, and gives the view back, which has seen just its history.
     pub fn leave(self) -> View
         ensures { result ≡ fresh self }
     {

@@ -41,8 +41,8 @@ fn bytes_of(app: &App, payload: Payload) -> u64
     }
 }
 
-// The first payload of a chain of the least sum, by the track's table.
 // rule: No update
+// The first payload of a chain of the least sum, by the track's table.
 fn choose_by(
     catalogue: &Catalogue,
     key: &TrackKey,
@@ -105,8 +105,8 @@ fn find_table<'a>(
     }
 }
 
-// What is chosen for the client of an app that is asked for.
 // rule: Chosen payload
+// What is chosen for the client of an app that is asked for.
 fn choose_app(
     edition: &Edition,
     tables: &[Certified],

@@ -132,8 +132,8 @@ fn find_offered<'a>(
     }
 }
 
-// The reply to an update check of a known app.
 // rule: Outcome of an update check
+// The reply to an update check of a known app.
 fn reply_to_check(
     alloc: Global,
     catalogue: &Catalogue,

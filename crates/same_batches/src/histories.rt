@@ -24,10 +24,10 @@ pub fn is_same(one: &Batch, other: &Batch) -> bool
     true
 }
 
+// rule: Beginning of a history
 /// Whether a history begins with all batches of an earlier one.
 ///
 /// It compares the batches from the first on, so its time grows with the earlier history.
-// rule: Beginning of a history
 pub fn starts_with(later: &[Arc<Batch>], earlier: &[Arc<Batch>]) -> bool
     ensures { IsTrue result ↔ StartsWith (map arc_value later.now) (map arc_value earlier.now) }
 {

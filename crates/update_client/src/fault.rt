@@ -23,8 +23,8 @@ pub enum Fault {
     Busy,
 }
 
-/// Writes the fault's code and name.
 // rule: Printed fault of a client
+/// Writes the fault's code and name.
 impl fmt::Display for Fault {
     ghost use Rattle.std.specs.Prelude.{Some};
     ghost use Rattle.update_client.specs.Faults.{fault_string};

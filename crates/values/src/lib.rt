@@ -7,7 +7,7 @@
 //! says of a package, to those too that know no catalogue. `specs/Lists.antt` and `specs/Ordered.antt` define what
 //! the standard library lacks of lists, and `proofs/` has their lemmas.
 //!
-//! It does not say what a string or a list means: that is its owner's affair.
+//! It does not say what a string or a list means: the crate that owns it does.
 
 #![tactic(auto)]
 
