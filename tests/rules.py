@@ -4,7 +4,8 @@
 A rule has one plain name, which is a heading in `docs/definitions/`. Its marks name it:
 - `-- rule: NAME` above the definition that states it, in a file of `specs/`;
 - `// rule: NAME` above each function that keeps it, in a file of `src/`;
-- `// rule: NAME` above a test that shows it, or above the test's helper, in a crate whose name ends in `_rows`;
+- `// rule: NAME` above a test that shows it, or above the test's helper, in a crate whose name ends in `_rows`, and
+  `# rule: NAME` above a row that shows it, in a file of `tests/rows/`;
 - `# rule: NAME` in each edit that breaks it, in the crate's `must-fail/` or in `mutants/CRATE/`.
 
 A mark of `src/` or `specs/` is above the item's comment and its attributes.
@@ -25,6 +26,7 @@ import sys
 TOP = os.path.dirname(os.path.dirname(os.path.abspath(__file__)))
 CRATES = os.path.join(TOP, "crates")
 MUTANTS = os.path.join(TOP, "mutants")
+ROWS = os.path.join(TOP, "tests", "rows")
 HEADINGS = os.path.join(TOP, "docs", "definitions")
 INDEX = os.path.join(HEADINGS, "README.md")
 
@@ -71,6 +73,7 @@ NO_TEST = {
     "Worker": "the runs of `laws::runs` are worked by the prover",
 }
 
+ROW = re.compile(r"^== (.+)$")
 MARK = re.compile(r"^\s*(?:--|//|#) rule: (.+?)\s*$")
 COMMENT = re.compile(r"^\s*(?:--|//|#\[)")
 DEFINITION = re.compile(r"^\s*(?:abbrev pub|unfoldable pub|pub record|pub data|abbrev|record|pub)\s+([\w◌-]+)")
@@ -161,6 +164,10 @@ def read_rules():
             for rule, _, line in marks(path, None):
                 edit = os.path.basename(path).removesuffix(".edit")
                 rules.setdefault(rule, Rule()).edits.append(Place(crate, edit, path, line))
+    for path in files_below(ROWS, ".rows"):
+        for rule, name, line in marks(path, ROW):
+            file = os.path.relpath(path, TOP).removesuffix(".rows")
+            rules.setdefault(rule, Rule()).tests.append(Place(file, name, path, line))
     return rules
 
 
