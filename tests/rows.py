@@ -35,11 +35,18 @@ OPEN = {"$TIME": r"\d\d/[A-Z][a-z]{2}/\d{4}:\d\d:\d\d:\d\d \+0000", "$NUMBER": r
 
 
 class Wrong(Exception):
-    """What differs in a row."""
+    """That a step differs: the lines that were found, and those that were wanted if they aren't its own."""
+
+    def __init__(self, found, wanted=None):
+        super().__init__()
+        self.found, self.wanted = found, wanted
 
 
 class Undecided(Wrong):
     """That a step has not ended within the row's time."""
+
+    def __init__(self):
+        super().__init__([f"not decided within {LIMIT} seconds"])
 
 
 class Step:
@@ -82,7 +89,7 @@ def read_rows(path):
             rows.append(Row(line[3:], path, number, list(before), files))
         elif line.startswith(("$ ", "@ ")):
             steps.append(Step(line, number))
-        elif steps and line[:2] in ("| ", "|", "! ", "> ", ">", "< ", "<"):
+        elif steps and line[:1] in tuple("|!><") and line[1:2] in ("", " "):
             steps[-1].below.append((line[0], line[2:]))
         elif steps and re.fullmatch(r"\[\d+\]", line):
             steps[-1].below.append(("[", int(line[1:-1])))
@@ -111,12 +118,15 @@ def pattern(lines, values):
     return re.compile("".join(parts))
 
 
+def line_of(mark, rest):
+    """A line of a row, by its mark and the rest."""
+    return f"[{rest}]" if mark == "[" else f"{mark} {rest}".rstrip(" ")
+
+
 def shown(mark, string):
     """A string as the lines of a row."""
-    lines = string.split("\n")
-    ends = lines.pop() if lines[-1] == "" else None
-    found = [f"{mark} {line}".rstrip(" ") for line in lines]
-    return found if ends is not None or not found else [*found[:-1], found[-1] + NO_EOL]
+    *lines, last = string.split("\n")
+    return [line_of(mark, line) for line in lines] + ([line_of(mark, last) + NO_EOL] if last else [])
 
 
 def text_of(data):
@@ -199,26 +209,27 @@ class Run:
             found += more
         return text_of(found)
 
-    def compare(self, found, wanted):
-        """Reports what a step found if it isn't wanted: pairs of a mark and a string."""
-        if not all(pattern(lines, self.values).fullmatch(string) for (_, string), lines in zip(found, wanted)):
-            raise Wrong([line for mark, string in found for line in shown(mark, string)])
-
     def finish(self, job, step):
-        """Waits for a command's end, and compares what it printed with a step's lines."""
+        """Waits for a command's end, and compares what it printed and its exit status with a step's lines."""
         output = self.read_output(job)
         try:
             status = job.wait(self.left())
         except subprocess.TimeoutExpired:
             raise Undecided from None
         self.jobs.remove(job)
-        job.errors.seek(0)
-        errors, status = text_of(job.errors.read()), status if status >= 0 else 128 - status
-        found = [("|", output), ("!", errors), ("[", f"{status}\n")]
+        self.compare(job, output, step, [status if status >= 0 else 128 - status])
         if os.lseek(self.input, 0, os.SEEK_CUR):
-            raise Wrong(["it read its standard input, which the row doesn't give"])
-        wanted = step.lines("[") or [0]
-        self.compare(found, [step.lines("|"), step.lines("!"), [str(number) for number in wanted]])
+            raise Wrong(["the standard input was read"])
+
+    def compare(self, job, output, step, status=()):
+        """Compares what a command printed so far, and perhaps its exit status, with a step's lines."""
+        job.errors.seek(0)
+        errors = text_of(job.errors.read())
+        is_printed = all(
+            pattern(step.lines(mark), self.values).fullmatch(string) for mark, string in [("|", output), ("!", errors)]
+        )
+        if not is_printed or (status and status != (step.lines("[") or [0])):
+            raise Wrong([*shown("|", output), *shown("!", errors), *(line_of("[", number) for number in status)])
 
     def command(self, step):
         """`$ COMMAND` is run by sh to its end, `$ COMMAND &` until it has printed the lines below it, `$ wait` ends that."""
@@ -226,11 +237,8 @@ class Run:
             return self.finish(self.jobs[0], step)
         if not step.words.endswith(" &"):
             return self.finish(self.start(step.words), step)
-        job, wanted = self.start(step.words[:-2]), step.lines("|")
-        output = self.read_output(job, len(wanted))
-        if not pattern(wanted, self.values).fullmatch(output):
-            job.errors.seek(0)
-            raise Wrong([*shown("|", output), *shown("!", text_of(job.errors.read()))])
+        job = self.start(step.words[:-2])
+        self.compare(job, self.read_output(job, len(step.lines("|"))), step)
 
     def bytes_of(self, lines):
         """The bytes of a message: heads, whose lines end with CR LF, and after one with a length a line as its body."""
@@ -277,27 +285,27 @@ class Run:
         self.compare_replies(replies, wanted)
 
     def compare_replies(self, replies, wanted):
-        """Compares replies with lines, in which `$LENGTH` is the length of the body and `@FILE` a body of a file's bytes."""
-        lengths = iter([str(len(body)) for _, body in replies])
-        lines = [line.replace("$LENGTH", next(lengths, "?")) if "$LENGTH" in line else line for line in wanted]
-        for number, line in enumerate(lines):
-            if line.startswith("@"):
-                lines[number] = text_of((self.folder / line[1:]).read_bytes())
+        """Compares replies with lines, of which `@FILE` is the lines of that file; `$LENGTH` is the length of the body."""
+        lengths, lines = iter([str(len(body)) for _, body in replies]), []
+        for line in wanted:
+            if "$LENGTH" in line:
+                line = line.replace("$LENGTH", next(lengths, "$LENGTH"))
+            lines += (self.folder / line[1:]).read_text().removesuffix("\n").split("\n") if line.startswith("@") else [line]
         found = reply_lines(replies)
         if not pattern(lines, self.values).fullmatch("".join(f"{line}\n" for line in found)):
-            raise Wrong([f"< {line:.400}".rstrip(" ") for line in found] or ["no reply"])
+            raise Wrong([line_of("<", line) for line in found], [line_of("<", line) for line in lines])
 
     def steps(self):
-        """Takes the steps in their order; what differs first, if any."""
+        """Takes the steps in their order; what is printed of the first that differs."""
         for step in self.row.steps:
             try:
                 self.command(step) if step.mark == "$" else self.talk(step)
-            except (Undecided, TimeoutError):
-                return report(self.row, step, [f"not decided within {LIMIT} seconds"])
             except Wrong as wrong:
-                return report(self.row, step, wrong.args[0])
+                return report(self.row, step, wrong)
+            except TimeoutError:
+                return report(self.row, step, Undecided())
             except OSError as error:
-                return report(self.row, step, [str(error)])
+                return report(self.row, step, Wrong([str(error)]))
         return None
 
     def close(self):
@@ -310,12 +318,12 @@ class Run:
         os.close(self.input)
 
 
-def report(row, step, found):
+def report(row, step, wrong):
     """What is printed of a row that differs."""
-    wanted = [f"[{rest}]" if mark == "[" else f"{mark} {rest}".rstrip(" ") for mark, rest in step.below]
-    lines = [f"{row.path.relative_to(TOP)}:{row.number}: {row.name}", f"  {step.mark} {step.words}", "  expected:"]
-    lines += [f"    {line:.400}" for line in wanted] or ["    nothing"]
-    lines += ["  found:", *(f"    {line:.400}" for line in found)]
+    wanted = [line_of(mark, rest) for mark, rest in step.below if mark != ">"] if wrong.wanted is None else wrong.wanted
+    lines = [f"{row.path.relative_to(TOP)}:{row.number}: {row.name}", f"  {step.mark} {step.words}"]
+    for what, shown_lines in [("expected", wanted), ("found", wrong.found)]:
+        lines += [f"  {what}:", *(f"    {line:.1000}" for line in shown_lines or ["nothing"])]
     return "\n".join(lines)
 
 
