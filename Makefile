@@ -1,7 +1,7 @@
 # make demo          prints requests of examples/ and their replies, by the program built without a
 #                    proof; after make install it also starts the server
 # make test          the gate: the rules' marks, the words to avoid, the corpus, every proof from nothing, must-fail
-#                    edits, tests and the program, whose main is run with each exit status
+#                    edits, tests and the program, and then the rows of tests/rows with the built program
 # make mutants CRATE..  tries the edits that the gate doesn't, of these crates or of all; the prover
 #                    must reject each
 # make commands      runs the commands on the profiles of examples/, and verifies each track's
@@ -35,12 +35,11 @@ demo:
 	@examples/demo.py
 
 test:
-	cmp crates/omaha/src/main.rt crates/omaha_fails/src/main.rt
-	cmp crates/omaha/src/main.rt crates/omaha_usage/src/main.rt
 	tests/rules.py
 	tests/words.py
 	tests/corpus.py
 	rt ci
+	tests/rows.py
 
 mutants:
 	tests/mutants.py $(CRATES)

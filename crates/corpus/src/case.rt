@@ -81,13 +81,3 @@ pub fn case_of(alloc: Global, row: &str) -> Option<Case<'_>> {
         bytes,
     })
 }
-
-/// The case of a name among rows; `None` if there is none or memory ran out.
-pub fn find<'a>(alloc: Global, rows: &'a str, name: &str) -> Option<Case<'a>> {
-    for row in rows.lines() {
-        if row.split_once(" = ").map(|parts| parts.0) == Some(name) {
-            return case_of(alloc, row);
-        }
-    }
-    None
-}

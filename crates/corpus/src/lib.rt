@@ -1,25 +1,21 @@
 //! Cases of hostile input, by kind, for the crates of tests: the files of `tests/corpus/`, with their outcomes.
 //!
-//! A kind is a string with a row for each case. `case_of` reads a row, and `find` looks one up. `tests/corpus.py --write`
-//! writes the rows, and `make test` compares them with the files.
+//! A kind is a string with a row for each case, which `case_of` reads. `tests/corpus.py --write` writes the rows, and
+//! `make test` compares them with the files. Profiles and certificates aren't here: `tests/rows/` gives them to the program.
 //!
 //! No program uses it, and it has no tests of its own.
 
 #![tactic(auto)]
 
 mod case;
-mod certificates;
 mod heads;
-mod profiles;
 mod replies;
 mod requests;
 mod scripts;
 mod served;
 
-pub use crate::case::{Case, case_of, find};
-pub use crate::certificates::CERTIFICATES;
+pub use crate::case::{Case, case_of};
 pub use crate::heads::HEADS;
-pub use crate::profiles::PROFILES;
 pub use crate::replies::REPLIES;
 pub use crate::requests::REQUESTS;
 pub use crate::scripts::SCRIPTS;

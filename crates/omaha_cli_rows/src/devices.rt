@@ -24,23 +24,6 @@ impl Read for Breaks {
     }
 }
 
-/// A reader that gives so many spaces, and then ends.
-#[derive(Drop)]
-pub(crate) struct Blank {
-    pub(crate) left: usize,
-}
-
-impl Read for Blank {
-    fn read(&mut self, buf: &mut [u8]) -> io::Result<usize> {
-        let count = buf.len().min(self.left);
-        for byte in buf[..count].iter_mut() {
-            *byte = b' ';
-        }
-        self.left -= count;
-        Ok(count)
-    }
-}
-
 /// A writer that takes so many bytes, and then fails.
 #[derive(Drop)]
 pub(crate) struct Full {

@@ -1,9 +1,7 @@
-// The command `explain`: every code that the program prints has its explanation.
+// Every code that the program prints has its explanation.
 
-use crate::ending::{failed, replied};
-use crate::shelf::Shelf;
 use catalogue::Fault;
-use explanations::{explain, list};
+use explanations::explain;
 use mirror_ledger::RaiseError;
 use omaha_cli::Failure;
 use omaha_json::RequestFault;
@@ -11,7 +9,6 @@ use package_files::DescribeError;
 use price_certificates::Fault as CertificateFault;
 use profile_toml::ProfileFault;
 use std::alloc::{AllocError, Global};
-use std::test::Fail;
 use update_client::Fault as WalkFault;
 use values::Text;
 
@@ -168,23 +165,4 @@ fn explains_each_failure(rt: HostRuntime) {
         let ends_as_wanted = is_named_explained(rt.alloc(), place, name);
         assert!(rt; ends_as_wanted.ok() == Some(true), "{place}");
     }
-}
-
-const FIRST_CODE: &str = "P1 BadLine
-Found in: a certificate.
-That line of the certificate, from 1, is not well formed, is missing or is too many.
-Usual cause: A leading zero, a space at the end, CR LF, or a file that was cut.
-Remedy: Write the certificate anew by `omaha certify`.
-";
-
-// rule: Report on a code
-#[test]
-fn explains_and_lists(rt: HostRuntime) -> Result<(), Fail> {
-    let all = list(rt.alloc())?;
-    let shelf = Shelf::new(rt);
-    let rt = &shelf.rt;
-    assert!(rt; shelf.ends(&["explain", "P1"], "{", replied(FIRST_CODE)));
-    assert!(rt; shelf.ends(&["explain"], "{", replied(all.as_str())));
-    assert!(rt; shelf.ends(&["explain", "C18"], "{", failed("omaha: no code C18\n")));
-    Ok(())
 }

@@ -1,81 +1,45 @@
-use crate::devices::{Blank, Breaks, Full};
-use crate::ending::{Ending, failed, replied};
+use crate::devices::{Breaks, Full};
 use crate::offers::{OFFER, OLD};
-use crate::shelf::Shelf;
-use omaha_cli::{report_unreadable, run};
+use omaha_cli::{Failure, Once, Runtime, report_unreadable, respond};
 use std::alloc::Global;
 use std::io;
-use std::io::{ErrorKind, Read};
-use std::sync::Wait;
-use std::thread::Threads;
+use std::io::ErrorKind;
+
+// A request for the built-in catalogue.
+fn builtin() -> Once {
+    Once {
+        profile: None,
+        moment: 0,
+    }
+}
+
+// How a reply fails over a reader that gives so many bytes, and then an error of the kind.
+fn failure_after<R: Runtime>(rt: &R, left: usize, kind: ErrorKind) -> Option<Failure> {
+    let mut written = Vec::new(rt.alloc());
+    respond(rt, &builtin(), &mut Breaks { left, kind }, &mut written).err()
+}
 
 #[test]
 fn rejects_an_input_that_breaks_off(rt: HostRuntime) {
-    let shelf = Shelf::new(rt);
-    let rt = &shelf.rt;
-    let rows = [
-        (ErrorKind::ConnectionReset, "omaha: read\n"),
-        (ErrorKind::OutOfMemory, "omaha: memory\n"),
-    ];
-    for (kind, line) in rows {
-        for left in [0, 1, 40] {
-            let mut reader = Breaks { left, kind };
-            assert!(rt;
-                shelf.ends_over(&[], &mut reader, failed(line)),
-                "{left} bytes"
-            );
-        }
+    for left in [0, 1, 40] {
+        let failure = failure_after(&rt, left, ErrorKind::ConnectionReset);
+        assert!(rt; matches!(failure, Some(Failure::Read)), "{left} bytes");
+        let failure = failure_after(&rt, left, ErrorKind::OutOfMemory);
+        assert!(rt; matches!(failure, Some(Failure::Memory)), "{left} bytes");
     }
 }
 
-// Whether a run over a request with so many spaces after it ends so.
-fn ends_after_spaces<R: Threads + Sync + Wait>(
-    shelf: &Shelf<R>,
-    left: usize,
-    wanted: Ending<'_>,
-) -> bool {
-    shelf.ends_over(&[], &mut OLD.as_bytes().chain(Blank { left }), wanted)
-}
-
-// rule: Maximum of the input
-// rule: Reading up to a maximum
-#[test]
-fn rejects_an_input_that_is_too_long(rt: HostRuntime) {
-    let shelf = Shelf::new(rt);
-    let rt = &shelf.rt;
-    let rows = [(262144, "omaha: J1 NotJson\n"), (262145, "omaha: read\n")];
-    for (left, line) in rows {
-        assert!(rt;
-            shelf.ends_over(&[], &mut Blank { left }, failed(line)),
-            "{left} bytes"
-        );
-    }
-    let left = 262144 - OLD.len();
-    assert!(rt; ends_after_spaces(&shelf, left, replied(OFFER)));
-    assert!(rt; ends_after_spaces(&shelf, left + 1, failed("omaha: read\n")));
-}
-
-// Whether a run reports that it couldn't write its reply to a writer that takes so many bytes.
-fn reports_write<R: Threads + Sync + Wait>(shelf: &Shelf<R>, left: usize) -> bool {
-    let words = Vec::new(shelf.alloc());
-    let mut told = Vec::new(shelf.alloc());
-    let status = run(
-        shelf,
-        &words,
-        &mut OLD.as_bytes(),
-        &mut Full { left },
-        &mut told,
-    );
-    status == 1 && told.as_slice() == b"omaha: write\n".as_slice()
+// Whether a reply fails since its writer takes so many bytes alone.
+fn reports_write<R: Runtime>(rt: &R, left: usize) -> bool {
+    let ended = respond(rt, &builtin(), &mut OLD.as_bytes(), &mut Full { left });
+    matches!(ended, Err(Failure::Write))
 }
 
 // rule: Writing whole
 #[test]
 fn reports_that_a_reply_was_not_written(rt: HostRuntime) {
-    let shelf = Shelf::new(rt);
-    let rt = &shelf.rt;
     for left in 0..OFFER.len() {
-        assert!(rt; reports_write(&shelf, left), "{left} bytes");
+        assert!(rt; reports_write(&rt, left), "{left} bytes");
     }
 }
 

@@ -1,4 +1,4 @@
-// A staged profile, the requests that show its stages, and their replies.
+// A staged profile, a request and its reply.
 
 // The profile of the app `demo`, whose cohort `stable` holds clients at that release.
 macro_rules! staged {
@@ -63,27 +63,14 @@ pub(crate) const STAGED: &str = staged!("3.0");
 /// The same, but `stable` holds its clients at a release that there isn't.
 pub(crate) const UNRELEASED: &str = staged!("3.5");
 
-// The request of a client at 1.0 with these members.
-macro_rules! request {
-    ($members:literal) => {
-        concat!(
-            r#"{"request":{"app":[{"appid":"demo","#,
-            $members,
-            r#","packages":{"package":[{"#,
-            r#""fp":"1.1111111111111111111111111111111111111111111111111111111111111111"}]},"#,
-            r#""updatecheck":{},"version":"1.0"}],"protocol":"3.1","sessionid":"abc"}}"#,
-        )
-    };
-}
+/// The request of a client at 1.0.
+pub(crate) const SHARED: &str = concat!(
+    r#"{"request":{"app":[{"appid":"demo","cohort":"stable:0","packages":{"package":[{"#,
+    r#""fp":"1.1111111111111111111111111111111111111111111111111111111111111111"}]},"#,
+    r#""updatecheck":{},"version":"1.0"}],"protocol":"3.1","sessionid":"abc"}}"#,
+);
 
-/// Requests of clients at 1.0: a cohort and a hint.
-pub(crate) const SHARED: &str = request!(r#""cohort":"stable:0""#);
-
-pub(crate) const HELD: &str = request!(r#""cohort":"stable:500""#);
-
-pub(crate) const HINTED: &str = request!(r#""cohort":"stable:7","cohorthint":"beta""#);
-
-/// What they are offered.
+/// What it is offered.
 pub(crate) const TARGET: &str = concat!(
     ")]}'\n",
     r#"{"response":{"app":[{"appid":"demo","cohort":"stable:0","cohortname":"stable","#,
@@ -93,50 +80,4 @@ pub(crate) const TARGET: &str = concat!(
     r#""name":"demo-4.0.bin","size":1600}]},"version":"4.0"},"status":"ok","#,
     r#""urls":{"url":[{"codebase":"http://m0.example/p/"}]}}}],"#,
     r#""daystart":{"elapsed_days":0,"elapsed_seconds":0},"protocol":"3.1"}}"#,
-);
-
-pub(crate) const WAITING: &str = concat!(
-    ")]}'\n",
-    r#"{"response":{"app":[{"appid":"demo","cohort":"stable:500","cohortname":"stable","#,
-    r#""status":"ok","updatecheck":{"manifest":{"packages":{"package":[{"#,
-    r#""fp":"1.3333333333333333333333333333333333333333333333333333333333333333","#,
-    r#""hash_sha256":"3333333333333333333333333333333333333333333333333333333333333333","#,
-    r#""name":"demo-3.0.bin","size":1500}]},"version":"3.0"},"status":"ok","#,
-    r#""urls":{"url":[{"codebase":"http://m0.example/p/"}]}}}],"#,
-    r#""daystart":{"elapsed_days":0,"elapsed_seconds":0},"protocol":"3.1"}}"#,
-);
-
-pub(crate) const BETA: &str = concat!(
-    ")]}'\n",
-    r#"{"response":{"app":[{"appid":"demo","cohort":"beta:7","cohortname":"beta","#,
-    r#""status":"ok","updatecheck":{"manifest":{"packages":{"package":[{"#,
-    r#""fp":"1.3333333333333333333333333333333333333333333333333333333333333333","#,
-    r#""hash_sha256":"3333333333333333333333333333333333333333333333333333333333333333","#,
-    r#""name":"demo-3.0.bin","size":1500}]},"version":"3.0"},"status":"ok","#,
-    r#""urls":{"url":[{"codebase":"http://m0.example/p/"}]}}}],"#,
-    r#""daystart":{"elapsed_days":0,"elapsed_seconds":0},"protocol":"3.1"}}"#,
-);
-
-/// The first of them at the last second that there is.
-pub(crate) const LAST_DATED: &str = concat!(
-    ")]}'\n",
-    r#"{"response":{"app":[{"appid":"demo","cohort":"stable:0","cohortname":"stable","#,
-    r#""status":"ok","updatecheck":{"manifest":{"packages":{"package":[{"#,
-    r#""fp":"1.4444444444444444444444444444444444444444444444444444444444444444","#,
-    r#""hash_sha256":"4444444444444444444444444444444444444444444444444444444444444444","#,
-    r#""name":"demo-4.0.bin","size":1600}]},"version":"4.0"},"status":"ok","#,
-    r#""urls":{"url":[{"codebase":"http://m0.example/p/"}]}}}],"#,
-    r#""daystart":{"elapsed_days":213503982321087,"elapsed_seconds":25215},"protocol":"3.1"}}"#,
-);
-
-/// The first of them on 1 January 2026, 01:01:01 UTC.
-pub(crate) const DATED: &str = concat!(
-    ")]}'\n",
-    r#"{"response":{"app":[{"appid":"demo","cohort":"stable:0","cohortname":"stable","#,
-    r#""status":"ok","updatecheck":{"manifest":{"packages":{"package":[{"#,
-    r#""fp":"1.4444444444444444444444444444444444444444444444444444444444444444","#,
-    r#""hash_sha256":"4444444444444444444444444444444444444444444444444444444444444444","#,
-    r#""name":"demo-4.0.bin","size":1600}]},"version":"4.0"},"status":"ok","#,
-    r#""urls":{"url":[{"codebase":"http://m0.example/p/"}]}}}],"#,
-    r#""daystart":{"elapsed_days":6940,"elapsed_seconds":3661},"protocol":"3.1"}}"#,
 );
