@@ -1,9 +1,9 @@
 #!/usr/bin/env python3
 """Counts retired words in documents, comments and names, and prints each place with a better word.
 
-It reads README, `docs/`, the documents of `examples/`, the comments of all code, specs, proofs and
-scripts, the docstrings, the strings of `--help` and of `explain`, and the names of the must-fail edits, of the functions,
-types, constants and modules of the code, and of the definitions in specs. Code between backticks is exempt, and so are
+It reads README, `docs/`, the documents of `examples/`, the comments of all code, specs, proofs, rows and
+scripts, the docstrings, the strings of `--help` and of `explain`, and the names of the rows, of the must-fail edits, of
+the functions, types, constants and modules of the code, and of the definitions in specs. Code between backticks is exempt, and so are
 the names of the public surface below, options and printed codes. `tests/words.py` fails if it finds one;
 `tests/words.py PATH ..` reads only the files whose path begins so.
 """
@@ -50,6 +50,8 @@ COMMENTS = {
     ".rt": re.compile(r"(?:^|\s)//[/!]? ?(?!rule: )(.*)"),
     ".antt": re.compile(r"(?:^|\s)--+ (?!rule: )(.*)"),
     ".toml": re.compile(r"(?:^|\s)# ?(.*)"),
+    ".rows": re.compile(r"^(?:# (?!rule: )|== )(.*)"),
+    ".setup": re.compile(r"^# (.*)"),
     "Makefile": re.compile(r"^# ?(.*)"),
 }
 HELP = re.compile(r"crates/omaha_arguments/src/\w+\.rt$")
@@ -136,7 +138,7 @@ def main():
     for path in files():
         if path == "tests/words.py" or not path.startswith(asked):
             continue
-        if os.path.splitext(path)[1] not in (".md", ".py", ".rt", ".antt", ".toml", ".edit") and path != "Makefile":
+        if os.path.splitext(path)[1] not in (".md", ".edit", *COMMENTS, ".py") and path != "Makefile":
             continue
         with open(os.path.join(TOP, path), encoding="utf-8") as file:
             text = file.read()
