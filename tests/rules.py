@@ -4,11 +4,11 @@
 A rule has one plain name, which is a heading in `docs/definitions/`. Its marks name it:
 - `-- rule: NAME` above the definition that states it, in a file of `specs/`;
 - `// rule: NAME` above each function that keeps it, in a file of `src/`;
-- `// rule: NAME` above a test that shows it, or above the test's helper, in a crate whose name ends in `_rows`, and
-  `# rule: NAME` above a row that shows it, in a file of `tests/rows/`;
+- `// rule: NAME` above a test that shows it, or above the test's helper, in a crate whose name ends in `_rows`;
+- `# rule: NAME` above a row that shows it, in a file of `tests/rows/`;
 - `# rule: NAME` in each edit that breaks it, in the crate's `must-fail/` or in `mutants/CRATE/`.
 
-A mark of `src/` or `specs/` is above the item's comment and its attributes.
+A mark of `src/`, `specs/` or `tests/rows/` is above the item's comment and its attributes.
 
 Every rule needs exactly one definition, a function, a test and an edit, and its heading must name the definition with its
 file and crate. The rules without a test or an edit are listed below with the reason.
@@ -75,7 +75,7 @@ NO_TEST = {
 
 ROW = re.compile(r"^== (.+)$")
 MARK = re.compile(r"^\s*(?:--|//|#) rule: (.+?)\s*$")
-COMMENT = re.compile(r"^\s*(?:--|//|#\[)")
+COMMENT = re.compile(r"^\s*(?:--|//|#)")
 DEFINITION = re.compile(r"^\s*(?:abbrev pub|unfoldable pub|pub record|pub data|abbrev|record|pub)\s+([\w◌-]+)")
 FUNCTION = re.compile(
     r"^\s*(?:pub(?:\([a-z]+\))? )?(?:const )?fn (\w+)|^\s*impl.* for (\w+)"
@@ -130,6 +130,7 @@ def marked_files():
     for crate in sorted(os.listdir(CRATES)):
         yield from files_below(os.path.join(CRATES, crate, "specs"), ".antt")
         yield from files_below(os.path.join(CRATES, crate, "src"), ".rt")
+    yield from files_below(ROWS, ".rows")
 
 
 def marks(path, item):
