@@ -319,11 +319,11 @@ def run_row(row, program, start):
 
 
 def chosen_rows(names):
-    """The rows of the files, or those of these names."""
-    found = []
-    for path in sorted(FOLDER.glob("*.rows")):
-        rows = read_rows(path)[0]
-        found += [row for row in rows if not names or any(name == path.stem or name in row.name for name in names)]
+    """The rows of the files, or those of these names: a name is a file's, or a part of a row's."""
+    files = {path.stem: read_rows(path)[0] for path in sorted(FOLDER.glob("*.rows"))}
+    found = [row for rows in files.values() for row in rows if not names]
+    for name in names:
+        found += files.get(name) or [row for rows in files.values() for row in rows if name in row.name]
     return found or sys.exit("rows: no row of that name")
 
 
