@@ -1,4 +1,5 @@
 pub mod Choices
+pub mod Entries
 pub mod Events
 pub mod Headline
 pub mod Jobs

@@ -1,12 +1,13 @@
 //! What holds after every interleaving of publishers, workers and operators, each law as a clause of a function.
 
+ghost use Rattle.interleavings.specs.Entries.{JobsGoByWhatIsPublished};
 ghost use Rattle.interleavings.specs.Events.{happens};
 ghost use Rattle.interleavings.specs.Headline.{OffersLeadToTargets, RepliesSayTrue};
 ghost use Rattle.interleavings.specs.Laws.{BatchesArePublishedInTurn, BatchesArePublishedWhole, JobsGoByWhatWasSeen, PlansAreByPrices, PublishedIsAccepted, PublishedStays, RepliesAreOfOneCatalogue, SeenIsPublished, SeenNeverFalls, SharesAreOfJobs, TotalsAreWithinBudgets};
 ghost use Rattle.interleavings.specs.Requests.{RepliesAreToGivenRequests};
 ghost use Rattle.interleavings.specs.Runs.{BudgetEnds, BudgetRaised, DropAfterGrant, FailedConditions, PublishBetween, StalePublish};
 ghost use Rattle.interleavings.specs.Ties.{AnswersAreOfPending, FullIsNotPublished, GrantsAreBooked, NextIsPublished, PressPublishes, RaisesAreEvents, RejectedIsNotPublished, RoomIsTested, ScriptsArePublished, WorkersReplyByOneHistory};
-ghost use Rattle.interleavings.specs.Wrong.{EntriesBreak, GrantsBreak, PlansAndRepliesBreak, PublishesBreak};
+ghost use Rattle.interleavings.specs.Wrong.{EntriesBreak, GrantsBreak, PlansAndRepliesBreak, PublishesBreak, RequestsBreak};
 
 // rule: Service
 // rule: Worker
@@ -54,10 +55,14 @@ pub fn publishing()
     theorems::laws::graphs();
 }
 
-/// States that each reply of a worker is to a request that this worker was given to plan, at a time at which it was to
-/// render.
+/// States to which request each reply is, and by which batches each job goes.
+///
+/// For each reply the worker entered its job, planned it for the request and rendered it at the reply's time, and ended
+/// no other job in between. Each job, also one without a reply, goes by all batches that were published when the
+/// worker entered it.
 pub fn requests()
-    ensures { RepliesAreToGivenRequests happens }
+    ensures given { RepliesAreToGivenRequests happens }
+    ensures entries { JobsGoByWhatIsPublished happens }
 {}
 
 // rule: Statuses of every interleaving
@@ -127,6 +132,7 @@ pub fn runs()
 /// Shows machines that are wrong in one event each, with the law that each of them breaks.
 pub fn wrong_machines()
     ensures replies { PlansAndRepliesBreak }
+    ensures requests { RequestsBreak }
     ensures entries { EntriesBreak }
     ensures grants { GrantsBreak }
     ensures publishes { PublishesBreak }

@@ -1,0 +1,147 @@
+-- Wrong machines that break the laws of requests and of entries, each in a run of the small service.
+use Rattle.std.proofs.Common.{◌≡◌, ℕ, List, [], ◌∷◌, length, take, Option, Some, refl, ap}
+use Rattle.std.specs.Option.{option_map_or}
+use Rattle.hex.proofs.OnLiterals.{hex_on_literals}
+use Rattle.cohorts.specs.CohortTexts.{parsed}
+use Rattle.omaha_json.specs.declared.request.Request.{Request}
+use Rattle.records.specs.Forms.{hash_of}
+use Rattle.version.specs.Versions as version
+use Rattle.interleavings.specs.Choices.{Tables}
+use Rattle.interleavings.specs.Entries.{JobsGoByWhatIsPublished, Jobs, jobs_at}
+use Rattle.interleavings.specs.Events.{Enter, Event, Grant, Machine, Plan, Publish, Render, service_after}
+use Rattle.interleavings.specs.Requests.{RepliesAreToGivenRequests}
+use Rattle.interleavings.specs.Runs.{begins, small_batch, small_mirrors, small_request, small_rows, withdrawal}
+use Rattle.interleavings.specs.Wrong.{enters_what_was_seen, plans_for_another, plans_the_previous_request, renders_at_the_previous_time, renders_for_another_time}
+use Rattle.interleavings.proofs.PlaceLemmas.{at-place, entry-place, plan-place, rendering-place}
+use Rattle.interleavings.proofs.WrongLemmas.{apart, small-accepted}
+
+-- the same request of another session
+abbrev other_request : Request
+other_request = record small_request { session = [] }
+
+-- a worker replies to one request and then to the other; the mirror has room for the first
+abbrev twice : List Event
+twice =
+    Enter 0
+    ∷ Plan 0 small_request small_rows
+    ∷ Grant 0 0 3
+    ∷ Render 0 1
+    ∷ Enter 0
+    ∷ Plan 0 other_request small_rows
+    ∷ Grant 0 0 3
+    ∷ Render 0 2
+    ∷ []
+
+-- how many jobs the worker had ended before a place of the run
+abbrev ended_before : Machine → ℕ → ℕ
+ended_before machine place =
+    option_map_or (λ (jobs : Jobs). length jobs.0)
+    (jobs_at (service_after machine small_mirrors small_batch 1 (take place twice)) 0) 0
+
+abbrev ended_count : Option Jobs → ℕ
+ended_count jobs = option_map_or (λ (j : Jobs). length j.0) jobs 0
+
+pub another : ¬ (RepliesAreToGivenRequests plans_for_another)
+unfolding hex_on_literals version.version_of version.components_of version.lenient_version_of hash_of parsed
+another law =
+    let events = Enter 1 ∷ Plan 0 small_request small_rows ∷ Grant 1 0 3 ∷ Render 1 86400 ∷ [] in
+    let is = law small_mirrors small_batch 2 events small-accepted 1 _ refl 0 _ refl in
+    let at = plan-place _ _ _ _ _ _ is in
+    at-place (λ place event. event ≡ Plan 1 is.request is.tables → ⊥) events at.place (Plan 1 is.request is.tables)
+    (λ this. cc, (λ this. cc, (λ this. cc, (λ this. cc, tt)))) at.there refl
+
+-- the second reply would be to the first request, which was given before the first reply alone
+pub previous : ¬ (RepliesAreToGivenRequests plans_the_previous_request)
+unfolding hex_on_literals version.version_of version.components_of version.lenient_version_of hash_of parsed
+previous law =
+    let is = law small_mirrors small_batch 1 twice small-accepted 0 _ refl 1 _ refl in
+    let at = plan-place _ _ _ _ _ _ is in
+    at-place
+    (λ place event. event ≡ Plan 0 is.request is.tables → ended_before plans_the_previous_request place ≡ 1 → ⊥)
+    twice at.place (Plan 0 is.request is.tables) (
+      λ this ended. cc,
+      (
+        λ this ended. apart 0 1 refl ended,
+        (
+          λ this ended. cc,
+          (
+            λ this ended. cc,
+            (
+              λ this ended. cc,
+              (
+                λ this ended. both is.request is.tables is.kept this,
+                (
+                  λ this ended. cc,
+                  (λ this ended. cc, tt),
+                ),
+              ),
+            ),
+          ),
+        ),
+      ),
+    )
+    at.there refl (ap ended_count at.from)
+  where
+    both :
+        (request : Request) (tables : Tables) → Some small_request ≡ Some request →
+        Plan 0 other_request small_rows ≡ Plan 0 request tables → ⊥
+    both request tables kept this =
+        let same : small_request ≡ other_request = cc in
+        apart 1 0 refl (ap (λ (r : Request). length r.session) same)
+
+-- the time at which an event has a worker render
+abbrev time_of : Event → ℕ
+time_of (Render worker moment) = moment
+time_of event = 0
+
+pub another_time : ¬ (RepliesAreToGivenRequests renders_for_another_time)
+unfolding hex_on_literals version.version_of version.components_of version.lenient_version_of hash_of parsed
+another_time law =
+    let events = begins 0 (Grant 0 0 3 ∷ Render 0 86400 ∷ []) in
+    let is = law small_mirrors small_batch 1 events small-accepted 0 _ refl 0 _ refl in
+    let at = rendering-place _ _ _ _ _ _ is in
+    at-place (λ place event. event ≡ Render 0 172800 → ⊥) events at.place (Render 0 172800)
+    (λ this. cc, (λ this. cc, (λ this. cc, (λ this. apart 86400 172800 refl (ap time_of this), tt)))) at.there refl
+
+pub previous_time : ¬ (RepliesAreToGivenRequests renders_at_the_previous_time)
+unfolding hex_on_literals version.version_of version.components_of version.lenient_version_of hash_of parsed
+previous_time law =
+    let is = law small_mirrors small_batch 1 twice small-accepted 0 _ refl 1 _ refl in
+    let at = rendering-place _ _ _ _ _ _ is in
+    at-place (λ place event. event ≡ Render 0 1 → ended_before renders_at_the_previous_time place ≡ 1 → ⊥) twice
+    at.place (Render 0 1) (
+      λ this ended. cc,
+      (
+        λ this ended. cc,
+        (
+          λ this ended. cc,
+          (
+            λ this ended. apart 0 1 refl ended,
+            (
+              λ this ended. cc,
+              (
+                λ this ended. cc,
+                (
+                  λ this ended. cc,
+                  (λ this ended. cc, tt),
+                ),
+              ),
+            ),
+          ),
+        ),
+      ),
+    )
+    at.there refl (ap ended_count at.from)
+
+-- no worker hears of anything, so it has seen edition 1 alone
+pub old : ¬ (JobsGoByWhatIsPublished enters_what_was_seen)
+unfolding hex_on_literals version.version_of version.components_of version.lenient_version_of hash_of parsed
+old law =
+    let events = Publish 1 (withdrawal ∷ []) ∷ Enter 0 ∷ [] in
+    let entered = (law small_mirrors small_batch 1 events small-accepted 0 _ refl).1 in
+    let at = entry-place _ _ _ _ _ entered in
+    at-place
+    (λ place event. event ≡ Enter 0 →
+    1 ≡ length (service_after enters_what_was_seen small_mirrors small_batch 1 (take place events)).history → ⊥)
+    events at.place (Enter 0)
+    (λ this number. cc, (λ this number. apart 1 2 refl number, tt)) at.there refl at.number_is
