@@ -3,6 +3,7 @@ pub mod Entries
 pub mod Events
 pub mod Headline
 pub mod Jobs
+pub mod LargerRuns
 pub mod Laws
 pub mod Moves
 pub mod Requests

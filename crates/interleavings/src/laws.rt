@@ -3,6 +3,7 @@
 ghost use Rattle.interleavings.specs.Entries.{JobsGoByWhatIsPublished};
 ghost use Rattle.interleavings.specs.Events.{happens};
 ghost use Rattle.interleavings.specs.Headline.{OffersLeadToTargets, RepliesSayTrue};
+ghost use Rattle.interleavings.specs.LargerRuns.{DifferentialAndPin, HeardOfABatch, PinnedOffer, SecondMirrorGrants, TwoAppsInOneReply};
 ghost use Rattle.interleavings.specs.Laws.{BatchesArePublishedInTurn, BatchesArePublishedWhole, JobsGoByWhatWasSeen, PlansAreByPrices, PublishedIsAccepted, PublishedStays, RepliesAreOfOneCatalogue, SeenIsPublished, SeenNeverFalls, SharesAreOfJobs, TotalsAreWithinBudgets};
 ghost use Rattle.interleavings.specs.Requests.{RepliesAreToGivenRequests};
 ghost use Rattle.interleavings.specs.Runs.{BudgetEnds, BudgetRaised, DropAfterGrant, FailedConditions, PublishBetween, StalePublish};
@@ -127,6 +128,16 @@ pub fn runs()
     ensures ends { BudgetEnds }
     ensures raised { BudgetRaised }
     ensures failed { FailedConditions }
+{}
+
+/// Shows larger runs, worked by hand: a mirror without room and one that grants, two apps in one reply, a differential
+/// and then a pinned client, the offer to a pinned client, and a worker that hears of a published batch.
+pub fn larger_runs()
+    ensures second { SecondMirrorGrants }
+    ensures apps { TwoAppsInOneReply }
+    ensures differential { DifferentialAndPin }
+    ensures pin { PinnedOffer }
+    ensures heard { HeardOfABatch }
 {}
 
 /// Shows machines that are wrong in one event each, with the law that each of them breaks.
