@@ -11,6 +11,7 @@ mod PendingLemmas
 mod PlaceLemmas
 mod PlanLemmas
 mod RequestLemmas
+mod RestartLemmas
 mod RunLemmas
 mod TieLemmas
 mod TurnLemmas

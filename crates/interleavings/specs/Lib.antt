@@ -7,6 +7,7 @@ pub mod LargerRuns
 pub mod Laws
 pub mod Moves
 pub mod Requests
+pub mod Restart
 pub mod Runs
 pub mod Services
 pub mod Ties

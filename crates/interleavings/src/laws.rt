@@ -6,6 +6,7 @@ ghost use Rattle.interleavings.specs.Headline.{OffersLeadToTargets, RepliesSayTr
 ghost use Rattle.interleavings.specs.LargerRuns.{DifferentialAndPin, HeardOfABatch, PinnedOffer, SecondMirrorGrants, TwoAppsInOneReply};
 ghost use Rattle.interleavings.specs.Laws.{BatchesArePublishedInTurn, BatchesArePublishedWhole, JobsGoByWhatWasSeen, PlansAreByPrices, PublishedIsAccepted, PublishedStays, RepliesAreOfOneCatalogue, SeenIsPublished, SeenNeverFalls, SharesAreOfJobs, TotalsAreWithinBudgets};
 ghost use Rattle.interleavings.specs.Requests.{RepliesAreToGivenRequests};
+ghost use Rattle.interleavings.specs.Restart.{DumpsAreProfiles, RestartsKeepReplies, ServicesOpenAgain};
 ghost use Rattle.interleavings.specs.Runs.{BudgetEnds, BudgetRaised, DropAfterGrant, FailedConditions, PublishBetween, StalePublish};
 ghost use Rattle.interleavings.specs.Ties.{AnswersAreOfPending, FullIsNotPublished, GrantsAreBooked, NextIsPublished, PressPublishes, RaisesAreEvents, RejectedIsNotPublished, RoomIsTested, ScriptsArePublished, WorkersReplyByOneHistory};
 ghost use Rattle.interleavings.specs.Wrong.{EntriesBreak, GrantsBreak, PlansAndRepliesBreak, PublishesBreak, RequestsBreak};
@@ -101,6 +102,22 @@ pub fn plans()
     quotes::laws::rows();
     par_tables::laws::tracks();
     theorems::laws::graphs();
+    theorems::laws::plans();
+}
+
+// rule: Restart
+/// States that a service which starts from a dump replies as the one that was dumped.
+///
+/// Each dump is read as a profile. Its one batch is accepted and makes the content that was dumped, and its mirrors are
+/// those that were dumped. Both services then reply to each request, at each time, with the same bytes, if their
+/// mirrors grant the same. In the events: edition 1 of the service that opens has the content of the last edition that
+/// was dumped, and a job that enters either renders the same replies. The totals of the mirrors begin at 0 again, and
+/// their budgets are those of the dump, none below the first one.
+pub fn restart()
+    ensures dumps { DumpsAreProfiles }
+    ensures replies { RestartsKeepReplies }
+    ensures opens { ServicesOpenAgain }
+{
     theorems::laws::plans();
 }
 
