@@ -44,6 +44,8 @@ pub fn every_interleaving()
 /// States that what is published is an accepted history of 1 to 4096 batches, that it stays so, that each of its
 /// batches was given as a whole, and that a batch is published exactly if it is accepted, there is room, and its
 /// publisher knew of all batches before it.
+///
+/// The last clause restates the definition of the event; `wrong_machines` has machines that break it.
 pub fn publishing()
     ensures accepted { PublishedIsAccepted happens }
     ensures stays { PublishedStays happens }
@@ -121,8 +123,12 @@ pub fn restart()
     theorems::laws::plans();
 }
 
-/// States which events the contracts of `Edition::next`, `Press::publish`, `Book::grant`, `Book::raise`,
-/// `update_desk::reply_to`, a worker's desk and the operator's desk are.
+/// States what the contracts of `Edition::next`, `Press::publish`, `Book::grant`, `Book::raise`,
+/// `update_desk::reply_to`, a worker's desk and the operator's desk say by helpers of events.
+///
+/// The helpers say what is published, whether a book has room, which book it is after a grant or a raise, and what the
+/// reply of a job is. The events `Enter`, `Learn` and `Drop` have no such law, and none says that a call is one whole
+/// event.
 pub fn ties()
     ensures next { NextIsPublished }
     ensures rejected { RejectedIsNotPublished }
