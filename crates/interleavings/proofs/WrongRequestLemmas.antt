@@ -1,6 +1,7 @@
 -- Wrong machines that break the laws of requests and of entries, each in a run of the small service.
-use Rattle.std.proofs.Common.{◌≡◌, ℕ, List, [], ◌∷◌, length, take, Option, Some, refl, ap}
+use Rattle.std.proofs.Common.{Bool, true, false, sym, ◌≡◌, ℕ, List, [], ◌∷◌, length, take, Option, Some, refl, ap}
 use Rattle.std.specs.Option.{option_map_or}
+use Rattle.std.proofs.lemmas.Bool.{false≢true}
 use Rattle.hex.proofs.OnLiterals.{hex_on_literals}
 use Rattle.cohorts.specs.CohortTexts.{parsed}
 use Rattle.omaha_json.specs.declared.request.Request.{Request}
@@ -9,9 +10,10 @@ use Rattle.version.specs.Versions as version
 use Rattle.interleavings.specs.Choices.{Tables}
 use Rattle.interleavings.specs.Entries.{JobsGoByWhatIsPublished, Jobs, jobs_at}
 use Rattle.interleavings.specs.Events.{Enter, Event, Grant, Machine, Plan, Publish, Render, service_after}
+use Rattle.interleavings.specs.Jobs.{Job}
 use Rattle.interleavings.specs.Requests.{RepliesAreToGivenRequests}
 use Rattle.interleavings.specs.Runs.{begins, small_batch, small_mirrors, small_request, small_rows, withdrawal}
-use Rattle.interleavings.specs.Wrong.{enters_what_was_seen, plans_for_another, plans_the_previous_request, renders_at_the_previous_time, renders_for_another_time}
+use Rattle.interleavings.specs.Wrong.{enters_what_was_seen, plans_again, plans_for_another, plans_the_previous_request, renders_at_the_previous_time, renders_for_another_time}
 use Rattle.interleavings.proofs.PlaceLemmas.{at-place, entry-place, plan-place, rendering-place}
 use Rattle.interleavings.proofs.WrongLemmas.{apart, small-accepted}
 
@@ -85,6 +87,53 @@ previous law =
     both :
         (request : Request) (tables : Tables) → Some small_request ≡ Some request →
         Plan 0 other_request small_rows ≡ Plan 0 request tables → ⊥
+    both request tables kept this =
+        let same : small_request ≡ other_request = cc in
+        apart 1 0 refl (ap (λ (r : Request). length r.session) same)
+
+-- a worker plans its job for one request and then for the other
+abbrev planned_twice : List Event
+planned_twice =
+    Enter 0
+    ∷ Plan 0 small_request small_rows
+    ∷ Plan 0 other_request small_rows
+    ∷ Grant 0 0 3
+    ∷ Render 0 1
+    ∷ []
+
+-- whether a worker's job is planned
+abbrev is_planned : Option Jobs → Bool
+is_planned jobs =
+    option_map_or
+    (λ (j : Jobs). option_map_or (λ (job : Job). option_map_or (λ pending. true) job.pending false) j.1 false) jobs false
+
+-- the reply would be to the second request, for which the job was planned already
+pub again : ¬ (RepliesAreToGivenRequests plans_again)
+unfolding hex_on_literals version.version_of version.components_of version.lenient_version_of hash_of parsed
+again law =
+    let is = law small_mirrors small_batch 1 planned_twice small-accepted 0 _ refl 0 _ refl in
+    let at = plan-place _ _ _ _ _ _ is in
+    at-place
+    (λ place event. event ≡ Plan 0 is.request is.tables →
+    is_planned (jobs_at (service_after plans_again small_mirrors small_batch 1 (take place planned_twice)) 0) ≡ false → ⊥)
+    planned_twice at.place (Plan 0 is.request is.tables) (
+      λ this planned. cc,
+      (
+        λ this planned. both is.request is.tables is.kept this,
+        (
+          λ this planned. false≢true (sym planned),
+          (
+            λ this planned. cc,
+            (λ this planned. cc, tt),
+          ),
+        ),
+      ),
+    )
+    at.there refl (ap is_planned at.from)
+  where
+    both :
+        (request : Request) (tables : Tables) → Some other_request ≡ Some request →
+        Plan 0 small_request small_rows ≡ Plan 0 request tables → ⊥
     both request tables kept this =
         let same : small_request ≡ other_request = cc in
         apart 1 0 refl (ap (λ (r : Request). length r.session) same)

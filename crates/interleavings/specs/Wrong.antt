@@ -4,7 +4,7 @@ use Rattle.std.specs.Option.{option_map_or}
 use Rattle.editions.specs.Editions.{content_of}
 use Rattle.omaha_json.specs.declared.request.Request.{Request}
 use Rattle.replies.specs.declared.choices.Choice.{Choice}
-use Rattle.interleavings.specs.Entries.{JobsGoByWhatIsPublished}
+use Rattle.interleavings.specs.Entries.{JobsGoByWhatIsPublished, entered_job}
 use Rattle.interleavings.specs.Events.{Drop, Enter, Grant, Learn, Machine, Plan, Publish, Raise, Render, asks, granted, happens, moved}
 use Rattle.interleavings.specs.Headline.{OffersLeadToTargets, RepliesSayTrue}
 use Rattle.interleavings.specs.Jobs.{EndedJob, Job, Pending, Rendered, Worker}
@@ -74,6 +74,14 @@ abbrev pub plans_the_previous_request : Machine
 plans_the_previous_request mirrors service (Plan worker request tables) =
     moved worker (λ (w : Worker). after_plan service.history (last_request request w.ended) tables w) service
 plans_the_previous_request mirrors service event = happens mirrors service event
+
+-- plans a job again that is planned already
+abbrev pub plans_again : Machine
+plans_again mirrors service (Plan worker request tables) =
+    moved worker
+    (with_job (λ job. planned_by (content_at service.history job.number) request tables (entered_job job.number)))
+    service
+plans_again mirrors service event = happens mirrors service event
 
 -- the time of the last reply of some jobs, else another time
 abbrev pub last_time : ℕ → List EndedJob → ℕ
@@ -195,6 +203,7 @@ pub record PlansAndRepliesBreak : Type 0 where
 pub record RequestsBreak : Type 0 where
   pub another : ¬ (RepliesAreToGivenRequests plans_for_another)
   pub previous : ¬ (RepliesAreToGivenRequests plans_the_previous_request)
+  pub again : ¬ (RepliesAreToGivenRequests plans_again)
   pub another_time : ¬ (RepliesAreToGivenRequests renders_for_another_time)
   pub previous_time : ¬ (RepliesAreToGivenRequests renders_at_the_previous_time)
 

@@ -1,6 +1,6 @@
 use Rattle.interleavings.proofs.WrongLemmas.{first, forgotten, half, late, lost, lowered, never, newest_plan, newest_reply, no_room, rejected, share, unchecked, undecided, unseen, unpublished}
 use Rattle.interleavings.proofs.WrongReplyLemmas.{nowhere, untrue}
-use Rattle.interleavings.proofs.WrongRequestLemmas.{another, another_time, old, previous, previous_time}
+use Rattle.interleavings.proofs.WrongRequestLemmas.{again, another, another_time, old, previous, previous_time}
 use Rattle.interleavings.proofs.laws.wrong_machines.Goals as goal
 
 pub returns : goal.returns
@@ -17,6 +17,7 @@ returns c =
       requests = record {
         another = another;
         previous = previous;
+        again = again;
         another_time = another_time;
         previous_time = previous_time;
       };
