@@ -22,6 +22,7 @@ use Rattle.omaha_json.specs.declared.reply.CheckReply.TheVariants as check
 use Rattle.omaha_json.specs.declared.reply.Reply.{Reply}
 use Rattle.omaha_json.specs.declared.request.AppAsk.{AppAsk}
 use Rattle.omaha_json.specs.declared.request.Request.{Request}
+use Rattle.omaha_server.specs.Services.{service_if}
 use Rattle.payload_graph.specs.declared.payload.Payload.{Payload}
 use Rattle.records.specs.declared.content.App.{App}
 use Rattle.records.specs.declared.content.Diff.{Diff}
@@ -47,6 +48,7 @@ dumps_are_profiles mirrors history reply dump =
       batch = edits_of_content (content_of history);
       named = dump.now;
       read = dump.reads_back.read;
+      made = ap (service_if (edits_of_content (content_of history), dump.now)) made;
       opens = ap (λ (r : Result (List App) Refused). is_ok r) made;
       content = ap (λ (r : Result (List App) Refused). content_or_none (then_run (run []) r)) made;
       raised = dump.raised;

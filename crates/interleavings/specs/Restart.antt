@@ -8,6 +8,7 @@ use Rattle.mirror_ledger.specs.Asks.{Ask}
 use Rattle.mirror_ledger.specs.Named.{budget_at}
 use Rattle.mirror_ledger.specs.Raising.{AreRaised}
 use Rattle.omaha_json.specs.declared.request.Request.{Request}
+use Rattle.omaha_server.specs.Services.{service_of}
 use Rattle.profile_toml.specs.Reading.{profile_of_bytes}
 use Rattle.records.specs.declared.mirror.Mirror.{Mirror}
 use Rattle.service_desks.specs.Operators.{IsDump}
@@ -17,12 +18,13 @@ use Rattle.interleavings.specs.Jobs.{Pending}
 use Rattle.interleavings.specs.Moves.{rendered_at}
 use Rattle.interleavings.specs.Services.{Service, content_at, opened}
 
--- what starts from a profile: its one batch opens a service with the content of a history, over its mirrors, which are
--- those of the service that was dumped, with budgets that are no less
+-- what starts from a profile: the program makes of it the service of one batch and its mirrors; the batch is accepted and
+-- makes the content of a history, and the mirrors are those of the service that was dumped, with budgets that are no less
 pub record StartsFrom (mirrors : List Mirror) (history : History) (text : List ℕ) : Type 0 where
   pub batch : List Edit
   pub named : List Mirror
   pub read : profile_of_bytes text ≡ Ok (batch, named)
+  pub made : service_of (batch, named) ≡ Ok (record { edition = batch ∷ []; mirrors = named })
   pub opens : IsAccepted [] batch
   pub content : content_of (batch ∷ []) ≡ content_of history
   pub raised : AreRaised mirrors named

@@ -110,11 +110,12 @@ pub fn plans()
 // rule: Restart
 /// States that a service which starts from a dump replies as the one that was dumped.
 ///
-/// Each dump is read as a profile. Its one batch is accepted and makes the content that was dumped, and its mirrors are
-/// those that were dumped. Both services then reply to each request, at each time, with the same bytes, if their
-/// mirrors grant the same. In the events: edition 1 of the service that opens has the content of the last edition that
-/// was dumped, and a job that enters either renders the same replies. The totals of the mirrors begin at 0 again, and
-/// their budgets are those of the dump, none below the first one.
+/// Each dump is read as a profile, of which `make_service` makes the service of one batch. The batch is accepted and
+/// makes the content that was dumped, and the mirrors are those that were dumped. Both services then reply to each
+/// request, at each time, with the same bytes, if their mirrors grant the same. In the events: edition 1 of the
+/// service that opens has the content of the last edition that was dumped, and a job that enters either renders the
+/// same replies. The totals of the mirrors begin at 0 again, and their budgets are those of the dump, none below the
+/// first one.
 pub fn restart()
     ensures dumps { DumpsAreProfiles }
     ensures replies { RestartsKeepReplies }
