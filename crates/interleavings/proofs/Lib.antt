@@ -1,5 +1,6 @@
 mod ChoiceLemmas
 mod ClientLemmas
+mod CourseLemmas
 mod EventLemmas
 mod HeadlineLemmas
 mod KeptLemmas
@@ -7,8 +8,13 @@ mod LawLemmas
 mod ListLemmas
 mod MoveLemmas
 mod PendingLemmas
+mod PlaceLemmas
 mod PlanLemmas
 mod RequestLemmas
+mod RestartLemmas
 mod RunLemmas
 mod TieLemmas
+mod TurnLemmas
 mod WrongLemmas
+mod WrongReplyLemmas
+mod WrongRequestLemmas

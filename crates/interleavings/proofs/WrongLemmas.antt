@@ -1,6 +1,6 @@
 -- Each wrong machine breaks its law, in a run of the small service.
 use Rattle.std.proofs.Common.{◌≡◌, ℕ, ◌≤◌, ◌<◌, inl, inr, true, false, eqb, List, [], ◌∷◌, length, None, Some, Result, refl, sym, ap, ◌∙◌, subst, arith}
-use Rattle.std.specs.List.{All, Contains, sum_by}
+use Rattle.std.specs.List.{All, slice_get, sum_by}
 use Rattle.std.specs.Option.{option_map_or}
 use Rattle.std.specs.Result.{is_ok}
 use Rattle.std.proofs.lemmas.Bool.{eq-eqb, false≢true}
@@ -23,12 +23,11 @@ use Rattle.theorems.specs.Asks.{offer_in}
 use Rattle.version.specs.Versions as version
 use Rattle.interleavings.specs.Events.{Drop, Enter, Grant, Learn, Plan, Publish, Raise, Render}
 use Rattle.interleavings.specs.Jobs.{EndedJob, Job, Pending, Rendered, Worker, is_decided, new_worker}
-use Rattle.interleavings.specs.Laws.{BatchesArePublishedInTurn, BatchesArePublishedWhole, IsOfOneCatalogue, JobsGoByWhatWasSeen, PublishedIsAccepted, RepliesAreOfOneCatalogue, SeenIsPublished, SharesAreOfJobs, TotalsAreWithinBudgets}
+use Rattle.interleavings.specs.Laws.{BatchesArePublishedInTurn, BatchesArePublishedWhole, IsOfOneCatalogue, JobsGoByWhatWasSeen, PublishedIsAccepted, PublishedStays, RepliesAreOfOneCatalogue, SeenIsPublished, SeenNeverFalls, SharesAreOfJobs, TotalsAreWithinBudgets}
 use Rattle.interleavings.specs.Moves.{reply_by}
 use Rattle.interleavings.specs.Runs.{begins, lower_release, small_batch, small_mirrors, small_request, small_rows, unknown_release, withdrawal, wrong_rows}
 use Rattle.interleavings.specs.Services.{content_at}
-use Rattle.interleavings.specs.Requests.{RepliesAreToGivenRequests}
-use Rattle.interleavings.specs.Wrong.{believes_any_number, cuts_a_budget, forgets_dropped_jobs, grants_without_room, keeps_the_first_catalogue, leaves_the_share, never_publishes, plans_by_any_rows, plans_by_the_newest, plans_for_another, publishes_half_a_batch, publishes_late_batches, publishes_rejected_batches, renders_by_the_newest, renders_for_another_time, renders_undecided}
+use Rattle.interleavings.specs.Wrong.{believes_any_number, cuts_a_budget, forgets_dropped_jobs, forgets_what_was_seen, grants_without_room, keeps_the_first_catalogue, leaves_the_share, never_publishes, plans_by_any_rows, plans_by_the_newest, publishes_half_a_batch, publishes_late_batches, publishes_over_unknown_batches, publishes_rejected_batches, renders_by_the_newest, renders_undecided}
 
 pub small-accepted : IsAccepted [] small_batch
 unfolding hex_on_literals version.version_of version.components_of version.lenient_version_of hash_of parsed
@@ -54,7 +53,7 @@ module _ (mirrors : List Mirror) (history : History) (job : Job) (rendered : Ren
       one.reply_is.planned
 
 -- two numbers that a test finds different are not the same
-apart : (one other : ℕ) → eqb one other ≡ false → one ≡ other → ⊥
+pub apart : (one other : ℕ) → eqb one other ≡ false → one ≡ other → ⊥
 apart one other differ same = false≢true (sym differ ∙ eq-eqb one other same)
 
 -- the bytes of the full packages that a reply offers
@@ -63,7 +62,7 @@ sizes_in reply = sum_by (λ (app : AppReply). option_map_or (λ (offer : Offer).
     reply.apps
 
 -- an ended job, where a list has none
-abbrev no_job : EndedJob
+abbrev pub no_job : EndedJob
 no_job = record { job = record { number = 0; pending = None }; rendered = None }
 
 -- in the first catalogue a chain leads the client to its target, so that nothing is no choice for it
@@ -106,31 +105,6 @@ unchecked law =
     let one = law small_mirrors small_batch 1 events small-accepted 0 new_worker within 0 no_job within in
     no-plan (is-plan _ _ _ _ one _ refl)
 
--- an empty list contains nothing
-nothing-in : {A : Type 0} (item : A) → Contains [] item → ⊥
-nothing-in item there =
-    let low : there.0 < 0 = there.1 in
-    absurd (omega arith)
-
-pub another : ¬ (RepliesAreToGivenRequests plans_for_another)
-unfolding hex_on_literals version.version_of version.components_of version.lenient_version_of hash_of parsed
-another law =
-    let within : 0 < 1 = omega arith in
-    let events = Enter 1 ∷ Plan 0 small_request small_rows ∷ Grant 1 0 3 ∷ Render 1 86400 ∷ [] in
-    let given = law small_mirrors small_batch 2 events small-accepted 1 _ refl 0 no_job within in
-    nothing-in given.pending.request given.request
-
-pub another_time : ¬ (RepliesAreToGivenRequests renders_for_another_time)
-unfolding hex_on_literals version.version_of version.components_of version.lenient_version_of hash_of parsed
-another_time law =
-    let within : 0 < 1 = omega arith in
-    let events = begins 0 (Grant 0 0 3 ∷ Render 0 86400 ∷ []) in
-    let given = law small_mirrors small_batch 1 events small-accepted 0 _ refl 0 no_job within in
-    let only : All (λ (n : ℕ). n ≤ 86400) (86400 ∷ []) = All-from_recursion (λ (n : ℕ). n ≤ 86400) (86400 ∷ [])
-    (omega arith, tt) in
-    let low : 172800 ≤ 86400 = All-contains (λ (n : ℕ). n ≤ 86400) (86400 ∷ []) 172800 only given.moment in
-    absurd (omega arith)
-
 pub first : ¬ (JobsGoByWhatWasSeen keeps_the_first_catalogue)
 unfolding hex_on_literals version.version_of version.components_of version.lenient_version_of hash_of parsed
 first law =
@@ -145,9 +119,16 @@ first law =
     let low : 2 ≤ 1 = all 0 ended within in
     absurd (omega arith)
 
-pub untrue : ¬ (SeenIsPublished believes_any_number)
-untrue law =
+pub unpublished : ¬ (SeenIsPublished believes_any_number)
+unpublished law =
     let low : 7 ≤ 1 = law small_mirrors small_batch 1 (Learn 0 7 ∷ []) small-accepted 0 in
+    absurd (omega arith)
+
+pub unseen : ¬ (SeenNeverFalls forgets_what_was_seen)
+unfolding hex_on_literals version.version_of version.components_of version.lenient_version_of hash_of parsed
+unseen law =
+    let events = Publish 1 (withdrawal ∷ []) ∷ Learn 0 2 ∷ [] in
+    let low : 2 ≤ 1 = law small_mirrors small_batch 1 events (Learn 0 1 ∷ []) small-accepted 0 in
     absurd (omega arith)
 
 pub no_room : ¬ (TotalsAreWithinBudgets grants_without_room)
@@ -195,6 +176,17 @@ unfolding hex_on_literals version.version_of version.components_of version.lenie
 rejected law =
     let accepted = law small_mirrors small_batch 1 (Publish 1 (unknown_release ∷ []) ∷ []) small-accepted in
     false≢true (ap (λ (r : Result (List App) Refused). is_ok r) accepted.led)
+
+-- the number of edits of the second batch of a history
+abbrev second_length : History → ℕ
+second_length history = option_map_or (λ (batch : List Edit). length batch) (slice_get history 1) 0
+
+pub lost : ¬ (PublishedStays publishes_over_unknown_batches)
+unfolding hex_on_literals version.version_of version.components_of version.lenient_version_of hash_of parsed
+lost law =
+    let events = Publish 1 (withdrawal ∷ lower_release ∷ []) ∷ [] in
+    let stays = law small_mirrors small_batch 1 events (Publish 1 (withdrawal ∷ []) ∷ []) small-accepted in
+    apart 1 2 refl (ap second_length stays.1)
 
 pub late : ¬ (BatchesArePublishedInTurn publishes_late_batches)
 unfolding hex_on_literals version.version_of version.components_of version.lenient_version_of hash_of parsed

@@ -167,7 +167,8 @@ BatchesArePublishedWhole machine =
     All (λ (added : List Edit). Contains (batch ∷ batches_given events) added) service.history)
 
 -- whoever publishes next, of whatever batches they know, gets what the definition says: a batch that is accepted and in
--- turn is published, and no other
+-- turn is published, and no other. Of the machine of the service this is the definition of its event `Publish` again; it
+-- is here for wrong machines to be held against
 abbrev pub BatchesArePublishedInTurn : Machine → Type 0
 BatchesArePublishedInTurn machine =
     Always machine

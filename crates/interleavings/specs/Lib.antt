@@ -1,10 +1,13 @@
 pub mod Choices
+pub mod Entries
 pub mod Events
 pub mod Headline
 pub mod Jobs
+pub mod LargerRuns
 pub mod Laws
 pub mod Moves
 pub mod Requests
+pub mod Restart
 pub mod Runs
 pub mod Services
 pub mod Ties

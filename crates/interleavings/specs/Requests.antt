@@ -1,40 +1,46 @@
--- What a worker was given to reply to, and at which times; each reply is to such a request, at such a time.
-use Rattle.std.specs.Prelude.{◌≡◌, ℕ, ◌==◌, if◌then◌else◌, All, Contains, List, [], ◌∷◌, flat_map, IfSome, Some}
+-- To which request each reply is, and at which time.
+use Rattle.std.specs.Prelude.{◌≡◌, ℕ, List, [], ◌∷◌, ◌++◌, IfSome, slice_get, take, Option, None, Some, option_map}
 use Rattle.omaha_json.specs.declared.request.Request.{Request}
-use Rattle.interleavings.specs.Events.{Event, Machine, Plan, Render}
+use Rattle.interleavings.specs.Choices.{Tables}
+use Rattle.interleavings.specs.Entries.{Course, EachCourse, Turns, entered_job}
+use Rattle.interleavings.specs.Events.{Enter, Event, Machine, Plan, Render}
 use Rattle.interleavings.specs.Jobs.{EndedJob, Job, Pending, Rendered, Worker}
-use Rattle.interleavings.specs.Laws.{Always, worker_at}
+use Rattle.interleavings.specs.Laws.{worker_at}
 
--- the request that an event gives to the worker at an index
-abbrev pub request_given : ℕ → Event → List Request
-request_given index (Plan worker request tables) = if worker == index then request ∷ [] else []
-request_given index event = []
+-- the request that a job is planned for, if it is planned
+abbrev pub request_of : Job → Option Request
+request_of job = option_map (λ (pending : Pending). pending.request) job.pending
 
--- the requests that it was given by some events
-abbrev pub requests_given : ℕ → List Event → List Request
-requests_given index events = flat_map (request_given index) events
+-- a job of a worker that had ended the earlier ones, and its reply: among some events the worker entered the job, then
+-- planned it, for this request, and then rendered, at the reply's time, by which the job ended; each of these took
+-- effect, and the worker ended no other job in between
+pub record IsToItsRequest (course : Course) (index : ℕ) (events : List Event) (earlier : List EndedJob) (job : Job)
+    (rendered : Rendered) : Type 0 where
+  pub before_entry : List Event
+  pub before_plan : List Event
+  pub before_rendering : List Event
+  pub request : Request
+  pub tables : Tables
+  pub planned : Job
+  pub entry :
+      Turns course index before_plan before_entry (Enter index) (earlier, None)
+      (earlier, Some (entered_job job.number))
+  pub plan :
+      Turns course index before_rendering before_plan (Plan index request tables)
+      (earlier, Some (entered_job job.number)) (earlier, Some planned)
+  pub rendering :
+      Turns course index events before_rendering (Render index rendered.moment) (earlier, Some job)
+      (earlier ++ record { job = job; rendered = Some rendered } ∷ [], None)
+  pub given : request_of planned ≡ Some request
+  pub kept : request_of job ≡ Some request
 
--- the time at which an event has it render
-abbrev pub time_given : ℕ → Event → List ℕ
-time_given index (Render worker moment) = if worker == index then moment ∷ [] else []
-time_given index event = []
-
--- the times at which some events had it render
-abbrev pub times_given : ℕ → List Event → List ℕ
-times_given index events = flat_map (time_given index) events
-
--- a job's reply is to a request that its worker was given, at a time at which it was to render
-pub record IsGiven (index : ℕ) (events : List Event) (job : Job) (rendered : Rendered) : Type 0 where
-  pub pending : Pending
-  pub planned : job.pending ≡ Some pending
-  pub request : Contains (requests_given index events) pending.request
-  pub moment : Contains (times_given index events) rendered.moment
-
--- each reply of each worker is
+-- each reply is to the request that its worker was given for this job, at the time at which the worker ended the job
 abbrev pub RepliesAreToGivenRequests : Machine → Type 0
 RepliesAreToGivenRequests machine =
-    Always machine
-    (λ mirrors batch events service.
+    EachCourse machine
+    (λ course events.
     (index : ℕ) (worker : Worker) →
-    worker_at service index ≡ Some worker →
-    All (λ (ended : EndedJob). IfSome ended.rendered (IsGiven index events ended.job)) worker.ended)
+    worker_at (course events) index ≡ Some worker →
+    (place : ℕ) (ended : EndedJob) →
+    slice_get worker.ended place ≡ Some ended →
+    IfSome ended.rendered (IsToItsRequest course index events (take place worker.ended) ended.job))

@@ -1,4 +1,6 @@
--- Which events the contracts of the program's functions are: each law reads one contract as an event.
+-- What the contracts of the program's functions say by helpers of events: `published`, `has_room`, `with_grant`,
+-- `with_budget` and `IsReplyOf`. No law reads a contract as a whole step of `happens`, and `Enter`, `Learn` and `Drop`
+-- have none.
 use Rattle.std.specs.Prelude.{◌≡◌, ◌<◌, ◌≤◌, ◌⊎◌, ◌↔◌, ℕ, true, List, ◌++◌, length, Result, Ok, Err}
 use Rattle.catalogue.specs.declared.edit.Edit.{Edit}
 use Rattle.catalogue.specs.declared.fault.Refused.{Refused}

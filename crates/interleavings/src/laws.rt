@@ -1,12 +1,15 @@
 //! What holds after every interleaving of publishers, workers and operators, each law as a clause of a function.
 
+ghost use Rattle.interleavings.specs.Entries.{JobsGoByWhatIsPublished};
 ghost use Rattle.interleavings.specs.Events.{happens};
 ghost use Rattle.interleavings.specs.Headline.{OffersLeadToTargets, RepliesSayTrue};
+ghost use Rattle.interleavings.specs.LargerRuns.{DifferentialAndPin, HeardOfABatch, PinnedOffer, SecondMirrorGrants, TwoAppsInOneReply};
 ghost use Rattle.interleavings.specs.Laws.{BatchesArePublishedInTurn, BatchesArePublishedWhole, JobsGoByWhatWasSeen, PlansAreByPrices, PublishedIsAccepted, PublishedStays, RepliesAreOfOneCatalogue, SeenIsPublished, SeenNeverFalls, SharesAreOfJobs, TotalsAreWithinBudgets};
 ghost use Rattle.interleavings.specs.Requests.{RepliesAreToGivenRequests};
+ghost use Rattle.interleavings.specs.Restart.{DumpsAreProfiles, RestartsKeepReplies, ServicesOpenAgain};
 ghost use Rattle.interleavings.specs.Runs.{BudgetEnds, BudgetRaised, DropAfterGrant, FailedConditions, PublishBetween, StalePublish};
 ghost use Rattle.interleavings.specs.Ties.{AnswersAreOfPending, FullIsNotPublished, GrantsAreBooked, NextIsPublished, PressPublishes, RaisesAreEvents, RejectedIsNotPublished, RoomIsTested, ScriptsArePublished, WorkersReplyByOneHistory};
-ghost use Rattle.interleavings.specs.Wrong.{EntriesBreak, GrantsBreak, PlansAndRepliesBreak, PublishesBreak};
+ghost use Rattle.interleavings.specs.Wrong.{EntriesBreak, GrantsBreak, PlansAndRepliesBreak, PublishesBreak, RequestsBreak};
 
 // rule: Service
 // rule: Worker
@@ -41,6 +44,8 @@ pub fn every_interleaving()
 /// States that what is published is an accepted history of 1 to 4096 batches, that it stays so, that each of its
 /// batches was given as a whole, and that a batch is published exactly if it is accepted, there is room, and its
 /// publisher knew of all batches before it.
+///
+/// The last clause restates the definition of the event; `wrong_machines` has machines that break it.
 pub fn publishing()
     ensures accepted { PublishedIsAccepted happens }
     ensures stays { PublishedStays happens }
@@ -54,10 +59,14 @@ pub fn publishing()
     theorems::laws::graphs();
 }
 
-/// States that each reply of a worker is to a request that this worker was given to plan, at a time at which it was to
-/// render.
+/// States to which request each reply is, and by which batches each job goes.
+///
+/// For each reply the worker entered its job, planned it for the request and rendered it at the reply's time, and ended
+/// no other job in between. Each job, also one without a reply, goes by all batches that were published when the
+/// worker entered it.
 pub fn requests()
-    ensures { RepliesAreToGivenRequests happens }
+    ensures given { RepliesAreToGivenRequests happens }
+    ensures entries { JobsGoByWhatIsPublished happens }
 {}
 
 // rule: Statuses of every interleaving
@@ -98,8 +107,29 @@ pub fn plans()
     theorems::laws::plans();
 }
 
-/// States which events the contracts of `Edition::next`, `Press::publish`, `Book::grant`, `Book::raise`,
-/// `update_desk::reply_to`, a worker's desk and the operator's desk are.
+// rule: Restart
+/// States that a service which starts from a dump replies as the one that was dumped.
+///
+/// Each dump is read as a profile, of which `make_service` makes the service of one batch. The batch is accepted and
+/// makes the content that was dumped, and the mirrors are those that were dumped. Both services then reply to each
+/// request, at each time, with the same bytes, if their mirrors grant the same. In the events: edition 1 of the
+/// service that opens has the content of the last edition that was dumped, and a job that enters either renders the
+/// same replies. The totals of the mirrors begin at 0 again, and their budgets are those of the dump, none below the
+/// first one.
+pub fn restart()
+    ensures dumps { DumpsAreProfiles }
+    ensures replies { RestartsKeepReplies }
+    ensures opens { ServicesOpenAgain }
+{
+    theorems::laws::plans();
+}
+
+/// States what the contracts of `Edition::next`, `Press::publish`, `Book::grant`, `Book::raise`,
+/// `update_desk::reply_to`, a worker's desk and the operator's desk say by helpers of events.
+///
+/// The helpers say what is published, whether a book has room, which book it is after a grant or a raise, and what the
+/// reply of a job is. The events `Enter`, `Learn` and `Drop` have no such law, and none says that a call is one whole
+/// event.
 pub fn ties()
     ensures next { NextIsPublished }
     ensures rejected { RejectedIsNotPublished }
@@ -124,9 +154,20 @@ pub fn runs()
     ensures failed { FailedConditions }
 {}
 
+/// Shows larger runs, worked by hand: a mirror without room and one that grants, two apps in one reply, a differential
+/// and then a pinned client, the offer to a pinned client, and a worker that hears of a published batch.
+pub fn larger_runs()
+    ensures second { SecondMirrorGrants }
+    ensures apps { TwoAppsInOneReply }
+    ensures differential { DifferentialAndPin }
+    ensures pin { PinnedOffer }
+    ensures heard { HeardOfABatch }
+{}
+
 /// Shows machines that are wrong in one event each, with the law that each of them breaks.
 pub fn wrong_machines()
     ensures replies { PlansAndRepliesBreak }
+    ensures requests { RequestsBreak }
     ensures entries { EntriesBreak }
     ensures grants { GrantsBreak }
     ensures publishes { PublishesBreak }

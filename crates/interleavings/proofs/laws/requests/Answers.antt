@@ -1,5 +1,5 @@
-use Rattle.interleavings.proofs.RequestLemmas.{replies_are_to_given_requests}
+use Rattle.interleavings.proofs.RequestLemmas.{jobs_go_by_what_is_published, replies_are_to_given_requests}
 use Rattle.interleavings.proofs.laws.requests.Goals as goal
 
 pub returns : goal.returns
-returns c = replies_are_to_given_requests
+returns c = record { given = replies_are_to_given_requests; entries = jobs_go_by_what_is_published }

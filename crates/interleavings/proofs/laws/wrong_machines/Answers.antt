@@ -1,4 +1,6 @@
-use Rattle.interleavings.proofs.WrongLemmas.{another, another_time, first, forgotten, half, late, lowered, never, newest_plan, newest_reply, no_room, rejected, share, unchecked, undecided, untrue}
+use Rattle.interleavings.proofs.WrongLemmas.{first, forgotten, half, late, lost, lowered, never, newest_plan, newest_reply, no_room, rejected, share, unchecked, undecided, unseen, unpublished}
+use Rattle.interleavings.proofs.WrongReplyLemmas.{nowhere, untrue}
+use Rattle.interleavings.proofs.WrongRequestLemmas.{again, another, another_time, old, previous, previous_time}
 use Rattle.interleavings.proofs.laws.wrong_machines.Goals as goal
 
 pub returns : goal.returns
@@ -9,10 +11,17 @@ returns c =
         undecided = undecided;
         newest_plan = newest_plan;
         unchecked = unchecked;
-        another = another;
-        another_time = another_time;
+        untrue = untrue;
+        nowhere = nowhere;
       };
-      entries = record { first = first; untrue = untrue };
+      requests = record {
+        another = another;
+        previous = previous;
+        again = again;
+        another_time = another_time;
+        previous_time = previous_time;
+      };
+      entries = record { old = old; first = first; untrue = unpublished; forgotten = unseen };
       grants = record { no_room = no_room; share = share; lowered = lowered; forgotten = forgotten };
-      publishes = record { half = half; rejected = rejected; late = late; never = never };
+      publishes = record { half = half; rejected = rejected; lost = lost; late = late; never = never };
     }

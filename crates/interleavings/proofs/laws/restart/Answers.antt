@@ -1,0 +1,10 @@
+use Rattle.interleavings.proofs.RestartLemmas.{dumps_are_profiles, restarts_keep_replies, services_open_again}
+use Rattle.interleavings.proofs.laws.restart.Goals as goal
+
+pub returns : goal.returns
+returns c =
+    record {
+      dumps = dumps_are_profiles;
+      replies = restarts_keep_replies c.plans.ensures;
+      opens = services_open_again;
+    }
