@@ -235,13 +235,14 @@ class Run:
         return self.connections[name]
 
     def talk(self, step):
-        """`@ NAME` sends the lines `>` over a connection, byte by byte, and reads the replies of the lines `<`."""
+        """`@ NAME` sends the lines `>` over a connection, and reads the replies of the lines `<`."""
         name, *options = step.words.split()
         connection, wanted = self.connection(name, "$OPERATOR" in options), step.lines("<")
         with contextlib.suppress(BrokenPipeError, ConnectionResetError):
-            for byte in self.message_of(step.lines(">")):
+            message = self.message_of(step.lines(">"))
+            for piece in [message] if "whole" in options else [bytes([byte]) for byte in message]:
                 connection.settimeout(self.left())
-                connection.sendall(bytes([byte]))
+                connection.sendall(piece)
             if "finish" in options:
                 connection.shutdown(socket.SHUT_WR)
         data, replies, count = b"", [], sum(line.startswith("HTTP/1.1 ") for line in wanted)
