@@ -1,5 +1,5 @@
 -- One slot, and what is kept for it.
-use Rattle.std.proofs.Common.{◌≡◌, ◌∙◌, ◌++◌, ℕ, Bool, true, false, ◌==◌, List, [], ◌∷◌, append-nil, append_assoc, Option, None, Some, refl, sym, subst, ap, if◌then◌else◌, inl, inr, arith}
+use Rattle.std.proofs.Common.{◌≡◌, ◌∙◌, ◌++◌, ℕ, Bool, true, ◌==◌, List, [], ◌∷◌, append-nil, append_assoc, Option, None, Some, refl, sym, subst, ap, if◌then◌else◌, inl, inr, arith}
 use Rattle.std.specs.Prelude.{◌⊎◌, ◌≢◌}
 use Rattle.std.proofs.lemmas.Bool.{eq-eqb, ne_eqb}
 use Rattle.http_desks.specs.Calls.{Call}
@@ -7,7 +7,8 @@ use Rattle.http_ports.specs.Loops.{IsGoing, IsLeft, IsResting, IsServed, rest_bu
 use Rattle.http_ports.specs.Ports.{IsWaiting, expiring}
 use Rattle.http_ports.specs.Speech.{AreWhole, IsEnd, IsWhole, Phase, Speech}
 use Rattle.http_ports.specs.Steps.{Has, HasLeft}
-use Rattle.http_ports.specs.Traffic.{Reported, Slot, Traffic, Yields, marked, with_ended}
+use Rattle.http_ports.specs.Traffic.{Slot, Traffic, marked, with_ended}
+use Rattle.http_ports.specs.declared.last.Last.TheVariants.{Reported, Yields}
 
 -- what was kept of the ended connections, with one more at a slot
 abbrev pub ends_with : {C : Type 0} → ℕ → C → (ℕ → List C) → ℕ → List C

@@ -1,12 +1,13 @@
 -- Parts of the loop for one connection, one after the other.
-use Rattle.std.proofs.Common.{◌≡◌, ◌∙◌, ◌++◌, ℕ, Bool, List, [], ◌∷◌, append-nil, append_assoc, Option, None, Some, refl, sym, subst, ap, inl, inr}
+use Rattle.std.proofs.Common.{◌≡◌, ◌∙◌, ◌++◌, ℕ, Bool, List, [], ◌∷◌, append-nil, append_assoc, None, refl, sym, subst, ap, inr}
 use Rattle.std.specs.Prelude.{⊤, Ok, Err}
 use Rattle.http_desks.specs.Calls.{Call, Leads}
 use Rattle.http_ports.specs.Loops.{IsLeft}
 use Rattle.http_ports.specs.Ports.{Closes}
 use Rattle.http_ports.specs.Speech.{Phase, Speech, speech_at}
 use Rattle.http_ports.specs.Steps.{IsEnding, IsPassed, Serves, ServesOut}
-use Rattle.http_ports.specs.Traffic.{Changes, Elsewhere, HasPassed, IsOpen, Passed, Slot, Traffic, Yields, marked, with_ended}
+use Rattle.http_ports.specs.Traffic.{Changes, Elsewhere, HasPassed, IsOpen, Slot, Traffic, marked}
+use Rattle.http_ports.specs.declared.last.Last.TheVariants.{Passed, Yields}
 use Rattle.http_ports.proofs.RoundLemmas.{Leads-append}
 
 -- however it was left

@@ -1,6 +1,6 @@
 -- All slots of a port, of which one changes.
-use Rattle.std.proofs.Common.{◌≡◌, ◌≢◌, ◌<◌, ◌+◌, ◌∙◌, ◌++◌, ℕ, zero, suc, Bool, List, [], ◌∷◌, append-nil, append_assoc, length, Option, None, Some, refl, sym, subst, ap, inl, inr, arith}
-use Rattle.std.specs.Prelude.{Ok, Err, sum_by}
+use Rattle.std.proofs.Common.{◌≡◌, ◌≢◌, ◌<◌, ◌+◌, ◌∙◌, ◌++◌, ℕ, zero, suc, Bool, List, [], append-nil, append_assoc, length, Option, None, Some, refl, sym, subst, ap, inl, inr, arith}
+use Rattle.std.specs.Prelude.{Ok, Err}
 use Rattle.std.proofs.lemmas.Bool.Decides.{eqb_tells}
 use Rattle.std.proofs.lemmas.List.Sums.{sum_by-cons}
 use Rattle.http_desks.specs.Calls.{Call, Leads}
@@ -8,9 +8,10 @@ use Rattle.http_ports.specs.Loops.{Counts, HasServed, IsGoing, IsLeft, IsResting
 use Rattle.http_ports.specs.Ports.{Closes, IsWaiting, Rests, expiring}
 use Rattle.http_ports.specs.Rounds.{all_calls, calls_at, rounds_at}
 use Rattle.http_ports.specs.Speech.{AreWhole, Speech, lost_among, one_if}
-use Rattle.http_ports.specs.Steps.{GoesOn, HasLeft, ServesOut}
-use Rattle.http_ports.specs.Sums.{connections_in, ended_in, sum_below}
-use Rattle.http_ports.specs.Traffic.{Changes, Elsewhere, IsOpen, Reported, Slot, Traffic, connections_of, marked, no_traffic, unused, with_ended, with_open}
+use Rattle.http_ports.specs.Steps.{ServesOut}
+use Rattle.http_ports.specs.Sums.{connections_in, sum_below}
+use Rattle.http_ports.specs.Traffic.{Changes, Elsewhere, IsOpen, Slot, Traffic, connections_of, marked, no_traffic, unused, with_ended, with_open}
+use Rattle.http_ports.specs.declared.last.Last.TheVariants.{Reported}
 use Rattle.http_ports.proofs.RoundLemmas.{Leads-append, all_calls-append, calls_at-elsewhere, calls_at-here}
 use Rattle.http_ports.proofs.SlotLemmas.{IsGoing-reported, IsServed-ended, IsServed-resting, IsServed-same, IsWhole-expired, ends_with, ends_with-elsewhere, ends_with-here, has_connection, last_of_resting, no_calls}
 use Rattle.http_ports.proofs.SumLemmas.{sum_below-grows, sum_below-same}

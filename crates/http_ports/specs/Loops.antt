@@ -4,7 +4,8 @@ use Rattle.http_desks.specs.Calls.{Call, Leads}
 use Rattle.http_ports.specs.Rounds.{Round, all_calls, calls_at}
 use Rattle.http_ports.specs.Speech.{AreWhole, Phase, Speech, Waiting, lost_among}
 use Rattle.http_ports.specs.Sums.{connections_in, ended_in, sum_below}
-use Rattle.http_ports.specs.Traffic.{Slot, Traffic, WaitsToRead, WaitsToWrite, Yields}
+use Rattle.http_ports.specs.Traffic.{Slot, Traffic}
+use Rattle.http_ports.specs.declared.last.Last.TheVariants.{WaitsToRead, WaitsToWrite, Yields}
 
 -- what is kept for a slot
 abbrev pub kept_at : {C : Type 0} → List (Option C) → ℕ → Option C

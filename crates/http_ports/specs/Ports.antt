@@ -1,12 +1,14 @@
 -- What each call of a port does to the traffic at its slots; this project's profile.
-use Rattle.std.specs.Prelude.{◌≡◌, ◌⊎◌, ◌<◌, ◌≤◌, ◌+◌, ⊤, ℕ, true, List, ◌++◌, length, take, None, Some}
+use Rattle.std.specs.Prelude.{◌≡◌, ◌⊎◌, ◌<◌, ◌≤◌, ⊤, ℕ, true, List, ◌++◌, length, take, None, Some}
 use Rattle.http_ports.specs.declared.event.Event.{Event}
 use Rattle.http_ports.specs.declared.event.Event.TheVariants as event
 use Rattle.http_ports.specs.declared.event.Received.{Received}
 use Rattle.http_ports.specs.declared.event.Received.TheVariants as received
 use Rattle.http_ports.specs.declared.event.Sent.{Sent}
 use Rattle.http_ports.specs.declared.event.Sent.TheVariants as sent
-use Rattle.http_ports.specs.Traffic.{Changes, Elsewhere, InputEnded, IsOpen, Last, Passed, ReadFailed, Reported, Slot, Traffic, WaitsToRead, WaitsToWrite, WriteFailed, Yields, marked, no_traffic, with_ended, with_open}
+use Rattle.http_ports.specs.Traffic.{Changes, Elsewhere, IsOpen, Slot, Traffic, marked, no_traffic, with_ended, with_open}
+use Rattle.http_ports.specs.declared.last.Last.{Last}
+use Rattle.http_ports.specs.declared.last.Last.TheVariants.{InputEnded, Passed, ReadFailed, Reported, WaitsToRead, WaitsToWrite, WriteFailed, Yields}
 
 -- the connection waits for its peer
 abbrev pub IsWaiting : Last → Type 0

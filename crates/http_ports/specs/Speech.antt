@@ -1,7 +1,9 @@
 -- What is said on connections, and how they end; this project's profile.
 use Rattle.std.specs.Prelude.{◌≡◌, ◌⊎◌, ◌<◌, ℕ, Bool, true, false, List, [], ◌∷◌, ◌++◌, length, sum_by}
 use Rattle.http_desks.specs.Calls.{Call}
-use Rattle.http_ports.specs.Traffic.{InputEnded, Last, ReadFailed, Traffic, WaitsToRead, WaitsToWrite, WriteFailed}
+use Rattle.http_ports.specs.Traffic.{Traffic}
+use Rattle.http_ports.specs.declared.last.Last.{Last}
+use Rattle.http_ports.specs.declared.last.Last.TheVariants.{InputEnded, ReadFailed, WaitsToRead, WaitsToWrite, WriteFailed}
 use Rattle.http_ports.specs.declared.protocol.Next.{Next}
 use Rattle.http_ports.specs.declared.protocol.Next.TheVariants as next
 

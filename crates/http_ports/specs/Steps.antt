@@ -3,7 +3,8 @@ use Rattle.std.specs.Prelude.{◌≡◌, ⊤, ℕ, Bool, List, ◌++◌, Option,
 use Rattle.http_desks.specs.Calls.{Call, Leads}
 use Rattle.http_ports.specs.Loops.{IsLeft, IsResting}
 use Rattle.http_ports.specs.Speech.{IsEnd, IsWhole, Speech, one_if}
-use Rattle.http_ports.specs.Traffic.{HasPassed, Passed, Slot, Traffic, with_ended}
+use Rattle.http_ports.specs.Traffic.{HasPassed, Slot, Traffic, with_ended}
+use Rattle.http_ports.specs.declared.last.Last.TheVariants.{Passed}
 use Rattle.http_ports.specs.declared.serving.Step.{Step}
 use Rattle.http_ports.specs.declared.serving.Step.TheVariants as step
 

@@ -1,22 +1,7 @@
 -- What passes at a port: connections, each at a slot, which has one after the other; this project's profile.
 use Rattle.std.specs.Prelude.{◌≡◌, ◌≢◌, ◌+◌, ℕ, Bool, false, List, [], ◌∷◌, length, Option, None, Some}
-
--- what the last call for a connection came to
-pub data Last : Type 0 where
-  -- it was reported, and no call was made since
-  Reported : Last
-  -- bytes were read or written
-  Passed : Last
-  -- there was nothing to read yet
-  WaitsToRead : Last
-  -- there was no room to write yet
-  WaitsToWrite : Last
-  -- it is to be reported again
-  Yields : Last
-  -- there is no more to read
-  InputEnded : Last
-  ReadFailed : Last
-  WriteFailed : Last
+use Rattle.http_ports.specs.declared.last.Last.{Last}
+use Rattle.http_ports.specs.declared.last.Last.TheVariants.{Passed, Reported}
 
 -- a connection: the bytes that came and those that were sent, what the last call came to, and whether its time is up
 pub record Traffic : Type 0 where

@@ -10,6 +10,7 @@
 #![tactic(auto)]
 
 mod event;
+mod last;
 mod looping;
 mod port;
 mod protocol;
@@ -17,6 +18,7 @@ mod serving;
 mod table;
 
 pub use crate::event::{Event, Received, Sent};
+pub use crate::last::Last;
 pub use crate::looping::run;
 pub use crate::port::Port;
 pub use crate::protocol::{Next, Protocol};

@@ -1,6 +1,7 @@
 ghost use Rattle.std.specs.Prelude.{◌≡◌, ◌<◌, ◌+◌, ℕ, length};
 ghost use Rattle.http_ports.specs.Ports.{Closes, IsDone, Reads, Reports, Rests, Writes, accepted_by};
-ghost use Rattle.http_ports.specs.Traffic.{Changes, HasPassed, IsOpen, Slot, Yields, marked};
+ghost use Rattle.http_ports.specs.Traffic.{Changes, HasPassed, IsOpen, Slot, marked};
+ghost use Rattle.http_ports.specs.declared.last.Last.TheVariants.{Yields};
 
 use crate::event::{Event, Received, Sent};
 

@@ -1,8 +1,8 @@
-use Rattle.std.proofs.Common.{◌≡◌, ◌∙◌, ◌+◌, ◌-◌, ◌^◌, ℕ, Bool, true, false, List, min, refl, sym, subst, ap, arith}
+use Rattle.std.proofs.Common.{◌∙◌, ◌+◌, ℕ, List, refl, ap, arith}
 use Rattle.http_ports.specs.Loops.{HasServed, Works, all_rest, counts_of, kept_at}
 use Rattle.http_ports.specs.Speech.{one_if, speech_at}
 use Rattle.http_ports.proofs.StepLemmas.{at_same}
-use Rattle.http_ports.proofs.WorkLemmas.{Works-begun, Works-rests}
+use Rattle.http_ports.proofs.WorkLemmas.{Works-begun}
 use Rattle.http_ports.proofs.looping.run.Goals as goal
 
 pub loop-init : goal.loop-init

@@ -1,7 +1,7 @@
-use Rattle.std.proofs.Common.{◌≡◌, ◌∙◌, ◌+◌, Option, refl, sym, subst, ap, arith}
+use Rattle.std.proofs.Common.{◌≡◌, ◌∙◌, refl, subst, ap, arith}
 use Rattle.std.specs.Prelude.{IfSome}
 use Rattle.http_ports.specs.Loops.{all_rest, counts_of, kept_at, rest_but}
-use Rattle.http_ports.specs.Speech.{one_if, speech_at}
+use Rattle.http_ports.specs.Speech.{speech_at}
 use Rattle.http_ports.specs.Traffic.{Slot, no_traffic}
 use Rattle.http_ports.proofs.WorkLemmas.{Works-accepted, Works-counted, Works-done, Works-expired, Works-kept, Works-reported}
 use Rattle.http_ports.proofs.looping.serve_next.Goals as goal

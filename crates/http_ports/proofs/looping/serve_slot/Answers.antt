@@ -1,6 +1,6 @@
-use Rattle.std.proofs.Common.{◌≡◌, ◌<◌, ◌∙◌, refl, sym, subst, arith}
+use Rattle.std.proofs.Common.{◌∙◌, refl, sym, arith}
 use Rattle.http_ports.specs.Loops.{all_rest, kept_at}
-use Rattle.http_ports.specs.Speech.{one_if, speech_at}
+use Rattle.http_ports.specs.Speech.{speech_at}
 use Rattle.http_ports.proofs.WorkLemmas.{Works-counted, Works-ended, Works-resting}
 use Rattle.http_ports.proofs.looping.serve_slot.Goals as goal
 

@@ -1,4 +1,3 @@
-use Rattle.std.proofs.Common.{◌≡◌}
 use Rattle.http_ports.specs.Speech.{speech_at}
 use Rattle.http_ports.specs.Steps.{IsStep}
 use Rattle.http_ports.proofs.StepLemmas.{Serves-at_same, asked_then}

@@ -1,4 +1,4 @@
-use Rattle.std.proofs.Common.{◌≡◌, ◌∙◌, refl}
+use Rattle.std.proofs.Common.{◌∙◌, refl}
 use Rattle.http_ports.specs.Loops.{IsResting}
 use Rattle.http_ports.specs.Speech.{speech_at}
 use Rattle.http_ports.specs.Steps.{IsEnding, IsPassed, IsStep}

@@ -1,9 +1,10 @@
-use Rattle.std.proofs.Common.{◌≡◌, refl, inl, inr, take}
+use Rattle.std.proofs.Common.{refl, inl, inr, take}
 use Rattle.http_ports.specs.Loops.{IsResting}
 use Rattle.http_ports.specs.Ports.{sending}
 use Rattle.http_ports.specs.Speech.{speech_at}
 use Rattle.http_ports.specs.Steps.{IsEnding, IsPassed}
-use Rattle.http_ports.specs.Traffic.{WaitsToWrite, WriteFailed, marked}
+use Rattle.http_ports.specs.Traffic.{marked}
+use Rattle.http_ports.specs.declared.last.Last.TheVariants.{WaitsToWrite, WriteFailed}
 use Rattle.http_ports.proofs.StepLemmas.{changed, has_passed, stays_open}
 use Rattle.http_ports.proofs.serving.push.Goals as goal
 

@@ -1,4 +1,4 @@
-use Rattle.std.proofs.Common.{◌≡◌, sym, ◌∙◌}
+use Rattle.std.proofs.Common.{sym, ◌∙◌}
 use Rattle.http_ports.proofs.KeptLemmas.{kept_at-is-get_or, kept_at-set-elsewhere, kept_at-set-here}
 use Rattle.http_ports.proofs.table.swap.Goals as goal
 
