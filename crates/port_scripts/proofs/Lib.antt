@@ -1,0 +1,2 @@
+pub mod SeatLemmas
+pub mod SlotLemmas
