@@ -13,6 +13,7 @@ mod buffers;
 mod ends;
 pub mod laws;
 mod message;
+mod resting;
 mod serving;
 mod session;
 mod turning;
