@@ -34,7 +34,7 @@ abbrev pub speech_at :
 speech_at pending phase is_lost so_far path kind =
     record { pending = pending; phase = phase; is_lost = is_lost; so_far = so_far path kind }
 
--- rule: End of a connection
+-- rule: Close of a connection
 -- a connection ends only so: it is over and all is sent; or it waits for bytes and all is sent, and the input has
 -- ended, a read failed or its time is up; or bytes are left, and a write failed or the time of its peer is up
 abbrev pub IsEnd : Phase → List ℕ → Last → Bool → Type 0

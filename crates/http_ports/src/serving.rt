@@ -84,6 +84,7 @@ fn pull<P: Port, E: Protocol, D: Desk>(
     }
 }
 
+// rule: Close of a connection
 // Makes one step of a connection: it sends if bytes are pending, else it goes on by the desk, else it reads.
 fn advance<P: Port, E: Protocol, D: Desk>(
     port: &mut P,
@@ -148,6 +149,7 @@ fn advance_far<P: Port, E: Protocol, D: Desk>(
     advance(port, slot, protocol, room, into, conn, desk)
 }
 
+// rule: Connection of a port
 // Serves a connection until it rests and is given back, or ends: then whether memory ran out for it.
 pub(crate) fn serve_out<P: Port, E: Protocol, D: Desk>(
     port: &mut P,

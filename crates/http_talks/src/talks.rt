@@ -72,6 +72,7 @@ fn apply(alloc: Global, talk: &mut Talk, after: After)
     }
 }
 
+// rule: Session over a port
 // Turns the session once over what is kept.
 fn turn<D: Desk, Z: Packages + Clock>(
     alloc: Global,

@@ -79,6 +79,7 @@ impl Script {
         None
     }
 
+    // rule: End of a script
     // The next report: by the script, or else of the slot after the last one that had one; or of a connection that
     // waits for what never comes.
     fn next_report(&mut self) -> Option<Event>

@@ -52,6 +52,7 @@ impl Seat {
         self.peers[self.ended].yield_turn();
     }
 
+    // rule: Slots of a script
     // The connection ends.
     pub(crate) fn close(&mut self)
         requires live { IsOpen (slot_of self.old) }
@@ -62,6 +63,7 @@ impl Seat {
         self.ended += 1;
     }
 
+    // rule: Slots of a script
     // Connects the next peer.
     fn connect(&mut self)
         requires free { self.old.is_open ≡ false }
