@@ -2,7 +2,7 @@
 
 use std::alloc::{AllocError, Global};
 
-// Puts the bytes of a text at the end: `~` is CR LF.
+// Puts the bytes of a string at the end: `~` is CR LF.
 fn push_text(bytes: &mut Vec<u8>, text: &str) -> Result<(), AllocError> {
     for (index, line) in text.split('~').enumerate() {
         if index > 0 {
@@ -13,7 +13,7 @@ fn push_text(bytes: &mut Vec<u8>, text: &str) -> Result<(), AllocError> {
     Ok(())
 }
 
-// Puts a text at the end as often as it says: `3*ab` is `ababab`.
+// Puts a string at the end as often as it says: `3*ab` is `ababab`.
 fn push_repeated(bytes: &mut Vec<u8>, text: &str) -> Result<(), AllocError> {
     let (count, text) = text.split_once('*').unwrap_or(("0", ""));
     for _ in 0..count.parse().unwrap_or(0u32) {

@@ -114,7 +114,7 @@ fn is_as_said(alloc: Global, peer: &Peer, text: &str) -> Option<bool> {
     Some(end_of(peer) == how && peer.got.as_slice() == got.as_slice())
 }
 
-// Whether the peer of a text is as it says; `counts` has how many peers of each slot came before.
+// Whether the next peer of a row is as it says; `counts` has how many peers of each slot came before.
 fn is_next_as_said(script: &Script, counts: &mut [usize; 2], alloc: Global, text: &str) -> Option<bool> {
     let slot = manner_of(columns(text)[0], 0).slot;
     let count = counts.get_mut(slot)?;

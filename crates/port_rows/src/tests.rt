@@ -7,6 +7,10 @@ use std::alloc::AllocError;
 
 const PAIR: &str = ";POST /echo HTTP/1.1~Content-Length: 3~~onePOST /echo HTTP/1.1~Content-Length: 4~~four;ended;HTTP/1.1 200 OK~Content-Type: text/plain~Content-Length: 3~~oneHTTP/1.1 200 OK~Content-Type: text/plain~Content-Length: 4~~four";
 
+// rule: Peer of a script
+// rule: Reads of a port
+// rule: Session over a port
+// rule: Writes of a port
 #[test]
 fn serves_pipelined_messages_in_pieces_of_any_length(rt: HostRuntime) -> Result<(), AllocError> {
     let mut room = Buffers::new(rt.alloc())?;
@@ -17,14 +21,20 @@ fn serves_pipelined_messages_in_pieces_of_any_length(rt: HostRuntime) -> Result<
     Ok(())
 }
 
-const TWO: &str = "piece=30;POST /echo HTTP/1.1~Content-Length: 3~~oneGET / HTTP/1.1~~;ended;HTTP/1.1 200 OK~Content-Type: text/plain~Content-Length: 3~~oneHTTP/1.1 404 Not Found~Content-Length: 0~~|slot=1 piece=30;POST /echo HTTP/1.1~Content-Length: 3~~twoGET /p/a.bin HTTP/1.1~~;ended;HTTP/1.1 200 OK~Content-Type: text/plain~Content-Length: 3~~twoHTTP/1.1 200 OK~Content-Type: application/octet-stream~Content-Length: 3~~abc";
+// Each connection has six turns: its peer sends 50 bytes and then 40, and takes each reply in two pieces.
+const TWO: &str = ";POST /echo HTTP/1.1~Content-Length: 3~~onePOST /echo HTTP/1.1~Content-Length: 3~~two;ended;HTTP/1.1 200 OK~Content-Type: text/plain~Content-Length: 3~~oneHTTP/1.1 200 OK~Content-Type: text/plain~Content-Length: 3~~two|slot=1;POST /echo HTTP/1.1~Content-Length: 3~~redPOST /echo HTTP/1.1~Content-Length: 3~~sky;ended;HTTP/1.1 200 OK~Content-Type: text/plain~Content-Length: 3~~redHTTP/1.1 200 OK~Content-Type: text/plain~Content-Length: 3~~sky";
 
+// rule: Events of a port
+// rule: Loop over a port
+// rule: Slots of a script
 #[test]
 fn gives_each_connection_its_own_replies_in_every_order(rt: HostRuntime) -> Result<(), AllocError> {
     let mut room = Buffers::new(rt.alloc())?;
     for order in 0..4096u32 {
-        let wrong = wrong_row(&rt, &mut room, 30, order, TWO);
-        assert!(rt; wrong.is_empty(), "{wrong}, in order {order}");
+        if order.count_ones() == 6 {
+            let wrong = wrong_row(&rt, &mut room, 50, order, TWO);
+            assert!(rt; wrong.is_empty(), "{wrong}, in order {order}");
+        }
     }
     Ok(())
 }
@@ -43,6 +53,8 @@ broken;GET / HTTP/1.1~~GET / HTT;read failed;HTTP/1.1 404 Not Found~Content-Leng
 room=20;GET / HTTP/1.1~~;write failed;HTTP/1.1 404 Not Fou
 ";
 
+// rule: Close of a connection
+// rule: Connection of a port
 #[test]
 fn serves_sessions_however_they_are_cut(rt: HostRuntime) -> Result<(), AllocError> {
     let mut room = Buffers::new(rt.alloc())?;
@@ -61,6 +73,8 @@ blocked room=20;GET / HTTP/1.1~~;late;HTTP/1.1 404 Not Fou|slot=1;POST /echo HTT
 blocked room=20;GET / HTTP/1.1~~;late;HTTP/1.1 404 Not Fou|slot=1 silent;GET /;late;|;GET / HTTP/1.1~~;ended;HTTP/1.1 404 Not Found~Content-Length: 0~~
 ";
 
+// rule: End of a script
+// rule: Rest of a connection
 #[test]
 fn serves_others_beside_a_peer_that_stops(rt: HostRuntime) -> Result<(), AllocError> {
     let mut room = Buffers::new(rt.alloc())?;

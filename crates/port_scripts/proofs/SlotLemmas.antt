@@ -1,5 +1,5 @@
 -- The slots of a script, of which one seat changes.
-use Rattle.std.proofs.Common.{◌≡◌, ◌∙◌, ◌<◌, ◌≤◌, ◌+◌, ℕ, zero, suc, Bool, List, length, Option, None, Some, refl, sym, ap, subst, inl, inr, arith}
+use Rattle.std.proofs.Common.{◌≡◌, ◌∙◌, ◌<◌, ◌≤◌, ◌+◌, ℕ, zero, suc, Bool, List, [], ◌∷◌, length, Option, None, Some, refl, sym, ap, subst, inl, inr, arith}
 use Rattle.std.proofs.Math.ListN.{set, get_or}
 use Rattle.std.specs.Prelude.{◌⊎◌, IfSome, slice_get}
 use Rattle.std.specs.Option.{option_map_or}
@@ -15,7 +15,8 @@ use Rattle.http_ports.specs.declared.event.Sent.{Sent}
 use Rattle.http_ports.specs.declared.event.Sent.TheVariants as sent
 use Rattle.http_ports.specs.declared.last.Last.TheVariants.{Reported}
 use Rattle.port_scripts.specs.Peers.{FitsRead, FitsWrite, after_read, after_write}
-use Rattle.port_scripts.specs.Seats.{ChangesSeat, IsQuiet, IsQuietAt, ReportsSeat, slot_of, slots_of}
+use Rattle.port_scripts.specs.Seats.{ChangesSeat, IsQuiet, IsQuietAt, ReportsSeat, peers_of, slot_of, slots_of}
+use Rattle.port_scripts.specs.declared.peer.Peer.{Peer}
 use Rattle.port_scripts.specs.declared.seat.Seat.{Seat}
 
 pub slots_of-at : (seats : List Seat) (at : ℕ) (seat : Seat) → at < length seats → seat ≡ get_or seats at seat → slots_of seats at ≡ slot_of seat
@@ -28,6 +29,14 @@ slots_of-set-here seats at next within =
     slots_of-at (set seats at next) at next (subst (λ (n : ℕ). at < n) (sym (length-set seats at next)) within)
     (sym (get_or-set_same seats at next next within))
 
+-- an index is one of a list's, or past its end
+split : (k length : ℕ) → (k < length) ⊎ (length ≤ k)
+split k zero = inr (omega arith)
+split zero (suc length) = inl (omega arith)
+split (suc k) (suc length) =
+    elim (split k length) as (λ _. (suc k < suc length) ⊎ (suc length ≤ suc k))
+    [ inl below ↦ inl (omega (arith, below)) | inr past ↦ inr (omega (arith, past)) ]
+
 slots_of-set-elsewhere : (seats : List Seat) (at : ℕ) (next : Seat) → Elsewhere at (slots_of seats) (slots_of (set seats at next))
 slots_of-set-elsewhere seats at next k other = elim (split k (length seats)) [
   | inl below ↦ ap (λ (found : Option Seat). option_map_or slot_of found unused)
@@ -38,13 +47,6 @@ slots_of-set-elsewhere seats at next k other = elim (split k (length seats)) [
       (slice_get_past (set seats at next) k (subst (λ (n : ℕ). n ≤ k) (sym (length-set seats at next)) past)
       ∙ sym (slice_get_past seats k past))
 ]
-  where
-    split : (k length : ℕ) → (k < length) ⊎ (length ≤ k)
-    split k zero = inr (omega arith)
-    split zero (suc length) = inl (omega arith)
-    split (suc k) (suc length) =
-        elim (split k length) as (λ _. (suc k < suc length) ⊎ (suc length ≤ suc k))
-        [ inl below ↦ inl (omega (arith, below)) | inr past ↦ inr (omega (arith, past)) ]
 
 -- a slot with a connection is one of those that there are
 pub within_slots : (seats : List Seat) (at : ℕ) → IsOpen (slots_of seats at) → at < length seats
@@ -130,3 +132,30 @@ below_or_last zero (suc n) below = inl (omega arith)
 below_or_last (suc k) (suc n) below =
     elim (below_or_last k n (omega (arith, below))) as (λ _. (suc k < suc n) ⊎ (suc k ≡ suc n))
     [ inl before ↦ inl (omega (arith, before)) | inr last ↦ inr (ap suc last) ]
+
+-- one more seat begins anew
+pub rewound :
+    (seats : List Seat) (at : ℕ) (next : Seat) → at < length seats → slot_of next ≡ unused →
+    ((k : ℕ) → k < at → slots_of seats k ≡ unused) → (k : ℕ) → k < at + 1 → slots_of (set seats at next) k ≡ unused
+rewound seats at next within fresh before k below = elim (below_or_last k at below) [
+  | inl earlier ↦ slots_of-set-elsewhere seats at next k (λ same. omega (arith, earlier, same)) ∙ before k earlier
+  | inr last ↦ ap (slots_of (set seats at next)) last ∙ slots_of-set-here seats at next within ∙ fresh
+]
+
+-- all begin anew if those that there are do
+pub all_unused :
+    (seats : List Seat) → ((k : ℕ) → k < length seats → slots_of seats k ≡ unused) → (k : ℕ) → slots_of seats k ≡ unused
+all_unused seats each k = elim (split k (length seats)) [
+  | inl below ↦ each k below
+  | inr past ↦ ap (λ (found : Option Seat). option_map_or slot_of found unused) (slice_get_past seats k past)
+]
+
+-- a seat becomes another one with its peers
+pub peers_of-set :
+    (seats : List Seat) (at : ℕ) (seat next : Seat) → seat ≡ get_or seats at seat → next.peers.items ≡ seat.peers.items →
+    peers_of (set seats at next) ≡ peers_of seats
+peers_of-set [] at seat next is same = refl
+peers_of-set (first ∷ seats) zero seat next is same =
+    ap (λ (peers : List Peer). peers ∷ peers_of seats) (same ∙ ap (λ (s : Seat). s.peers.items) is)
+peers_of-set (first ∷ seats) (suc at) seat next is same =
+    ap (λ (others : List (List Peer)). first.peers.items ∷ others) (peers_of-set seats at seat next is same)

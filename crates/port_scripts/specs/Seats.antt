@@ -14,6 +14,10 @@ use Rattle.port_scripts.specs.declared.seat.Seat.{Seat}
 abbrev pub ended_among : List Peer → ℕ → List Traffic
 ended_among peers ended = reverse (map traffic_of (take ended peers))
 
+-- the peers of each seat
+abbrev pub peers_of : List Seat → List (List Peer)
+peers_of seats = map (λ (seat : Seat). seat.peers.items) seats
+
 -- rule: Slots of a script
 -- what passed at a seat: the connections of its peers, in their order
 abbrev pub slot_of : Seat → Slot

@@ -2,7 +2,8 @@
 
 ghost use Rattle.std.specs.Prelude.{◌≡◌, ◌<◌, ◌≤◌, ℕ, [], IfNone, IfSome, vec_len};
 ghost use Rattle.http_ports.specs.Ports.{Reports};
-ghost use Rattle.port_scripts.specs.Seats.{AreDone, IsOfSlot, IsQuietAt, slots_of};
+ghost use Rattle.http_ports.specs.Traffic.{unused};
+ghost use Rattle.port_scripts.specs.Seats.{AreDone, IsOfSlot, IsQuietAt, peers_of, slots_of};
 
 use crate::seat::Seat;
 use http_ports::{Event, Port, Received, Sent};
@@ -25,11 +26,17 @@ pub struct Script {
 }
 
 impl Script {
-    /// Makes the port of these slots, of whose peers none has connected; `turns` has the first turn last.
+    /// Makes the port of these slots, each of which begins with its first peer; `turns` has the first turn last.
     pub fn new(seats: Vec<Seat>, turns: Vec<usize>) -> Script
-        ensures seats { result.seats ≡ seats }
+        ensures fresh { (k : ℕ) → slots_of result.seats.items k ≡ unused }
         ensures none { result.accepted ≡ [] }
+        ensures peers { peers_of result.seats.items ≡ peers_of seats.items }
+        ensures len { vec_len result.seats ≡ vec_len seats }
     {
+        let mut seats = seats;
+        for slot in 0..seats.len() {
+            seats[slot].rewind();
+        }
         Script {
             seats,
             turns,

@@ -2,7 +2,7 @@
 
 ghost use Rattle.std.specs.Prelude.{◌≡◌, ◌<◌, ◌≤◌, ℕ, None, Some, false, length, IfNone, IfSome, vec_len};
 ghost use Rattle.http_ports.specs.Ports.{expiring};
-ghost use Rattle.http_ports.specs.Traffic.{IsOpen, Traffic, marked, no_traffic, with_ended, with_open};
+ghost use Rattle.http_ports.specs.Traffic.{IsOpen, Traffic, marked, no_traffic, unused, with_ended, with_open};
 ghost use Rattle.http_ports.specs.declared.last.Last.TheVariants.{Reported, Yields};
 ghost use Rattle.port_scripts.specs.Peers.{FitsRead, FitsWrite, after_read, after_write};
 ghost use Rattle.port_scripts.specs.Seats.{ChangesSeat, IsQuiet, ReportsSeat, slot_of};
@@ -22,6 +22,15 @@ impl Seat {
             ended: 0,
             is_open: false,
         }
+    }
+
+    // Begins anew with the first peer.
+    pub(crate) fn rewind(&mut self)
+        ensures unused { slot_of self.new ≡ unused }
+        ensures peers { self.new.peers ≡ self.old.peers }
+    {
+        self.is_open = false;
+        self.ended = 0;
     }
 
     // Reads from the connected peer.
