@@ -1,0 +1,2 @@
+pub mod TalkLemmas
+pub mod TurnLemmas
