@@ -1,2 +1,2 @@
-pub mod TalkLemmas
-pub mod TurnLemmas
+mod TalkLemmas
+mod TurnLemmas
