@@ -1,6 +1,6 @@
 pub mod KeptLemmas
-pub mod RoundLemmas
-pub mod SumLemmas
-pub mod StepLemmas
-pub mod SlotLemmas
-pub mod WorkLemmas
+mod RoundLemmas
+mod SlotLemmas
+mod StepLemmas
+mod SumLemmas
+mod WorkLemmas

@@ -1,6 +1,6 @@
 -- What is said on a connection so far: messages and their replies (RFC 9112, section 9.3), in any parts; this project's
 -- profile.
-use Rattle.std.specs.Prelude.{◌≡◌, ⊤, ◌<◌, ℕ, Bool, true, false, ◌==◌, List, [], ◌++◌, drop, length, flat_map, Option, Some}
+use Rattle.std.specs.Prelude.{◌≡◌, ⊤, ◌<◌, ℕ, Bool, true, false, ◌==◌, List, [], ◌++◌, drop, length, flat_map, Some}
 use Rattle.std.specs.List.{AllByRecursion}
 use Rattle.http_desks.specs.declared.method.Method.{Method}
 use Rattle.http_desks.specs.Calls.{Call}

@@ -1,2 +1,2 @@
-pub mod SeatLemmas
-pub mod SlotLemmas
+mod SeatLemmas
+mod SlotLemmas
