@@ -27,7 +27,7 @@ impl Seat {
     // Begins anew with the first peer.
     pub(crate) fn rewind(&mut self)
         ensures unused { slot_of self.new ≡ unused }
-        ensures peers { self.new.peers ≡ self.old.peers }
+        ensures peers { self.new.peers.items ≡ self.old.peers.items }
     {
         self.is_open = false;
         self.ended = 0;
