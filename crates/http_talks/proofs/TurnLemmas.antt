@@ -76,7 +76,7 @@ module _ (IsFit : Method → List ℕ → Use → Type 0) (kind : List ℕ) wher
       (said : Said IsFit kind talk received sent calls) → IsBusy talk sent said.exchanges said.stop said.rest said.unread
   busy_of talk received sent calls busy none said =
       let (stop, count, kept) =
-      subst (λ (at : Stage). IsAt at talk.begun talk.kept.items (length said.exchanges) said.stop said.rest said.unread) busy said.is_at in
+      subst (λ (at : Stage). IsAt at talk.begun talk.kept.items talk.need (length said.exchanges) said.stop said.rest said.unread) busy said.is_at in
       let replies = subst (λ (at : Stage). AreReplies at sent (pending talk) (all_replies kind said.exchanges said.stop)) busy said.replies in
       record {
         stopped = stop;
@@ -95,7 +95,7 @@ module _ (IsFit : Method → List ℕ → Use → Type 0) (kind : List ℕ) wher
         IsBusy talk sent said.exchanges said.stop said.rest said.unread →
         (turn : Serves IsFit steps kind talk.begun IsEnd whole [] (Some talk.kept.items) (Some left) old new before behind) →
         AreReplies next.stage sent (pending next) (all_replies kind (said.exchanges ++ turn.exchanges) turn.stop) →
-        IsAt next.stage next.begun next.kept.items (length (said.exchanges ++ turn.exchanges)) turn.stop turn.rest left →
+        IsAt next.stage next.begun next.kept.items next.need (length (said.exchanges ++ turn.exchanges)) turn.stop turn.rest left →
         Said IsFit kind next received sent (calls ++ (flat_map exchange_calls turn.exchanges ++ stop_calls turn.stop))
     extended talk next received sent left calls IsEnd whole old new before behind said busy turn replies is_at = record {
       exchanges = said.exchanges ++ turn.exchanges;
@@ -150,7 +150,7 @@ module _ (IsFit : Method → List ℕ → Use → Type 0) (kind : List ℕ) wher
         (talk next : Talk) (before behind : D) (turned : Turned) (left : After) → talk.stage ≡ stage.Busy → pending talk ≡ [] →
         HasTurned IsFit steps kind talk.begun talk.kept.items before behind turned →
         IsAfter talk.begun turned left → IsApplied talk left next → GoesOn IsFit steps kind talk before next behind
-    turned_on talk next before behind turned after.Part busy none has (served, is, same) (stage_is, begun_is, kept_is, waits) =
+    turned_on talk next before behind turned after.Part busy none has (served, is, same) (stage_is, begun_is, kept_is, need_is, waits) =
         let turn = resulting talk turned before behind _ is has in
         let (zero_count, requests, ends) = turn.ends in
         let stopped : turn.stop ≡ Waits =
@@ -169,12 +169,13 @@ module _ (IsFit : Method → List ℕ → Use → Type 0) (kind : List ℕ) wher
               (sym (append-nil said.exchanges) ∙ ap (λ (es : List Exchange). said.exchanges ++ es) (sym no_new))
               ∙ sym (append-nil (flat_map (open_reply kind) (said.exchanges ++ turn.exchanges)))
               ∙ ap (all_replies kind (said.exchanges ++ turn.exchanges)) (sym stopped)))
-              (subst (λ (at : Stage). IsAt at next.begun next.kept.items (length (said.exchanges ++ turn.exchanges)) turn.stop turn.rest turned.left.now) (sym stage_is) (
+              (subst (λ (at : Stage). IsAt at next.begun next.kept.items next.need (length (said.exchanges ++ turn.exchanges)) turn.stop turn.rest turned.left.now) (sym stage_is) (
                 stopped,
                 omega (arith, begun_is, is_busy.count, zero_count, length-append said.exchanges turn.exchanges),
                 kept_is ∙ turn.consumed ∙ ap (λ (l : List ℕ). turn.given ++ l) at_end ∙ append-nil turn.given ∙ turn.cut
                     ∙ ap (λ (es : List Exchange). flat_map exchange_bytes es ++ turn.rest) no_new,
                 at_end,
+                λ more below. absurd (omega (arith, below, need_is)),
               )),
         )
     turned_on talk next before behind turned (after.Open opened) busy none has (goes, is, (begun_new, kept_new, made_new)) (stage_is, begun_is, kept_is, waits) =
@@ -188,7 +189,7 @@ module _ (IsFit : Method → List ℕ → Use → Type 0) (kind : List ℕ) wher
               (subst (λ (at : Stage). AreReplies at sent (pending next) (all_replies kind (said.exchanges ++ turn.exchanges) turn.stop)) (sym stage_is)
               (ap (λ (l : List ℕ). sent ++ l) (waits ∙ made_new)
               ∙ made_replies talk sent turned.left.now turned.made.items said.exchanges said.stop said.rest said.unread _ before behind is_busy turn))
-              (subst (λ (at : Stage). IsAt at next.begun next.kept.items (length (said.exchanges ++ turn.exchanges)) turn.stop turn.rest turned.left.now) (sym stage_is) (
+              (subst (λ (at : Stage). IsAt at next.begun next.kept.items next.need (length (said.exchanges ++ turn.exchanges)) turn.stop turn.rest turned.left.now) (sym stage_is) (
                 more,
                 omega (arith, begun_is, begun_new, begun_now, one, is_busy.count, length-append said.exchanges turn.exchanges),
                 kept_is ∙ kept_new ∙ ap (λ (l : List ℕ). l ++ turned.left.now) rest,
@@ -208,10 +209,10 @@ module _ (IsFit : Method → List ℕ → Use → Type 0) (kind : List ℕ) wher
               (subst (λ (at : Stage). AreReplies at sent (pending next) (all_replies kind (said.exchanges ++ turn.exchanges) turn.stop)) (sym stage_is)
               (ap (λ (l : List ℕ). sent ++ l) (waits ∙ made_is)
               ∙ made_replies talk sent turned.left.now turned.made.items said.exchanges said.stop said.rest said.unread _ before behind is_busy turn))
-              (subst (λ (at : Stage). IsAt at next.begun next.kept.items (length (said.exchanges ++ turn.exchanges)) turn.stop turn.rest turned.left.now) (sym stage_is)
+              (subst (λ (at : Stage). IsAt at next.begun next.kept.items next.need (length (said.exchanges ++ turn.exchanges)) turn.stop turn.rest turned.left.now) (sym stage_is)
               (served.end, subst (λ (n : ℕ). Ends (n == 999) (Some turned.left.now) turn.stop turn.rest served.end) same ends, one)),
         )
-    turned_on talk next before behind turned after.Lost busy none turn tt (stage_is, waits) = (
+    turned_on talk next before behind turned after.Lost busy none turn any (stage_is, waits) = (
       flat_map exchange_calls turn.exchanges ++ stop_calls turn.stop,
       turn.calls,
       λ received sent calls said.
@@ -227,5 +228,5 @@ module _ (IsFit : Method → List ℕ → Use → Type 0) (kind : List ℕ) wher
                   ∙ ap (λ (l : List ℕ). l ++ (flat_map (open_reply kind) turn.exchanges ++ after)) (sym is_busy.all_sent),
             ),
           ))
-          (subst (λ (at : Stage). IsAt at next.begun next.kept.items (length (said.exchanges ++ turn.exchanges)) turn.stop turn.rest turned.left.now) (sym stage_is) tt),
+          (subst (λ (at : Stage). IsAt at next.begun next.kept.items next.need (length (said.exchanges ++ turn.exchanges)) turn.stop turn.rest turned.left.now) (sym stage_is) tt),
     )

@@ -7,6 +7,7 @@ use Rattle.http_desks.specs.Calls.{Call}
 use Rattle.http_desks.specs.Uses.{Use}
 use Rattle.http_sessions.specs.declared.ends.End.{End}
 use Rattle.http_sessions.specs.Messages.{Exchange, IsOpen, exchange_bytes, exchange_calls, open_reply}
+use Rattle.http_sessions.specs.Readings.{IsPart}
 use Rattle.http_sessions.specs.Stops.{Ends, More, Stop, StopsAt, Waits, begun, stop_bytes, stop_calls}
 use Rattle.http_sessions.specs.Sessions.{Serves, TurnEnds, wrote}
 use Rattle.http_ports.specs.Speech.{Busy, Over, Phase, Waiting}
@@ -40,14 +41,18 @@ HasTurned IsFit steps kind start kept before behind turned =
     Serves IsFit steps kind start (TurnEnds (Some turned.left.now) start turned.result) (wrote turned.result) []
     (Some kept) (Some turned.left.now) (Some []) (Some turned.made.items) before behind
 
+-- with more bytes after them, but fewer than so many in all, they are still less than a message
+abbrev pub StaysPart : List ℕ → ℕ → Type 0
+StaysPart bytes need = (more : List ℕ) → length (bytes ++ more) < need → IsPart (bytes ++ more)
+
 -- how far the session is after so many messages: by what is after them, and what was not looked at
-abbrev pub IsAt : Stage → ℕ → List ℕ → ℕ → Stop → List ℕ → List ℕ → Type 0
-IsAt stage.Busy replies kept count stop rest unread = (stop ≡ More) × (replies ≡ count) × (kept ≡ rest ++ unread)
-IsAt stage.Part replies kept count stop rest unread =
-    (stop ≡ Waits) × (replies ≡ count) × (kept ≡ rest) × (unread ≡ [])
-IsAt stage.Over replies kept count stop rest unread =
+abbrev pub IsAt : Stage → ℕ → List ℕ → ℕ → ℕ → Stop → List ℕ → List ℕ → Type 0
+IsAt stage.Busy replies kept need count stop rest unread = (stop ≡ More) × (replies ≡ count) × (kept ≡ rest ++ unread)
+IsAt stage.Part replies kept need count stop rest unread =
+    (stop ≡ Waits) × (replies ≡ count) × (kept ≡ rest) × (unread ≡ []) × StaysPart kept need
+IsAt stage.Over replies kept need count stop rest unread =
     (how : End) × Ends (count == 999) (Some unread) stop rest how × (begun stop ≡ 1)
-IsAt stage.Lost replies kept count stop rest unread = ⊤
+IsAt stage.Lost replies kept need count stop rest unread = ⊤
 
 -- what was sent and what is pending are the replies; if memory ran out, a first part of them was sent
 abbrev pub AreReplies : Stage → List ℕ → List ℕ → List ℕ → Type 0
@@ -72,4 +77,4 @@ pub record Said (IsFit : Method → List ℕ → Use → Type 0) (kind : List �
   pub called : calls ≡ flat_map exchange_calls exchanges ++ stop_calls stop
   pub replies : AreReplies talk.stage sent (pending talk)
       (flat_map (open_reply kind) exchanges ++ stop_bytes kind (length exchanges == 999) stop)
-  pub is_at : IsAt talk.stage talk.begun talk.kept.items (length exchanges) stop rest unread
+  pub is_at : IsAt talk.stage talk.begun talk.kept.items talk.need (length exchanges) stop rest unread

@@ -39,7 +39,8 @@ IsAfter start turned after.Lost = ⊤
 -- the connection then
 abbrev pub IsApplied : Talk → After → Talk → Type 0
 IsApplied old after.Part new =
-    (new.stage ≡ stage.Part) × (new.begun ≡ old.begun) × (new.kept.items ≡ old.kept.items) × (pending new ≡ pending old)
+    (new.stage ≡ stage.Part) × (new.begun ≡ old.begun) × (new.kept.items ≡ old.kept.items) × (new.need ≡ 0)
+    × (pending new ≡ pending old)
 IsApplied old (after.Open opened) new =
     (new.stage ≡ stage.Busy) × (new.begun ≡ opened.begun) × (new.kept.items ≡ opened.kept.items)
     × (pending new ≡ opened.made.items)

@@ -21,6 +21,8 @@ pub struct Talk {
     pub(crate) begun: u32,
     // what was received and not yet used
     pub(crate) kept: Vec<u8>,
+    // what is kept is less than a message as long as there are fewer bytes than so many
+    pub(crate) need: usize,
     // the replies that were made, of which so many bytes are sent
     pub(crate) made: Vec<u8>,
     pub(crate) sent: usize,

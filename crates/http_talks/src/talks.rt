@@ -12,7 +12,7 @@ use crate::talk::{Stage, Talk};
 use crate::turning::turn_over;
 use http_desks::{Clock, Desk, Packages};
 use http_ports::{Next, Protocol};
-use http_sessions::Buffers;
+use http_sessions::{Buffers, Foreseen};
 use std::alloc::Global;
 
 /// The sessions of a site, as what is said on connections.
@@ -49,13 +49,17 @@ fn apply(alloc: Global, talk: &mut Talk, after: After)
     ensures { IsApplied talk.old after talk.new }
 {
     match after {
-        After::Part => talk.stage = Stage::Part,
+        After::Part => {
+            talk.stage = Stage::Part;
+            talk.need = 0;
+        }
         After::Lost => talk.stage = Stage::Lost,
         After::Over(made) => {
             *talk = Talk {
                 stage: Stage::Over,
                 begun: 0,
                 kept: Vec::new(alloc),
+                need: 0,
                 made,
                 sent: 0,
             };
@@ -65,6 +69,7 @@ fn apply(alloc: Global, talk: &mut Talk, after: After)
                 stage: Stage::Busy,
                 begun: opened.begun,
                 kept: opened.kept,
+                need: 0,
                 made: opened.made,
                 sent: 0,
             };
@@ -119,6 +124,7 @@ impl<Z: Packages + Clock> Protocol for Talks<'_, Z> {
             stage: Stage::Busy,
             begun: 0,
             kept: Vec::new(self.alloc),
+            need: 0,
             made: Vec::new(self.alloc),
             sent: 0,
         }
@@ -138,7 +144,11 @@ impl<Z: Packages + Clock> Protocol for Talks<'_, Z> {
 
     fn take(&self, talk: &mut Talk, bytes: &[u8]) {
         match talk.kept.extend_from_slice(bytes) {
-            Ok(()) => talk.stage = Stage::Busy,
+            Ok(()) => {
+                if talk.kept.len() >= talk.need {
+                    talk.stage = Stage::Busy;
+                }
+            }
             Err(_) => {
                 talk.stage = Stage::Lost;
                 talk.sent = 0;
@@ -152,10 +162,17 @@ impl<Z: Packages + Clock> Protocol for Talks<'_, Z> {
             Stage::Part => Next::Waits,
             Stage::Over => Next::Over,
             Stage::Lost => Next::Over,
-            Stage::Busy => {
-                turn(self.alloc, self.site, room, talk, desk);
-                next_of(talk)
-            }
+            Stage::Busy => match room.foresee(&talk.kept) {
+                Foreseen::Part(need) => {
+                    talk.stage = Stage::Part;
+                    talk.need = need;
+                    Next::Waits
+                }
+                Foreseen::Turn => {
+                    turn(self.alloc, self.site, room, talk, desk);
+                    next_of(talk)
+                }
+            },
         }
     }
 }
