@@ -1,5 +1,9 @@
 // The peers of a row.
 
+ghost use Rattle.std.specs.Prelude.{◌≡◌, ℕ, [], IfSome};
+ghost use Rattle.http_ports.specs.Traffic.{unused};
+ghost use Rattle.port_scripts.specs.Seats.{slots_of};
+
 use crate::lines::{columns, expand};
 use http_ports::Last;
 use port_scripts::{Finish, Peer, Script, Seat};
@@ -86,7 +90,10 @@ fn turns_of(alloc: Global, order: u32) -> Option<Vec<usize>> {
 }
 
 /// The script of a row, whose peers send pieces of this length, and have their first turns in this order.
-pub(crate) fn script_of(alloc: Global, row: &str, piece: usize, order: u32) -> Option<Script> {
+pub(crate) fn script_of(alloc: Global, row: &str, piece: usize, order: u32) -> Option<Script>
+    ensures fresh { IfSome result (λ script. (k : ℕ) → slots_of script.seats.items k ≡ unused) }
+    ensures none { IfSome result (λ script. script.accepted ≡ []) }
+{
     let seats = seats_of(alloc, row, piece)?;
     let turns = turns_of(alloc, order)?;
     Some(Script::new(seats, turns))
@@ -115,7 +122,12 @@ fn is_as_said(alloc: Global, peer: &Peer, text: &str) -> Option<bool> {
 }
 
 // Whether the next peer of a row is as it says; `counts` has how many peers of each slot came before.
-fn is_next_as_said(script: &Script, counts: &mut [usize; 2], alloc: Global, text: &str) -> Option<bool> {
+fn is_next_as_said(
+    script: &Script,
+    counts: &mut [usize; 2],
+    alloc: Global,
+    text: &str,
+) -> Option<bool> {
     let slot = manner_of(columns(text)[0], 0).slot;
     let count = counts.get_mut(slot)?;
     let peer = script.seats.get(slot)?.peers.get(*count)?;
@@ -131,6 +143,9 @@ pub(crate) fn are_as_said(script: &Script, alloc: Global, row: &str) -> Option<b
             return Some(false);
         }
     }
-    let are_ended = script.seats.iter().all(|seat| !seat.is_open && seat.ended == seat.peers.len());
+    let are_ended = script
+        .seats
+        .iter()
+        .all(|seat| !seat.is_open && seat.ended == seat.peers.len());
     Some(are_ended)
 }

@@ -5,7 +5,8 @@ use crate::rows::wrong_row;
 use http_sessions::Buffers;
 use std::alloc::AllocError;
 
-const PAIR: &str = ";POST /echo HTTP/1.1~Content-Length: 3~~onePOST /echo HTTP/1.1~Content-Length: 4~~four;ended;HTTP/1.1 200 OK~Content-Type: text/plain~Content-Length: 3~~oneHTTP/1.1 200 OK~Content-Type: text/plain~Content-Length: 4~~four";
+const PAIR: &str =
+    ";POST /echo HTTP/1.1~Content-Length: 3~~onePOST /echo HTTP/1.1~Content-Length: 4~~four;ended;HTTP/1.1 200 OK~Content-Type: text/plain~Content-Length: 3~~oneHTTP/1.1 200 OK~Content-Type: text/plain~Content-Length: 4~~four";
 
 // rule: Peer of a script
 // rule: Reads of a port
@@ -22,7 +23,8 @@ fn serves_pipelined_messages_in_pieces_of_any_length(rt: HostRuntime) -> Result<
 }
 
 // Each connection has six turns: its peer sends 50 bytes and then 40, and takes each reply in two pieces.
-const TWO: &str = ";POST /echo HTTP/1.1~Content-Length: 3~~onePOST /echo HTTP/1.1~Content-Length: 3~~two;ended;HTTP/1.1 200 OK~Content-Type: text/plain~Content-Length: 3~~oneHTTP/1.1 200 OK~Content-Type: text/plain~Content-Length: 3~~two|slot=1;POST /echo HTTP/1.1~Content-Length: 3~~redPOST /echo HTTP/1.1~Content-Length: 3~~sky;ended;HTTP/1.1 200 OK~Content-Type: text/plain~Content-Length: 3~~redHTTP/1.1 200 OK~Content-Type: text/plain~Content-Length: 3~~sky";
+const TWO: &str =
+    ";POST /echo HTTP/1.1~Content-Length: 3~~onePOST /echo HTTP/1.1~Content-Length: 3~~two;ended;HTTP/1.1 200 OK~Content-Type: text/plain~Content-Length: 3~~oneHTTP/1.1 200 OK~Content-Type: text/plain~Content-Length: 3~~two|slot=1;POST /echo HTTP/1.1~Content-Length: 3~~redPOST /echo HTTP/1.1~Content-Length: 3~~sky;ended;HTTP/1.1 200 OK~Content-Type: text/plain~Content-Length: 3~~redHTTP/1.1 200 OK~Content-Type: text/plain~Content-Length: 3~~sky";
 
 // rule: Events of a port
 // rule: Loop over a port
