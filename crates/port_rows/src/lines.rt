@@ -3,7 +3,7 @@
 use std::alloc::{AllocError, Global};
 
 // Puts the bytes of a string at the end: `~` is CR LF.
-fn push_text(bytes: &mut Vec<u8>, text: &str) -> Result<(), AllocError> {
+fn push_string(bytes: &mut Vec<u8>, text: &str) -> Result<(), AllocError> {
     for (index, line) in text.split('~').enumerate() {
         if index > 0 {
             bytes.extend_from_slice(b"\r\n")?;
@@ -17,7 +17,7 @@ fn push_text(bytes: &mut Vec<u8>, text: &str) -> Result<(), AllocError> {
 fn push_repeated(bytes: &mut Vec<u8>, text: &str) -> Result<(), AllocError> {
     let (count, text) = text.split_once('*').unwrap_or(("0", ""));
     for _ in 0..count.parse().unwrap_or(0u32) {
-        push_text(bytes, text)?;
+        push_string(bytes, text)?;
     }
     Ok(())
 }
@@ -26,7 +26,7 @@ fn push_repeated(bytes: &mut Vec<u8>, text: &str) -> Result<(), AllocError> {
 fn push_column(bytes: &mut Vec<u8>, column: &str) -> Result<(), AllocError> {
     for (index, part) in column.split('%').enumerate() {
         match index % 2 {
-            0 => push_text(bytes, part)?,
+            0 => push_string(bytes, part)?,
             _ => push_repeated(bytes, part)?,
         }
     }

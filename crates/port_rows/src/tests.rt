@@ -8,6 +8,7 @@ use std::alloc::AllocError;
 const PAIR: &str =
     ";POST /echo HTTP/1.1~Content-Length: 3~~onePOST /echo HTTP/1.1~Content-Length: 4~~four;ended;HTTP/1.1 200 OK~Content-Type: text/plain~Content-Length: 3~~oneHTTP/1.1 200 OK~Content-Type: text/plain~Content-Length: 4~~four";
 
+// rule: Part of a message
 // rule: Peer of a script
 // rule: Reads of a port
 // rule: Session over a port
