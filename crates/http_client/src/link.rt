@@ -8,7 +8,8 @@ use crate::posting::Reply;
 use http_client_heads::{LinkFault, Post};
 use std::alloc::Global;
 use std::net::{Net, TcpListener, TcpStream};
-use update_client::{Failed, Link, Trace};
+use traces::Trace;
+use update_client::{Failed, Link};
 
 /// The path that update checks are posted to.
 pub const UPDATE_PATH: &str = "/service/update2/json";

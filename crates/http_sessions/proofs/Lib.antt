@@ -1,5 +1,6 @@
 mod LengthLemmas
 mod ReadingLemmas
+mod ForeseenLemmas
 mod SessionLemmas
 mod TurnLemmas
 mod RunLemmas

@@ -1,5 +1,5 @@
 -- What reading one message finds at the front of a connection's bytes; this project's profile.
-use Rattle.std.specs.Prelude.{◌≡◌, ◌⊎◌, ◌≤◌, ℕ, List, ◌++◌, length, take, Option, Result, Ok, Err}
+use Rattle.std.specs.Prelude.{◌≡◌, ◌⊎◌, ◌≤◌, ◌<◌, ⊤, ℕ, List, ◌++◌, length, take, Option, Result, Ok, Err}
 use Rattle.std.specs.Io.KnownBytes.{Consumes, IsAtEnd}
 use Rattle.httparse.specs.Grammar.{IsRequestHead, NeverHasRequest, RequestHead, print_request}
 use Rattle.http_heads.specs.declared.status.Status.{Status}
@@ -7,6 +7,8 @@ use Rattle.http_heads.specs.declared.status.Status.TheVariants as status
 use Rattle.http_wire.specs.Heads.{IsLongHead, IsPartOfHead}
 use Rattle.values.specs.declared.failed.Failed.{Failed}
 use Rattle.http_desks.specs.Uses.{method_of}
+use Rattle.http_sessions.specs.declared.foreseeing.Foreseen.{Foreseen}
+use Rattle.http_sessions.specs.declared.foreseeing.Foreseen.TheVariants as foreseen
 use Rattle.http_sessions.specs.declared.message.Message.{Message}
 use Rattle.http_sessions.specs.declared.message.Message.TheVariants.{Whole, Rejected, Ended}
 use Rattle.http_sessions.specs.declared.message.Plan.{Plan}
@@ -40,6 +42,13 @@ IsRejected why bytes =
 -- less than a message
 abbrev pub IsPart : List ℕ → Type 0
 IsPart bytes = IsPartOfHead bytes ⊎ IsPartOfBody bytes
+
+-- rule: Part of a message
+-- what the bytes are before a message is read: less than a message, and still less with more bytes up to a length
+abbrev pub IsForeseen : List ℕ → Foreseen → Type 0
+IsForeseen bytes (foreseen.Part need) =
+    IsPart bytes × ((more : List ℕ) → length (bytes ++ more) < need → IsPart (bytes ++ more))
+IsForeseen bytes foreseen.Turn = ⊤
 
 -- what the bytes are, of which some wait; the target and the body are at the front of these cells
 abbrev pub Finds : Option (List ℕ) → List ℕ → List ℕ → List ℕ → List ℕ → Result Message Failed → Type 0

@@ -11,14 +11,17 @@
 
 mod buffers;
 mod ends;
+mod foreseeing;
 pub mod laws;
 mod message;
+mod resting;
 mod serving;
 mod session;
 mod turning;
 
 pub use crate::buffers::Buffers;
 pub use crate::ends::{End, Fault, Served};
+pub use crate::foreseeing::Foreseen;
 pub use crate::serving::{serve, serve_at};
 pub use crate::session::{MAX_MESSAGES, Session, Turn};
 pub use http_desks::{Answer, Clock, Declared, Desk, DeskStatus, Off, Packages, Site};

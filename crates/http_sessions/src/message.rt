@@ -39,7 +39,11 @@ pub(crate) enum Message {
 
 // rule: Length of a message
 // What the head says, or the status that rejects its message.
-fn examine(bytes: &[u8], fields: &[HeaderSpan], spans: &RequestSpans) -> Result<Plan, Status>
+pub(crate) fn examine(
+    bytes: &[u8],
+    fields: &[HeaderSpan],
+    spans: &RequestSpans,
+) -> Result<Plan, Status>
     requires { IsWholeWithin bytes.now fields.now spans.now }
     ensures fits { IfOk result (λ plan. plan.size ≤ 262144) }
     ensures plan { (head : RequestHead) → IsRequestAt bytes.now fields.now spans.now head → IsPlanOf head result }

@@ -8,7 +8,8 @@ use std::alloc::Global;
 use std::mem;
 use std::snapshot::Snapshot;
 use streams::WriteWhole;
-use update_client::{Failed, Installer, Step, Trace};
+use traces::Trace;
+use update_client::{Failed, Installer, Step};
 
 /// An installer that keeps no files: the client has hashed what it is given. It prints a line for each step that it
 /// commits, and commits none after a line that it couldn't print.

@@ -7,7 +7,8 @@ use crate::countdown::Countdown;
 use crate::update_client_replies::Replies;
 use std::alloc::{AllocError, Global};
 use std::str;
-use update_client::{Failed, Link, Trace};
+use traces::Trace;
+use update_client::{Failed, Link};
 
 /// What a link has carried, for contracts.
 #[derive(Drop)]

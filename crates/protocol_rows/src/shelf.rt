@@ -4,7 +4,8 @@ ghost use Rattle.std.specs.Prelude.{◌≡◌, [], length, IfOk};
 
 use crate::countdown::Countdown;
 use std::alloc::{AllocError, Global};
-use update_client::{Failed, Installer, Step, Trace};
+use traces::Trace;
+use update_client::{Failed, Installer, Step};
 
 /// An installer that keeps what is staged, and prints what is committed.
 #[derive(Drop)]

@@ -2,5 +2,4 @@ pub mod Clients
 pub mod Faults
 pub mod Installed
 pub mod Installing
-pub mod Traces
 pub mod Walks

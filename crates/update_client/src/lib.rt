@@ -6,9 +6,6 @@
 //! is offered, and asks again until there is no update. Read `specs/Installing.antt`, then
 //! `specs/Clients.antt` and `specs/Walks.antt`.
 //!
-//! A `Trace` is a list of what has happened, which only contracts see: it keeps nothing, takes no memory and
-//! has no limit. A link says with it what it has carried. Read `specs/Traces.antt`.
-//!
 //! It opens no socket and writes no file: its caller's `Link` and `Installer` do.
 
 #![tactic(auto)]
@@ -19,7 +16,6 @@ mod hearing;
 mod installer;
 mod installing;
 mod link;
-mod trace;
 mod walking;
 
 pub use crate::client::Client;
@@ -28,6 +24,5 @@ pub use crate::hearing::Accepted;
 pub use crate::installer::{Installer, Step};
 pub use crate::installing::install;
 pub use crate::link::Link;
-pub use crate::trace::Trace;
 pub use crate::walking::{MAX_STEPS, Walk};
 pub use values::Failed;

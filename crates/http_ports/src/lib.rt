@@ -1,0 +1,24 @@
+//! A loop over many connections, of which it waits for none.
+//!
+//! A `Port` is one worker's side of the network: it accepts connections, each at one of its slots, and reports which of
+//! them may go on. A `Protocol` is what is said on a connection. `run` serves all connections of a port by a desk of
+//! `http_desks`, each as far as its bytes have come and its peer takes the replies: read `specs/Ports.antt`,
+//! `specs/Speech.antt` and `specs/Loops.antt`.
+//!
+//! It knows no socket, no HTTP and no time: a port says which connections are late, and a protocol what bytes mean.
+
+#![tactic(auto)]
+
+mod event;
+mod last;
+mod looping;
+mod port;
+mod protocol;
+mod serving;
+mod table;
+
+pub use crate::event::{Event, Received, Sent};
+pub use crate::last::Last;
+pub use crate::looping::run;
+pub use crate::port::Port;
+pub use crate::protocol::{Next, Protocol};

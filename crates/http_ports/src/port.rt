@@ -1,0 +1,70 @@
+ghost use Rattle.std.specs.Prelude.{◌≡◌, ◌<◌, ◌+◌, ℕ, length};
+ghost use Rattle.http_ports.specs.Ports.{Closes, IsDone, Reads, Reports, Rests, Writes, accepted_by};
+ghost use Rattle.http_ports.specs.Traffic.{Changes, HasPassed, IsOpen, Slot, marked};
+ghost use Rattle.http_ports.specs.declared.last.Last.TheVariants.{Yields};
+
+use crate::event::{Event, Received, Sent};
+
+/// One worker's side of the network: connections, each at a slot, which has one after the other.
+///
+/// No call waits for a peer but `wait`. A read that gives nothing, or a write that takes nothing, has the connection
+/// reported once its peer has gone on.
+pub trait Port {
+    // what passed at each slot
+    ghost slots: { Self → ℕ → Slot };
+
+    // how many connections may be open at once
+    ghost capacity: { Self → ℕ };
+
+    // how many connections were accepted
+    ghost accepted: { Self → ℕ };
+
+    // no more connections will be accepted
+    ghost is_over: { Self → Type 0 };
+
+    /// Returns how many connections may be open at once: the slots are those below.
+    fn capacity(&self) -> usize
+        ensures { result ≡ capacity self.now };
+
+    // rule: Events of a port
+    // rule: Rest of a connection
+    /// Waits until something happens to a connection. Each open one waits for its peer, or is to be reported again.
+    fn wait(&mut self) -> Event
+        requires rests { (k : ℕ) → Rests (slots self.old k) }
+        ensures reports { Reports (capacity self.old) result (slots self.old) (slots self.new) }
+        ensures over { IsDone result → is_over self.new }
+        ensures accepted { accepted self.new ≡ accepted self.old + accepted_by result }
+        ensures capacity { capacity self.new ≡ capacity self.old };
+
+    // rule: Reads of a port
+    /// Reads what has come on the connection of a slot, into one cell or more.
+    fn read(&mut self, slot: usize, into: &mut [u8]) -> Received
+        requires live { IsOpen (slots self.old slot) }
+        requires room { 0 < length into.old }
+        ensures reads { Reads slot result into.new (slots self.old) (slots self.new) }
+        ensures accepted { accepted self.new ≡ accepted self.old }
+        ensures capacity { capacity self.new ≡ capacity self.old };
+
+    // rule: Writes of a port
+    /// Writes a first part of the bytes, of which there is one or more, on the connection of a slot.
+    fn write(&mut self, slot: usize, bytes: &[u8]) -> Sent
+        requires live { IsOpen (slots self.old slot) }
+        requires some { 0 < length bytes.now }
+        ensures writes { Writes slot result bytes.now (slots self.old) (slots self.new) }
+        ensures accepted { accepted self.new ≡ accepted self.old }
+        ensures capacity { capacity self.new ≡ capacity self.old };
+
+    /// Has the connection of a slot, on which bytes have just passed, reported again.
+    fn again(&mut self, slot: usize)
+        requires passed { HasPassed (slots self.old slot) }
+        ensures yields { Changes slot (marked Yields) (slots self.old) (slots self.new) }
+        ensures accepted { accepted self.new ≡ accepted self.old }
+        ensures capacity { capacity self.new ≡ capacity self.old };
+
+    /// Ends the connection of a slot, which is free then.
+    fn close(&mut self, slot: usize)
+        requires live { IsOpen (slots self.old slot) }
+        ensures closes { Closes slot (slots self.old) (slots self.new) }
+        ensures accepted { accepted self.new ≡ accepted self.old }
+        ensures capacity { capacity self.new ≡ capacity self.old };
+}

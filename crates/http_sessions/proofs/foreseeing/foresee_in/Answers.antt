@@ -1,0 +1,20 @@
+use Rattle.std.proofs.Common.{◌≡◌, ◌+◌, ◌<◌, ◌≤◌, ◌++◌, ℕ, List, [], append-nil, length, length-take, subst, ap, arith}
+use Rattle.httparse.specs.Grammar.{print_request}
+use Rattle.http_sessions.specs.Readings.{IsPart}
+use Rattle.http_sessions.proofs.ForeseenLemmas.{part_with_more}
+use Rattle.http_sessions.proofs.foreseeing.foresee_in.Goals as goal
+
+pub returns-in-Ok : goal.returns-in-Ok
+returns-in-Ok c =
+    let bytes = c.args.bytes.now in
+    let found = c.in-Ok-Complete in
+    let (head, at) = rw found.spans-is at (rw found.field-0-is at found.ensures.complete) in
+    let within = (rw found.spans-is at (rw found.field-0-is at found.ensures.within)).section.len_fits in
+    let short : length (print_request head) ≤ 16384 =
+    omega (arith, at.len, within, length-take c.min.result bytes, c.min.ensures) in
+    let part : (more : List ℕ) → length (bytes ++ more) < found.spans.len + c.in-Ok.plan.size → IsPart (bytes ++ more) =
+    part_with_more bytes c.min.result _ found.spans head c.in-Ok.plan at short within (c.in-Ok.ensures.plan head at) in (
+      subst (λ (l : List ℕ). IsPart l) (append-nil bytes)
+          (part [] (omega (arith, ap length (append-nil bytes), c.if-bytes-spans.true, within, length-take c.min.result bytes))),
+      part,
+    )

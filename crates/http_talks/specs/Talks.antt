@@ -1,0 +1,80 @@
+-- What is said on a connection so far: messages and their replies (RFC 9112, section 9.3), in any parts; this project's
+-- profile.
+use Rattle.std.specs.Prelude.{◌≡◌, ⊤, ◌<◌, ℕ, Bool, true, false, ◌==◌, List, [], ◌++◌, drop, length, flat_map, Some}
+use Rattle.std.specs.List.{AllByRecursion}
+use Rattle.http_desks.specs.declared.method.Method.{Method}
+use Rattle.http_desks.specs.Calls.{Call}
+use Rattle.http_desks.specs.Uses.{Use}
+use Rattle.http_sessions.specs.declared.ends.End.{End}
+use Rattle.http_sessions.specs.Messages.{Exchange, IsOpen, exchange_bytes, exchange_calls, open_reply}
+use Rattle.http_sessions.specs.Readings.{IsPart}
+use Rattle.http_sessions.specs.Stops.{Ends, More, Stop, StopsAt, Waits, begun, stop_bytes, stop_calls}
+use Rattle.http_sessions.specs.Sessions.{Serves, TurnEnds, wrote}
+use Rattle.http_ports.specs.Speech.{Busy, Over, Phase, Waiting}
+use Rattle.http_talks.specs.declared.talk.Stage.{Stage}
+use Rattle.http_talks.specs.declared.talk.Stage.TheVariants as stage
+use Rattle.http_talks.specs.declared.talk.Talk.{Talk}
+use Rattle.http_talks.specs.declared.turning.Turned.{Turned}
+
+-- what was made and is not yet sent
+abbrev pub pending : Talk → List ℕ
+pending talk = drop talk.sent talk.made.items
+
+-- how the connection goes on once all is sent
+abbrev pub phase_of : Stage → Phase
+phase_of stage.Busy = Busy
+phase_of stage.Part = Waiting
+phase_of stage.Over = Over
+phase_of stage.Lost = Over
+
+-- memory ran out for it
+abbrev pub is_lost : Stage → Bool
+is_lost stage.Busy = false
+is_lost stage.Part = false
+is_lost stage.Over = false
+is_lost stage.Lost = true
+
+-- what a turn of the session over these bytes came to
+abbrev pub HasTurned :
+    {D : Type 0} → (Method → List ℕ → Use → Type 0) → (D → Call → D → Type 0) → List ℕ → ℕ → List ℕ → D → D → Turned → Type 0
+HasTurned IsFit steps kind start kept before behind turned =
+    Serves IsFit steps kind start (TurnEnds (Some turned.left.now) start turned.result) (wrote turned.result) []
+    (Some kept) (Some turned.left.now) (Some []) (Some turned.made.items) before behind
+
+-- with more bytes after them, but fewer than so many in all, they are still less than a message
+abbrev pub StaysPart : List ℕ → ℕ → Type 0
+StaysPart bytes need = (more : List ℕ) → length (bytes ++ more) < need → IsPart (bytes ++ more)
+
+-- how far the session is after so many messages: by what is after them, and what was not looked at
+abbrev pub IsAt : Stage → ℕ → List ℕ → ℕ → ℕ → Stop → List ℕ → List ℕ → Type 0
+IsAt stage.Busy replies kept need count stop rest unread = (stop ≡ More) × (replies ≡ count) × (kept ≡ rest ++ unread)
+IsAt stage.Part replies kept need count stop rest unread =
+    (stop ≡ Waits) × (replies ≡ count) × (kept ≡ rest) × (unread ≡ []) × StaysPart kept need
+IsAt stage.Over replies kept need count stop rest unread =
+    (how : End) × Ends (count == 999) (Some unread) stop rest how × (begun stop ≡ 1)
+IsAt stage.Lost replies kept need count stop rest unread = ⊤
+
+-- what was sent and what is pending are the replies; if memory ran out, a first part of them was sent
+abbrev pub AreReplies : Stage → List ℕ → List ℕ → List ℕ → Type 0
+AreReplies stage.Busy sent pending replies = sent ++ pending ≡ replies
+AreReplies stage.Part sent pending replies = sent ++ pending ≡ replies
+AreReplies stage.Over sent pending replies = sent ++ pending ≡ replies
+AreReplies stage.Lost sent pending replies = (pending ≡ []) × ((left : List ℕ) × (replies ≡ sent ++ left))
+
+-- rule: Session over a port
+-- the bytes that were received are messages, each after the one before, that kept the connection open, and a rest; the
+-- desk was called for each, and each was replied to, in order
+pub record Said (IsFit : Method → List ℕ → Use → Type 0) (kind : List ℕ) (talk : Talk) (received sent : List ℕ)
+    (calls : List Call) : Type 0 where
+  pub exchanges : List Exchange
+  pub stop : Stop
+  pub rest : List ℕ
+  pub unread : List ℕ
+  pub cut : received ≡ flat_map exchange_bytes exchanges ++ (rest ++ unread)
+  pub each : AllByRecursion (IsOpen IsFit) exchanges
+  pub few : length exchanges < 1000
+  pub stops : StopsAt IsFit stop rest
+  pub called : calls ≡ flat_map exchange_calls exchanges ++ stop_calls stop
+  pub replies : AreReplies talk.stage sent (pending talk)
+      (flat_map (open_reply kind) exchanges ++ stop_bytes kind (length exchanges == 999) stop)
+  pub is_at : IsAt talk.stage talk.begun talk.kept.items talk.need (length exchanges) stop rest unread

@@ -1,0 +1,19 @@
+//! Sessions of HTTP as what is said on the connections of a port.
+//!
+//! `Talks` is the `Protocol` of `http_ports` whose connections are sessions of `http_sessions`: bytes come and are sent
+//! in parts of any length, and each whole message gets its reply, by the desk and the packages of a site. A connection
+//! that waits keeps the bytes of its unfinished message and no other memory. Read `specs/Talks.antt`.
+//!
+//! It accepts no connection, and has no limit of time: its port does.
+
+#![tactic(auto)]
+
+mod after;
+mod devices;
+mod outcome;
+mod talk;
+mod talks;
+mod turning;
+
+pub use crate::talk::Talk;
+pub use crate::talks::Talks;

@@ -1,0 +1,31 @@
+ghost use Rattle.std.specs.Prelude.{◌<◌, ◌≤◌, vec_len};
+
+// How far a connection's session is.
+#[derive(Clone, Copy, Drop)]
+pub(crate) enum Stage {
+    // What is kept may be a message.
+    Busy,
+    // What is kept is less than a message.
+    Part,
+    // The session has ended.
+    Over,
+    // Memory ran out.
+    Lost,
+}
+
+/// A connection between two calls of its port.
+#[derive(Drop)]
+pub struct Talk {
+    pub(crate) stage: Stage,
+    // how many replies were begun
+    pub(crate) begun: u32,
+    // what was received and not yet used
+    pub(crate) kept: Vec<u8>,
+    // what is kept is less than a message as long as there are fewer bytes than so many
+    pub(crate) need: usize,
+    // the replies that were made, of which so many bytes are sent
+    pub(crate) made: Vec<u8>,
+    pub(crate) sent: usize,
+    ghost few: { begun < 1000 },
+    ghost within: { sent ≤ vec_len made },
+}

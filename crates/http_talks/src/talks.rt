@@ -1,0 +1,178 @@
+ghost use Rattle.std.specs.Prelude.{◌≡◌, ◌⊎◌, ◌++◌, ◌<◌, ◌≤◌, ℕ, List, [], drop, length, take};
+ghost use Rattle.http_desks.specs.Calls.{Call, Leads};
+ghost use Rattle.http_desks.specs.Uses.{IsUse};
+ghost use Rattle.http_ports.specs.Speech.{IsNext, Waiting};
+ghost use Rattle.http_talks.specs.Turns.{GoesOn, IsApplied};
+ghost use Rattle.http_talks.specs.Talks.{Said, is_lost, pending, phase_of};
+ghost use Rattle.http_talks.specs.declared.talk.Stage.TheVariants as stage;
+
+use crate::after::after_turn;
+use crate::outcome::After;
+use crate::talk::{Stage, Talk};
+use crate::turning::turn_over;
+use http_desks::{Clock, Desk, Packages};
+use http_ports::{Next, Protocol};
+use http_sessions::{Buffers, Foreseen};
+use std::alloc::Global;
+
+/// The sessions of a site, as what is said on connections.
+#[derive(Drop)]
+pub struct Talks<'a, Z> {
+    /// The memory of connections.
+    pub alloc: Global,
+    /// The packages and the clock.
+    pub site: &'a Z,
+}
+
+// How a connection goes on; one that is busy and has made nothing is lost.
+fn next_of(talk: &mut Talk) -> Next
+    requires { talk.old.stage ≡ stage.Part → pending talk.old ≡ [] }
+    ensures next { IsNext result (pending talk.new) (phase_of talk.new.stage) }
+    ensures left { (talk.new ≡ talk.old) ⊎ ((talk.new.stage ≡ stage.Lost) × (pending talk.new ≡ [])) }
+{
+    if !talk.made[talk.sent..].is_empty() {
+        return Next::Made;
+    }
+    match talk.stage {
+        Stage::Part => Next::Waits,
+        Stage::Over => Next::Over,
+        Stage::Lost => Next::Over,
+        Stage::Busy => {
+            talk.stage = Stage::Lost;
+            Next::Over
+        }
+    }
+}
+
+// Takes over what a turn leaves.
+fn apply(alloc: Global, talk: &mut Talk, after: After)
+    ensures { IsApplied talk.old after talk.new }
+{
+    match after {
+        After::Part => {
+            talk.stage = Stage::Part;
+            talk.need = 0;
+        }
+        After::Lost => talk.stage = Stage::Lost,
+        After::Over(made) => {
+            *talk = Talk {
+                stage: Stage::Over,
+                begun: 0,
+                kept: Vec::new(alloc),
+                need: 0,
+                made,
+                sent: 0,
+            };
+        }
+        After::Open(opened) => {
+            *talk = Talk {
+                stage: Stage::Busy,
+                begun: opened.begun,
+                kept: opened.kept,
+                need: 0,
+                made: opened.made,
+                sent: 0,
+            };
+        }
+    }
+}
+
+// rule: Session over a port
+// Turns the session once over what is kept.
+fn turn<D: Desk, Z: Packages + Clock>(
+    alloc: Global,
+    site: &Z,
+    room: &mut Buffers,
+    talk: &mut Talk,
+    desk: &mut D,
+)
+    requires busy { talk.old.stage ≡ stage.Busy }
+    requires sent { pending talk.old ≡ [] }
+    ensures goes_on { GoesOn (IsUse (D.path desk.old) (Z.tells site.now) (Z.sizes site.now) (Z.reads site.now))
+        D.steps (D.content_type desk.old) talk.old desk.old talk.new desk.new }
+    ensures part { talk.new.stage ≡ stage.Part → pending talk.new ≡ [] }
+    ensures path { D.path desk.new ≡ D.path desk.old }
+    ensures content_type { D.content_type desk.new ≡ D.content_type desk.old }
+{
+    let Some(turned) = turn_over(alloc, room, site, talk.begun, &talk.kept, desk) else {
+        talk.stage = Stage::Lost;
+        return;
+    };
+    let after = after_turn(alloc, talk.begun, turned);
+    apply(alloc, talk, after);
+}
+
+impl<Z: Packages + Clock> Protocol for Talks<'_, Z> {
+    ghost use Rattle.http_desks.specs.Uses.{IsUse};
+    ghost use Rattle.http_talks.specs.Talks.{Said, is_lost, pending, phase_of};
+
+    type Conn = Talk;
+
+    type Room = Buffers;
+
+    ghost pending = { pending };
+
+    ghost phase = { λ talk. phase_of talk.stage };
+
+    ghost is_lost = { λ talk. is_lost talk.stage };
+
+    ghost so_far = { λ talks path kind.
+        Said (IsUse path (Z.tells talks.site.now) (Z.sizes talks.site.now) (Z.reads talks.site.now)) kind };
+
+    fn open(&self) -> Talk {
+        Talk {
+            stage: Stage::Busy,
+            begun: 0,
+            kept: Vec::new(self.alloc),
+            need: 0,
+            made: Vec::new(self.alloc),
+            sent: 0,
+        }
+    }
+
+    fn pending<'c>(&self, talk: &'c Talk) -> &'c [u8] {
+        &talk.made[talk.sent..]
+    }
+
+    fn is_lost(&self, talk: &Talk) -> bool {
+        matches!(talk.stage, Stage::Lost)
+    }
+
+    fn sent(&self, talk: &mut Talk, count: usize) {
+        talk.sent += count;
+    }
+
+    fn take(&self, talk: &mut Talk, bytes: &[u8]) {
+        match talk.kept.extend_from_slice(bytes) {
+            Ok(()) => {
+                if talk.kept.len() >= talk.need {
+                    talk.stage = Stage::Busy;
+                }
+            }
+            Err(_) => {
+                talk.stage = Stage::Lost;
+                talk.sent = 0;
+                talk.made.clear();
+            }
+        }
+    }
+
+    fn go_on<D: Desk>(&self, room: &mut Buffers, talk: &mut Talk, desk: &mut D) -> Next {
+        match talk.stage {
+            Stage::Part => Next::Waits,
+            Stage::Over => Next::Over,
+            Stage::Lost => Next::Over,
+            Stage::Busy => match room.foresee(&talk.kept) {
+                Foreseen::Part(need) => {
+                    talk.stage = Stage::Part;
+                    talk.need = need;
+                    Next::Waits
+                }
+                Foreseen::Turn => {
+                    turn(self.alloc, self.site, room, talk, desk);
+                    next_of(talk)
+                }
+            },
+        }
+    }
+}

@@ -1,0 +1,19 @@
+use Rattle.std.proofs.Common.{◌∙◌, ap, arith}
+use Rattle.port_books.specs.Books.{kept_waits}
+use Rattle.port_books.specs.declared.moves.Move.TheVariants as move
+use Rattle.port_books.proofs.BookLemmas.{accepted_in-push, closes, tied-push}
+use Rattle.port_books.proofs.book.Book.close.Goals as goal
+
+pub invariant_of-self : goal.invariant_of-self
+invariant_of-self g c = record {
+  tied = rw c.push.ensures
+      (tied-push c.args.self.now.places.items c.put.new.places.items c.args.self.now.moves (move.Closed c.args.slot)
+      c.args.self.now.tied c.put.ensures.elsewhere (ap kept_waits c.put.ensures.put));
+}
+
+pub returns-clause-closes : goal.returns-clause-closes
+returns-clause-closes g c = rw c.push.ensures (closes c.args.self.now.moves c.args.slot)
+
+pub returns-clause-accepted : goal.returns-clause-accepted
+returns-clause-accepted g c =
+    rw c.push.ensures (accepted_in-push c.args.self.now.moves (move.Closed c.args.slot) ∙ omega arith)

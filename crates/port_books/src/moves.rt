@@ -1,0 +1,26 @@
+use http_ports::Last;
+use traces::Trace;
+
+/// A change of a slot's connection.
+#[derive(Drop)]
+pub enum Change {
+    /// The last call for it came to this, and no byte passed.
+    Marked(Last),
+    /// Its time is up.
+    Expired,
+    /// These bytes were received.
+    Received(Trace<u8>),
+    /// These bytes were sent.
+    Sent(Trace<u8>),
+}
+
+/// What happened at a slot.
+#[derive(Drop)]
+pub enum Move {
+    /// A connection was accepted.
+    Accepted(usize),
+    /// Its connection changed.
+    Changed(usize, Change),
+    /// Its connection was closed.
+    Closed(usize),
+}

@@ -1,0 +1,18 @@
+//! Rows of connections: `http_ports::run` serves the peers of a script of `port_scripts` by the sessions of `http_talks`.
+//!
+//! Each row says what peers send and how they behave, and then how each connection ends and what its peer gets.
+//!
+//! It has tests alone, so that the crates below are proved once.
+
+#![tactic(auto)]
+
+#[cfg(test)]
+mod desk;
+#[cfg(test)]
+mod lines;
+#[cfg(test)]
+mod peers;
+#[cfg(test)]
+mod rows;
+#[cfg(test)]
+mod tests;

@@ -1,0 +1,52 @@
+// What rows are written in.
+
+use std::alloc::{AllocError, Global};
+
+// Puts the bytes of a string at the end: `~` is CR LF.
+fn push_string(bytes: &mut Vec<u8>, text: &str) -> Result<(), AllocError> {
+    for (index, line) in text.split('~').enumerate() {
+        if index > 0 {
+            bytes.extend_from_slice(b"\r\n")?;
+        }
+        bytes.extend_from_slice(line.as_bytes())?;
+    }
+    Ok(())
+}
+
+// Puts a string at the end as often as it says: `3*ab` is `ababab`.
+fn push_repeated(bytes: &mut Vec<u8>, text: &str) -> Result<(), AllocError> {
+    let (count, text) = text.split_once('*').unwrap_or(("0", ""));
+    for _ in 0..count.parse().unwrap_or(0u32) {
+        push_string(bytes, text)?;
+    }
+    Ok(())
+}
+
+// Puts the bytes of a column at the end: what is repeated is between two `%`.
+fn push_column(bytes: &mut Vec<u8>, column: &str) -> Result<(), AllocError> {
+    for (index, part) in column.split('%').enumerate() {
+        match index % 2 {
+            0 => push_string(bytes, part)?,
+            _ => push_repeated(bytes, part)?,
+        }
+    }
+    Ok(())
+}
+
+/// The bytes of a column; `None` if memory ran out.
+pub(crate) fn expand(alloc: Global, column: &str) -> Option<Vec<u8>> {
+    let mut bytes = Vec::new(alloc);
+    push_column(&mut bytes, column).ok()?;
+    Some(bytes)
+}
+
+/// The columns of a peer, with a semicolon between two; those that there aren't are empty.
+pub(crate) fn columns(text: &str) -> [&str; 4] {
+    let mut columns = [""; 4];
+    for (index, part) in text.split(';').enumerate() {
+        if let Some(column) = columns.get_mut(index) {
+            *column = part;
+        }
+    }
+    columns
+}

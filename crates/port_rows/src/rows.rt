@@ -1,0 +1,70 @@
+// Rows of one string, and the first that is wrong.
+
+ghost use Rattle.std.specs.Prelude.{◌≡◌, ℕ, [], vec_len};
+ghost use Rattle.http_ports.specs.Traffic.{unused};
+ghost use Rattle.port_scripts.specs.Seats.{slots_of};
+
+use crate::desk::{Echo, Site};
+use crate::peers::{are_as_said, script_of};
+use http_ports::{Port, run};
+use http_sessions::Buffers;
+use http_talks::{Talk, Talks};
+use port_scripts::Script;
+use std::sync::Wait;
+
+// Serves the peers of a script; for how many memory ran out.
+fn serve<R: Wait + AllocGlobal>(rt: &R, room: &mut Buffers, script: &mut Script) -> u64
+    requires fresh { (k : ℕ) → slots_of script.old.seats.items k ≡ unused }
+    requires none { script.old.accepted ≡ [] }
+    requires two { vec_len script.old.seats ≡ 2 }
+{
+    let alloc = rt.alloc();
+    let site = Site;
+    let talks = Talks { alloc, site: &site };
+    let mut desk = Echo { alloc };
+    let mut conns: [Option<Talk>; 2] = [None, None];
+    run(
+        rt,
+        script,
+        &talks,
+        room,
+        &mut [0; 4096],
+        &mut conns,
+        &mut desk,
+    )
+}
+
+// Whether what a row says is so.
+fn is_so<R: Wait + AllocGlobal>(
+    rt: &R,
+    room: &mut Buffers,
+    piece: usize,
+    order: u32,
+    row: &str,
+) -> Option<bool> {
+    let alloc = rt.alloc();
+    let mut script = script_of(alloc, row, piece, order)?;
+    if script.capacity() != 2 {
+        return None;
+    }
+    if serve(rt, room, &mut script) != 0 {
+        return Some(false);
+    }
+    are_as_said(&script, alloc, row)
+}
+
+/// The first of rows that is wrong, over pieces of this length and turns in this order; empty if there is none.
+pub(crate) fn wrong_row<'a, R: Wait + AllocGlobal>(
+    rt: &R,
+    room: &mut Buffers,
+    piece: usize,
+    order: u32,
+    rows: &'a str,
+) -> &'a str {
+    for row in rows.lines() {
+        if is_so(rt, room, piece, order, row) != Some(true) {
+            return row;
+        }
+    }
+    ""
+}

@@ -1,0 +1,2 @@
+mod SeatLemmas
+mod SlotLemmas

@@ -1,0 +1,8 @@
+use Rattle.std.proofs.Common.{◌≡◌, vec_len}
+use Rattle.port_scripts.proofs.script.Script.next_turn.Given as goal
+
+abbrev pub invariant-loop : goal.invariant-loop
+invariant-loop l =
+    (l.self.seats.items ≡ l.fn.self.seats.items)
+    × (vec_len l.self.seats ≡ vec_len l.fn.self.seats)
+    × (l.self.accepted ≡ l.fn.self.accepted)

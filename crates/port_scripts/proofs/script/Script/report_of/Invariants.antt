@@ -1,0 +1,10 @@
+use Rattle.std.proofs.Common.{◌≡◌, ◌≤◌, ◌<◌, ℕ, vec_len}
+use Rattle.port_scripts.specs.Seats.{IsQuietAt}
+use Rattle.port_scripts.proofs.script.Script.report_of.Given as goal
+
+abbrev pub invariant-loop-slot : goal.invariant-loop-slot
+invariant-loop-slot l =
+    (l.self.seats.items ≡ l.fn.self.seats.items)
+    × (vec_len l.self.seats ≡ vec_len l.fn.self.seats)
+    × (l.self.accepted ≡ l.fn.self.accepted)
+    × ((k : ℕ) → l.from ≤ k → k < l.slot → IsQuietAt l.patient l.fn.self.seats.items k)

@@ -1,0 +1,42 @@
+// One connection of a script.
+
+ghost use Rattle.std.specs.Prelude.{◌≡◌, ◌≤◌, vec_len};
+ghost use Rattle.http_ports.specs.declared.last.Last.TheVariants.{InputEnded};
+
+use http_ports::Last;
+
+/// What a peer does once it has sent its input, or got as much as it takes.
+#[derive(Clone, Copy, Drop)]
+pub enum Finish {
+    /// Its input ends; it takes no more, and a write to it fails.
+    Ends,
+    /// Reads of it and writes to it fail.
+    Fails,
+    /// It stays silent, and takes no more.
+    Stays,
+}
+
+/// A peer: it sends its input in pieces, with a pause after each, and takes pieces of that length.
+#[derive(Drop)]
+pub struct Peer {
+    /// What it sends.
+    pub input: Vec<u8>,
+    /// How much of that was read.
+    pub read: usize,
+    /// What it got; it takes as much as there is room for.
+    pub got: Vec<u8>,
+    /// The length of a piece; 0 counts as 1.
+    pub piece: usize,
+    /// What it does after its input.
+    pub after_input: Finish,
+    /// What it does once it took as much as it takes.
+    pub when_full: Finish,
+    /// Whether it pauses now.
+    pub pauses: bool,
+    /// What the last call for the connection came to.
+    pub last: Last,
+    /// Whether its time is up.
+    pub expired: bool,
+    ghost within: { read ≤ vec_len input },
+    ghost ended: { last ≡ InputEnded → read ≡ vec_len input },
+}

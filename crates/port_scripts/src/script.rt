@@ -1,0 +1,163 @@
+// A port over peers in memory.
+
+ghost use Rattle.std.specs.Prelude.{◌≡◌, ◌<◌, ◌≤◌, ℕ, [], IfNone, IfSome, vec_len};
+ghost use Rattle.http_ports.specs.Ports.{Reports};
+ghost use Rattle.http_ports.specs.Traffic.{unused};
+ghost use Rattle.port_scripts.specs.Seats.{AreDone, IsOfSlot, IsQuietAt, peers_of, slots_of};
+
+use crate::seat::Seat;
+use http_ports::{Event, Port, Received, Sent};
+use traces::Trace;
+
+/// A port in memory: each slot has its peers, which connect one after the other.
+///
+/// Slots have their turns in the order of the script, and once that is used up, one after the other. A connection whose
+/// peer stays silent, or takes no more, is late once no other connection can go on.
+#[derive(Drop)]
+pub struct Script {
+    /// The slots.
+    pub seats: Vec<Seat>,
+    /// The slots whose turn is next, the next one last.
+    pub turns: Vec<usize>,
+    /// The slot that is looked at first once there are no more turns.
+    pub next: usize,
+    /// An entry for each connection that was accepted.
+    pub accepted: Trace<()>,
+}
+
+impl Script {
+    /// Makes the port of these slots, each of which begins with its first peer; `turns` has the first turn last.
+    pub fn new(seats: Vec<Seat>, turns: Vec<usize>) -> Script
+        ensures fresh { (k : ℕ) → slots_of result.seats.items k ≡ unused }
+        ensures none { result.accepted ≡ [] }
+        ensures peers { peers_of result.seats.items ≡ peers_of seats.items }
+        ensures len { vec_len result.seats ≡ vec_len seats }
+    {
+        let mut seats = seats;
+        for slot in 0..seats.len() {
+            seats[slot].rewind();
+        }
+        Script {
+            seats,
+            turns,
+            next: 0,
+            accepted: Trace::new(),
+        }
+    }
+
+    // The first report of one of these slots; if `patient`, not that a connection waits for what never comes.
+    fn report_of(&mut self, from: usize, to: usize, patient: bool) -> Option<Event>
+        requires { to ≤ vec_len self.old.seats }
+        ensures reports { IfSome result (λ event.
+            Reports (vec_len self.old.seats) event (slots_of self.old.seats.items) (slots_of self.new.seats.items)) }
+        ensures event { IfSome result IsOfSlot }
+        ensures quiet { IfNone result ((k : ℕ) → from ≤ k → k < to → IsQuietAt patient self.old.seats.items k) }
+        ensures same { IfNone result (self.new.seats.items ≡ self.old.seats.items) }
+        ensures len { vec_len self.new.seats ≡ vec_len self.old.seats }
+        ensures accepted { self.new.accepted ≡ self.old.accepted }
+    {
+        for slot in from..to {
+            if let Some(event) = self.seats[slot].report(slot, patient) {
+                return Some(event);
+            }
+        }
+        None
+    }
+
+    // The report of the next turn whose slot has one.
+    fn next_turn(&mut self) -> Option<Event>
+        ensures reports { IfSome result (λ event.
+            Reports (vec_len self.old.seats) event (slots_of self.old.seats.items) (slots_of self.new.seats.items)) }
+        ensures event { IfSome result IsOfSlot }
+        ensures same { IfNone result (self.new.seats.items ≡ self.old.seats.items) }
+        ensures len { vec_len self.new.seats ≡ vec_len self.old.seats }
+        ensures accepted { self.new.accepted ≡ self.old.accepted }
+    {
+        for _ in 0..self.turns.len() {
+            let Some(slot) = self.turns.pop() else {
+                return None;
+            };
+            if slot < self.seats.len() {
+                if let Some(event) = self.report_of(slot, slot + 1, true) {
+                    return Some(event);
+                }
+            }
+        }
+        None
+    }
+
+    // rule: End of a script
+    // The next report: by the script, or else of the slot after the last one that had one; or of a connection that
+    // waits for what never comes.
+    fn next_report(&mut self) -> Option<Event>
+        ensures reports { IfSome result (λ event.
+            Reports (vec_len self.old.seats) event (slots_of self.old.seats.items) (slots_of self.new.seats.items)) }
+        ensures event { IfSome result IsOfSlot }
+        ensures done { IfNone result (AreDone self.new.seats.items) }
+        ensures same { IfNone result (self.new.seats.items ≡ self.old.seats.items) }
+        ensures len { vec_len self.new.seats ≡ vec_len self.old.seats }
+        ensures accepted { self.new.accepted ≡ self.old.accepted }
+    {
+        if let Some(event) = self.next_turn() {
+            return Some(event);
+        }
+        let slots = self.seats.len();
+        let next = self.next.min(slots);
+        if let Some(event) = self.report_of(next, slots, true) {
+            return Some(event);
+        }
+        if let Some(event) = self.report_of(0, next, true) {
+            return Some(event);
+        }
+        self.report_of(0, slots, false)
+    }
+}
+
+impl Port for Script {
+    ghost use Rattle.std.specs.Prelude.{length, vec_len};
+    ghost use Rattle.port_scripts.specs.Seats.{AreDone, slots_of};
+
+    ghost slots = { λ port. slots_of port.seats.items };
+
+    ghost capacity = { λ port. vec_len port.seats };
+
+    ghost accepted = { λ port. length port.accepted };
+
+    ghost is_over = { λ port. AreDone port.seats.items };
+
+    fn capacity(&self) -> usize {
+        self.seats.len()
+    }
+
+    fn wait(&mut self) -> Event {
+        let Some(event) = self.next_report() else {
+            return Event::Done;
+        };
+        match event {
+            Event::Accepted(slot) => {
+                self.accepted.push(&());
+                self.next = slot.saturating_add(1);
+            }
+            Event::Ready(slot) => self.next = slot.saturating_add(1),
+            Event::Expired(slot) => self.next = slot.saturating_add(1),
+            Event::Done => {}
+        }
+        event
+    }
+
+    fn read(&mut self, slot: usize, into: &mut [u8]) -> Received {
+        self.seats[slot].read(into)
+    }
+
+    fn write(&mut self, slot: usize, bytes: &[u8]) -> Sent {
+        self.seats[slot].write(bytes)
+    }
+
+    fn again(&mut self, slot: usize) {
+        self.seats[slot].yield_turn();
+    }
+
+    fn close(&mut self, slot: usize) {
+        self.seats[slot].close();
+    }
+}
