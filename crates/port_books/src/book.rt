@@ -1,7 +1,7 @@
 ghost use Rattle.std.specs.Prelude.{◌≡◌, ◌≢◌, ◌<◌, ◌+◌, ℕ, None, [], IfOk, option_map, vec_len};
 ghost use Rattle.http_ports.specs.Loops.{kept_at};
 ghost use Rattle.http_ports.specs.Ports.{Closes, expiring};
-ghost use Rattle.http_ports.specs.Traffic.{Changes, Elsewhere, Traffic, no_traffic, with_open};
+ghost use Rattle.http_ports.specs.Traffic.{Changes, Elsewhere, IsOpen, Traffic, no_traffic, with_open};
 ghost use Rattle.port_books.specs.Books.{accepted_in, changed_by, is_waiting, kept_waits, slot_waits, slots_after};
 
 use crate::moves::{Change, Move};
@@ -85,9 +85,9 @@ impl<S: Drop> Book<S> {
         self.places.len()
     }
 
-    /// Borrows the stream of a slot's connection, if it has one.
+    /// Borrows the stream of a slot's connection.
     pub fn stream(&self, slot: usize) -> Option<&S>
-        requires within { slot < vec_len self.now.places }
+        requires live { IsOpen (slots_after self.now.moves slot) }
         ensures { option_map (λ stream. stream.now) result
             ≡ option_map (λ place. place.stream) (kept_at self.now.places.items slot) }
     {
@@ -128,7 +128,7 @@ impl<S: Drop> Book<S> {
     // rule: Traffic of a book
     /// Records a change of a slot's connection, and whether it waits then.
     pub fn change(&mut self, slot: usize, change: Change, waits: bool)
-        requires within { slot < vec_len self.old.places }
+        requires live { IsOpen (slots_after self.old.moves slot) }
         requires waiting { (traffic : Traffic) → is_waiting (changed_by change traffic).last ≡ waits }
         ensures changes { Changes slot (changed_by change) (slots_after self.old.moves) (slots_after self.new.moves) }
         ensures accepted { accepted_in self.new.moves ≡ accepted_in self.old.moves }
@@ -150,7 +150,7 @@ impl<S: Drop> Book<S> {
     // rule: Traffic of a book
     /// Records that a slot's connection was closed, and drops its stream.
     pub fn close(&mut self, slot: usize)
-        requires within { slot < vec_len self.old.places }
+        requires live { IsOpen (slots_after self.old.moves slot) }
         ensures closes { Closes slot (slots_after self.old.moves) (slots_after self.new.moves) }
         ensures accepted { accepted_in self.new.moves ≡ accepted_in self.old.moves }
         ensures capacity { vec_len self.new.places ≡ vec_len self.old.places }

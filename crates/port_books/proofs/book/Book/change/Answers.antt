@@ -3,6 +3,7 @@ use Rattle.http_ports.specs.Loops.{kept_at}
 use Rattle.port_books.specs.Books.{slots_after}
 use Rattle.port_books.specs.declared.moves.Move.TheVariants as move
 use Rattle.port_books.proofs.BookLemmas.{accepted_in-push, changes, tied-push, waits-changed}
+use Rattle.port_books.proofs.PlaceLemmas.{open_within}
 use Rattle.port_books.proofs.book.Book.change.Goals as goal
 
 pub invariant_of-self : goal.invariant_of-self
@@ -21,3 +22,9 @@ returns-clause-changes g c = rw c.push.ensures (changes c.args.self.now.moves c.
 pub returns-clause-accepted : goal.returns-clause-accepted
 returns-clause-accepted g c =
     rw c.push.ensures (accepted_in-push c.args.self.now.moves (move.Changed c.args.slot c.args.change) ∙ omega arith)
+
+pub set_waits-requires : goal.set_waits-requires
+set_waits-requires g c =
+    omega (arith, c.args.self.now.places.ok,
+    open_within c.args.self.now.places.items c.args.slot (slots_after c.args.self.now.moves c.args.slot)
+    (c.args.self.now.tied c.args.slot) c.requires.live)

@@ -1,7 +1,8 @@
 use Rattle.std.proofs.Common.{◌∙◌, ap, arith}
-use Rattle.port_books.specs.Books.{kept_waits}
+use Rattle.port_books.specs.Books.{kept_waits, slots_after}
 use Rattle.port_books.specs.declared.moves.Move.TheVariants as move
 use Rattle.port_books.proofs.BookLemmas.{accepted_in-push, closes, tied-push}
+use Rattle.port_books.proofs.PlaceLemmas.{open_within}
 use Rattle.port_books.proofs.book.Book.close.Goals as goal
 
 pub invariant_of-self : goal.invariant_of-self
@@ -17,3 +18,9 @@ returns-clause-closes g c = rw c.push.ensures (closes c.args.self.now.moves c.ar
 pub returns-clause-accepted : goal.returns-clause-accepted
 returns-clause-accepted g c =
     rw c.push.ensures (accepted_in-push c.args.self.now.moves (move.Closed c.args.slot) ∙ omega arith)
+
+pub put-requires : goal.put-requires
+put-requires g c =
+    omega (arith, c.args.self.now.places.ok,
+    open_within c.args.self.now.places.items c.args.slot (slots_after c.args.self.now.moves c.args.slot)
+    (c.args.self.now.tied c.args.slot) c.requires.live)

@@ -1,0 +1,18 @@
+//! A port over sockets, none of which it waits for alone.
+//!
+//! `MioPort` is a `Port` of `http_ports` over a listener, which other ports may share, and the sockets that it accepted,
+//! by the system's readiness (`mio`). Its traffic is what its reads and writes said that they received and sent: the
+//! book of `port_books` keeps it. It accepts so many connections in all, holds so many at once, and reports one as late
+//! that waits and on which nothing has passed for so many seconds: read `specs/Polled.antt`.
+//!
+//! That a socket carries what was read and written, that the system reports what is ready, and how time passes is known
+//! to no contract.
+
+#![tactic(auto)]
+
+mod passing;
+mod port;
+mod reporting;
+mod waiting;
+
+pub use crate::port::MioPort;
