@@ -17,9 +17,10 @@ struct Manner {
     room: usize,
     after_input: Finish,
     when_full: Finish,
+    is_slow: bool,
 }
 
-// Reads a word of a manner: `slot=1`, `piece=7`, `room=20`, `silent`, `broken` or `blocked`.
+// Reads a word of a manner: `slot=1`, `piece=7`, `room=20`, `silent`, `broken`, `blocked` or `quick`.
 fn read_word(manner: &mut Manner, word: &str) {
     let (name, number) = word.split_once('=').unwrap_or((word, ""));
     let number = number.parse().unwrap_or(0usize);
@@ -30,11 +31,13 @@ fn read_word(manner: &mut Manner, word: &str) {
         "silent" => manner.after_input = Finish::Stays,
         "broken" => manner.after_input = Finish::Fails,
         "blocked" => manner.when_full = Finish::Stays,
+        "quick" => manner.is_slow = false,
         _ => {}
     }
 }
 
-// The manner of these words: else a peer has the slot 0, sends pieces of this length, ends, and takes what it gets.
+// The manner of these words: else a peer has the slot 0, sends pieces of this length with a pause after each, ends, and
+// takes what it gets.
 fn manner_of(words: &str, piece: usize) -> Manner {
     let mut manner = Manner {
         slot: 0,
@@ -42,6 +45,7 @@ fn manner_of(words: &str, piece: usize) -> Manner {
         room: 50_000,
         after_input: Finish::Ends,
         when_full: Finish::Fails,
+        is_slow: true,
     };
     for word in words.split(' ') {
         read_word(&mut manner, word);
@@ -55,6 +59,7 @@ fn make_peer(alloc: Global, manner: Manner, input: &str) -> Option<Peer> {
     let mut peer = Peer::new(alloc, input, manner.piece, manner.room).ok()?;
     peer.after_input = manner.after_input;
     peer.when_full = manner.when_full;
+    peer.is_slow = manner.is_slow;
     Some(peer)
 }
 

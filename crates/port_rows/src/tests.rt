@@ -103,14 +103,17 @@ fn serves_the_peers_of_a_slot_one_after_the_other(rt: HostRuntime) -> Result<(),
     Ok(())
 }
 
-// A head of 16384 bytes and one of 16385; a thousand messages, and one more.
+// A head of 16384 bytes and one of 16385; 999 messages, and 1001 of which the last gets no reply; the same from a peer
+// that never pauses, beside another one.
 const LIMITS: &str = "\
 ;GET / HTTP/1.1~X: %16361*y%~~;ended;HTTP/1.1 404 Not Found~Content-Length: 0~~
 ;GET / HTTP/1.1~X: %16362*y%~~;over;HTTP/1.1 431 Request Header Fields Too Large~Content-Length: 0~Connection: close~~
 ;%999*GET / HTTP/1.1~~%;ended;%999*HTTP/1.1 404 Not Found~Content-Length: 0~~%
 ;%1001*GET / HTTP/1.1~~%;over;%999*HTTP/1.1 404 Not Found~Content-Length: 0~~%HTTP/1.1 404 Not Found~Content-Length: 0~Connection: close~~
+quick;%1001*GET / HTTP/1.1~~%;over;%999*HTTP/1.1 404 Not Found~Content-Length: 0~~%HTTP/1.1 404 Not Found~Content-Length: 0~Connection: close~~|slot=1;GET / HTTP/1.1~~;ended;HTTP/1.1 404 Not Found~Content-Length: 0~~
 ";
 
+// rule: Rest of a connection
 #[test]
 fn keeps_the_limits_of_a_session(rt: HostRuntime) -> Result<(), AllocError> {
     let mut room = Buffers::new(rt.alloc())?;

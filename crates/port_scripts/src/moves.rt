@@ -11,7 +11,8 @@ use http_ports::{Last, Received, Sent};
 use std::alloc::{AllocError, Global};
 
 impl Peer {
-    /// Makes a peer that sends this input in pieces of this length, and then ends it, and takes up to `room` bytes.
+    /// Makes a peer that sends this input in pieces of this length with a pause after each, and then ends it, and takes up
+    /// to `room` bytes.
     pub fn new(alloc: Global, input: Vec<u8>, piece: usize, room: usize) -> Result<Peer, AllocError>
         ensures input { IfOk result (λ peer. peer.input ≡ input) }
         ensures fresh { IfOk result (λ peer. traffic_of peer ≡ no_traffic) }
@@ -24,6 +25,7 @@ impl Peer {
             piece,
             after_input: Finish::Ends,
             when_full: Finish::Fails,
+            is_slow: true,
             pauses: false,
             last: Last::Reported,
             expired: false,
@@ -83,7 +85,7 @@ impl Peer {
         let count = left.len().min(into.len()).min(self.piece.max(1));
         into[..count].copy_from_slice(&left[..count]);
         self.read += count;
-        self.pauses = true;
+        self.pauses = self.is_slow;
         self.last = Last::Passed;
         Received::Bytes(count)
     }
@@ -125,7 +127,7 @@ impl Peer {
         let Ok(()) = self.got.extend_from_slice(&bytes[..count]) else {
             return self.when_full();
         };
-        self.pauses = true;
+        self.pauses = self.is_slow;
         self.last = Last::Passed;
         Sent::Bytes(count)
     }

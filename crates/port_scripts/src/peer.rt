@@ -16,7 +16,7 @@ pub enum Finish {
     Stays,
 }
 
-/// A peer: it sends its input in pieces, with a pause after each, and takes pieces of that length.
+/// A peer: it sends its input in pieces, and takes pieces of that length, as a rule with a pause after each.
 #[derive(Drop)]
 pub struct Peer {
     /// What it sends.
@@ -31,6 +31,8 @@ pub struct Peer {
     pub after_input: Finish,
     /// What it does once it took as much as it takes.
     pub when_full: Finish,
+    /// Whether it pauses after each piece.
+    pub is_slow: bool,
     /// Whether it pauses now.
     pub pauses: bool,
     /// What the last call for the connection came to.
