@@ -15,4 +15,6 @@ mod peers;
 #[cfg(test)]
 mod rows;
 #[cfg(test)]
+mod socket_tests;
+#[cfg(test)]
 mod tests;

@@ -1,0 +1,94 @@
+// Clients of a listener on the loopback, whom one thread serves in two slots. A row is what a client sends and what it
+// gets; one whose message ends with `+` leaves its connection open, and is late after a second.
+
+use crate::desk::{Echo, Site};
+use crate::lines::expand;
+use http_ports::run;
+use http_sessions::Buffers;
+use http_talks::{Talk, Talks};
+use mio_ports::MioPort;
+use std::alloc::Global;
+use std::io::{Read, Write};
+use std::net::{Net, Shutdown, TcpListener, TcpStream};
+use std::sync::Wait;
+use std::test::Fail;
+use std::time::Clock;
+
+const CLIENTS: &str = "\
++|
+POST /echo HTTP/1.1~Content-Length: 3~~one|HTTP/1.1 200 OK~Content-Type: text/plain~Content-Length: 3~~one
+POST /echo HTTP/1.1~Content-Length: 3~~twoGET / HTTP/1.1~~|HTTP/1.1 200 OK~Content-Type: text/plain~Content-Length: 3~~twoHTTP/1.1 404 Not Found~Content-Length: 0~~
+GET / HTTP/1.1~~GET / HTT+|HTTP/1.1 404 Not Found~Content-Length: 0~~
+GET /p/a.bin HTTP/1.1~~|HTTP/1.1 200 OK~Content-Type: application/octet-stream~Content-Length: 3~~abc";
+
+// Connects the client of a row, and sends its message.
+fn connect(rt: &HostRuntime, listener: &TcpListener, row: &str) -> Option<TcpStream> {
+    let (message, _) = row.split_once('|')?;
+    let address = listener.local_addr().ok()?;
+    let mut stream = TcpStream::connect(rt, address).ok()?;
+    let bytes = expand(rt.alloc(), message.strip_suffix('+').unwrap_or(message))?;
+    stream.write_all(bytes.as_slice()).ok()?;
+    if !message.ends_with('+') {
+        stream.shutdown(Shutdown::Write).ok()?;
+    }
+    Some(stream)
+}
+
+// Connects the clients of all rows, in order.
+fn connect_all(
+    rt: &HostRuntime,
+    listener: &TcpListener,
+    streams: &mut Vec<TcpStream>,
+) -> Option<()> {
+    for row in CLIENTS.lines() {
+        streams.push(connect(rt, listener, row)?).ok()?;
+    }
+    Some(())
+}
+
+// Serves so many connections of a listener; for how many memory ran out.
+fn serve<R: Wait + Net + Clock + AllocGlobal>(
+    rt: &R,
+    listener: &TcpListener,
+    limit: u64,
+) -> Option<u64> {
+    let alloc = rt.alloc();
+    let site = Site;
+    let talks = Talks { alloc, site: &site };
+    let mut desk = Echo { alloc };
+    let mut room = Buffers::new(alloc).ok()?;
+    let mut conns: [Option<Talk>; 2] = [None, None];
+    let mut port = MioPort::new(rt, listener, 2, limit, 1)?;
+    Some(run(
+        rt,
+        &mut port,
+        &talks,
+        &mut room,
+        &mut [0; 4096],
+        &mut conns,
+        &mut desk,
+    ))
+}
+
+// Whether a client got what its row says, and no more.
+fn is_served(alloc: Global, stream: &mut TcpStream, row: &str) -> Option<bool> {
+    let (_, wanted) = row.split_once('|')?;
+    let wanted = expand(alloc, wanted)?;
+    let mut got = Vec::new(alloc);
+    stream.read_to_end(&mut got).ok()?;
+    Some(got.as_slice() == wanted.as_slice())
+}
+
+// rule: Traffic of a book
+#[test]
+fn serves_others_beside_silent_clients_of_a_listener(rt: HostRuntime) -> Result<(), Fail> {
+    let listener = TcpListener::bind(&rt, "127.0.0.1:0").map_err(|_| "no listener")?;
+    listener.set_nonblocking(true).map_err(|_| "no listener")?;
+    let mut streams = Vec::new(rt.alloc());
+    connect_all(&rt, &listener, &mut streams).ok_or("no clients")?;
+    assert!(rt; serve(&rt, &listener, 5) == Some(0));
+    for (stream, row) in streams.iter_mut().zip(CLIENTS.lines()) {
+        assert!(rt; is_served(rt.alloc(), stream, row) == Some(true), "{row}");
+    }
+    Ok(())
+}
