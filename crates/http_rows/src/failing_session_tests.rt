@@ -2,7 +2,7 @@
 
 use crate::desks::{FILES, letters};
 use crate::session_tests::serve_over;
-use http_memory::{Connection, Shelf};
+use http_memory::{Connection, Input, Output, Shelf};
 use std::process::Abort;
 
 // A post that is echoed, a download, and a message to no path.
@@ -29,9 +29,10 @@ fn replies_to(read: usize) -> Option<&'static [u8]> {
 // Lets each read of a session fail until none does, and returns how many there are. A read gives so many bytes.
 fn count_reads<R: AllocGlobal + Abort>(rt: &R, piece: usize) -> usize {
     for good in 0..1000 {
-        let mut connection = Connection::new(rt.alloc(), SENT, piece);
-        connection.input.fails_after = Some(good);
-        connection.output.piece = 1000;
+        let mut input = Input::new(SENT, piece);
+        input.fails_after = Some(good);
+        let output = Output::new(rt.alloc(), 1000);
+        let mut connection = Connection { input, output };
         let ended = serve_over(rt, &FILES, &mut connection);
         let read = SENT.len().saturating_sub(connection.input.left.len());
         assert!(rt;
@@ -58,9 +59,10 @@ fn replies_to_whole_messages_before_each_failed_read(rt: HostRuntime) {
 // Lets each write of a session fail until none does, and returns how many there are. A write takes so many bytes.
 fn count_writes<R: AllocGlobal + Abort>(rt: &R, piece: usize) -> usize {
     for good in 0..1000 {
-        let mut connection = Connection::new(rt.alloc(), SENT, 1000);
-        connection.output.piece = piece;
-        connection.output.fails_after = Some(good);
+        let mut output = Output::new(rt.alloc(), piece);
+        output.fails_after = Some(good);
+        let input = Input::new(SENT, 1000);
+        let mut connection = Connection { input, output };
         let ended = serve_over(rt, &FILES, &mut connection);
         let written = &connection.output.bytes;
         assert!(rt;
@@ -120,6 +122,7 @@ fn count_blocks<R: AllocGlobal + Abort>(rt: &R) -> usize {
 
 // rule: Download of a package
 // rule: End of a session
+// rule: File in memory
 #[test]
 fn sends_the_blocks_before_each_unreadable_one(rt: HostRuntime) {
     assert_eq!(rt; count_blocks(&rt), 4);

@@ -127,6 +127,7 @@ pub(crate) fn gives(alloc: Global, row: &str, piece: usize) -> Option<bool> {
 
 // rule: End of a connection
 // rule: Length of a body
+// rule: Piece of a device in memory
 #[test]
 fn reads_heads_however_they_are_cut(rt: HostRuntime) {
     for piece in [1, 7, 100000] {
