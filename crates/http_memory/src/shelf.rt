@@ -1,4 +1,4 @@
-ghost use Rattle.std.specs.Prelude.{◌≡◌, ◌+◌, ◌≤◌, ℕ, length, Some};
+ghost use Rattle.std.specs.Prelude.{◌≡◌, ◌+◌, ◌≤◌, length, Some};
 ghost use Rattle.http_memory.specs.Shelves.{found_file, content_size, part_of_content, part_of_file, find_in, size_found, part_found};
 ghost use Rattle.http_desks.specs.Downloads.{bytes_read};
 

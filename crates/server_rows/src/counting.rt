@@ -1,7 +1,5 @@
 // A till that counts what the mirrors grant by it.
 
-ghost use Rattle.std.specs.Prelude.{◌≡◌};
-
 use mirror_ledger::Till;
 use records::Mirror;
 use std::sync::Wait;

@@ -91,6 +91,22 @@ fn ended_before(how: &'static str) -> Ended {
     }
 }
 
+// Serves a connection by a desk: how often it was unfinished, and how it ended.
+fn serve_all<R: Wait + AllocGlobal, T: Till>(
+    rt: &R,
+    desk: &mut Worker<'_, R, T>,
+    session: &mut OneSession<'_, '_>,
+) -> (usize, &'static str) {
+    let packages = session.packages;
+    let unfinished = if session.is_cut {
+        serve_cuts(rt, desk, &packages, session.connection)
+    } else {
+        0
+    };
+    let how = serve_at(rt, desk, &packages, session.connection);
+    (unfinished, how)
+}
+
 // Serves a connection by a view and a till, and gives the till back.
 fn serve_by<R: Wait + AllocGlobal, T: Till + Drop>(
     rt: &R,
@@ -99,13 +115,7 @@ fn serve_by<R: Wait + AllocGlobal, T: Till + Drop>(
     session: &mut OneSession<'_, '_>,
 ) -> (T, Ended) {
     let mut desk = Worker::new(rt, view, Counting::new(till));
-    let packages = session.packages;
-    let unfinished = if session.is_cut {
-        serve_cuts(rt, &mut desk, &packages, session.connection)
-    } else {
-        0
-    };
-    let how = serve_at(rt, &mut desk, &packages, session.connection);
+    let (unfinished, how) = serve_all(rt, &mut desk, session);
     let (_view, counting) = desk.into_parts();
     let (till, granted) = counting.into_parts();
     let ended = Ended {

@@ -138,16 +138,27 @@ fn are_done<'a, R: Clock>(ran: &Ran<Coming<'a, R>, Beside<'a, R>>) -> bool {
     is_first && is_second && ran.ends.len() == 2 && ran.own.is_some()
 }
 
-fn run_at_once<R: Threads + Wait + Clock + Sync>(rt: &R, alloc: Global) -> Option<bool> {
-    let meeting = Meeting::new(rt);
+// Whether two jobs that meet are done, as is what runs beside them.
+fn run_jobs<R: Threads + Wait + Clock + Sync>(
+    rt: &R,
+    alloc: Global,
+    meeting: &Meeting<'_, R>,
+) -> Option<bool> {
     let mirrors = named_mirrors(alloc, "0")?;
-    let jobs = two_jobs(&meeting, alloc).ok()?;
+    let jobs = two_jobs(meeting, alloc).ok()?;
     if !has_bounds(&mirrors) {
         return None;
     }
-    let mut own = Beside { meeting: &meeting };
-    let ran = run_with_tills(rt, alloc, mirrors, &meeting, jobs, &mut own).ok()?;
-    Some(are_done(&ran) && meeting.is_complete())
+    match run_with_tills(rt, alloc, mirrors, meeting, jobs, &mut Beside { meeting }) {
+        Ok(ran) => Some(are_done(&ran)),
+        Err(_) => None,
+    }
+}
+
+fn run_at_once<R: Threads + Wait + Clock + Sync>(rt: &R, alloc: Global) -> Option<bool> {
+    let meeting = Meeting::new(rt);
+    let are_done = run_jobs(rt, alloc, &meeting);
+    Some(are_done? && meeting.is_complete())
 }
 
 // rule: Jobs of threads
