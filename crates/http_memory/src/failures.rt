@@ -9,7 +9,8 @@ enum Marks {
     Marked(Snapshot<Marks>),
 }
 
-/// How many calls of a device failed. It takes no bytes, and only a failed call changes it.
+/// How many calls of a device failed, which contracts alone see: it takes no bytes at run time. Only a failed call
+/// changes it.
 #[derive(Drop)]
 pub struct Failures {
     marks: Marks,
