@@ -1,8 +1,8 @@
 ghost use Rattle.std.specs.Prelude.{◌≡◌, length};
 
-use crate::devices::Pieces;
 use crate::head_tests::is_head;
 use crate::lines::make_head;
+use http_memory::Input;
 use http_wire::{Head, MAX_FIELDS, Window, read_body, read_head};
 use httparse::spans::{EMPTY_HEADER_SPAN, HeaderSpan};
 use std::alloc::Global;
@@ -14,7 +14,7 @@ const MESSAGES: &[u8] =
 const BODY: &[u8] = b"GET /x HTTP/1.1\r\n\r";
 
 // Reads a head, a body of 18 bytes and a second head, and says how far it came.
-fn read_two(source: &mut Pieces<'_>, window: &mut Window, fields: &mut [HeaderSpan]) -> &'static str
+fn read_two(source: &mut Input<'_>, window: &mut Window, fields: &mut [HeaderSpan]) -> &'static str
     requires { length fields.old ≡ 5461 }
 {
     match read_head(source, window, fields) {
@@ -39,7 +39,7 @@ fn read_two(source: &mut Pieces<'_>, window: &mut Window, fields: &mut [HeaderSp
 }
 
 // How far it comes over a source.
-fn read_from(alloc: Global, source: &mut Pieces<'_>) -> Option<&'static str> {
+fn read_from(alloc: Global, source: &mut Input<'_>) -> Option<&'static str> {
     let fields = vec![in alloc; EMPTY_HEADER_SPAN; MAX_FIELDS].ok()?.leak();
     let mut window = Window::new(alloc).ok()?;
     Some(read_two(source, &mut window, fields))
@@ -56,7 +56,7 @@ fn reads_messages_however_they_are_cut(rt: HostRuntime) {
             _ => "both",
         };
         for piece in [1, 7, 1000] {
-            let mut source = Pieces::new(&MESSAGES[..end], piece);
+            let mut source = Input::new(&MESSAGES[..end], piece);
             let found = read_from(rt.alloc(), &mut source);
             assert!(rt; found == Some(expected), "{end} bytes, {piece} a call");
         }
@@ -72,12 +72,8 @@ fn reports_each_read_that_fails(rt: HostRuntime) {
             58..77 => "second failed",
             _ => "both",
         };
-        let mut source = Pieces {
-            left: MESSAGES,
-            piece: 1,
-            good,
-            failed: false,
-        };
+        let mut source = Input::new(MESSAGES, 1);
+        source.fails_after = Some(good);
         let found = read_from(rt.alloc(), &mut source);
         assert!(rt; found == Some(expected), "after {good} reads");
     }

@@ -1,9 +1,9 @@
 // A listener on the loopback with its clients, and the server of so many connections.
 
 use crate::counter::Counter;
-use crate::desks::Files;
+use crate::desks::FILES;
 use crate::lines::expand;
-use crate::writers::Stopped;
+use crate::writers::STOPPED;
 use http_connections::serve_listener;
 use http_sessions::Site;
 use http_wire::Unwatched;
@@ -57,8 +57,8 @@ pub(crate) fn is_sent(alloc: Global, stream: &mut TcpStream, wanted: &str) -> Op
 /// desk was asked.
 pub(crate) fn serve_some(rt: &HostRuntime, listener: &TcpListener, limit: u64) -> u8 {
     let site = Site {
-        packages: &Files,
-        clock: &Stopped,
+        packages: &FILES,
+        clock: &STOPPED,
         watch: &Unwatched,
     };
     let mut desk = Counter {

@@ -2,11 +2,11 @@
 
 ghost use Rattle.std.specs.Prelude.{codes};
 
-use crate::desks::{ABC, Files};
-use crate::devices::{Kept, Pieces};
-use crate::writers::Stopped;
+use crate::desks::{ABC, FILES};
+use crate::writers::STOPPED;
 use corpus::{HEADS, case_of};
 use http_desks::{Answer, Declared, Desk, DeskStatus, Off};
+use http_memory::Connection;
 use http_sessions::serve;
 use std::alloc::{AllocError, Global};
 use std::str;
@@ -91,10 +91,10 @@ fn print_statuses(alloc: Global, written: &[u8]) -> Option<String> {
 fn is_served(rt: &HostRuntime, row: &str, piece: usize) -> Option<bool> {
     let case = case_of(rt.alloc(), row)?;
     let mut desk = Greeter { alloc: rt.alloc() };
-    let mut sink = Kept::new(rt.alloc(), piece, usize::MAX);
-    let mut source = Pieces::new(case.bytes, piece);
-    let _ended = serve(rt, &mut source, &mut sink, &mut desk, &Files, &Stopped);
-    let line = print_statuses(rt.alloc(), &sink.bytes)?;
+    let mut connection = Connection::new(rt.alloc(), case.bytes, piece);
+    let Connection { input, output } = &mut connection;
+    let _ended = serve(rt, input, output, &mut desk, &FILES, &STOPPED);
+    let line = print_statuses(rt.alloc(), &output.bytes)?;
     Some(line.as_str() == case.outcome)
 }
 

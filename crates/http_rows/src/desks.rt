@@ -1,10 +1,10 @@
-// A desk, and packages in memory.
+// A desk, and the files of its packages.
 
 ghost use Rattle.std.specs.Prelude.{codes};
 ghost use Rattle.http_desks.specs.Calls.{Call};
 
-use http_desks::{Answer, Declared, Desk, DeskStatus, Off, Packages};
-use http_wire::Failed;
+use http_desks::{Answer, Declared, Desk, DeskStatus, Off};
+use http_memory::{Content, File, Shelf};
 use std::alloc::Global;
 
 /// The SHA-256 of `abc`, as FIPS 180 has it.
@@ -95,62 +95,36 @@ impl Desk for Echo {
 }
 
 /// The files of some packages, of which one is `abc`, one has other bytes and one is short.
-#[derive(Drop)]
-pub(crate) struct Files;
+pub(crate) const FILES: Shelf<'static> = Shelf {
+    files: &[
+        File {
+            name: b"mini-1.0.bin",
+            content: Content::Bytes(b"abc"),
+            readable: 3,
+        },
+        File {
+            name: b"a",
+            content: Content::Bytes(b"abc"),
+            readable: 3,
+        },
+        File {
+            name: b"changed.bin",
+            content: Content::Bytes(b"abd"),
+            readable: 3,
+        },
+        File {
+            name: b"short.bin",
+            content: Content::Bytes(b"ab"),
+            readable: 2,
+        },
+    ],
+};
 
-impl Packages for Files {
-    ghost reads = { λ _ _ _ _ _. Unit {0} };
-
-    ghost sizes = { λ _ _ _. Unit {0} };
-
-    fn size(&self, name: &[u8]) -> Option<u64> {
-        if name == b"short.bin".as_slice() {
-            return Some(2);
-        }
-        if name == b"missing.bin".as_slice() {
-            return None;
-        }
-        Some(3)
-    }
-
-    fn read_at(&self, name: &[u8], at: u64, into: &mut [u8]) -> Result<(), Failed> {
-        let file = if name == b"changed.bin".as_slice() {
-            b"abd".as_slice()
-        } else {
-            b"abc".as_slice()
-        };
-        if at != 0 || into.len() > file.len() {
-            return Err(Failed);
-        }
-        let count = into.len();
-        into.copy_from_slice(&file[..count]);
-        Ok(())
-    }
-}
-
-/// Files of bytes `a`, whose blocks can be read but the one at a place.
-#[derive(Drop)]
-pub(crate) struct Letters {
-    pub(crate) size: u64,
-    pub(crate) broken: u64,
-}
-
-impl Packages for Letters {
-    ghost reads = { λ _ _ _ _ _. Unit {0} };
-
-    ghost sizes = { λ _ _ _. Unit {0} };
-
-    fn size(&self, _name: &[u8]) -> Option<u64> {
-        Some(self.size)
-    }
-
-    fn read_at(&self, _name: &[u8], at: u64, into: &mut [u8]) -> Result<(), Failed> {
-        if at == self.broken {
-            return Err(Failed);
-        }
-        for byte in into.iter_mut() {
-            *byte = b'a';
-        }
-        Ok(())
+/// A file of so many letters `a`, of which so many can be read.
+pub(crate) fn letters<'a>(name: &'a [u8], size: u64, readable: u64) -> File<'a> {
+    File {
+        name,
+        content: Content::Repeated(b'a', size),
+        readable,
     }
 }

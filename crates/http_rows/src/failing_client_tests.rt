@@ -1,8 +1,8 @@
 // Posts and downloads whose source or sink fails at one call, whichever it is.
 
-use crate::devices::{Kept, Pieces};
 use http_client::{Body, LinkFault, open_over, post_over};
 use http_client_heads::{Post, parse_address};
+use http_memory::{Input, Output};
 use std::alloc::Global;
 use std::process::Abort;
 
@@ -28,7 +28,7 @@ fn name_of(fault: LinkFault) -> &'static str {
 }
 
 // What a post comes to: `whole`, or which device failed.
-fn post(alloc: Global, source: &mut Pieces<'_>, sink: &mut Kept) -> &'static str {
+fn post(alloc: Global, source: &mut Input<'_>, sink: &mut Output) -> &'static str {
     let post = Post {
         host: "h:8080",
         path: "/service/update2/json",
@@ -43,7 +43,7 @@ fn post(alloc: Global, source: &mut Pieces<'_>, sink: &mut Kept) -> &'static str
 }
 
 // Reads a body to its end, and on after each read that fails; returns how many fail.
-fn read_on(source: &mut Pieces<'_>, body: &mut Body, bytes: &mut Vec<u8>) -> Option<u32> {
+fn read_on(source: &mut Input<'_>, body: &mut Body, bytes: &mut Vec<u8>) -> Option<u32> {
     let mut block = [0; 4];
     let mut failed = 0u32;
     for _ in 0..100 {
@@ -57,7 +57,7 @@ fn read_on(source: &mut Pieces<'_>, body: &mut Body, bytes: &mut Vec<u8>) -> Opt
 }
 
 // What a body that was opened comes to.
-fn hand_on(alloc: Global, source: &mut Pieces<'_>, body: &mut Body) -> &'static str {
+fn hand_on(alloc: Global, source: &mut Input<'_>, body: &mut Body) -> &'static str {
     let mut bytes = Vec::new(alloc);
     match read_on(source, body, &mut bytes) {
         Some(failed) if bytes.as_slice() == b"hello".as_slice() => match failed {
@@ -70,7 +70,7 @@ fn hand_on(alloc: Global, source: &mut Pieces<'_>, body: &mut Body) -> &'static 
 }
 
 // What a download comes to. If a read of the body fails, the rest is read afterwards.
-fn download(alloc: Global, source: &mut Pieces<'_>, sink: &mut Kept) -> &'static str {
+fn download(alloc: Global, source: &mut Input<'_>, sink: &mut Output) -> &'static str {
     let Some(address) = parse_address(ADDRESS) else {
         return "no address";
     };
@@ -80,7 +80,7 @@ fn download(alloc: Global, source: &mut Pieces<'_>, sink: &mut Kept) -> &'static
     }
 }
 
-fn ask(alloc: Global, kind: &str, source: &mut Pieces<'_>, sink: &mut Kept) -> &'static str {
+fn ask(alloc: Global, kind: &str, source: &mut Input<'_>, sink: &mut Output) -> &'static str {
     match kind {
         "post" => post(alloc, source, sink),
         _ => download(alloc, source, sink),
@@ -90,13 +90,9 @@ fn ask(alloc: Global, kind: &str, source: &mut Pieces<'_>, sink: &mut Kept) -> &
 // Lets each read fail until none does, and returns how many there are. A read gives so many bytes.
 fn count_reads<R: AllocGlobal + Abort>(rt: &R, kind: &str, piece: usize) -> usize {
     for good in 0..1000 {
-        let mut source = Pieces {
-            left: REPLY,
-            piece,
-            good,
-            failed: false,
-        };
-        let mut sink = Kept::new(rt.alloc(), 1000, usize::MAX);
+        let mut source = Input::new(REPLY, piece);
+        source.fails_after = Some(good);
+        let mut sink = Output::new(rt.alloc(), 1000);
         let came = ask(rt.alloc(), kind, &mut source, &mut sink);
         assert!(rt;
             sink.bytes.as_slice() == request_of(kind),
@@ -140,12 +136,13 @@ fn after_failed_write(kind: &str) -> (&'static str, usize) {
 // Lets each write fail until none does, and returns how many there are. A write takes so many bytes.
 fn count_writes<R: AllocGlobal + Abort>(rt: &R, kind: &str, piece: usize) -> usize {
     for good in 0..1000 {
-        let mut source = Pieces::new(REPLY, 1000);
-        let mut sink = Kept::new(rt.alloc(), piece, good);
+        let mut source = Input::new(REPLY, 1000);
+        let mut sink = Output::new(rt.alloc(), piece);
+        sink.fails_after = Some(good);
         let came = ask(rt.alloc(), kind, &mut source, &mut sink);
         let is_part = request_of(kind).starts_with(&sink.bytes) && sink.calls == good;
         assert!(rt; is_part, "{kind}, after {good} writes");
-        if !sink.failed && came == "whole" {
+        if sink.fails_after.is_some() && came == "whole" {
             return good;
         }
         let seen = (came, source.left.len());
@@ -199,15 +196,12 @@ const EARLY: &[(&[u8], usize, &str)] = &[
 #[test]
 fn a_cut_post_without_a_whole_reply_is_a_failed_write(rt: HostRuntime) {
     for (left, good, wanted) in EARLY {
-        let mut source = Pieces {
-            left,
-            piece: 1000,
-            good: *good,
-            failed: false,
-        };
-        let mut sink = Kept::new(rt.alloc(), 10, 3);
+        let mut source = Input::new(left, 1000);
+        source.fails_after = Some(*good);
+        let mut sink = Output::new(rt.alloc(), 10);
+        sink.fails_after = Some(3);
         let came = post(rt.alloc(), &mut source, &mut sink);
-        let is_cut = sink.failed && sink.bytes.len() == 30;
+        let is_cut = sink.fails_after.is_none() && sink.bytes.len() == 30;
         assert!(rt; is_cut && came == *wanted, "{came}");
     }
 }

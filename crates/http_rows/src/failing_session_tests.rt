@@ -1,8 +1,8 @@
 // Sessions whose source, sink or packages fail at one call, whichever it is.
 
-use crate::desks::{Files, Letters};
-use crate::devices::{Kept, Pieces};
-use crate::session_tests::serve_pieces;
+use crate::desks::{FILES, letters};
+use crate::session_tests::serve_over;
+use http_memory::{Connection, Input, Output, Shelf};
 use std::process::Abort;
 
 // A post that is echoed, a download, and a message to no path.
@@ -29,17 +29,14 @@ fn replies_to(read: usize) -> Option<&'static [u8]> {
 // Lets each read of a session fail until none does, and returns how many there are. A read gives so many bytes.
 fn count_reads<R: AllocGlobal + Abort>(rt: &R, piece: usize) -> usize {
     for good in 0..1000 {
-        let mut source = Pieces {
-            left: SENT,
-            piece,
-            good,
-            failed: false,
-        };
-        let mut sink = Kept::new(rt.alloc(), 1000, usize::MAX);
-        let ended = serve_pieces(rt, &Files, &mut source, &mut sink);
-        let read = SENT.len().saturating_sub(source.left.len());
+        let mut input = Input::new(SENT, piece);
+        input.fails_after = Some(good);
+        let output = Output::new(rt.alloc(), 1000);
+        let mut connection = Connection { input, output };
+        let ended = serve_over(rt, &FILES, &mut connection);
+        let read = SENT.len().saturating_sub(connection.input.left.len());
         assert!(rt;
-            replies_to(read) == Some(sink.bytes.as_slice()),
+            replies_to(read) == Some(connection.output.bytes.as_slice()),
             "after {good} reads"
         );
         if ended == (3, "finished") {
@@ -62,14 +59,17 @@ fn replies_to_whole_messages_before_each_failed_read(rt: HostRuntime) {
 // Lets each write of a session fail until none does, and returns how many there are. A write takes so many bytes.
 fn count_writes<R: AllocGlobal + Abort>(rt: &R, piece: usize) -> usize {
     for good in 0..1000 {
-        let mut source = Pieces::new(SENT, 1000);
-        let mut sink = Kept::new(rt.alloc(), piece, good);
-        let ended = serve_pieces(rt, &Files, &mut source, &mut sink);
+        let mut output = Output::new(rt.alloc(), piece);
+        output.fails_after = Some(good);
+        let input = Input::new(SENT, 1000);
+        let mut connection = Connection { input, output };
+        let ended = serve_over(rt, &FILES, &mut connection);
+        let written = &connection.output.bytes;
         assert!(rt;
-            WRITTEN.starts_with(&sink.bytes) && sink.calls == good,
+            WRITTEN.starts_with(written) && connection.output.calls == good,
             "after {good} writes"
         );
-        if ended == (3, "finished") && sink.bytes.len() == WRITTEN.len() {
+        if ended == (3, "finished") && written.len() == WRITTEN.len() {
             return good;
         }
         assert!(rt; ended == (0, "write failed"), "after {good} writes");
@@ -104,18 +104,16 @@ fn count_letters(written: &[u8]) -> Option<usize> {
 // Lets each block of a download be unreadable until none is, and returns how many there are.
 fn count_blocks<R: AllocGlobal + Abort>(rt: &R) -> usize {
     for good in 0..100 {
-        let packages = Letters {
-            size: 200_000,
-            broken: 65536 * good as u64,
-        };
-        let mut sink = Kept::new(rt.alloc(), usize::MAX, usize::MAX);
-        let ended = serve_pieces(rt, &packages, &mut Pieces::new(DOWNLOAD, 1000), &mut sink);
+        let files = [letters(b"letters.bin", 200_000, 65536 * good as u64)];
+        let packages = Shelf { files: &files };
+        let mut connection = Connection::new(rt.alloc(), DOWNLOAD, usize::MAX);
+        let ended = serve_over(rt, &packages, &mut connection);
         if ended == (2, "finished") {
             return good;
         }
         assert!(rt; ended == (1, "cut"), "after {good} blocks");
         assert!(rt;
-            count_letters(&sink.bytes) == Some(65536 * good),
+            count_letters(&connection.output.bytes) == Some(65536 * good),
             "after {good} blocks"
         );
     }
@@ -124,6 +122,7 @@ fn count_blocks<R: AllocGlobal + Abort>(rt: &R) -> usize {
 
 // rule: Download of a package
 // rule: End of a session
+// rule: File in memory
 #[test]
 fn sends_the_blocks_before_each_unreadable_one(rt: HostRuntime) {
     assert_eq!(rt; count_blocks(&rt), 4);

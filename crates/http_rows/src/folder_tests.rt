@@ -13,33 +13,48 @@ fn path_in(alloc: Global, folder: &str, name: &str) -> Option<&'static str> {
     str::from_utf8(path.into_bytes().leak()).ok()
 }
 
-// The package, a hidden file and an empty one, a link to the package, a link to itself, and a folder.
-fn fill(rt: &HostRuntime, folder: &str) -> Option<()> {
-    fs::create_dir_all(rt, path_in(rt.alloc(), folder, "inner")?).ok()?;
-    fs::write(rt, path_in(rt.alloc(), folder, "a.bin")?, "0123456789").ok()?;
-    fs::write(rt, path_in(rt.alloc(), folder, ".a.bin")?, "0123456789").ok()?;
-    fs::write(rt, path_in(rt.alloc(), folder, "empty")?, "").ok()?;
-    rt.symlink("loop", path_in(rt.alloc(), folder, "loop")?)
-        .ok()?;
-    rt.symlink("a.bin", path_in(rt.alloc(), folder, "link")?)
-        .ok()
+// Whether a file of a folder is written.
+fn is_written(rt: &HostRuntime, folder: &str, name: &str, text: &str) -> bool {
+    match path_in(rt.alloc(), folder, name) {
+        Some(path) => fs::write(rt, path, text).is_ok(),
+        None => false,
+    }
+}
+
+// Whether a link of a folder is made.
+fn is_linked(rt: &HostRuntime, folder: &str, name: &str, target: &str) -> bool {
+    match path_in(rt.alloc(), folder, name) {
+        Some(path) => rt.symlink(target, path).is_ok(),
+        None => false,
+    }
+}
+
+// Whether a folder gets the package, a hidden file and an empty one, a link to the package, and a link to itself.
+fn is_filled(rt: &HostRuntime, folder: &str) -> bool {
+    is_written(rt, folder, "a.bin", "0123456789")
+        && is_written(rt, folder, ".a.bin", "0123456789")
+        && is_written(rt, folder, "empty", "")
+        && is_linked(rt, folder, "loop", "loop")
+        && is_linked(rt, folder, "link", "a.bin")
+}
+
+// The path of a name among the temporary files; it is never freed.
+fn temporary_path(rt: &HostRuntime, name: &str) -> Option<&'static str> {
+    let temporary = env::temp_dir(rt).ok()?;
+    path_in(rt.alloc(), temporary.as_path().to_str()?, name)
 }
 
 // Makes the folder of a test among the temporary files, whose path ends so.
 fn make_folder(rt: &HostRuntime, end: &str) -> Option<&'static str> {
     let number = process::id(rt.process());
-    let name = format!(in rt.alloc(); "{end}.{number}")
-        .ok()?
-        .into_bytes()
-        .leak();
-    let temporary = env::temp_dir(rt).ok()?;
-    let folder = path_in(
-        rt.alloc(),
-        temporary.as_path().to_str()?,
-        str::from_utf8(name).ok()?,
-    )?;
-    fill(rt, folder)?;
-    Some(folder)
+    let name = format!(in rt.alloc(); "{end}.{number}").ok()?;
+    let folder = temporary_path(rt, name.as_str())?;
+    fs::create_dir_all(rt, path_in(rt.alloc(), folder, "inner")?).ok()?;
+    if is_filled(rt, folder) {
+        Some(folder)
+    } else {
+        None
+    }
 }
 
 // Whether a package of a folder has that size, or can't be opened for that reason.

@@ -1,10 +1,10 @@
 ghost use Rattle.std.specs.Prelude.{◌≡◌, length};
 ghost use Rattle.http_wire.specs.Heads.{IsWholeWithin};
 
-use crate::devices::Pieces;
 use crate::lines::{columns, expand};
 use crate::rows::wrong_row;
 use http_heads::{Status, framing, package_name, path_of, wants_close};
+use http_memory::Input;
 use http_wire::{Head, MAX_FIELDS, Window, read_head};
 use httparse::spans::{EMPTY_HEADER_SPAN, HeaderSpan, RequestSpans};
 use std::alloc::Global;
@@ -88,7 +88,7 @@ fn has_fields(
 
 // Whether what is read of a source is the wanted: a whole head's fields, or why there is no head.
 fn is_read(
-    source: &mut Pieces<'_>,
+    source: &mut Input<'_>,
     window: &mut Window,
     fields: &mut [HeaderSpan],
     size: &str,
@@ -115,7 +115,7 @@ pub(crate) fn is_head(
 ) -> Option<bool> {
     let fields = vec![in alloc; EMPTY_HEADER_SPAN; MAX_FIELDS].ok()?.leak();
     let mut window = Window::new(alloc).ok()?;
-    let mut source = Pieces::new(head, piece);
+    let mut source = Input::new(head, piece);
     Some(is_read(&mut source, &mut window, fields, length, end))
 }
 
@@ -127,6 +127,7 @@ pub(crate) fn gives(alloc: Global, row: &str, piece: usize) -> Option<bool> {
 
 // rule: End of a connection
 // rule: Length of a body
+// rule: Piece of a device in memory
 #[test]
 fn reads_heads_however_they_are_cut(rt: HostRuntime) {
     for piece in [1, 7, 100000] {

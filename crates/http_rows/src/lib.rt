@@ -23,8 +23,6 @@ mod desks;
 #[cfg(test)]
 mod device_tests;
 #[cfg(test)]
-mod devices;
-#[cfg(test)]
 mod exchange_tests;
 #[cfg(test)]
 mod failing_client_tests;

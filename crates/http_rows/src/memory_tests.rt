@@ -2,10 +2,10 @@
 
 ghost use Rattle.std.specs.Prelude.{codes};
 
-use crate::desks::{ABC, Files};
-use crate::devices::{Kept, Pieces};
-use crate::writers::Stopped;
+use crate::desks::{ABC, FILES};
+use crate::writers::STOPPED;
 use http_desks::{Answer, Declared, Desk, Off};
+use http_memory::Connection;
 use http_sessions::{Buffers, End, Served, Session, Site, Turn};
 use http_wire::Unwatched;
 use std::alloc::Global;
@@ -48,26 +48,25 @@ const WRITTEN: &[u8] =
 fn take_turn(
     session: Session,
     buffers: &mut Buffers,
-    source: &mut Pieces<'_>,
-    sink: &mut Kept,
+    connection: &mut Connection<'_>,
 ) -> Option<Turn> {
     let site = Site {
-        packages: &Files,
-        clock: &Stopped,
+        packages: &FILES,
+        clock: &STOPPED,
         watch: &Unwatched,
     };
-    session.turn(buffers, source, sink, &mut Poor, &site).ok()
+    let Connection { input, output } = connection;
+    session.turn(buffers, input, output, &mut Poor, &site).ok()
 }
 
 // What a session comes to after two messages.
 fn take_two_turns(
     session: Session,
     buffers: &mut Buffers,
-    source: &mut Pieces<'_>,
-    sink: &mut Kept,
+    connection: &mut Connection<'_>,
 ) -> Option<Served> {
-    match take_turn(session, buffers, source, sink)? {
-        Turn::Open(session) => match take_turn(session, buffers, source, sink)? {
+    match take_turn(session, buffers, connection)? {
+        Turn::Open(session) => match take_turn(session, buffers, connection)? {
             Turn::Ended(served) => Some(served),
             Turn::Open(_) => None,
         },
@@ -75,22 +74,22 @@ fn take_two_turns(
     }
 }
 
-// What a session comes to that writes to a sink.
-fn serve_sent(alloc: Global, sink: &mut Kept) -> Option<Served> {
+// What a session over a connection comes to.
+fn serve_sent(alloc: Global, connection: &mut Connection<'_>) -> Option<Served> {
     let mut buffers = Buffers::new(alloc).ok()?;
     let session = Session::new(alloc).ok()?;
-    let mut source = Pieces::new(SENT, 7);
-    take_two_turns(session, &mut buffers, &mut source, sink)
+    take_two_turns(session, &mut buffers, connection)
 }
 
 #[test]
 fn sends_a_package_whole_without_an_allocator(rt: HostRuntime) {
-    let mut sink = Kept::new(rt.alloc(), 100, usize::MAX);
-    let served = serve_sent(rt.alloc(), &mut sink);
+    let mut connection = Connection::new(rt.alloc(), SENT, 7);
+    connection.output.piece = 100;
+    let served = serve_sent(rt.alloc(), &mut connection);
     let wanted = Served {
         requests: 2,
         end: End::Refused,
     };
     assert!(rt; served == Some(wanted));
-    assert!(rt; sink.bytes.as_slice() == WRITTEN);
+    assert!(rt; connection.output.bytes.as_slice() == WRITTEN);
 }

@@ -1,10 +1,10 @@
 ghost use Rattle.std.specs.Prelude.{◌≡◌, length};
 
-use crate::desks::Letters;
-use crate::devices::Kept;
+use crate::desks::letters;
 use crate::lines::columns;
 use crate::rows::wrong_row;
 use http_desks::send_package;
+use http_memory::{Output, Shelf};
 use std::alloc::Global;
 
 // SHA-256 of a million bytes `a`, as NIST's examples of FIPS 180 have it.
@@ -18,9 +18,9 @@ const OTHER: &[u8] = b"0123456789abcdef0123456789abcdef";
 
 // Sends a package of letters; returns how that ended.
 fn send_letters(
-    sink: &mut Kept,
+    sink: &mut Output,
     block: &mut [u8],
-    packages: &Letters,
+    packages: &Shelf<'_>,
     size: u64,
     hash: &[u8],
 ) -> &'static str
@@ -56,10 +56,11 @@ pub(crate) fn is_sent_so(alloc: Global, row: &str) -> Option<bool> {
     let size = size.parse().unwrap_or(0);
     let block = vec![in alloc; 0; 65536].ok()?.leak();
     let broken = broken.parse().unwrap_or(0);
-    let packages = Letters { size, broken };
+    let files = [letters(b"a.bin", size, broken)];
     let hash = if digest == "million" { MILLION } else { OTHER };
-    let mut sink = Kept::new(alloc, 65536, good.parse().unwrap_or(0));
-    let end = send_letters(&mut sink, block, &packages, size, hash);
+    let mut sink = Output::new(alloc, 65536);
+    sink.fails_after = good.parse().ok();
+    let end = send_letters(&mut sink, block, &Shelf { files: &files }, size, hash);
     Some(sent.parse() == Ok(sink.bytes.len()) && end == how)
 }
 

@@ -1,5 +1,5 @@
-use crate::devices::Kept;
 use http_heads::{Allow, ReplyHead, Status};
+use http_memory::Output;
 use http_wire::send_reply;
 use std::alloc::Global;
 
@@ -22,7 +22,7 @@ Connection: close\r
 \r
 ";
 
-fn send_rows(sink: &mut Kept, block: &mut [u8]) -> bool {
+fn send_rows(sink: &mut Output, block: &mut [u8]) -> bool {
     let json = ReplyHead {
         status: Status::Success,
         kind: "application/json",
@@ -61,7 +61,7 @@ fn send_rows(sink: &mut Kept, block: &mut [u8]) -> bool {
 #[test]
 fn sends_replies_however_they_are_cut(rt: HostRuntime) {
     for piece in [1, 7, 1000] {
-        let mut sink = Kept::new(rt.alloc(), piece, usize::MAX);
+        let mut sink = Output::new(rt.alloc(), piece);
         assert!(rt; send_rows(&mut sink, &mut [0; 200]));
         assert!(rt;
             sink.bytes.as_slice() == REPLIES.as_bytes(),
@@ -72,7 +72,7 @@ fn sends_replies_however_they_are_cut(rt: HostRuntime) {
 
 // Whether the replies are sent in so many writes.
 fn is_sent_in(alloc: Global, block: &mut [u8], calls: usize) -> bool {
-    let mut sink = Kept::new(alloc, 1000, usize::MAX);
+    let mut sink = Output::new(alloc, 1000);
     let is_sent = send_rows(&mut sink, block);
     is_sent && sink.calls == calls && sink.bytes.as_slice() == REPLIES.as_bytes()
 }
@@ -87,7 +87,8 @@ fn sends_a_reply_in_one_write(rt: HostRuntime) {
 #[test]
 fn leaves_a_first_part_where_a_write_fails(rt: HostRuntime) {
     for good in 0..REPLIES.len() {
-        let mut sink = Kept::new(rt.alloc(), 1, good);
+        let mut sink = Output::new(rt.alloc(), 1);
+        sink.fails_after = Some(good);
         assert!(rt; !send_rows(&mut sink, &mut [0; 200]));
         assert!(rt;
             sink.bytes.as_slice() == &REPLIES.as_bytes()[..good],

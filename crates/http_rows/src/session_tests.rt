@@ -1,9 +1,8 @@
-use crate::desks::{Echo, Files};
-use crate::devices::{Kept, Pieces};
+use crate::desks::{Echo, FILES};
 use crate::lines::{columns, expand, make_head};
 use crate::rows::wrong_row;
-use crate::writers::Stopped;
-use http_desks::Packages;
+use crate::writers::STOPPED;
+use http_memory::{Connection, Shelf};
 use http_sessions::{End, Fault, Served, serve};
 use std::alloc::Global;
 
@@ -56,15 +55,15 @@ fn end_of(served: Result<Served, Fault>) -> (u32, &'static str) {
     }
 }
 
-/// Serves what a connection sends, and returns how many replies were begun and how the session ended.
-pub(crate) fn serve_pieces<R: AllocGlobal, P: Packages>(
+/// Serves what the peer of a connection sends, and returns how many replies were begun and how the session ended.
+pub(crate) fn serve_over<R: AllocGlobal>(
     rt: &R,
-    packages: &P,
-    source: &mut Pieces<'_>,
-    sink: &mut Kept,
+    packages: &Shelf<'_>,
+    connection: &mut Connection<'_>,
 ) -> (u32, &'static str) {
     let mut desk = Echo { alloc: rt.alloc() };
-    end_of(serve(rt, source, sink, &mut desk, packages, &Stopped))
+    let Connection { input, output } = connection;
+    end_of(serve(rt, input, output, &mut desk, packages, &STOPPED))
 }
 
 /// Whether a connection that gives and takes so many bytes a call gets what its row says.
@@ -72,10 +71,10 @@ pub(crate) fn is_served(rt: &HostRuntime, row: &str, piece: usize) -> Option<boo
     let [sent, replies, requests, how, _, _] = columns(row);
     let sent = expand(rt.alloc(), sent)?;
     let replies = expand(rt.alloc(), replies)?;
-    let mut sink = Kept::new(rt.alloc(), piece, usize::MAX);
-    let ended = serve_pieces(rt, &Files, &mut Pieces::new(sent, piece), &mut sink);
+    let mut connection = Connection::new(rt.alloc(), sent, piece);
+    let ended = serve_over(rt, &FILES, &mut connection);
     let is_ended = ended.1 == how && requests.parse() == Ok(ended.0);
-    Some(is_ended && sink.bytes.as_slice() == replies)
+    Some(is_ended && connection.output.bytes.as_slice() == replies)
 }
 
 // rule: Messages of a connection
@@ -95,9 +94,9 @@ fn serves_sessions_however_they_are_cut(rt: HostRuntime) {
 
 // Whether a connection that sends so much and no more gets no reply, and how its session ends.
 fn ends_without_reply(rt: &HostRuntime, sent: &[u8], how: &str) -> bool {
-    let mut sink = Kept::new(rt.alloc(), 1, usize::MAX);
-    let ended = serve_pieces(rt, &Files, &mut Pieces::new(sent, 7), &mut sink);
-    ended == (0, how) && sink.bytes.is_empty()
+    let mut connection = Connection::new(rt.alloc(), sent, 7);
+    let ended = serve_over(rt, &FILES, &mut connection);
+    ended == (0, how) && connection.output.bytes.is_empty()
 }
 
 // A message of 30 bytes of body, cut before each byte.
@@ -136,9 +135,9 @@ fn make_messages(alloc: Global, fields: &str, count: &str) -> Option<&'static [u
 pub(crate) fn ends_so(rt: &HostRuntime, row: &str) -> Option<bool> {
     let [fields, count, start, requests, how, _] = columns(row);
     let sent = make_messages(rt.alloc(), fields, count)?;
-    let mut sink = Kept::new(rt.alloc(), 1000, usize::MAX);
-    let ended = serve_pieces(rt, &Files, &mut Pieces::new(sent, 1000), &mut sink);
-    let replies = sink.bytes.as_slice();
+    let mut connection = Connection::new(rt.alloc(), sent, 1000);
+    let ended = serve_over(rt, &FILES, &mut connection);
+    let replies = connection.output.bytes.as_slice();
     let is_started = start.parse() == Ok(replies.len()) || replies.starts_with(start.as_bytes());
     Some(is_started && ended.1 == how && requests.parse() == Ok(ended.0))
 }

@@ -1,12 +1,13 @@
 use crate::lines::expand;
-use crate::writers::{Paper, Stopped};
+use crate::writers::{Paper, STOPPED};
 use access_logs::AccessLog;
+use http_memory::FixedClock;
 use http_wire::Watch;
 use std::alloc::Global;
 
 // Shows a log a script, a row for each call: `>` and what was read, `<` and what was written, `+` and what waits of the
 // next message, `.` for the end. `~` is the end of a line.
-fn show(alloc: Global, log: &AccessLog<'_, Stopped, Paper>, script: &str) -> Option<()> {
+fn show(alloc: Global, log: &AccessLog<'_, FixedClock, Paper>, script: &str) -> Option<()> {
     for row in script.lines() {
         let (call, text) = row.split_at_checked(1)?;
         let bytes = expand(alloc, text)?;
@@ -27,7 +28,7 @@ fn logs(alloc: Global, script: &str, lines: &str, room: usize, fails: usize) -> 
         room,
         fails,
     };
-    let log = AccessLog::new(alloc, &Stopped, &mut paper);
+    let log = AccessLog::new(alloc, &STOPPED, &mut paper);
     let shown = show(alloc, &log, script);
     drop(log);
     shown.is_some() && paper.bytes.as_slice() == lines.as_bytes()
@@ -110,7 +111,7 @@ fn a_full_disk_joins_no_lines(rt: HostRuntime) {
 }
 
 // Shows a log a message and a reply of 100,000 bytes each.
-fn show_long(log: &AccessLog<'_, Stopped, Paper>) {
+fn show_long(log: &AccessLog<'_, FixedClock, Paper>) {
     log.begins(b"");
     log.reads(b"POST /a HTTP/1.1\r\n\r\n");
     for _ in 0..100 {
@@ -127,7 +128,7 @@ fn a_long_message_has_its_first_line(rt: HostRuntime) {
         room: 0,
         fails: 0,
     };
-    let log = AccessLog::new(rt.alloc(), &Stopped, &mut paper);
+    let log = AccessLog::new(rt.alloc(), &STOPPED, &mut paper);
     show_long(&log);
     drop(log);
     let wanted = b"- - - [24/Nov/2026:09:30:05 +0000] \"POST /a HTTP/1.1\" - 0 \"-\" \"-\"\n";

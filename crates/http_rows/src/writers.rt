@@ -1,20 +1,13 @@
 // A clock that has stopped, and a writer that keeps what it is given, or is full.
 
-use http_desks::Clock;
+use http_memory::FixedClock;
 use std::io;
 use std::io::{ErrorKind, Write};
 
-/// 24 November 2026, 09:30:05.
-#[derive(Drop)]
-pub(crate) struct Stopped;
-
-impl Clock for Stopped {
-    ghost tells = { λ _ _. Unit {0} };
-
-    fn now(&self) -> u64 {
-        1_795_512_605
-    }
-}
+/// A clock that has stopped at 09:30:05 on 24 November 2026.
+pub(crate) const STOPPED: FixedClock = FixedClock {
+    seconds: 1_795_512_605,
+};
 
 /// A file on a disk that has room for so many bytes. After so many writes that failed it has room again.
 #[derive(Drop)]

@@ -1,8 +1,8 @@
-use crate::connection::Received;
 use crate::messages::message_of;
 use crate::opened::serve_sent;
 use crate::rows::is_line;
 use fixtures::{counts_in, three_parts};
+use http_memory::Connection;
 use std::alloc::Global;
 use std::str;
 use std::sync::Wait;
@@ -28,6 +28,22 @@ fn print_reply(alloc: Global, reply: &[u8], mirrors: usize, ended: &str) -> Opti
     format!(in alloc; "{counts},{totals}").ok()
 }
 
+// What the peer of a connection gets over these budgets.
+fn print_offers_over<R: Threads + Wait + AllocGlobal>(
+    rt: &R,
+    budgets: &str,
+    connection: &mut Connection<'_>,
+) -> Option<String> {
+    let ended = serve_sent(rt, budgets, false, connection)?;
+    let mirrors = budgets.split(' ').count();
+    print_reply(
+        rt.alloc(),
+        &connection.output.bytes,
+        mirrors,
+        ended.as_str(),
+    )
+}
+
 // What so many clients get over these budgets.
 fn print_offers<R: Threads + Wait + AllocGlobal>(
     rt: &R,
@@ -35,10 +51,8 @@ fn print_offers<R: Threads + Wait + AllocGlobal>(
     clients: &str,
 ) -> Option<String> {
     let message = message_of(rt.alloc(), clients.parse().unwrap_or(0)).ok()?;
-    let mut sink = Received::new(rt.alloc(), usize::MAX);
-    let ended = serve_sent(rt, budgets, message.as_str().as_bytes(), &mut sink)?;
-    let mirrors = budgets.split(' ').count();
-    print_reply(rt.alloc(), &sink.bytes, mirrors, ended.as_str())
+    let mut connection = Connection::new(rt.alloc(), message.as_str().as_bytes(), usize::MAX);
+    print_offers_over(rt, budgets, &mut connection)
 }
 
 // Whether the clients of a row get what it says.

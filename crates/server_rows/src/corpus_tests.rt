@@ -1,6 +1,6 @@
 // The scripts and raises of the corpus, each sent to the desk of an operator of its profile.
 
-use crate::desk::replies_to;
+use crate::desk::{push_body, replies_to};
 use corpus::{Case, SCRIPTS, SERVED, case_of};
 use std::alloc::Global;
 use std::sync::Wait;
@@ -32,9 +32,7 @@ fn is_outcome(alloc: Global, outcome: &str, reply: &str) -> Option<bool> {
 // Whether a case gets what its outcome says.
 fn is_replied<R: Threads + Wait + Sync + AllocGlobal>(rt: &R, case: Case<'_>) -> Option<bool> {
     let mut bodies = Vec::new(rt.alloc());
-    bodies
-        .push(Vec::from_slice(rt.alloc(), case.bytes).ok()?)
-        .ok()?;
+    push_body(rt.alloc(), &mut bodies, case.bytes)?;
     let replies = replies_to(rt, SERVED.as_bytes(), &bodies)?;
     is_outcome(rt.alloc(), case.outcome, replies.first()?.as_str())
 }

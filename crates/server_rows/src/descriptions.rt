@@ -1,6 +1,6 @@
 // Descriptions of files.
 
-use crate::shelf::Shelf;
+use crate::shelf::RowFolder;
 use http_desks::Packages;
 use http_devices::OpenPackages;
 use package_files::describe;
@@ -33,5 +33,5 @@ const FILES: &str =
 
 /// The same of a file in memory.
 pub(crate) fn print_description(alloc: Global, name: &str) -> Option<String> {
-    print_described(alloc, &Shelf { files: FILES }, name)
+    print_described(alloc, &RowFolder::new(alloc, FILES)?, name)
 }

@@ -114,8 +114,8 @@ pub(crate) fn replies_of<R: Threads + Wait + Sync + AllocGlobal>(
     (press, replies)
 }
 
-/// The mirrors of a profile.
-pub(crate) fn mirrors_in(alloc: Global, profile: &[u8]) -> Option<Vec<Mirror>>
+// The mirrors of a profile.
+fn mirrors_in(alloc: Global, profile: &[u8]) -> Option<Vec<Mirror>>
     ensures { IfSome result (λ mirrors. AreMirrors mirrors.items) }
 {
     profile_toml::laws::mirrors();
@@ -123,6 +123,27 @@ pub(crate) fn mirrors_in(alloc: Global, profile: &[u8]) -> Option<Vec<Mirror>>
         Ok((_batch, mirrors)) => Some(mirrors),
         Err(_) => None,
     }
+}
+
+// The profile of mirrors of these budgets, `m0` and so on.
+fn profile_of(alloc: Global, budgets: &str) -> Result<String, AllocError> {
+    let mut profile = String::from_str(alloc, "schema = 1\nmirror = [")?;
+    for (index, budget) in budgets.split(' ').enumerate() {
+        write!(
+            profile,
+            "{{ name = 'm{index}', codebase = 'http://m{index}.example/p/', budget = {budget} }},"
+        )?;
+    }
+    profile.push_str("]\n")?;
+    Ok(profile)
+}
+
+/// The mirrors of a profile, which have these budgets.
+pub(crate) fn named_mirrors(alloc: Global, budgets: &str) -> Option<Vec<Mirror>>
+    ensures { IfSome result (λ mirrors. AreMirrors mirrors.items) }
+{
+    let profile = profile_of(alloc, budgets).ok()?;
+    mirrors_in(alloc, profile.as_str().as_bytes())
 }
 
 /// What bodies get that are sent to the desk of a profile one after the other.
@@ -148,12 +169,32 @@ pub(crate) fn replies_to<R: Threads + Wait + Sync + AllocGlobal>(
 pub(crate) fn bodies_of(alloc: Global, rows: &str) -> Option<Vec<Vec<u8>>> {
     let mut bodies = Vec::new(alloc);
     for row in rows.lines() {
-        let (body, _wanted) = row.rsplit_once(" = ")?;
-        let body = body.replace(alloc, "~", "\n").ok()?;
-        let body = body.as_str().replace(alloc, "^", "\r").ok()?;
-        bodies.push(body.into_bytes()).ok()?;
+        let (text, _wanted) = row.rsplit_once(" = ")?;
+        let body = body_of(alloc, text)?;
+        bodies.push(body).ok()?;
     }
     Some(bodies)
+}
+
+/// Puts a body at the end.
+pub(crate) fn push_body(alloc: Global, bodies: &mut Vec<Vec<u8>>, body: &[u8]) -> Option<()> {
+    let body = Vec::from_slice(alloc, body).ok()?;
+    bodies.push(body).ok()
+}
+
+// The bytes of a body, with `~` for a line feed and `^` for a carriage return.
+fn body_of(alloc: Global, text: &str) -> Option<Vec<u8>> {
+    let lines = text.replace(alloc, "~", "\n").ok()?;
+    let body = lines.as_str().replace(alloc, "^", "\r").ok()?;
+    Some(body.into_bytes())
+}
+
+/// Whether each of the replies is what its row says.
+pub(crate) fn are_as_said(replies: Option<Vec<String>>, rows: &'static str) -> bool {
+    match replies {
+        Some(replies) => first_wrong(&replies, rows) == "none",
+        None => false,
+    }
 }
 
 /// The first row that doesn't get what it says, `none` if each does.

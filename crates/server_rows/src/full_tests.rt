@@ -1,18 +1,14 @@
 // A history of 4096 batches, at an edition and at the desk of a press.
 
 use crate::batches::TARGET;
-use crate::desk::{bodies_of, first_wrong, mirrors_in, replies_of};
+use crate::desk::{are_as_said, bodies_of, named_mirrors, replies_of};
 use crate::publishing::rejects;
 use editions::Edition;
 use fixtures::edition_of_batches;
-use publisher::open_edition;
+use publisher::{Press, open_edition};
 use std::alloc::Global;
 use std::sync::Wait;
 use std::thread::Threads;
-
-// A profile without apps, whose histories grow fast.
-const EMPTY: &[u8] =
-    b"schema = 1\nmirror = [{ name = 'm0', codebase = 'http://m0.example/p/', budget = 0 }]";
 
 // The scripts after 4095 batches, each with what it gets after those before it.
 const SCRIPTS: &str = r#"schema = 1~base = 4095 = 200 edition 4096
@@ -27,15 +23,28 @@ fn is_full(alloc: Global, edition: &Edition) -> bool {
     is_last && rejects(alloc, edition, TARGET, "edit 0: C1 UnknownApp")
 }
 
-fn fills<R: Threads + Wait + Sync + AllocGlobal>(rt: &R, alloc: Global) -> Option<bool> {
-    let mirrors = mirrors_in(alloc, EMPTY)?;
+// The press of 4095 batches.
+fn open_long<R: Threads + Wait>(rt: &R, alloc: Global) -> Option<Press> {
     let edition = edition_of_batches(alloc, 4095).ok()?;
-    let bodies = bodies_of(alloc, SCRIPTS)?;
-    let (press, _views) = open_edition(rt, alloc, edition, 1).ok()?;
-    let (press, replies) = replies_of(rt, press, mirrors, &bodies);
-    let is_full = is_full(alloc, press.edition());
+    match open_edition(rt, alloc, edition, 1) {
+        Ok((press, _views)) => Some(press),
+        Err(_) => None,
+    }
+}
+
+// Whether the desk of that press replies so to the scripts, and its edition is then full.
+fn fills<R: Threads + Wait + Sync + AllocGlobal>(rt: &R, bodies: &[Vec<u8>]) -> Option<bool> {
+    let mirrors = named_mirrors(rt.alloc(), "0")?;
+    let press = open_long(rt, rt.alloc())?;
+    let (press, replies) = replies_of(rt, press, mirrors, bodies);
+    let is_full = is_full(rt.alloc(), press.edition());
     press.end(rt);
-    Some(first_wrong(&replies?, SCRIPTS) == "none" && is_full)
+    Some(is_full && are_as_said(replies, SCRIPTS))
+}
+
+fn fills_by_scripts<R: Threads + Wait + Sync + AllocGlobal>(rt: &R) -> Option<bool> {
+    let bodies = bodies_of(rt.alloc(), SCRIPTS)?;
+    fills(rt, &bodies)
 }
 
 // Whether the edition of no batches has the number 0.
@@ -54,5 +63,5 @@ fn is_empty(alloc: Global) -> bool {
 #[test]
 fn takes_4096_batches_and_no_more(rt: HostRuntime) {
     assert!(rt; is_empty(rt.alloc()));
-    assert!(rt; fills(&rt, rt.alloc()) == Some(true));
+    assert!(rt; fills_by_scripts(&rt) == Some(true));
 }

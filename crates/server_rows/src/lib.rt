@@ -1,5 +1,6 @@
 //! Worked rows of what a server decides: clients with their tracks, requests with their replies, histories of
-//! batches, what is published of them, budgets, the desks of workers and of the operator, and files of packages.
+//! batches, what is published of them, budgets, the desks of workers and of the operator, files of packages, and the
+//! gate of a server's workers.
 //!
 //! It has tests alone, so that `cohorts`, `editions`, `publisher`, `replies`, `mirror_ledger`, `update_desk`,
 //! `service_desks` and `package_files` are proved once. A row is a line; that of a reply has the reply, a bar, and what is asked.
@@ -10,6 +11,8 @@
 mod answers;
 #[cfg(test)]
 mod asking;
+#[cfg(test)]
+mod at_once;
 #[cfg(test)]
 mod batches;
 #[cfg(test)]
@@ -23,13 +26,11 @@ mod chains;
 #[cfg(test)]
 mod cohort_texts;
 #[cfg(test)]
-mod connection;
-#[cfg(test)]
 mod corpus_tests;
 #[cfg(test)]
-mod crossing;
+mod counting;
 #[cfg(test)]
-mod cut_tests;
+mod crossing;
 #[cfg(test)]
 mod descriptions;
 #[cfg(test)]
@@ -76,8 +77,6 @@ mod together;
 mod tracks;
 #[cfg(test)]
 mod two_publishers;
-#[cfg(test)]
-mod two_threads;
 #[cfg(test)]
 mod view_tests;
 #[cfg(test)]

@@ -1,47 +1,138 @@
-use crate::connection::Received;
-use crate::messages::message_of;
+use crate::messages::{message_of, message_with};
 use crate::opened::serve_sent;
 use crate::rows::is_line;
 use fixtures::{three_parts, two_parts};
+use http_memory::Connection;
 use std::alloc::{AllocError, Global};
 use std::str;
 use std::sync::Wait;
 use std::thread::Threads;
 
-/// The body of the reply to the message of one client.
-pub(crate) const REPLY: &str = r#")]}'
+// The body of the reply to the message of one client.
+const REPLY: &str = r#")]}'
 {"response":{"app":[{"appid":"demo","cohort":"stable:0","cohortname":"stable","status":"ok","updatecheck":{"manifest":{"packages":{"package":[{"fp":"1.2222222222222222222222222222222222222222222222222222222222222222","hash_sha256":"2222222222222222222222222222222222222222222222222222222222222222","hashdiff_sha256":"1212121212121212121212121212121212121212121212121212121212121212","name":"demo-2.0.bin","namediff":"demo-1.0-2.0.bin","size":1200,"sizediff":300}]},"version":"2.0"},"status":"ok","urls":{"url":[{"codebase":"http://m0.example/p/"},{"codebasediff":"http://m0.example/p/"}]}}}],"daystart":{"elapsed_days":6940,"elapsed_seconds":3661},"protocol":"3.1"}}"#;
 
 /// The reply of a desk without room to the message of one client.
 pub(crate) const BUSY: &str = r#")]}'
 {"response":{"app":[{"appid":"demo","cohort":"stable:0","cohortname":"stable","status":"ok","updatecheck":{"status":"error-internal"}}],"daystart":{"elapsed_days":6940,"elapsed_seconds":3661},"protocol":"3.1"}}"#;
 
-/// The whole reply with a body.
-pub(crate) fn whole(alloc: Global, body: &str) -> Result<String, AllocError> {
+// The whole reply with a body.
+fn whole(alloc: Global, body: &str) -> Result<String, AllocError> {
     let length = body.len();
     format!(in alloc;
         "HTTP/1.1 200 OK\r\nContent-Type: application/json\r\nContent-Length: {length}\r\n\r\n{body}"
     )
 }
 
-// Whether a peer gets this body for the message of one client over mirrors of these budgets.
+// Whether a peer that sends this message gets this body.
 fn is_replied<R: Threads + Wait + AllocGlobal>(
     rt: &R,
     budgets: &str,
+    message: Option<String>,
     wanted: &str,
 ) -> Option<bool> {
-    let message = message_of(rt.alloc(), 1).ok()?;
-    let mut sink = Received::new(rt.alloc(), usize::MAX);
-    let _ended = serve_sent(rt, budgets, message.as_str().as_bytes(), &mut sink)?;
-    let reply = whole(rt.alloc(), wanted).ok()?;
-    Some(sink.bytes.as_slice() == reply.as_str().as_bytes())
+    let message = message?;
+    let mut connection = Connection::new(rt.alloc(), message.as_str().as_bytes(), usize::MAX);
+    is_replied_over(rt, budgets, &mut connection, wanted)
+}
+
+// The same of a connection.
+fn is_replied_over<R: Threads + Wait + AllocGlobal>(
+    rt: &R,
+    budgets: &str,
+    connection: &mut Connection<'_>,
+    wanted: &str,
+) -> Option<bool> {
+    let _ended = serve_sent(rt, budgets, false, connection)?;
+    has_reply(rt.alloc(), &connection.output.bytes, wanted)
+}
+
+// Whether the whole reply with this body was written, and nothing else.
+fn has_reply(alloc: Global, written: &[u8], wanted: &str) -> Option<bool> {
+    let reply = whole(alloc, wanted).ok()?;
+    Some(written == reply.as_str().as_bytes())
 }
 
 // rule: Reply to a request
 #[test]
 fn replies_with_the_offer_that_a_mirror_granted(rt: HostRuntime) {
-    assert!(rt; is_replied(&rt, "1000000", REPLY) == Some(true));
-    assert!(rt; is_replied(&rt, "100 100", BUSY) == Some(true));
+    for (budgets, wanted) in [("1000000", REPLY), ("100 100", BUSY)] {
+        let message = message_of(rt.alloc(), 1).ok();
+        assert!(rt; is_replied(&rt, budgets, message, wanted) == Some(true));
+    }
+}
+
+// Requests without apps; `@` is a list in a list and so on, 100 of them.
+const WITHOUT_APPS: &str = r#"{"request":{"protocol":"3.1"}}
+{"request":{"app":[],"protocol":"3.1"}}
+{"request":{"nested":@,"protocol":"3.1"}}
+{"request":{"app":[],"protocol":"3.1","nested":@}}
+{"nested":@,"request":{"protocol":"3.1"}}"#;
+
+const NO_APPS: &str = r#")]}'
+{"response":{"app":[],"daystart":{"elapsed_days":6940,"elapsed_seconds":3661},"protocol":"3.1"}}"#;
+
+// The message with the request of a row.
+fn message_without_apps(alloc: Global, row: &str) -> Option<String> {
+    let lists = nested_lists(alloc).ok()?;
+    let body = row.replace(alloc, "@", lists.as_str()).ok()?;
+    message_with(alloc, body.as_str()).ok()
+}
+
+fn nested_lists(alloc: Global) -> Result<String, AllocError> {
+    let mut lists = String::new(alloc);
+    for _list in 0..100 {
+        lists.push_str("[")?;
+    }
+    for _list in 0..100 {
+        lists.push_str("]")?;
+    }
+    Ok(lists)
+}
+
+// rule: Reply to a request
+// rule: Desk of a worker
+#[test]
+fn replies_to_requests_without_apps(rt: HostRuntime) {
+    for row in WITHOUT_APPS.lines() {
+        let message = message_without_apps(rt.alloc(), row);
+        assert!(rt;
+            is_replied(&rt, "0", message, NO_APPS) == Some(true),
+            "{row}"
+        );
+    }
+}
+
+// Whether the message of one client, which is served up to each byte and then whole, gets its reply once.
+fn is_replied_once<R: Threads + Wait + AllocGlobal>(rt: &R) -> Option<bool> {
+    let message = message_of(rt.alloc(), 1).ok()?;
+    let mut connection = Connection::new(rt.alloc(), message.as_str().as_bytes(), usize::MAX);
+    is_replied_once_over(rt, &mut connection)
+}
+
+// The same of the connection that sends it.
+fn is_replied_once_over<R: Threads + Wait + AllocGlobal>(
+    rt: &R,
+    connection: &mut Connection<'_>,
+) -> Option<bool> {
+    let cuts = connection.input.left.len().saturating_sub(1);
+    let ended = serve_sent(rt, "1000000", true, connection)?;
+    let is_replied = has_reply(rt.alloc(), &connection.output.bytes, REPLY)?;
+    Some(is_replied && is_end(rt.alloc(), ended.as_str(), cuts)?)
+}
+
+// Whether so many cuts were unfinished, the whole message was finished, and the mirror granted its bytes alone.
+fn is_end(alloc: Global, ended: &str, cuts: usize) -> Option<bool> {
+    let wanted = format!(in alloc; "finished after {cuts} 300").ok()?;
+    Some(ended == wanted.as_str())
+}
+
+// rule: Desk of a worker
+// rule: Messages of a connection
+// rule: End of a session
+#[test]
+fn replies_to_a_message_once_it_is_whole(rt: HostRuntime) {
+    assert!(rt; is_replied_once(&rt) == Some(true));
 }
 
 // A row is a message, `~` being the end of a line, how many bytes a call the peer takes, and what it gets: the
@@ -81,9 +172,18 @@ fn print_sent<R: Threads + Wait + AllocGlobal>(
     piece: &str,
 ) -> Option<String> {
     let sent = message.replace(rt.alloc(), "~", "\r\n").ok()?;
-    let mut sink = Received::new(rt.alloc(), piece.parse().unwrap_or(1));
-    let ended = serve_sent(rt, "1000", sent.as_str().as_bytes(), &mut sink)?;
-    print_session(rt.alloc(), &sink.bytes, ended.as_str())
+    let mut connection = Connection::new(rt.alloc(), sent.as_str().as_bytes(), usize::MAX);
+    connection.output.piece = piece.parse().unwrap_or(1);
+    print_sent_over(rt, &mut connection)
+}
+
+// What the peer of a connection gets.
+fn print_sent_over<R: Threads + Wait + AllocGlobal>(
+    rt: &R,
+    connection: &mut Connection<'_>,
+) -> Option<String> {
+    let ended = serve_sent(rt, "1000", false, connection)?;
+    print_session(rt.alloc(), &connection.output.bytes, ended.as_str())
 }
 
 // Whether the peer of a row gets what it says.

@@ -43,7 +43,23 @@ fn push_raise<A: BudgetName, B: BudgetName, C: BudgetName, D: BudgetName, R: Wai
     }
 }
 
-// The index of the mirror that grants each number of bytes, `-` for none; or what a raise comes to, as `m0=510`.
+// The index of the mirror that grants a number of bytes, `-` for none; or what a raise comes to, as `m0=510`.
+fn push_ask<A: BudgetName, B: BudgetName, C: BudgetName, D: BudgetName, R: Wait>(
+    rt: &R,
+    line: &mut String,
+    books: &Books<A, B, C, D>,
+    shares: &mut Shares<A, B, C, D>,
+    ask: &str,
+) -> Result<(), AllocError>
+    requires { are_rising A.most B.most C.most D.most ≡ true }
+{
+    match ask.split_once('=') {
+        Some((name, budget)) => push_raise(rt, line, books, name, budget),
+        None => push_grant(rt, line, books, shares, number_of(ask)),
+    }
+}
+
+// The same for each ask.
 fn push_grants<A: BudgetName, B: BudgetName, C: BudgetName, D: BudgetName, R: Wait>(
     rt: &R,
     line: &mut String,
@@ -54,10 +70,7 @@ fn push_grants<A: BudgetName, B: BudgetName, C: BudgetName, D: BudgetName, R: Wa
     requires { are_rising A.most B.most C.most D.most ≡ true }
 {
     for ask in asks.split(' ') {
-        match ask.split_once('=') {
-            Some((name, budget)) => push_raise(rt, line, books, name, budget)?,
-            None => push_grant(rt, line, books, shares, number_of(ask))?,
-        }
+        push_ask(rt, line, books, shares, ask)?;
     }
     Ok(())
 }
@@ -90,6 +103,14 @@ fn push_asks<A: BudgetName, B: BudgetName, C: BudgetName, D: BudgetName, R: Wait
     push_fifty(rt, line, &books.first, &mut shares.first)
 }
 
+fn push_each_budget(line: &mut String, mirrors: &[Mirror]) -> Result<(), AllocError> {
+    line.push_str(" of")?;
+    for mirror in mirrors {
+        write!(line, " {}", mirror.budget)?;
+    }
+    Ok(())
+}
+
 // The present budgets.
 fn push_budgets<A: BudgetName, B: BudgetName, C: BudgetName, D: BudgetName, R: Wait>(
     rt: &R,
@@ -97,21 +118,23 @@ fn push_budgets<A: BudgetName, B: BudgetName, C: BudgetName, D: BudgetName, R: W
     line: &mut String,
     books: &Books<A, B, C, D>,
 ) -> Result<(), AllocError> {
-    line.push_str(" of")?;
-    for mirror in books.mirrors(rt, alloc)? {
-        write!(line, " {}", mirror.budget)?;
+    match books.mirrors(rt, alloc) {
+        Ok(mirrors) => push_each_budget(line, &mirrors),
+        Err(error) => Err(error),
     }
-    Ok(())
 }
 
-// The indexes for one worker's asks, what the first mirror says of 50 bytes more, the totals, and the budgets.
+// What is found of open books, at the end of two lines: the indexes for one worker's asks with what the first mirror says
+// of 50 bytes more, and the budgets; returns the totals.
 fn opened<A: BudgetName, B: BudgetName, C: BudgetName, D: BudgetName, R: Wait>(
     rt: &R,
     alloc: Global,
     blanks: Blanks,
     mirrors: Vec<Mirror>,
     asks: &Text,
-) -> Result<String, AllocError>
+    line: &mut String,
+    budgets: &mut String,
+) -> Result<Vec<u64>, AllocError>
     requires some { 0 < vec_len mirrors }
     requires few { vec_len mirrors ≤ 4 }
     requires bounded { are_bounded mirrors.items ≡ true }
@@ -123,24 +146,46 @@ fn opened<A: BudgetName, B: BudgetName, C: BudgetName, D: BudgetName, R: Wait>(
 {
     let (books, shares) = open_books::<A, B, C, D, R>(rt, alloc, blanks, mirrors, 1)?;
     let mut shares = shares;
-    let mut line = String::new(alloc);
-    let pushed = push_asks(rt, &mut line, &books, &mut shares[0], asks.as_str());
+    let pushed = push_asks(rt, line, &books, &mut shares[0], asks.as_str());
+    let told = push_budgets(rt, alloc, budgets, &books);
+    let totals = close(rt, alloc, books, shares);
+    pushed.and(told).and(totals)
+}
+
+// The same on one line.
+fn asked_on<R: Wait>(
+    rt: &R,
+    alloc: Global,
+    mirrors: Vec<Mirror>,
+    asks: &Text,
+    line: &mut String,
+) -> Result<(), AllocError>
+    requires some { 0 < vec_len mirrors }
+    requires few { vec_len mirrors ≤ 4 }
+    requires bounded { are_bounded mirrors.items ≡ true }
+{
+    let blanks = Blanks::new(1);
     let mut budgets = String::new(alloc);
-    let told = push_budgets(rt, alloc, &mut budgets, &books);
-    let totals = close(rt, alloc, books, shares)?;
-    pushed?;
-    told?;
-    push_numbers(&mut line, &totals)?;
-    line.push_str(budgets.as_str())?;
-    Ok(line)
+    let totals = opened::<Brand, Brand, Brand, Brand, R>(
+        rt,
+        alloc,
+        blanks,
+        mirrors,
+        asks,
+        line,
+        &mut budgets,
+    )?;
+    push_numbers(line, &totals)?;
+    line.push_str(budgets.as_str())
 }
 
 /// What the asks of a worker come to.
 pub(crate) fn asked<R: Wait>(rt: &R, alloc: Global, budgets: &str, asks: &str) -> Option<String> {
     let asks = Text::copy_of(alloc, asks).ok()?;
     let mirrors = few_mirrors(alloc, budgets)?;
-    let blanks = Blanks::new(1);
-    opened::<Brand, Brand, Brand, Brand, R>(rt, alloc, blanks, mirrors, &asks).ok()
+    let mut line = String::new(alloc);
+    asked_on(rt, alloc, mirrors, &asks, &mut line).ok()?;
+    Some(line)
 }
 
 // Each row: budgets, asks, and then the indexes of the granting mirrors, what the first mirror says of 50 bytes

@@ -1,10 +1,11 @@
 // A connection that is served by the till of one worker.
 
 use crate::batches::LARGE;
-use crate::connection::{Received, Sent, Stopped};
+use crate::counting::{Counting, Granted};
 use crate::lines::{few_mirrors, push_numbers};
-use crate::shelf::Shelf;
+use crate::shelf::files_of;
 use fixtures::{CHAINED, open_profile, publish_edits};
+use http_memory::{Connection, FixedClock, Input, Shelf};
 use http_sessions::{End, Fault, Served, serve};
 use mirror_ledger::{Till, Work, work_with_tills};
 use publisher::View;
@@ -13,7 +14,12 @@ use std::alloc::{AllocError, Global};
 use std::sync::Wait;
 use std::thread::Threads;
 
-// The files of three large packages, and of three that can't be opened.
+// One second after 01:01 on 1 January 2026.
+const STOPPED: FixedClock = FixedClock {
+    seconds: 1767229261,
+};
+
+// The files of three large packages; three others can't be opened.
 const FILES: &str =
     "mebibyte.bin=a1048576 block.bin=a65536 letters.bin=a131072 demo-1.0.bin=folder demo-3.0.bin=closed demo-4.0.bin=memory";
 
@@ -29,48 +35,110 @@ fn end_of(served: &Result<Served, Fault>) -> &'static str {
     }
 }
 
-/// Serves a connection by the desk of a worker, and returns how the session ended.
-pub(crate) fn serve_at<R: Wait + AllocGlobal, T: Till>(
+// Serves a connection by the desk of a worker, and returns how the session ended.
+fn serve_at<R: Wait + AllocGlobal, T: Till>(
     rt: &R,
     desk: &mut Worker<'_, R, T>,
-    source: Sent<'_>,
-    sink: &mut Received,
+    packages: &Shelf<'static>,
+    connection: &mut Connection<'_>,
 ) -> &'static str {
-    let mut source = source;
-    let served = serve(
-        rt,
-        &mut source,
-        sink,
-        desk,
-        &Shelf { files: FILES },
-        &Stopped,
-    );
-    end_of(&served)
+    let Connection { input, output } = connection;
+    end_of(&serve(rt, input, output, desk, packages, &STOPPED))
 }
 
-// The session of a connection.
+// Serves what is sent up to each byte but the last; returns how often that is unfinished and gets nothing.
+fn serve_cuts<R: Wait + AllocGlobal, T: Till>(
+    rt: &R,
+    desk: &mut Worker<'_, R, T>,
+    packages: &Shelf<'static>,
+    connection: &mut Connection<'_>,
+) -> usize {
+    let sent = connection.input.left;
+    let mut unfinished = 0usize;
+    for end in 1..sent.len() {
+        connection.input = Input::new(&sent[..end], usize::MAX);
+        let ended = serve_at(rt, desk, packages, connection);
+        if ended == "unfinished" && connection.output.bytes.is_empty() {
+            unfinished = unfinished.saturating_add(1);
+        }
+    }
+    connection.input = Input::new(sent, 1);
+    unfinished
+}
+
+// The session of a connection, after those of what is sent up to each byte if it is cut.
 #[derive(Drop)]
-struct OneSession<'a> {
+struct OneSession<'a, 'b> {
     view: Option<View>,
-    sent: &'a [u8],
-    sink: &'a mut Received,
+    packages: Shelf<'static>,
+    is_cut: bool,
+    connection: &'a mut Connection<'b>,
 }
 
-impl<R: Wait + AllocGlobal> Work<R> for OneSession<'_> {
-    type End = &'static str;
+// What came of it: how often it was unfinished, how it ended, and what the mirrors granted by its till.
+#[derive(Clone, Copy, Drop)]
+struct Ended {
+    unfinished: usize,
+    how: &'static str,
+    granted: Granted,
+}
+
+fn ended_before(how: &'static str) -> Ended {
+    Ended {
+        unfinished: 0,
+        how,
+        granted: [0; 4],
+    }
+}
+
+// Serves a connection by a desk: how often it was unfinished, and how it ended.
+fn serve_all<R: Wait + AllocGlobal, T: Till>(
+    rt: &R,
+    desk: &mut Worker<'_, R, T>,
+    session: &mut OneSession<'_, '_>,
+) -> (usize, &'static str) {
+    let packages = session.packages;
+    let unfinished = if session.is_cut {
+        serve_cuts(rt, desk, &packages, session.connection)
+    } else {
+        0
+    };
+    let how = serve_at(rt, desk, &packages, session.connection);
+    (unfinished, how)
+}
+
+// Serves a connection by a view and a till, and gives the till back.
+fn serve_by<R: Wait + AllocGlobal, T: Till + Drop>(
+    rt: &R,
+    view: View,
+    till: T,
+    session: &mut OneSession<'_, '_>,
+) -> (T, Ended) {
+    let mut desk = Worker::new(rt, view, Counting::new(till));
+    let (unfinished, how) = serve_all(rt, &mut desk, session);
+    let (_view, counting) = desk.into_parts();
+    let (till, granted) = counting.into_parts();
+    let ended = Ended {
+        unfinished,
+        how,
+        granted,
+    };
+    (till, ended)
+}
+
+impl<R: Wait + AllocGlobal> Work<R> for OneSession<'_, '_> {
+    type End = Ended;
 
     ghost comes_to = { λ _ _ _ _ _. Unit {0} };
 
-    fn work<T: Till + Send + Drop>(&mut self, rt: &R, tills: &mut Vec<T>) -> &'static str {
+    fn work<T: Till + Send + Drop>(&mut self, rt: &R, tills: &mut Vec<T>) -> Ended {
         let Some(view) = self.view.take() else {
-            return "no view";
+            return ended_before("no view");
         };
         let Some(till) = tills.pop() else {
-            return "no till";
+            return ended_before("no till");
         };
-        let mut desk = Worker::new(rt, view, till);
-        let ended = serve_at(rt, &mut desk, Sent::whole(self.sent), self.sink);
-        let (_view, till) = desk.into_parts();
+        let (till, ended) = serve_by(rt, view, till, self);
         if tills.push(till).is_err() {
             unreachable!()
         }
@@ -78,43 +146,64 @@ impl<R: Wait + AllocGlobal> Work<R> for OneSession<'_> {
     }
 }
 
-// How a session ended, and the mirrors' totals.
-fn print_end(alloc: Global, how: &str, totals: &[u64]) -> Result<String, AllocError> {
-    let mut line = String::from_str(alloc, how)?;
+// How the session ended, and the mirrors' totals, which are what they granted by its till; `wrong totals` if they aren't.
+fn print_end(alloc: Global, ended: &Ended, totals: &[u64]) -> Result<String, AllocError> {
+    if ended.granted.get(..totals.len()) != Some(totals) {
+        return String::from_str(alloc, "wrong totals");
+    }
+    let mut line = String::from_str(alloc, ended.how)?;
+    if ended.unfinished > 0 {
+        write!(line, " after {}", ended.unfinished)?;
+    }
     push_numbers(&mut line, totals)?;
     Ok(line)
 }
 
-// Serves a connection by a view.
-fn serve_by<R: Wait + AllocGlobal>(
+// Does a session over mirrors of these budgets.
+fn do_session<R: Wait + AllocGlobal>(
     rt: &R,
     budgets: &str,
-    view: View,
-    sent: &[u8],
-    sink: &mut Received,
+    session: &mut OneSession<'_, '_>,
 ) -> Option<String> {
     let mirrors = few_mirrors(rt.alloc(), budgets)?;
-    let view = Some(view);
-    let mut session = OneSession { view, sent, sink };
-    let (how, totals) = work_with_tills(rt, rt.alloc(), mirrors, 1, &mut session).ok()?;
-    print_end(rt.alloc(), how, &totals).ok()
+    let (ended, totals) = work_with_tills(rt, rt.alloc(), mirrors, 1, session).ok()?;
+    print_end(rt.alloc(), &ended, &totals).ok()
+}
+
+// Serves a connection by one of the views.
+fn serve_first<R: Wait + AllocGlobal>(
+    rt: &R,
+    budgets: &str,
+    views: Vec<View>,
+    is_cut: bool,
+    connection: &mut Connection<'_>,
+) -> Option<String> {
+    let packages = files_of(rt.alloc(), FILES)?;
+    let mut views = views;
+    let mut session = OneSession {
+        view: views.pop(),
+        packages,
+        is_cut,
+        connection,
+    };
+    do_session(rt, budgets, &mut session)
 }
 
 /// Serves a connection over mirrors of these budgets, and returns how it ended with the mirrors' totals.
 ///
-/// The worker's view enters the second edition that was published.
+/// The worker's view enters the second edition that was published. If the connection is cut, the worker first serves
+/// what is sent up to each byte; then how often that was unfinished, and got nothing, is after the end.
 pub(crate) fn serve_sent<R: Threads + Wait + AllocGlobal>(
     rt: &R,
     budgets: &str,
-    sent: &[u8],
-    sink: &mut Received,
+    is_cut: bool,
+    connection: &mut Connection<'_>,
 ) -> Option<String> {
     let alloc = rt.alloc();
-    let (mut press, mut views) = open_profile(rt, alloc, CHAINED, 1).ok()?;
-    let published = publish_edits(rt, alloc, &mut press, 1, LARGE).is_ok();
-    let ended = match views.pop() {
-        Some(view) if published => serve_by(rt, budgets, view, sent, sink),
-        _ => None,
+    let (mut press, views) = open_profile(rt, alloc, CHAINED, 1).ok()?;
+    let ended = match publish_edits(rt, alloc, &mut press, 1, LARGE) {
+        Ok(_) => serve_first(rt, budgets, views, is_cut, connection),
+        Err(_) => None,
     };
     press.end(rt);
     ended

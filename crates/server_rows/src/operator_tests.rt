@@ -1,6 +1,6 @@
 // The operator's desk: scripts and raises one after the other, and dumps.
 
-use crate::desk::{bodies_of, first_wrong, replies_to};
+use crate::desk::{bodies_of, first_wrong, push_body, replies_to};
 use fixtures::{CHAINED, catalogue_of_profile};
 use profile_toml::read_profile;
 use profile_writer::write_profile;
@@ -101,21 +101,29 @@ fn raises_budgets_one_after_the_other(rt: HostRuntime) {
     assert!(rt; raises(&rt) == Some("none"));
 }
 
+// A body, and then that of a dump.
+fn bodies_with_dump(alloc: Global, body: &str) -> Option<Vec<Vec<u8>>> {
+    let mut bodies = Vec::new(alloc);
+    push_body(alloc, &mut bodies, body.as_bytes())?;
+    push_body(alloc, &mut bodies, b"dump")?;
+    Some(bodies)
+}
+
+// What the second reply dumps.
+fn dump_in(alloc: Global, replies: &[String]) -> Option<String> {
+    let dump = replies.get(1)?.as_str().strip_prefix("200 ")?;
+    String::from_str(alloc, dump).ok()
+}
+
 // What the desk of a profile dumps after a body.
 fn dump_after<R: Threads + Wait + Sync + AllocGlobal>(
     rt: &R,
     profile: &str,
     body: &str,
 ) -> Option<String> {
-    let alloc = rt.alloc();
-    let mut bodies = Vec::new(alloc);
-    bodies
-        .push(Vec::from_slice(alloc, body.as_bytes()).ok()?)
-        .ok()?;
-    bodies.push(Vec::from_slice(alloc, b"dump").ok()?).ok()?;
+    let bodies = bodies_with_dump(rt.alloc(), body)?;
     let replies = replies_to(rt, profile.as_bytes(), &bodies)?;
-    let dump = replies.get(1)?.as_str().strip_prefix("200 ")?;
-    String::from_str(alloc, dump).ok()
+    dump_in(rt.alloc(), &replies)
 }
 
 // The profile of a profile's catalogue and mirrors.

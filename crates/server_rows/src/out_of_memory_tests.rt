@@ -5,8 +5,7 @@
 use crate::asking::reply_to;
 use crate::batches::small;
 use crate::bodies::{STORED, STORED_REPLY};
-use crate::connection::Received;
-use crate::desk::{bodies_of, first_wrong, replies_to};
+use crate::desk::{bodies_of, first_wrong, push_body, replies_to};
 use crate::messages::message_of;
 use crate::one_worker::asked;
 use crate::opened::serve_sent;
@@ -15,6 +14,7 @@ use crate::press_tests::open_one;
 use cohorts::CohortText;
 use editions::{Edition, NextError};
 use fixtures::{CHAINED, edition_of, edition_of_batches, next_of, open_profile, publish_edits};
+use http_memory::{Connection, Output};
 use publisher::{Press, PublishError, View, open_edition};
 use std::alloc::Global;
 use std::str;
@@ -158,7 +158,7 @@ const OFF: &[u8] =
     b"HTTP/1.1 500 Internal Server Error\r\nContent-Length: 0\r\nConnection: close\r\n\r\n";
 
 // Whether a session that ran out of memory sent no reply or that of a desk that is off, after none, one or two grants.
-fn is_off(sink: &Received, ended: &str) -> bool {
+fn is_off(sink: &Output, ended: &str) -> bool {
     match ended {
         "failed 0" => sink.bytes.is_empty(),
         "refused 0" | "refused 300" | "refused 600" => sink.bytes.as_slice() == OFF,
@@ -172,19 +172,33 @@ fn offers_in(reply: &[u8]) -> usize {
     text.split("\"sizediff\":300").count()
 }
 
-// Whether a session offers 300 bytes twice; `None` if it ran out of memory.
+// Whether a session that ended so offered 300 bytes twice; `None` if it ran out of memory.
+fn has_offers(sink: &Output, ended: &str) -> Option<bool> {
+    if ended == "finished 600" {
+        return Some(offers_in(&sink.bytes) == 3);
+    }
+    if is_off(sink, ended) {
+        None
+    } else {
+        Some(false)
+    }
+}
+
+// Whether the session of a connection does.
+fn offers_over<R: Threads + Wait + AllocGlobal>(
+    rt: &R,
+    connection: &mut Connection<'_>,
+) -> Option<bool> {
+    connection.output.bytes.reserve(8192).ok()?;
+    let ended = serve_sent(rt, "1000000", false, connection)?;
+    has_offers(&connection.output, ended.as_str())
+}
+
+// Whether the session of a message with two clients does.
 fn offers_twice<R: Threads + Wait + AllocGlobal>(rt: &R) -> Option<bool> {
     let message = message_of(rt.alloc(), 2).ok()?;
-    let mut sink = Received {
-        bytes: Vec::with_capacity(rt.alloc(), 8192).ok()?,
-        piece: usize::MAX,
-    };
-    let ended = serve_sent(rt, "1000000", message.as_str().as_bytes(), &mut sink)?;
-    match ended.as_str() {
-        "finished 600" => Some(offers_in(&sink.bytes) == 3),
-        ended if is_off(&sink, ended) => None,
-        _ => Some(false),
-    }
+    let mut connection = Connection::new(rt.alloc(), message.as_str().as_bytes(), usize::MAX);
+    offers_over(rt, &mut connection)
 }
 
 // rule: Desk of a worker
@@ -199,16 +213,23 @@ const OPERATED: &str =
     r#"schema = 1~base = 1~edit = [{ do = "set_withdrawn", app = "demo", version = "3.0", on = true }] = 200 edition 2
 raise m0 1000001 = 200 raised m0 1000001"#;
 
+// Whether the third reply is a dump with the raised budget.
+fn has_dump(replies: &[String]) -> bool {
+    match replies.get(2) {
+        Some(dump) => {
+            let dump = dump.as_str();
+            dump.starts_with("200 schema = ") && dump.contains("budget = 1000001\n")
+        }
+        None => false,
+    }
+}
+
 // Whether an operator publishes a script, raises a budget, and dumps the profile, each at once or again.
 fn operates<R: Threads + Wait + Sync + AllocGlobal>(rt: &R) -> Option<bool> {
     let mut bodies = bodies_of(rt.alloc(), OPERATED)?;
-    bodies
-        .push(Vec::from_slice(rt.alloc(), b"dump").ok()?)
-        .ok()?;
+    push_body(rt.alloc(), &mut bodies, b"dump")?;
     let replies = replies_to(rt, CHAINED.as_bytes(), &bodies)?;
-    let dump = replies.get(2)?.as_str();
-    let is_dump = dump.starts_with("200 schema = ") && dump.contains("budget = 1000001\n");
-    Some(is_dump && first_wrong(&replies, OPERATED) == "none")
+    Some(has_dump(&replies) && first_wrong(&replies, OPERATED) == "none")
 }
 
 // rule: Operator's desk

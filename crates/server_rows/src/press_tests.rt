@@ -56,15 +56,20 @@ fn learn(alloc: Global, view: View, receipt: &Receipt) -> (View, bool) {
     (view, is_told && is_after)
 }
 
+// Whether a view that learns a receipt enters the second edition, and meets the press at it.
+fn is_met(alloc: Global, press: &Press, view: View, receipt: &Receipt) -> bool {
+    let (view, is_after) = learn(alloc, view, receipt);
+    let (view, numbers) = meet(press, view);
+    is_after && matches!(numbers, Some((2, 2))) && view.seen() == 2
+}
+
 // Whether a view enters the first edition, and the second one after it learnt its receipt.
 fn learns<R: Threads + Wait>(rt: &R, alloc: Global, press: &mut Press, view: View) -> bool {
     let (view, is_before) = enter(alloc, view, 1, BEFORE);
-    let Ok(receipt) = publish_edits(rt, alloc, press, 1, WITHDRAWAL) else {
-        return false;
-    };
-    let (view, is_after) = learn(alloc, view, &receipt);
-    let (view, numbers) = meet(press, view);
-    is_before && is_after && numbers == Some((2, 2)) && view.seen() == 2
+    match publish_edits(rt, alloc, press, 1, WITHDRAWAL) {
+        Ok(receipt) => is_before && is_met(alloc, press, view, &receipt),
+        Err(_) => false,
+    }
 }
 
 // The number that is published if a batch is stale, else 0.

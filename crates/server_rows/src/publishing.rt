@@ -1,4 +1,4 @@
-use crate::batches::{MINI, TARGET, small};
+use crate::batches::{MINI, small};
 use crate::rows::{Kind, is_found};
 use editions::{Edition, NextError};
 use fixtures::{edition_of, next_of};

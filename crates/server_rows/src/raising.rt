@@ -1,12 +1,12 @@
 // Two workers that ask at once, while a budget is raised beside them.
 
-ghost use Rattle.std.specs.Prelude.{◌≡◌, ⊤, IfOk, IfSome, true, vec_len};
-ghost use Rattle.profile_toml.specs.Laws.{AreMirrors};
+ghost use Rattle.std.specs.Prelude.{◌≡◌, ⊤, IfOk, true, vec_len};
 
-use crate::desk::mirrors_in;
-use crate::lines::has_bounds;
-use catalogue::Mirror;
-use mirror_ledger::{BudgetJob, Budgets, Ran, Till, TillJob, run_with_tills};
+use crate::desk::named_mirrors;
+use crate::lines::{has_bounds, push_numbers};
+use crate::rows::is_line;
+use fixtures::three_parts;
+use mirror_ledger::{BudgetJob, Budgets, Till, TillJob, run_with_tills};
 use par_tables::Gate;
 use std::alloc::{AllocError, Global};
 use std::sync::Wait;
@@ -108,47 +108,95 @@ impl Gate for Counter {
     }
 }
 
-// Whether as many asks were granted as the mirror's total says, and no more than it was raised to.
-fn is_within<'a, R: Wait>(ran: &Ran<Asking<'a, R>, Raising<'a, R>>, to: u64) -> bool {
-    ran.own == Some(to)
-        && ran.totals.len() == 1
-        && ran.totals[0] == granted_in(&ran.ends)
-        && ran.totals[0] <= to
+// What two workers and the raises beside them came to: how many asks were granted, to what the budget was raised, and
+// the mirrors' totals.
+#[derive(Drop)]
+struct Outcome {
+    granted: u64,
+    raised: Option<u64>,
+    totals: Vec<u64>,
 }
 
-/// One mirror with the budget 0.
-pub(crate) const EMPTY: &[u8] =
-    b"schema = 1\nmirror = [{ name = 'm0', codebase = 'http://m0.example/p/', budget = 0 }]";
+// Two workers ask so often each over mirrors of these budgets, while the first one's is raised to so much.
+fn run<R: Threads + Wait + Sync + AllocGlobal>(
+    rt: &R,
+    gate: &Counter,
+    budgets: &str,
+    times: u32,
+    to: u64,
+) -> Option<Outcome> {
+    let mirrors = named_mirrors(rt.alloc(), budgets)?;
+    let jobs = two_jobs(rt, rt.alloc(), times).ok()?;
+    if !has_bounds(&mirrors) {
+        return None;
+    }
+    match run_with_tills(rt, rt.alloc(), mirrors, gate, jobs, &mut Raising { rt, to }) {
+        Ok(ran) => Some(Outcome {
+            granted: granted_in(&ran.ends),
+            raised: ran.own,
+            totals: ran.totals,
+        }),
+        Err(_) => None,
+    }
+}
 
-fn is_raised<R: Threads + Wait + Sync + AllocGlobal>(
+// Whether as many asks were granted as the only mirror's total says, and no more than it was raised to.
+fn is_within<R: Threads + Wait + Sync + AllocGlobal>(
     rt: &R,
     gate: &Counter,
     times: u32,
     to: u64,
 ) -> Option<bool> {
-    let mirrors = mirrors_in(rt.alloc(), EMPTY)?;
-    let jobs = two_jobs(rt, rt.alloc(), times).ok()?;
-    if !has_bounds(&mirrors) {
-        return None;
-    }
-    let mut own = Raising { rt, to };
-    let ran = run_with_tills(rt, rt.alloc(), mirrors, gate, jobs, &mut own).ok()?;
-    Some(is_within(&ran, to))
+    let outcome = run(rt, gate, "0", times, to)?;
+    let is_whole = outcome.totals.as_slice() == [outcome.granted].as_slice();
+    Some(is_whole && outcome.raised == Some(to) && outcome.granted <= to)
 }
 
 // rule: Raise of a budget
 // rule: Budget of a mirror
 #[test]
 fn grants_no_more_than_the_budget_was_raised_to(rt: HostRuntime) {
-    assert!(rt; is_raised(&rt, &Counter::new(), 5000, 1200) == Some(true));
+    assert!(rt; is_within(&rt, &Counter::new(), 5000, 1200) == Some(true));
 }
 
 // rule: Jobs of threads
 #[test]
 fn calls_the_gate_once_in_each_thread(rt: HostRuntime) {
     let gate = Counter::new();
-    assert!(rt; is_raised(&rt, &gate, 1, 2) == Some(true));
+    assert!(rt; is_within(&rt, &gate, 1, 2) == Some(true));
     assert!(rt; gate.begun.load(Ordering::SeqCst) == 2);
     assert!(rt; gate.numbers.load(Ordering::SeqCst) == 1);
     assert!(rt; gate.tables.load(Ordering::SeqCst) == 0);
+}
+
+// A row is the budgets, how often each of two workers asks, and how many asks are granted, then the totals.
+const ROWS: &str = "1000|600|1000 1000
+30000 0 60000 10000|55000|100000 30000 0 60000 10000";
+
+// How many asks are granted, and the totals.
+fn print_outcome<R: Threads + Wait + Sync + AllocGlobal>(
+    rt: &R,
+    budgets: &str,
+    times: &str,
+) -> Option<String> {
+    let outcome = run(rt, &Counter::new(), budgets, times.parse().unwrap_or(0), 0)?;
+    let mut line = format!(in rt.alloc(); "{}", outcome.granted).ok()?;
+    push_numbers(&mut line, &outcome.totals).ok()?;
+    Some(line)
+}
+
+// Whether the asks of a row are granted so.
+fn is_granted<R: Threads + Wait + Sync + AllocGlobal>(rt: &R, row: &str) -> bool {
+    let (budgets, times, wanted) = three_parts(row, "|");
+    is_line(print_outcome(rt, budgets, times), wanted)
+}
+
+// rule: Budget of a mirror
+// rule: Shares and asks
+// rule: Total of a mirror
+#[test]
+fn totals_agree_with_a_hundred_thousand_grants(rt: HostRuntime) {
+    for row in ROWS.lines() {
+        assert!(rt; is_granted(&rt, row), "{row}");
+    }
 }

@@ -5,7 +5,7 @@ use crate::catalogue_of_rows::print_findings;
 use crate::descriptions::print_description;
 use crate::pins::print_allowed;
 use crate::plans::{client_at, pinned_at, print_cohort, print_plan, print_tables, print_track};
-use crate::shelf::Shelf;
+use crate::shelf::RowFolder;
 use editions::Edition;
 use fixtures::two_parts;
 use std::alloc::Global;
@@ -40,7 +40,7 @@ pub(crate) enum Kind {
     Description,
 }
 
-fn find(alloc: Global, kind: Kind, edition: &Edition, asked: &str) -> Option<String> {
+fn find(alloc: Global, kind: Kind, edition: &Edition, asked: &'static str) -> Option<String> {
     match kind {
         Kind::Reply => print_reply(alloc, edition, asked, true),
         Kind::Busy => print_reply(alloc, edition, asked, false),
@@ -52,7 +52,7 @@ fn find(alloc: Global, kind: Kind, edition: &Edition, asked: &str) -> Option<Str
         Kind::Track => print_track(alloc, edition.catalogue(), asked),
         Kind::Cohort => print_cohort(alloc, asked),
         Kind::Pin => print_allowed(alloc, asked),
-        Kind::Findings => print_findings(alloc, &Shelf { files: asked }),
+        Kind::Findings => print_findings(alloc, &RowFolder::new(alloc, asked)?),
         Kind::Description => print_description(alloc, asked),
     }
 }

@@ -1,98 +1,90 @@
-// Packages in memory, as a row says: files of one letter each.
+// Files in memory, of one letter each, as a row says.
 
+use fixtures::two_parts;
 use http_desks::Packages;
 use http_devices::{Entry, OpenPackages};
+use http_memory::{Content, File, Shelf};
 use http_wire::Failed;
-use std::alloc::AllocError;
+use std::alloc::{AllocError, Global};
 
-/// The files of a row, with a space between two. `a.bin=a10` has ten letters `a`; of `a.bin=a10!4` no read
-/// that reaches past the fourth byte succeeds. `folder`, `closed` and `memory` can't be opened.
-#[derive(Drop)]
-pub(crate) struct Shelf<'a> {
-    pub(crate) files: &'a str,
-}
-
-// A file: its letter, how many bytes it has, and how many of them can be read.
-#[derive(Clone, Copy)]
-struct Letters {
-    letter: u8,
-    size: u64,
-    readable: u64,
-}
-
-fn number_of(text: &str) -> u64 {
-    text.parse().unwrap_or(0)
-}
-
-fn letters_of(text: &str) -> Option<Letters> {
-    let letter = *text.as_bytes().first()?;
-    let rest = text.strip_prefix(letter as char)?;
-    let (size, readable) = match rest.split_once('!') {
-        Some((size, readable)) => (number_of(size), number_of(readable)),
-        None => (number_of(rest), u64::MAX),
-    };
-    Some(Letters {
-        letter,
-        size,
-        readable,
+// The file of a word: `a.bin=a10` has ten letters `a`; of `a.bin=a10!4` the first four can be read.
+fn file_of(word: &'static str) -> Option<File<'static>> {
+    let (name, said) = word.split_once('=')?;
+    let letter = *said.as_bytes().first()?;
+    let (size, readable) = two_parts(said.strip_prefix(letter as char)?, "!");
+    let size = size.parse().ok()?;
+    Some(File {
+        name: name.as_bytes(),
+        content: Content::Repeated(letter, size),
+        readable: readable.parse().unwrap_or(size),
     })
 }
 
-impl Shelf<'_> {
-    // What is said of a file.
-    fn find(&self, name: &[u8]) -> Option<&str> {
-        for file in self.files.split(' ') {
-            if let Some((given, said)) = file.split_once('=') {
-                if given.as_bytes() == name {
-                    return Some(said);
-                }
-            }
+/// The files of a row, with a space between two. They are never freed.
+pub(crate) fn files_of(alloc: Global, row: &'static str) -> Option<Shelf<'static>> {
+    let mut files = Vec::new(alloc);
+    for word in row.split(' ') {
+        if let Some(file) = file_of(word) {
+            files.push(file).ok()?;
         }
-        None
+    }
+    Some(Shelf {
+        files: files.leak(),
+    })
+}
+
+/// A folder of such files, in which `a.bin=folder`, `a.bin=closed` and `a.bin=memory` can't be opened.
+#[derive(Drop)]
+pub(crate) struct RowFolder {
+    row: &'static str,
+    shelf: Shelf<'static>,
+}
+
+impl RowFolder {
+    /// The folder of a row.
+    pub(crate) fn new(alloc: Global, row: &'static str) -> Option<RowFolder> {
+        let shelf = files_of(alloc, row)?;
+        Some(RowFolder { row, shelf })
     }
 
-    fn find_letters(&self, name: &[u8]) -> Option<Letters> {
-        letters_of(self.find(name)?)
+    // What is said of a name.
+    fn find(&self, name: &[u8]) -> &str {
+        for word in self.row.split(' ') {
+            let (given, said) = two_parts(word, "=");
+            if given.as_bytes() == name {
+                return said;
+            }
+        }
+        ""
     }
 }
 
-impl OpenPackages for Shelf<'_> {
+impl OpenPackages for RowFolder {
     ghost opens = { λ _ _ _. Unit {0} };
 
     fn open(&self, name: &[u8]) -> Result<Entry, AllocError> {
         match self.find(name) {
-            None => Ok(Entry::Missing),
-            Some("folder") => Ok(Entry::NotRegular),
-            Some("closed") => Ok(Entry::Unreadable),
-            Some("memory") => Err(AllocError),
-            Some(said) => match letters_of(said) {
-                Some(letters) => Ok(Entry::File(letters.size)),
+            "folder" => Ok(Entry::NotRegular),
+            "closed" => Ok(Entry::Unreadable),
+            "memory" => Err(AllocError),
+            _ => match self.shelf.size(name) {
+                Some(size) => Ok(Entry::File(size)),
                 None => Ok(Entry::Missing),
             },
         }
     }
 }
 
-impl Packages for Shelf<'_> {
+impl Packages for RowFolder {
     ghost reads = { λ _ _ _ _ _. Unit {0} };
 
     ghost sizes = { λ _ _ _. Unit {0} };
 
     fn size(&self, name: &[u8]) -> Option<u64> {
-        self.find_letters(name).map(|letters| letters.size)
+        self.shelf.size(name)
     }
 
     fn read_at(&self, name: &[u8], at: u64, into: &mut [u8]) -> Result<(), Failed> {
-        let Some(file) = self.find_letters(name) else {
-            return Err(Failed);
-        };
-        let end = at.saturating_add(into.len() as u64);
-        if file.size < end || file.readable < end {
-            return Err(Failed);
-        }
-        for byte in into.iter_mut() {
-            *byte = file.letter;
-        }
-        Ok(())
+        self.shelf.read_at(name, at, into)
     }
 }

@@ -2,9 +2,8 @@
 
 ghost use Rattle.std.specs.Prelude.{◌≡◌, ⊤, IfOk, false, vec_len};
 
-use crate::desk::mirrors_in;
+use crate::desk::named_mirrors;
 use crate::lines::has_bounds;
-use crate::raising::EMPTY;
 use mirror_ledger::{BudgetJob, Budgets, Ran, Till, TillJob, run_with_tills};
 use par_tables::Gate;
 use std::alloc::{AllocError, Global};
@@ -14,9 +13,9 @@ use std::thread;
 use std::thread::Threads;
 use std::time::{Clock, Duration};
 
-// A mark for each job and one for the own job, and another for who gave up the wait.
+/// A mark for each of two jobs and one for what runs beside them, and another for who gave up the wait.
 #[derive(Drop)]
-struct Meeting<'a, R> {
+pub(crate) struct Meeting<'a, R> {
     clock: &'a R,
     first: AtomicU64,
     second: AtomicU64,
@@ -29,7 +28,8 @@ fn is_set(mark: &AtomicU64) -> bool {
 }
 
 impl<'a, R: Clock> Meeting<'a, R> {
-    fn new(clock: &'a R) -> Meeting<'a, R> {
+    /// A meeting to which nobody has come.
+    pub(crate) fn new(clock: &'a R) -> Meeting<'a, R> {
         Meeting {
             clock,
             first: AtomicU64::new(0),
@@ -61,6 +61,16 @@ impl<'a, R: Clock> Meeting<'a, R> {
             thread::sleep(self.clock, Duration::from_micros(1));
         }
         self.gave_up.store(1, Ordering::SeqCst);
+    }
+
+    /// Waits, beside the jobs, until each of them has begun.
+    pub(crate) fn meet_jobs(&self) {
+        self.meet(&self.own);
+    }
+
+    /// Whether nobody gave up the wait.
+    pub(crate) fn is_complete(&self) -> bool {
+        !is_set(&self.gave_up)
     }
 }
 
@@ -105,7 +115,7 @@ impl<R: Clock> BudgetJob for Beside<'_, R> {
     ghost comes_to = { λ _ _ _. ⊤ };
 
     fn work<B: Budgets>(&mut self, _budgets: &B) {
-        self.meeting.meet(&self.meeting.own);
+        self.meeting.meet_jobs();
     }
 }
 
@@ -128,16 +138,27 @@ fn are_done<'a, R: Clock>(ran: &Ran<Coming<'a, R>, Beside<'a, R>>) -> bool {
     is_first && is_second && ran.ends.len() == 2 && ran.own.is_some()
 }
 
-fn run_at_once<R: Threads + Wait + Clock + Sync>(rt: &R, alloc: Global) -> Option<bool> {
-    let meeting = Meeting::new(rt);
-    let mirrors = mirrors_in(alloc, EMPTY)?;
-    let jobs = two_jobs(&meeting, alloc).ok()?;
+// Whether two jobs that meet are done, as is what runs beside them.
+fn run_jobs<R: Threads + Wait + Clock + Sync>(
+    rt: &R,
+    alloc: Global,
+    meeting: &Meeting<'_, R>,
+) -> Option<bool> {
+    let mirrors = named_mirrors(alloc, "0")?;
+    let jobs = two_jobs(meeting, alloc).ok()?;
     if !has_bounds(&mirrors) {
         return None;
     }
-    let mut own = Beside { meeting: &meeting };
-    let ran = run_with_tills(rt, alloc, mirrors, &meeting, jobs, &mut own).ok()?;
-    Some(are_done(&ran) && !is_set(&meeting.gave_up))
+    match run_with_tills(rt, alloc, mirrors, meeting, jobs, &mut Beside { meeting }) {
+        Ok(ran) => Some(are_done(&ran)),
+        Err(_) => None,
+    }
+}
+
+fn run_at_once<R: Threads + Wait + Clock + Sync>(rt: &R, alloc: Global) -> Option<bool> {
+    let meeting = Meeting::new(rt);
+    let are_done = run_jobs(rt, alloc, &meeting);
+    Some(are_done? && meeting.is_complete())
 }
 
 // rule: Jobs of threads

@@ -48,14 +48,19 @@ fn has(reply: Option<String>, words: &str) -> bool {
     }
 }
 
+// Whether a worker says that no mirror has room.
+fn says_busy<R: Wait + AllocGlobal>(worker: &mut Worker<'_, R, PlainTill>) -> Option<bool> {
+    let body = request_of(worker.rt.alloc(), 1).ok()?;
+    let reply = send(worker, body.as_str())?;
+    Some(reply.as_str().strip_prefix("200 ") == Some(BUSY))
+}
+
 // Whether a worker without room asks once, for 300 bytes, and says so.
 fn is_busy<R: Wait + AllocGlobal>(rt: &R, view: View) -> Option<bool> {
     let mut worker = worker_of(rt, view, false)?;
-    let body = request_of(rt.alloc(), 1).ok()?;
-    let wanted = format!(in rt.alloc(); "200 {BUSY}").ok()?;
-    let is_said = is_line(send(&mut worker, body.as_str()), wanted.as_str());
+    let is_said = says_busy(&mut worker);
     let (_view, till) = worker.into_parts();
-    Some(is_said && till.count == 1 && till.last == 300)
+    Some(is_said? && till.count == 1 && till.last == 300)
 }
 
 // rule: Desk of a worker
@@ -73,10 +78,10 @@ fn asks_once_and_says_that_no_mirror_has_room(rt: HostRuntime) {
 fn follows<R: Threads + Wait + AllocGlobal>(rt: &R, press: &mut Press, view: View) -> Option<bool> {
     let mut worker = worker_of(rt, view, true)?;
     let is_before = has(ask(&mut worker), "\"sizediff\":200");
-    let receipt = publish_edits(rt, rt.alloc(), press, 1, "set_withdrawn demo 3.0 on");
+    let is_published = publish_edits(rt, rt.alloc(), press, 1, "set_withdrawn demo 3.0 on").is_ok();
     let is_after = has(ask(&mut worker), "\"sizediff\":500");
     let (view, till) = worker.into_parts();
-    Some(is_before && receipt.is_ok() && is_after && view.seen() == 2 && till.last == 500)
+    Some(is_before && is_published && is_after && view.seen() == 2 && till.last == 500)
 }
 
 // rule: Reply of a worker
@@ -112,16 +117,22 @@ fn closes<R: Threads + Wait + AllocGlobal>(
     is_known && is_closed && is_bad && worker.package(b"demo-2.0.bin").is_none()
 }
 
+// Whether a worker of that press is closed so, and asked for nothing.
+fn is_closed<R: Threads + Wait + AllocGlobal>(rt: &R, press: Press, view: View) -> bool {
+    let Some(mut worker) = worker_of(rt, view, true) else {
+        press.end(rt);
+        return false;
+    };
+    let is_closed = closes(rt, press, &mut worker);
+    let (view, till) = worker.into_parts();
+    is_closed && view.seen() == 1 && till.count == 0
+}
+
 // rule: Desk of a worker
 #[test]
 fn is_closed_once_the_press_has_ended(rt: HostRuntime) {
     let Some((press, view)) = open_one(&rt, rt.alloc(), CHAINED) else {
         panic!(rt; "no press")
     };
-    let Some(mut worker) = worker_of(&rt, view, true) else {
-        panic!(rt; "no worker")
-    };
-    let is_closed = closes(&rt, press, &mut worker);
-    let (view, till) = worker.into_parts();
-    assert!(rt; is_closed && view.seen() == 1 && till.count == 0);
+    assert!(rt; is_closed(&rt, press, view));
 }
