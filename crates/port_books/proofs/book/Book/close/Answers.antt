@@ -21,6 +21,9 @@ returns-clause-accepted g c =
 
 pub put-requires : goal.put-requires
 put-requires g c =
-    omega (arith, c.args.self.now.places.ok,
-    open_within c.args.self.now.places.items c.args.slot (slots_after c.args.self.now.moves c.args.slot)
-    (c.args.self.now.tied c.args.slot) c.requires.live)
+    omega (
+      arith,
+      c.args.self.now.places.ok,
+      open_within c.args.self.now.places.items c.args.slot (slots_after c.args.self.now.moves c.args.slot)
+          (c.args.self.now.tied c.args.slot) c.requires.live,
+    )

@@ -27,6 +27,9 @@ returns-in-None g c =
 
 pub index-requires : goal.index-requires
 index-requires g c =
-    omega (arith, c.args.self.now.places.ok,
-    open_within c.args.self.now.places.items c.args.slot (slots_after c.args.self.now.moves c.args.slot)
-    (c.args.self.now.tied c.args.slot) c.requires.live)
+    omega (
+      arith,
+      c.args.self.now.places.ok,
+      open_within c.args.self.now.places.items c.args.slot (slots_after c.args.self.now.moves c.args.slot)
+          (c.args.self.now.tied c.args.slot) c.requires.live,
+    )
