@@ -3,13 +3,13 @@
 
     bench/gate.py [--log FILE] [--top N]
 
-It runs `rt ci` at the top of the repository, with its output in FILE, by default `gate.log` in the folder for
-temporary files. Four times a second it reads the clocks of the checks that `rt ci` has started, and sums them in
-the end: processor minutes for the proofs of libraries, of tests, for the must-fail edits (the first of a crate proves
-the crate again) and for the programs, and the most expensive crates of each. Where other work runs beside it, the
-same checks take more processor time.
+It runs `rt ci --anew` at the top of the repository, which proves all again, with its output in FILE, by default
+`gate.log` in the folder for temporary files. Four times a second it reads the clocks of the checks that this has
+started, and sums them in the end: processor minutes for the proofs of libraries, of tests, for the must-fail edits (the
+first of a crate proves the crate again) and for the programs, and the most expensive crates of each. Where other work
+runs beside it, the same checks take more processor time.
 
-It exits with the status of `rt ci`, whose last line it repeats.
+It exits with its status, whose last line it repeats.
 """
 
 import argparse
@@ -92,7 +92,7 @@ def main():
     options = parser.parse_args()
     began = time.time()
     with open(options.log, "w", encoding="utf-8") as log:
-        gate = subprocess.Popen(["rt", "ci"], cwd=TOP, stdin=subprocess.DEVNULL, stdout=log, stderr=subprocess.STDOUT)
+        gate = subprocess.Popen(["rt", "ci", "--anew"], cwd=TOP, stdin=subprocess.DEVNULL, stdout=log, stderr=subprocess.STDOUT)
         sums = watch(gate)
     print(f"{(time.time() - began) / 60:.1f} minutes on {len(os.sched_getaffinity(0))} processors")
     print(f"{sum(sums.values()) / 60:8.1f} processor minutes in all")
