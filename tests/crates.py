@@ -38,13 +38,13 @@ def sentence_of(crate):
     """The first sentence of a crate's own page."""
     pages = [CRATES / crate / "src" / name for name in ("lib.rt", "main.rt")]
     lines = next(page for page in pages if page.exists()).read_text(encoding="utf-8").splitlines()
-    text = [line.removeprefix("//!").strip() for line in lines if line.startswith("//!")]
-    paragraph = " ".join(text[: text.index("") if "" in text else len(text)])
+    page = [line.removeprefix("//!").strip() for line in lines if line.startswith("//!")]
+    paragraph = " ".join(page[: page.index("") if "" in page else len(page)])
     return re.match(r".*?\.(?= |$)", paragraph).group()
 
 
 def page_of(found):
-    """The text of the list."""
+    """The list."""
     parts = [HEAD]
     for group, crates in found.items():
         lines = [f"- [`{crate}`]({crate}/src): {sentence_of(crate)}\n" for crate in crates]
