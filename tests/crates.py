@@ -36,8 +36,8 @@ def groups():
 
 def sentence_of(crate):
     """The first sentence of a crate's own page."""
-    pages = [CRATES / crate / "src" / name for name in ("lib.rt", "main.rt")]
-    lines = next(page for page in pages if page.exists()).read_text(encoding="utf-8").splitlines()
+    files = [CRATES / crate / "src" / name for name in ("lib.rt", "main.rt")]
+    lines = next(file for file in files if file.exists()).read_text(encoding="utf-8").splitlines()
     page = [line.removeprefix("//!").strip() for line in lines if line.startswith("//!")]
     paragraph = " ".join(page[: page.index("") if "" in page else len(page)])
     return re.match(r".*?\.(?= |$)", paragraph).group()
