@@ -64,7 +64,7 @@ install:
 	install -m 755 crates/omaha/out/omaha $(DESTDIR)$(PREFIX)/bin/omaha
 
 allocations:
-	for crate in profile_rows prices_rows protocol_rows server_rows; do \
+	for crate in profile_rows prices_rows protocol_rows server_rows desk_rows; do \
 		(cd crates/$$crate && rt test -- without_memory) || exit 1; done
 	tests/allocations.py
 

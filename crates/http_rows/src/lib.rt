@@ -1,6 +1,5 @@
-//! Rows of HTTP: heads, bodies, replies, packages, sessions, posts and downloads over devices in memory that give
-//! and take pieces, and of which a call may fail; the devices of a server; connections, posts and downloads over the
-//! loopback; and the access log.
+//! Rows of HTTP: heads, bodies, replies, packages and sessions over devices in memory that give and take pieces, and of
+//! which a call may fail; the devices of a server; and the access log.
 //!
 //! It has tests alone, so that the crates of HTTP are proved once.
 
@@ -11,21 +10,11 @@ mod address_tests;
 #[cfg(test)]
 mod body_tests;
 #[cfg(test)]
-mod client;
-#[cfg(test)]
-mod connection_tests;
-#[cfg(test)]
 mod corpus_tests;
-#[cfg(test)]
-mod counter;
 #[cfg(test)]
 mod desks;
 #[cfg(test)]
 mod device_tests;
-#[cfg(test)]
-mod exchange_tests;
-#[cfg(test)]
-mod failing_client_tests;
 #[cfg(test)]
 mod failing_session_tests;
 #[cfg(test)]
@@ -37,8 +26,6 @@ mod lines;
 #[cfg(test)]
 mod memory_tests;
 #[cfg(test)]
-mod opening_tests;
-#[cfg(test)]
 mod package_tests;
 #[cfg(test)]
 mod reply_tests;
@@ -46,8 +33,6 @@ mod reply_tests;
 mod rows;
 #[cfg(test)]
 mod scripted;
-#[cfg(test)]
-mod server;
 #[cfg(test)]
 mod session_tests;
 #[cfg(test)]

@@ -50,9 +50,3 @@ pub(crate) fn demo(alloc: Global, edits: &str) -> Option<&'static Edition> {
 
 /// The edit that adds a cohort of `demo` without a target.
 pub(crate) const IDLE: &str = "add_cohort demo idle";
-
-/// The edits that add an app of three large packages.
-pub(crate) const LARGE: &str = "add_app large stable
-add_release large 1 mebibyte.bin 1048576 1111111111111111111111111111111111111111111111111111111111111111
-add_release large 2 block.bin 65536 2222222222222222222222222222222222222222222222222222222222222222
-add_release large 3 letters.bin 131072 b44ffb72fcc259676bd80495fef1b44b808ca8f1ffe1b1706a4d7911b0e31f11";

@@ -1,7 +1,7 @@
-use crate::batches::{MINI, small};
+use crate::batches::{MINI, TARGET, small};
 use crate::rows::{Kind, is_found};
 use editions::{Edition, NextError};
-use fixtures::{edition_of, next_of};
+use fixtures::{edition_of, edition_of_batches, next_of};
 use std::alloc::Global;
 
 fn is_printed(alloc: Global, error: &NextError, wanted: &str) -> bool {
@@ -12,7 +12,7 @@ fn is_printed(alloc: Global, error: &NextError, wanted: &str) -> bool {
 }
 
 // Whether edits after an edition are rejected so.
-pub(crate) fn rejects(alloc: Global, edition: &Edition, edits: &str, wanted: &str) -> bool {
+fn rejects(alloc: Global, edition: &Edition, edits: &str, wanted: &str) -> bool {
     match next_of(alloc, edition, edits) {
         Ok(_next) => false,
         Err(error) => is_printed(alloc, &error, wanted),
@@ -50,4 +50,26 @@ fn prints_rejections(rt: HostRuntime) {
     let edits = "set_target mini stable 3.5 -";
     assert!(rt; rejects_next(rt.alloc(), edits, "edit 0: C11 UnknownRelease") == Some(true));
     assert!(rt; is_printed(rt.alloc(), &NextError::Memory, "memory"));
+}
+
+// Whether an edition of 4096 batches accepts none, and reports an edit that is rejected first.
+fn is_full(alloc: Global, edition: &Edition) -> bool {
+    let is_last = edition.number() == 4096 && rejects(alloc, edition, "", "history full");
+    is_last && rejects(alloc, edition, TARGET, "edit 0: C1 UnknownApp")
+}
+
+// Whether the edition of so many batches has that number, and is full or not.
+fn is_number(alloc: Global, count: u32, full: bool) -> bool {
+    match edition_of_batches(alloc, count) {
+        Ok(edition) => edition.number() == u64::from(count) && is_full(alloc, &edition) == full,
+        Err(_) => false,
+    }
+}
+
+// rule: A rejected batch before a full history
+// rule: Room for 4096 batches
+#[test]
+fn takes_4096_batches_and_no_more(rt: HostRuntime) {
+    assert!(rt; is_number(rt.alloc(), 0, false));
+    assert!(rt; is_number(rt.alloc(), 4096, true));
 }

@@ -1,4 +1,4 @@
-// Numbers of a line, and mirrors of such budgets.
+// Lines that are found, their numbers, and mirrors of such budgets.
 
 ghost use Rattle.std.specs.Prelude.{◌≡◌, ◌<◌, ◌≤◌, IfSome, true, vec_len};
 ghost use Rattle.mirror_ledger.specs.Named.{are_bounded};
@@ -38,4 +38,12 @@ pub(crate) fn push_numbers(line: &mut String, numbers: &[u64]) -> Result<(), All
         write!(line, " {number}")?;
     }
     Ok(())
+}
+
+/// Whether a line was found, and is the wanted one.
+pub(crate) fn is_line(found: Option<String>, wanted: &str) -> bool {
+    match found {
+        Some(line) => line.as_str() == wanted,
+        None => false,
+    }
 }

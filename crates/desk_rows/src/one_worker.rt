@@ -3,8 +3,7 @@
 ghost use Rattle.std.specs.Prelude.{◌≡◌, ◌≤◌, ◌<◌, true, vec_len};
 ghost use Rattle.mirror_ledger.specs.Named.{are_bounded, are_rising, IsNamed};
 
-use crate::lines::{few_mirrors, number_of, push_numbers};
-use crate::rows::is_line;
+use crate::lines::{few_mirrors, is_line, number_of, push_numbers};
 use fixtures::three_parts;
 use mirror_ledger::{Blanks, Book, Books, BudgetName, Budgets, Share, Shares, close, open_books};
 use records::Mirror;

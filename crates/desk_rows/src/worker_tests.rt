@@ -1,16 +1,28 @@
 // The desk of a worker, over a till in memory.
 
 use crate::answers::print_answer;
+use crate::lines::is_line;
 use crate::message_tests::BUSY;
-use crate::plans::client_at;
-use crate::press_tests::open_one;
-use crate::rows::is_line;
-use fixtures::{CHAINED, PlainTill, mirrors_of, publish_edits, request_of};
+use fixtures::{CHAINED, PlainTill, mirrors_of, open_profile, publish_edits, request_of};
 use http_desks::Desk;
 use publisher::{Press, View};
 use service_desks::Worker;
+use std::alloc::Global;
 use std::sync::Wait;
 use std::thread::Threads;
+
+// A press, with its one view.
+fn open_one<R: Threads + Wait>(rt: &R, alloc: Global) -> Option<(Press, View)> {
+    let (press, views) = open_profile(rt, alloc, CHAINED, 1).ok()?;
+    let mut views = views;
+    match views.pop() {
+        Some(view) => Some((press, view)),
+        None => {
+            press.end(rt);
+            None
+        }
+    }
+}
 
 // A worker whose till grants all, or nothing.
 fn worker_of<'a, R: Wait + AllocGlobal>(
@@ -31,14 +43,13 @@ fn send<R: Wait + AllocGlobal>(
     print_answer(worker.rt.alloc(), &answer)
 }
 
-// What a client at 2.0 gets.
+// The update check of a client at 2.0.
+const CHECK: &str =
+    r#"{"request":{"app":[{"appid":"demo","cohort":"stable:0","packages":{"package":[{"fp":"1.2222222222222222222222222222222222222222222222222222222222222222"}]},"updatecheck":{},"version":"2.0"}],"protocol":"3.1"}}"#;
+
+// What that client gets.
 fn ask<R: Wait + AllocGlobal>(worker: &mut Worker<'_, R, PlainTill>) -> Option<String> {
-    let alloc = worker.rt.alloc();
-    let app = client_at(alloc, "2,stable:0,false")?;
-    let body = format!(in alloc;
-        "{{\"request\":{{\"app\":[{app}],\"protocol\":\"3.1\",\"sessionid\":\"abc\"}}}}"
-    ).ok()?;
-    send(worker, body.as_str())
+    send(worker, CHECK)
 }
 
 fn has(reply: Option<String>, words: &str) -> bool {
@@ -66,7 +77,7 @@ fn is_busy<R: Wait + AllocGlobal>(rt: &R, view: View) -> Option<bool> {
 // rule: Desk of a worker
 #[test]
 fn asks_once_and_says_that_no_mirror_has_room(rt: HostRuntime) {
-    let Some((press, view)) = open_one(&rt, rt.alloc(), CHAINED) else {
+    let Some((press, view)) = open_one(&rt, rt.alloc()) else {
         panic!(rt; "no press")
     };
     let is_busy = is_busy(&rt, view);
@@ -88,7 +99,7 @@ fn follows<R: Threads + Wait + AllocGlobal>(rt: &R, press: &mut Press, view: Vie
 // rule: Entry for a call
 #[test]
 fn replies_by_the_edition_that_it_enters(rt: HostRuntime) {
-    let Some((mut press, view)) = open_one(&rt, rt.alloc(), CHAINED) else {
+    let Some((mut press, view)) = open_one(&rt, rt.alloc()) else {
         panic!(rt; "no press")
     };
     let follows = follows(&rt, &mut press, view);
@@ -131,7 +142,7 @@ fn is_closed<R: Threads + Wait + AllocGlobal>(rt: &R, press: Press, view: View) 
 // rule: Desk of a worker
 #[test]
 fn is_closed_once_the_press_has_ended(rt: HostRuntime) {
-    let Some((press, view)) = open_one(&rt, rt.alloc(), CHAINED) else {
+    let Some((press, view)) = open_one(&rt, rt.alloc()) else {
         panic!(rt; "no press")
     };
     assert!(rt; is_closed(&rt, press, view));

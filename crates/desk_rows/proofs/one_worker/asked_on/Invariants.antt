@@ -2,7 +2,7 @@
 use Rattle.std.proofs.Common.{◌+◌}
 use Rattle.mirror_ledger.specs.Named.{budget_at}
 use Rattle.records.specs.Mirrors.{max_budget}
-use Rattle.server_rows.proofs.one_worker.asked_on.Given as goal
+use Rattle.desk_rows.proofs.one_worker.asked_on.Given as goal
 
 abbrev pub ghosts-opened-A-Ledger : goal.ghosts-opened-A-Ledger
 ghosts-opened-A-Ledger g a = record { name = a.blanks.first.name; parts = a.blanks.first.parts }

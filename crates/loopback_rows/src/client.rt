@@ -1,10 +1,8 @@
 // A listener on the loopback with its clients, and the server of so many connections.
 
 use crate::counter::Counter;
-use crate::desks::FILES;
-use crate::lines::expand;
-use crate::writers::STOPPED;
 use http_connections::serve_listener;
+use http_memory::{FixedClock, Shelf};
 use http_sessions::Site;
 use http_wire::Unwatched;
 use std::alloc::Global;
@@ -45,6 +43,19 @@ pub(crate) fn connect(
     Ok(stream)
 }
 
+// The bytes of replies: a line ends at each `~`. They are never freed.
+fn expand(alloc: Global, replies: &str) -> Option<&'static [u8]> {
+    let mut bytes = Vec::new(alloc);
+    for byte in replies.as_bytes() {
+        let pushed = match *byte {
+            b'~' => bytes.extend_from_slice(b"\r\n"),
+            other => bytes.extend_from_slice(&[other]),
+        };
+        pushed.ok()?;
+    }
+    Some(bytes.leak())
+}
+
 /// Whether the server sent this, and no more.
 pub(crate) fn is_sent(alloc: Global, stream: &mut TcpStream, wanted: &str) -> Option<bool> {
     let wanted = expand(alloc, wanted)?;
@@ -53,11 +64,16 @@ pub(crate) fn is_sent(alloc: Global, stream: &mut TcpStream, wanted: &str) -> Op
     Some(bytes.as_slice() == wanted)
 }
 
+// No package, and a clock that has stopped.
+const EMPTY: Shelf<'static> = Shelf { files: &[] };
+
+const STOPPED: FixedClock = FixedClock { seconds: 0 };
+
 /// Serves so many connections, with a limit of one second for each read and write, and returns how often the
 /// desk was asked.
 pub(crate) fn serve_some(rt: &HostRuntime, listener: &TcpListener, limit: u64) -> u8 {
     let site = Site {
-        packages: &FILES,
+        packages: &EMPTY,
         clock: &STOPPED,
         watch: &Unwatched,
     };

@@ -3,8 +3,7 @@
 ghost use Rattle.std.specs.Prelude.{◌≡◌, ⊤, IfOk, true, vec_len};
 
 use crate::desk::named_mirrors;
-use crate::lines::{has_bounds, push_numbers};
-use crate::rows::is_line;
+use crate::lines::{has_bounds, is_line, push_numbers};
 use fixtures::three_parts;
 use mirror_ledger::{BudgetJob, Budgets, Till, TillJob, run_with_tills};
 use par_tables::Gate;

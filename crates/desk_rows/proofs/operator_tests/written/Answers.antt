@@ -1,6 +1,6 @@
 use Rattle.std.proofs.Common.{sym, subst}
 use Rattle.profile_toml.specs.Laws.{AreMirrors}
-use Rattle.server_rows.proofs.operator_tests.written.Goals as goal
+use Rattle.desk_rows.proofs.operator_tests.written.Goals as goal
 
 pub write_profile-requires : goal.write_profile-requires
 write_profile-requires c =

@@ -1,11 +1,9 @@
 // A connection that is served by the till of one worker.
 
-use crate::batches::LARGE;
 use crate::counting::{Counting, Granted};
 use crate::lines::{few_mirrors, push_numbers};
-use crate::shelf::files_of;
 use fixtures::{CHAINED, open_profile, publish_edits};
-use http_memory::{Connection, FixedClock, Input, Shelf};
+use http_memory::{Connection, Content, File, FixedClock, Input, Shelf};
 use http_sessions::{End, Fault, Served, serve};
 use mirror_ledger::{Till, Work, work_with_tills};
 use publisher::View;
@@ -19,9 +17,32 @@ const STOPPED: FixedClock = FixedClock {
     seconds: 1767229261,
 };
 
-// The files of three large packages; three others can't be opened.
-const FILES: &str =
-    "mebibyte.bin=a1048576 block.bin=a65536 letters.bin=a131072 demo-1.0.bin=folder demo-3.0.bin=closed demo-4.0.bin=memory";
+// The edits that add an app of three large packages.
+const LARGE: &str = "add_app large stable
+add_release large 1 mebibyte.bin 1048576 1111111111111111111111111111111111111111111111111111111111111111
+add_release large 2 block.bin 65536 2222222222222222222222222222222222222222222222222222222222222222
+add_release large 3 letters.bin 131072 b44ffb72fcc259676bd80495fef1b44b808ca8f1ffe1b1706a4d7911b0e31f11";
+
+// Their files; there are no others.
+const FILES: Shelf<'static> = Shelf {
+    files: &[
+        File {
+            name: b"mebibyte.bin",
+            content: Content::Repeated(b'a', 1_048_576),
+            readable: 1_048_576,
+        },
+        File {
+            name: b"block.bin",
+            content: Content::Repeated(b'a', 65_536),
+            readable: 65_536,
+        },
+        File {
+            name: b"letters.bin",
+            content: Content::Repeated(b'a', 131_072),
+            readable: 131_072,
+        },
+    ],
+};
 
 fn end_of(served: &Result<Served, Fault>) -> &'static str {
     match served {
@@ -39,25 +60,23 @@ fn end_of(served: &Result<Served, Fault>) -> &'static str {
 fn serve_at<R: Wait + AllocGlobal, T: Till>(
     rt: &R,
     desk: &mut Worker<'_, R, T>,
-    packages: &Shelf<'static>,
     connection: &mut Connection<'_>,
 ) -> &'static str {
     let Connection { input, output } = connection;
-    end_of(&serve(rt, input, output, desk, packages, &STOPPED))
+    end_of(&serve(rt, input, output, desk, &FILES, &STOPPED))
 }
 
 // Serves what is sent up to each byte but the last; returns how often that is unfinished and gets nothing.
 fn serve_cuts<R: Wait + AllocGlobal, T: Till>(
     rt: &R,
     desk: &mut Worker<'_, R, T>,
-    packages: &Shelf<'static>,
     connection: &mut Connection<'_>,
 ) -> usize {
     let sent = connection.input.left;
     let mut unfinished = 0usize;
     for end in 1..sent.len() {
         connection.input = Input::new(&sent[..end], usize::MAX);
-        let ended = serve_at(rt, desk, packages, connection);
+        let ended = serve_at(rt, desk, connection);
         if ended == "unfinished" && connection.output.bytes.is_empty() {
             unfinished = unfinished.saturating_add(1);
         }
@@ -70,7 +89,6 @@ fn serve_cuts<R: Wait + AllocGlobal, T: Till>(
 #[derive(Drop)]
 struct OneSession<'a, 'b> {
     view: Option<View>,
-    packages: Shelf<'static>,
     is_cut: bool,
     connection: &'a mut Connection<'b>,
 }
@@ -97,13 +115,12 @@ fn serve_all<R: Wait + AllocGlobal, T: Till>(
     desk: &mut Worker<'_, R, T>,
     session: &mut OneSession<'_, '_>,
 ) -> (usize, &'static str) {
-    let packages = session.packages;
     let unfinished = if session.is_cut {
-        serve_cuts(rt, desk, &packages, session.connection)
+        serve_cuts(rt, desk, session.connection)
     } else {
         0
     };
-    let how = serve_at(rt, desk, &packages, session.connection);
+    let how = serve_at(rt, desk, session.connection);
     (unfinished, how)
 }
 
@@ -178,11 +195,9 @@ fn serve_first<R: Wait + AllocGlobal>(
     is_cut: bool,
     connection: &mut Connection<'_>,
 ) -> Option<String> {
-    let packages = files_of(rt.alloc(), FILES)?;
     let mut views = views;
     let mut session = OneSession {
         view: views.pop(),
-        packages,
         is_cut,
         connection,
     };
