@@ -15,6 +15,7 @@ A page has at most 350 lines, and `docs/GUARANTEES.md` 150.
 """
 
 import collections
+import functools
 import itertools
 import os
 import re
@@ -23,8 +24,6 @@ import sys
 TOP = os.path.dirname(os.path.dirname(os.path.abspath(__file__)))
 CRATES = os.path.join(TOP, "crates")
 PAGES = "docs/guarantees"
-# Groups of `crates.txt` without claims.
-UNCLAIMED = ("fixtures", "tests")
 
 ITEM = re.compile(
     r"^ *(?:pub(?:\(\w+\))? )?(?:(?P<kind>impl|trait|struct|enum)\b(?P<head>[^{;]*)|(?:const )?fn (?P<function>\w+)"
@@ -76,10 +75,10 @@ def clauses_of(crate):
 
 
 CLAUSES = {crate: list(clauses_of(crate)) for crate in os.listdir(CRATES)}
-SPECS = collections.defaultdict(str)
+SPECS = collections.defaultdict(set)
 for _, specs in texts_below(CRATES, ".antt", "--"):
     for defined, saying in zip(*[iter(DEFINITION.split(specs)[1:])] * 2):
-        SPECS[defined] += saying
+        SPECS[defined] |= set(re.findall(r"\w+", saying))
 
 
 def named(crate, name, trait="", method=""):
@@ -96,6 +95,16 @@ def named(crate, name, trait="", method=""):
     return [item for item in found if item.function == last and (before or [""])[-1] in places(item)]
 
 
+@functools.cache
+def reached(name):
+    """The words of a definition, and of those that it uses, itself or through others."""
+    seen, ahead = set(), {name}
+    while ahead:
+        seen |= ahead
+        ahead = {word for used in ahead for word in SPECS.get(used, ())} - seen
+    return seen
+
+
 def fault_of(crate, part, names):
     """What is wrong with a part of a claim's clauses, or None."""
     if not part or not (found := PART.fullmatch(part)):
@@ -103,17 +112,18 @@ def fault_of(crate, part, names):
     items = named(crate, found["of"]) if found["of"] else [item for name in names for item in named(crate, *name)]
     if found["trait"]:
         return None if any(item.type and item.trait == found["trait"] for item in items) else "are of no trait here"
-    items = [item for item in items if item.says is not None and found["name"] in (None, item.name)]
-    items = [item for item in items if not item.name or found["kind"] != "the unnamed clause"]
-    items = [item for item in items if not item.function or found["kind"] != "the model"]
+    # (of a clause without a name or a function)
+    absent = {"the unnamed clause": "name", "the model": "function"}.get(found["kind"])
+    items = [item for item in items if item.says is not None and not (absent and getattr(item, absent))]
+    items = [item for item in items if found["name"] in (None, item.name)]
     if not items:
         return "is no clause of " + (found["of"] or ", ".join(name[0] for name in names))
-    says = " ".join(item.says for item in items)
-    for inner in reversed(re.findall(r"\w+", (found["by"] or "").replace(" in ", " "))):
-        if inner not in SPECS or not re.search(rf"\b{inner}\b", says):
-            return f"doesn't use {inner}"
-        says = SPECS[inner]
-    return "is no such field" if found["field"] and not re.search(rf"\b{found['field']}\b", says) else None
+    words = set(re.findall(r"\w+", " ".join(item.says for item in items)))
+    for used in reversed(re.findall(r"\w+", (found["by"] or "").replace(" in ", " "))):
+        if used not in SPECS or used not in words:
+            return f"doesn't use {used}"
+        words = reached(used)
+    return "is no such field" if found["field"] and found["field"] not in SPECS[used] else None
 
 
 def faults_of(lines, crates):
@@ -139,17 +149,19 @@ def faults_of(lines, crates):
 def main():
     with open(os.path.join(TOP, "crates.txt"), encoding="utf-8") as file:
         groups = re.findall(r"(?m)^# (.+)\n((?:\w+:.*\n)+)", file.read())
-    pages = {f"{PAGES}/{number}-{name.replace(' ', '-')}.md": text for number, (name, text) in enumerate(groups, 1) if name not in UNCLAIMED}
+    # (the groups of fixtures and tests, which are the last two, have no claims)
+    pages = {f"{number}-{name.replace(' ', '-')}.md": text for number, (name, text) in enumerate(groups[:-2], 1)}
     wrong, claims = [], 0
-    for page in ["docs/GUARANTEES.md", *sorted({*pages, *(f"{PAGES}/{name}" for name in os.listdir(os.path.join(TOP, PAGES)))})]:
+    for name in sorted({"../GUARANTEES.md", *pages, *os.listdir(os.path.join(TOP, PAGES))}):
+        page = os.path.normpath(os.path.join(PAGES, name))
         with open(os.path.join(TOP, page), encoding="utf-8") as file:
             lines = file.read().splitlines()
-        if len(lines) > (350 if page.startswith(PAGES) else 150):
+        if len(lines) > (150 if name.startswith("..") else 350):
             wrong.append(f"{page}:{len(lines)}: too many lines")
-        if page in pages:
+        if name in pages:
             claims += sum(line.startswith("- ") for line in lines)
-            crates = re.findall(r"(?m)^(\w+):", pages[page])
-            wrong += [f"{page}:{number}: {fault}" for number, fault in faults_of(lines, crates)]
+            found = faults_of(lines, re.findall(r"(?m)^(\w+):", pages[name]))
+            wrong += [f"{page}:{number}: {fault}" for number, fault in found]
     for line in wrong:
         print(f"tests/claims.py: {line}", file=sys.stderr)
     if not wrong:
