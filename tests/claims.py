@@ -24,7 +24,6 @@ ITEM = re.compile(
 DEFINITION = re.compile(r"^(?:abbrev pub|unfoldable pub|pub record|pub data|abbrev|record|pub) +(\w+)", re.MULTILINE)
 NAME = re.compile(r"`([\w:]+)`(?: as `(\w+)`)?(?:: `(\w+)`)?")
 NAMES = re.compile(rf"\*\*{NAME.pattern}(, {NAME.pattern})*\*\*")
-CLAIM = re.compile(r"- .*[.:] \((.+)\)")
 PART = re.compile(
     r"(?P<kind>the unnamed clause|each clause|the model)?(?:the clauses of `(?P<trait>\w+)`)?(?:`(?P<name>\w+)`)?"
     r"(?: of `(?P<of>[\w:]+)`)?(?: ?by (?:field `(?P<field>\w+)` of )?(?P<by>`\w+`(?: in `\w+`)*))?"
@@ -80,7 +79,7 @@ def reached(name):
 def named(crate, name, trait="", method=""):
     """The clauses of a function or a type, with those of its trait; none if there is no such function or type."""
     *before, last = name.split("::")
-    found = CLAUSES[before.pop(0) if before and before[0] in CLAUSES else crate]
+    found = CLAUSES.get(before.pop(0) if before and before[0] in CLAUSES else crate, [])
     if trait:
         found = [item for item in found if item[:2] == (last, trait)]
         found += [item for items in CLAUSES.values() for item in items if found and item[:2] == ("", trait)]
@@ -117,12 +116,14 @@ def faults_of(lines, crates):
     for number, line in enumerate(lines, 1):
         if line.startswith("## "):
             crate, names = line[3:].strip("`"), []
+            if crate not in crates:
+                yield number, f"{crate} is no crate of this group"
         elif line.startswith("**"):
             names = NAME.findall(line) if NAMES.fullmatch(line) else []
             yield from ((number, f"{crate} has no {name[0]}") for name in names if not named(crate, *name))
         elif line.startswith("- "):
             below = itertools.takewhile(lambda more: more.startswith("  "), lines[number:])
-            claim = CLAIM.fullmatch(" ".join([line, *(more.strip() for more in below)]))
+            claim = re.fullmatch(r"- .*[.:] \((.+)\)", " ".join([line, *(more.strip() for more in below)]))
             parts = claim[1].split(", ") if names and claim else []
             if not parts:
                 yield number, "no claim of the form, or no functions of the form above it"
@@ -138,8 +139,7 @@ def main():
     for path in [TOP / "docs" / "GUARANTEES.md", *sorted((TOP / "docs" / "guarantees").iterdir())]:
         lines = path.read_text(encoding="utf-8").splitlines()
         faults = list(faults_of(lines, re.findall(r"(?m)^(\w+):", pages[path.stem]))) if path.stem in pages else []
-        if len(lines) > (150 if path.stem == "GUARANTEES" else 350):
-            faults.append((len(lines), "too many lines"))
+        faults += [(len(lines), "too many lines")] if len(lines) > (150 if path.stem == "GUARANTEES" else 350) else []
         wrong += [f"{path.relative_to(TOP)}:{number}: {fault}" for number, fault in faults]
     if wrong:
         sys.exit("\n".join(f"tests/claims.py: {line}" for line in wrong))
