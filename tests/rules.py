@@ -14,13 +14,15 @@ Every rule needs exactly one definition, a function, a test and an edit, and its
 file and crate. The rules without a test or an edit are listed below with the reason.
 
     tests/rules.py            checks the marks, and that the index is the one that they give
-    tests/rules.py NAME       prints where a rule is: its heading, definition, functions, tests and edits, with their paths
+    tests/rules.py NAME       prints where a rule is: its heading, definition, functions, proofs, tests and edits, with
+                              their paths; NAME may be a word of the field that a line `Also: ..` below the heading has
     tests/rules.py --table    prints the table of all rules
     tests/rules.py --index    writes that table, in short, into the index `docs/definitions/README.md`
 """
 
 import os
 import re
+import signal
 import sys
 
 TOP = os.path.dirname(os.path.dirname(os.path.abspath(__file__)))
@@ -224,14 +226,18 @@ def faults_of(rules, headings):
             yield f"{place}: the mark is below the item's comment or attribute"
 
 
-def in_crate(place):
-    return f"`{place.crate}`: `{place.name}`"
-
-
-def first_of(places, shown):
+def first_of(shown):
     """The first of several items, and how many more there are."""
-    more = f", +{len(places) - 1}" if len(places) > 1 else ""
-    return shown(places[0]) + more if places else "–"
+    more = f", +{len(shown) - 1}" if len(shown) > 1 else ""
+    return shown[0] + more if shown else "–"
+
+
+def definitions_of(name, rules, headings):
+    """The definitions of a rule, or those that the heading says to state it."""
+    if name in rules:
+        return [f"`{place.crate}/{module_of(place)}`: `{place.name}`" for place in rules[name].definitions]
+    stated = re.findall(r"`([^`]+)` in\s+`(specs/[^`]+)`\s+of\s+`([^`]+)`", headings[name][1])
+    return [f"`{crate}/{file}`: `{item}`" for item, file, crate in stated]
 
 
 def anchor_of(name):
@@ -239,19 +245,16 @@ def anchor_of(name):
 
 
 def index_of(rules, headings):
-    """The rows of the index."""
-    yield "| Rule | Definition | Function | Test | Edit |"
-    yield "|---|---|---|---|---|"
-    for name, rule in sorted(rules.items(), key=lambda entry: entry[0].lower()):
-        if name not in headings:
-            continue
-        file = os.path.basename(headings[name][0].path)
+    """The rows of the index, a row each heading."""
+    yield "| Rule | Definition | Function |"
+    yield "|---|---|---|"
+    for name in sorted(headings, key=str.lower):
+        place = headings[name][0]
+        functions = rules[name].functions if name in rules else []
         cells = [
-            f"[{name}]({file}#{anchor_of(name)})",
-            first_of(rule.definitions, lambda place: f"`{place.crate}/{module_of(place)}`: `{place.name}`"),
-            first_of(rule.functions, in_crate),
-            first_of(rule.tests, in_crate),
-            first_of(rule.edits, lambda edit: f"`{edit.path.removeprefix('crates/').removesuffix('.edit')}`"),
+            f"[{name}]({os.path.basename(place.path)}#{anchor_of(name)})",
+            first_of(definitions_of(name, rules, headings)),
+            first_of([f"`{function.crate}`: `{function.name}`" for function in functions]),
         ]
         yield "| " + " | ".join(cells) + " |"
 
@@ -284,6 +287,22 @@ def write_index(rules, headings):
         file.write("\n".join([*before, *index_of(rules, headings)]) + "\n")
 
 
+def proofs_of(function):
+    """The folders of a function's proofs; none if the search of the prover found them."""
+    top = os.path.join(CRATES, function.crate, "proofs")
+    for path, folders, _ in os.walk(top):
+        folders.sort()
+        if os.path.basename(path) == function.name:
+            yield os.path.relpath(path, TOP)
+
+
+def is_called(name, asked, headings):
+    """Whether a rule has this name, or is also called so in the field."""
+    also = re.search(r"\bAlso: ([^.]+)\.", headings[name][1])
+    words = also.group(1).split(", ") if also else []
+    return asked.lower() in [name.lower(), *map(str.lower, words)]
+
+
 def headings_near(asked, headings):
     """The headings that have the asked words; else those whose paragraphs have the phrase, else the words."""
     phrase, words = asked.lower(), asked.lower().split()
@@ -295,25 +314,41 @@ def headings_near(asked, headings):
     )
 
 
-def print_rule(asked, rules, headings):
-    """Prints where a rule or a heading is; if there is none of that name, the headings that speak of it."""
-    named = [name for name in headings if name.lower() == asked.lower()]
+def print_rule(name, rules, headings):
+    """Prints where a rule or a heading is."""
+    place, rule = headings[name][0], rules.get(name, Rule())
+    print(f"{name}\n  heading     {place.path}:{place.line}")
+    if name not in rules:
+        for stated in definitions_of(name, rules, headings):
+            print(f"  definition  {stated}")
+    proofs = [folder for function in rule.functions for folder in proofs_of(function)]
+    searched = ["by search, without a file"] if rule.functions and not proofs else []
+    kinds = [
+        ("definition", rule.definitions),
+        ("function", rule.functions),
+        ("proof", dict.fromkeys(proofs or searched)),
+        ("test", rule.tests),
+        ("edit", rule.edits),
+    ]
+    for kind, places in kinds:
+        for place in places:
+            print(f"  {kind:<11} {place}")
+
+
+def print_rules(asked, rules, headings):
+    """Prints the rules that are called so; if there is none, the headings that speak of it."""
+    named = [name for name in headings if is_called(name, asked, headings)]
+    for name in named:
+        print_rule(name, rules, headings)
     if not named:
         print(f"no rule {asked}; see")
         for name in headings_near(asked, headings):
             print(f"  {headings[name][0]}")
-        return 1
-    name = named[0]
-    print(f"{name}\n  heading     {headings[name][0].path}:{headings[name][0].line}")
-    rule = rules.get(name, Rule())
-    kinds = [("definition", rule.definitions), ("function", rule.functions), ("test", rule.tests), ("edit", rule.edits)]
-    for kind, places in kinds:
-        for place in places:
-            print(f"  {kind:<11} {place}")
-    return 0
+    return 0 if named else 1
 
 
 def main():
+    signal.signal(signal.SIGPIPE, signal.SIG_DFL)
     rules, headings = read_rules(), sections()
     words = sys.argv[1:]
     if words == ["--table"]:
@@ -323,7 +358,7 @@ def main():
         write_index(rules, headings)
         return 0
     if words:
-        return print_rule(" ".join(words), rules, headings)
+        return print_rules(" ".join(words), rules, headings)
     wrong = list(faults_of(rules, headings))
     if read_index()[1] != list(index_of(rules, headings)):
         wrong.append("docs/definitions/README.md: not the index of these marks: run `tests/rules.py --index`")
