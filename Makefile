@@ -1,8 +1,8 @@
 # make demo          prints requests of examples/ and their replies, by the program built without a
 #                    proof; after make install it also starts the server
-# make test          the gate: the rules' marks, the words to avoid, the lists of crates and of the corpus, every proof
-#                    from nothing, must-fail edits, tests and the program, and then the rows of tests/rows with the
-#                    built program
+# make test          the gate: the rules' marks, the words to avoid, the functions and clauses that the claims name, the
+#                    lists of crates and of the corpus, every proof from nothing, must-fail edits, tests and the
+#                    program, and then the rows of tests/rows with the built program
 # make mutants CRATE..  tries the edits that the gate doesn't, of these crates or of all; the prover
 #                    must reject each
 # make commands      runs the commands on the profiles of examples/, and verifies each track's
@@ -38,6 +38,7 @@ demo:
 test:
 	tests/rules.py
 	tests/words.py
+	tests/claims.py
 	tests/crates.py
 	tests/corpus.py
 	rt ci
