@@ -28,6 +28,8 @@ mod memory_tests;
 #[cfg(test)]
 mod package_tests;
 #[cfg(test)]
+mod queue_tests;
+#[cfg(test)]
 mod reply_tests;
 #[cfg(test)]
 mod rows;

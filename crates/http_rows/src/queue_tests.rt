@@ -1,0 +1,97 @@
+// Lines of a log that are sent to its writer.
+
+use crate::writers::Paper;
+use log_queues::{LineSender, LogWriter, Signal, open_log};
+use std::alloc::Global;
+use std::sync::Wait;
+use std::thread::{Threads, join};
+
+// A sheet that takes all, or fails so often after so many bytes.
+fn paper(alloc: Global, room: usize, fails: usize) -> Paper {
+    Paper {
+        bytes: Vec::new(alloc),
+        room,
+        fails,
+    }
+}
+
+// Sends the lines of a row, `0 text` by the first sender, `1 text` by the second.
+fn send(senders: &mut [LineSender<'_>], row: &str) -> Option<()> {
+    for line in row.split_inclusive('\n') {
+        let (sender, line) = line.split_once(' ')?;
+        let index: usize = sender.parse().ok()?;
+        senders.get_mut(index)?.send(line.as_bytes());
+    }
+    Some(())
+}
+
+// Whether a log of two senders with room for so many bytes each is written so, each row at once.
+fn logs(alloc: Global, bytes: usize, rows: &[&str], paper: &mut Paper, wanted: &str) -> Option<bool> {
+    let signal = Signal::new();
+    let (mut senders, mut writer) = open_log(alloc, 2, bytes, &signal).ok()?;
+    for row in rows {
+        send(&mut senders, row)?;
+        writer.write_now(paper);
+    }
+    Some(paper.bytes.as_slice() == wanted.as_bytes())
+}
+
+// rule: Line that is sent
+// rule: Written log
+#[test]
+fn lines_of_two_senders_are_whole(rt: HostRuntime) {
+    let rows = ["0 a one\n1 b one\n0 a two\n", "1 b two\n"];
+    let mut all = paper(rt.alloc(), 0, 0);
+    let wanted = "a one\na two\nb one\nb two\n";
+    assert!(rt; logs(rt.alloc(), 64, &rows, &mut all, wanted) == Some(true));
+}
+
+// rule: Note of lost lines
+#[test]
+fn lost_lines_are_counted_before_the_next_one(rt: HostRuntime) {
+    let rows = ["0 0123456789abcdef\n0 0123456789abcdef\n0 0123456789abcdef\n0 a\n", "0 b\n0 c\n"];
+    let mut all = paper(rt.alloc(), 0, 0);
+    let wanted = "0123456789abcdef\n0123456789abcdef\nomaha: lines of the log that were lost: 2\nb\nc\n";
+    assert!(rt; logs(rt.alloc(), 46, &rows, &mut all, wanted) == Some(true));
+}
+
+// rule: Written log
+#[test]
+fn a_full_disk_joins_no_sent_lines(rt: HostRuntime) {
+    let mut full = paper(rt.alloc(), 3, 1);
+    assert!(rt; logs(rt.alloc(), 64, &["0 first\n", "0 second\n"], &mut full, "fir\nsecond\n") == Some(true));
+}
+
+// Sends ten lines by one sender, and ends.
+fn send_ten(sender: &mut LineSender<'_>, signal: &Signal) {
+    for _ in 0..10 {
+        sender.send(b"line\n");
+    }
+    signal.end();
+}
+
+// How many bytes a writer writes in a thread of its own.
+fn written<R: Threads + Wait + Sync>(rt: &R, alloc: Global) -> Option<usize> {
+    let signal = &Signal::new();
+    let (senders, writer) = open_log(alloc, 1, 64, signal).ok()?;
+    let (mut senders, mut writer) = (senders, writer);
+    let mut all = paper(alloc, 0, 0);
+    let ((), count) = join(
+        rt,
+        move || {
+            for sender in senders.iter_mut() {
+                send_ten(sender, signal);
+            }
+        },
+        move || {
+            writer.write_to(rt, signal, &mut all);
+            all.bytes.len()
+        },
+    );
+    Some(count)
+}
+
+#[test]
+fn a_writer_ends_once_all_is_written(rt: HostRuntime) {
+    assert!(rt; written(&rt, rt.alloc()) == Some(50));
+}
