@@ -12,6 +12,9 @@ use port_books::{Book, Change};
 use std::io::{ErrorKind, Read, Write};
 use traces::Trace;
 
+// How often a call is tried that a signal interrupts.
+const TRIES: u32 = 16;
+
 // What a read of the socket gives.
 fn read_stream(stream: Option<&TcpStream>, into: &mut [u8]) -> Received
     requires { 0 < length into.old }
@@ -20,12 +23,16 @@ fn read_stream(stream: Option<&TcpStream>, into: &mut [u8]) -> Received
     let Some(mut stream) = stream else {
         return Received::Failure;
     };
-    match stream.read(into) {
-        Ok(0) => Received::End,
-        Ok(count) => Received::Bytes(count),
-        Err(error) if error.kind() == ErrorKind::WouldBlock => Received::Nothing,
-        Err(_) => Received::Failure,
+    for _ in 0..TRIES {
+        match stream.read(into) {
+            Ok(0) => return Received::End,
+            Ok(count) => return Received::Bytes(count),
+            Err(error) if error.kind() == ErrorKind::WouldBlock => return Received::Nothing,
+            Err(error) if error.kind() == ErrorKind::Interrupted => {}
+            Err(_) => return Received::Failure,
+        }
     }
+    Received::Failure
 }
 
 // Reads from a slot's socket, and records it.
@@ -55,12 +62,16 @@ fn write_stream(stream: Option<&TcpStream>, bytes: &[u8]) -> Sent
     let Some(mut stream) = stream else {
         return Sent::Failure;
     };
-    match stream.write(bytes) {
-        Ok(0) => Sent::Failure,
-        Ok(count) => Sent::Bytes(count),
-        Err(error) if error.kind() == ErrorKind::WouldBlock => Sent::Nothing,
-        Err(_) => Sent::Failure,
+    for _ in 0..TRIES {
+        match stream.write(bytes) {
+            Ok(0) => return Sent::Failure,
+            Ok(count) => return Sent::Bytes(count),
+            Err(error) if error.kind() == ErrorKind::WouldBlock => return Sent::Nothing,
+            Err(error) if error.kind() == ErrorKind::Interrupted => {}
+            Err(_) => return Sent::Failure,
+        }
     }
+    Sent::Failure
 }
 
 // Writes to a slot's socket, and records it.

@@ -1,6 +1,9 @@
 ghost use Rattle.std.specs.Prelude.{◌≡◌, ◌≤◌, ℕ, [], IfSome, vec_len};
 ghost use Rattle.port_books.specs.Books.{accepted_in};
 
+use crate::lingering::LingeringList;
+use crate::times::{Limits, Times};
+use crate::waiting_list::WaitingList;
 use mio::net::TcpStream;
 use mio::unix::SourceFd;
 use mio::{Events, Interest, Poll, Token};
@@ -9,64 +12,62 @@ use std::alloc::{AllocError, Global};
 use std::net;
 use std::net::Net;
 use std::os::fd::AsRawFd;
-use std::sync::Wait;
+use std::sync::{Arc, Wait};
 use std::time::{Clock, Instant};
 
 // The token of the listener, which no slot has.
 pub(crate) const LISTENER: usize = 1 << 40;
 
 // How many events the system reports at a time.
-const EVENTS: usize = 64;
+const EVENTS: usize = 256;
 
 /// A port over a listener, which other ports may share, and the sockets that it accepted.
 #[derive(Drop)]
 pub struct MioPort<'a, R: Wait> {
     pub(crate) rt: &'a R,
-    pub(crate) listener: &'a net::TcpListener,
+    pub(crate) listener: Arc<net::TcpListener, Global>,
     pub(crate) poll: Poll,
     pub(crate) events: Events,
     // what is kept of each slot, and what has passed there
     pub(crate) book: Book<TcpStream>,
-    // which slots are to be reported, and where to look for the next
-    pub(crate) ready: Vec<bool>,
-    pub(crate) next: usize,
+    // the slots that are to be reported, and those without a connection
+    pub(crate) ready: WaitingList,
+    pub(crate) free: WaitingList,
     // whether the listener may have a connection
     pub(crate) knocks: bool,
     // how many connections were accepted, of so many in all
     pub(crate) accepted: u64,
     pub(crate) limit: u64,
-    // the second, since the start, at which something last passed at each slot
-    pub(crate) passed: Vec<u64>,
+    // how long connections have waited, since the start, and the first slot that isn't looked at in this second
+    pub(crate) times: Times,
     pub(crate) start: Instant,
-    pub(crate) second: u64,
-    // how many seconds a connection may wait, and the first slot that isn't looked at in this second
-    pub(crate) seconds: u64,
     pub(crate) looked: usize,
+    pub(crate) lingering: LingeringList,
     ghost few: { accepted ≤ limit },
     ghost counted: { accepted ≡ accepted_in book.moves },
 }
 
-// So many flags, none set.
-fn flags(alloc: Global, slots: usize) -> Result<Vec<bool>, AllocError> {
-    vec![in alloc; false; slots]
-}
-
-// So many times of 0.
-fn times(alloc: Global, slots: usize) -> Result<Vec<u64>, AllocError> {
-    vec![in alloc; 0; slots]
+// A list of all slots.
+fn all_slots(alloc: Global, slots: usize) -> Result<WaitingList, AllocError> {
+    let mut free = WaitingList::new(alloc, slots)?;
+    for slot in 0..slots {
+        free.push(slot);
+    }
+    Ok(free)
 }
 
 impl<'a, R: Wait + Net + Clock + AllocGlobal> MioPort<'a, R> {
-    /// Makes the port of a listener that doesn't block: for up to `slots` connections at once, and `limit` in all. A
-    /// connection that waits is late once nothing has passed on it for so many seconds.
+    /// Makes the port of a listener that doesn't block: for up to `slots` connections at once, and `limit` in all.
     ///
-    /// Returns `None` if memory runs out, or the system can't watch the listener.
+    /// A connection that waits for longer than `limits` say is late. If there is no free slot for one more, that which
+    /// has been idle for longest is late at once. Returns `None` if memory runs out, or the system can't watch the
+    /// listener.
     pub fn new(
         rt: &'a R,
-        listener: &'a net::TcpListener,
+        listener: Arc<net::TcpListener, Global>,
         slots: usize,
         limit: u64,
-        seconds: u64,
+        limits: Limits,
     ) -> Option<MioPort<'a, R>>
         ensures fresh { IfSome result (λ port. port.book.moves ≡ []) }
         ensures capacity { IfSome result (λ port. vec_len port.book.places ≡ slots) }
@@ -74,8 +75,10 @@ impl<'a, R: Wait + Net + Clock + AllocGlobal> MioPort<'a, R> {
     {
         let alloc = rt.alloc();
         let book = Book::new(alloc, slots).ok()?;
-        let ready = flags(alloc, slots).ok()?;
-        let passed = times(alloc, slots).ok()?;
+        let ready = WaitingList::new(alloc, slots).ok()?;
+        let free = all_slots(alloc, slots).ok()?;
+        let times = Times::new(alloc, slots, limits).ok()?;
+        let lingering = LingeringList::new(alloc).ok()?;
         let events = Events::with_capacity(alloc, EVENTS).ok()?;
         let poll = Poll::new(rt).ok()?;
         let start = Instant::now(rt).ok()?;
@@ -90,15 +93,14 @@ impl<'a, R: Wait + Net + Clock + AllocGlobal> MioPort<'a, R> {
             events,
             book,
             ready,
-            next: 0,
+            free,
             knocks: true,
             accepted: 0,
             limit,
-            passed,
+            times,
             start,
-            second: 0,
-            seconds,
             looked: slots,
+            lingering,
         })
     }
 }

@@ -1,6 +1,6 @@
 // What a port over sockets has to report without waiting.
 
-ghost use Rattle.std.specs.Prelude.{◌≡◌, ◌<◌, ◌+◌, ℕ, None, Some, true, IfNone, IfSome, IsTrue, vec_len};
+ghost use Rattle.std.specs.Prelude.{◌≡◌, ◌<◌, ◌+◌, ℕ, None, Some, true, IfNone, IfSome, IsSome, IsTrue, vec_len};
 ghost use Rattle.port_books.specs.Books.{accepted_in, slot_waits, slots_after};
 ghost use Rattle.mio_ports.specs.Polled.{MayReport, accepted_of};
 
@@ -9,44 +9,37 @@ use http_ports::{Event, Last};
 use mio::net::TcpStream;
 use mio::{Interest, Token};
 use port_books::Change;
+use std::io::ErrorKind;
 use std::sync::Wait;
 use std::time::Clock;
 
-// Clears the next flag that is set, from a place on, and returns its index.
-fn take_flag(ready: &mut [bool], next: &mut usize, slots: usize) -> Option<usize>
-    ensures { IfSome result (λ slot. slot < slots) }
-{
-    for _ in 0..slots {
-        let slot = *next;
-        *next = if slot < slots { slot + 1 } else { 0 };
-        if let Some(flag) = ready.get_mut(slot) {
-            if *flag && slot < slots {
-                *flag = false;
+impl<R: Wait + Clock> MioPort<'_, R> {
+    // The next slot that is ready and has a connection, if there is one.
+    fn take_ready(&mut self) -> Option<usize>
+        ensures book { self.new.book ≡ self.old.book }
+        ensures open { IfSome result (λ slot. (slot < vec_len self.new.book.places)
+            × IsSome (slot_waits (slots_after self.new.book.moves slot))) }
+        ensures limit { self.new.limit ≡ self.old.limit }
+    {
+        for _ in 0..self.book.capacity() {
+            let slot = self.ready.pop()?;
+            if slot < self.book.capacity() && self.book.waits(slot).is_some() {
                 return Some(slot);
             }
         }
-    }
-    None
-}
-
-impl<R: Wait + Clock> MioPort<'_, R> {
-    // The next slot that is ready, if there is one.
-    fn take_ready(&mut self) -> Option<usize>
-        ensures book { self.new.book ≡ self.old.book }
-        ensures within { IfSome result (λ slot. slot < vec_len self.new.book.places) }
-        ensures limit { self.new.limit ≡ self.old.limit }
-    {
-        let slots = self.book.capacity();
-        take_flag(&mut self.ready, &mut self.next, slots)
+        None
     }
 
     // A slot without a connection, if there is one.
-    fn free_slot(&self) -> Option<usize>
-        ensures { IfSome result (λ slot. (slot < vec_len self.now.book.places)
-            × (slot_waits (slots_after self.now.book.moves slot) ≡ None)) }
+    fn take_free(&mut self) -> Option<usize>
+        ensures book { self.new.book ≡ self.old.book }
+        ensures free { IfSome result (λ slot. (slot < vec_len self.new.book.places)
+            × (slot_waits (slots_after self.new.book.moves slot) ≡ None)) }
+        ensures limit { self.new.limit ≡ self.old.limit }
     {
-        for slot in 0..self.book.capacity() {
-            if self.book.waits(slot).is_none() {
+        for _ in 0..self.book.capacity() {
+            let slot = self.free.pop()?;
+            if slot < self.book.capacity() && self.book.waits(slot).is_none() {
                 return Some(slot);
             }
         }
@@ -71,13 +64,15 @@ impl<R: Wait + Clock> MioPort<'_, R> {
         ensures book { self.new.book ≡ self.old.book }
         ensures limit { self.new.limit ≡ self.old.limit }
     {
-        let Ok((stream, _)) = self.listener.accept() else {
-            self.knocks = false;
-            return None;
+        let stream = match self.listener.accept() {
+            Ok((stream, _)) => stream,
+            Err(error) => {
+                // one that was aborted may be followed by others
+                self.knocks = error.kind() == ErrorKind::ConnectionAborted;
+                return None;
+            }
         };
-        let Ok(()) = stream.set_nonblocking(true) else {
-            return None;
-        };
+        stream.set_nonblocking(true).ok()?;
         let _ = stream.set_nodelay(true);
         let mut stream = TcpStream::from_std(stream);
         let both = Interest::READABLE | Interest::WRITABLE;
@@ -86,17 +81,6 @@ impl<R: Wait + Clock> MioPort<'_, R> {
             .registry()
             .register(&mut stream, Token(slot), both);
         watched.ok().map(|()| stream)
-    }
-
-    // Notes that something has passed at a slot.
-    pub(crate) fn note_passed(&mut self, slot: usize)
-        ensures book { self.new.book ≡ self.old.book }
-        ensures limit { self.new.limit ≡ self.old.limit }
-    {
-        let now = self.second;
-        if let Some(passed) = self.passed.get_mut(slot) {
-            *passed = now;
-        }
     }
 
     // Reports the next slot that may be read or written.
@@ -108,13 +92,19 @@ impl<R: Wait + Clock> MioPort<'_, R> {
         ensures limit { self.new.limit ≡ self.old.limit }
     {
         let slot = self.take_ready()?;
-        let _waits = self.book.waits(slot)?;
         self.book
             .change(slot, Change::Marked(Last::Reported), false);
         Some(Event::Ready(slot))
     }
 
-    // Accepts a connection, if there is one, and a free slot, and more may be accepted.
+    // Whether a connection may be accepted.
+    fn may_accept(&self) -> bool
+        ensures { IsTrue result → self.now.accepted < self.now.limit }
+    {
+        self.knocks && self.accepted < self.limit
+    }
+
+    // Accepts a connection at a free slot, if there are both.
     fn report_accepted(&mut self) -> Option<Event>
         ensures reports { MayReport (vec_len self.old.book.places) result (slots_after self.old.book.moves) (slots_after self.new.book.moves) }
         ensures same { IfNone result (self.new.book ≡ self.old.book) }
@@ -122,28 +112,45 @@ impl<R: Wait + Clock> MioPort<'_, R> {
         ensures accepted { accepted_in self.new.book.moves ≡ accepted_in self.old.book.moves + accepted_of result }
         ensures limit { self.new.limit ≡ self.old.limit }
     {
-        if self.accepted >= self.limit || !self.knocks {
+        if !self.may_accept() {
             return None;
         }
-        let slot = self.free_slot()?;
-        let stream = self.accept_at(slot)?;
-        self.note_passed(slot);
-        self.book.accept(slot, stream);
-        self.accepted += 1;
-        Some(Event::Accepted(slot))
+        let slot = self.take_free()?;
+        match self.accept_at(slot) {
+            Some(stream) => {
+                self.times.accepted(slot);
+                self.book.accept(slot, stream);
+                self.accepted += 1;
+                Some(Event::Accepted(slot))
+            }
+            None => {
+                self.free.push(slot);
+                None
+            }
+        }
     }
 
-    // Whether the connection of a slot waits, and nothing has passed on it for too long.
+    // Reports that the time of a slot's connection is up.
+    fn report_expired(&mut self, slot: usize) -> Event
+        requires within { slot < vec_len self.old.book.places }
+        requires waits { slot_waits (slots_after self.old.book.moves slot) ≡ Some true }
+        ensures reports { MayReport (vec_len self.old.book.places) (Some result) (slots_after self.old.book.moves) (slots_after self.new.book.moves) }
+        ensures capacity { vec_len self.new.book.places ≡ vec_len self.old.book.places }
+        ensures accepted { accepted_in self.new.book.moves ≡ accepted_in self.old.book.moves + accepted_of (Some result) }
+        ensures limit { self.new.limit ≡ self.old.limit }
+    {
+        self.book.expire(slot);
+        Event::Expired(slot)
+    }
+
+    // Whether the connection of a slot waits, and has waited for too long.
     fn is_late(&self, slot: usize) -> bool
         requires { slot < vec_len self.now.book.places }
         ensures { IsTrue result → slot_waits (slots_after self.now.book.moves slot) ≡ Some true }
     {
-        let Some(true) = self.book.waits(slot) else {
-            return false;
-        };
-        match self.passed.get(slot) {
-            Some(passed) => self.second.saturating_sub(*passed) >= self.seconds,
-            None => false,
+        match self.book.waits(slot) {
+            Some(true) => self.times.is_late(slot),
+            _ => false,
         }
     }
 
@@ -158,12 +165,43 @@ impl<R: Wait + Clock> MioPort<'_, R> {
         for slot in self.looked..self.book.capacity() {
             if self.is_late(slot) {
                 self.looked = slot + 1;
-                self.book.expire(slot);
-                return Some(Event::Expired(slot));
+                return Some(self.report_expired(slot));
             }
         }
         self.looked = self.book.capacity();
         None
+    }
+
+    // The slot whose connection has been idle for longest, if one is.
+    fn longest_idle(&self) -> Option<usize>
+        ensures { IfSome result (λ slot. (slot < vec_len self.now.book.places)
+            × (slot_waits (slots_after self.now.book.moves slot) ≡ Some true)) }
+    {
+        let mut longest = None;
+        let mut first = u64::MAX;
+        for slot in 0..self.book.capacity() {
+            let since = self.times.idle_since(slot).unwrap_or(u64::MAX);
+            if since < first && self.book.waits(slot) == Some(true) {
+                first = since;
+                longest = Some(slot);
+            }
+        }
+        longest
+    }
+
+    // Reports the connection that has been idle for longest, if one more could be accepted in its place.
+    fn report_idle(&mut self) -> Option<Event>
+        ensures reports { MayReport (vec_len self.old.book.places) result (slots_after self.old.book.moves) (slots_after self.new.book.moves) }
+        ensures same { IfNone result (self.new.book ≡ self.old.book) }
+        ensures capacity { vec_len self.new.book.places ≡ vec_len self.old.book.places }
+        ensures accepted { accepted_in self.new.book.moves ≡ accepted_in self.old.book.moves + accepted_of result }
+        ensures limit { self.new.limit ≡ self.old.limit }
+    {
+        if !self.may_accept() {
+            return None;
+        }
+        let slot = self.longest_idle()?;
+        Some(self.report_expired(slot))
     }
 
     // Reports what there is without waiting.
@@ -180,7 +218,10 @@ impl<R: Wait + Clock> MioPort<'_, R> {
         if let Some(event) = self.report_accepted() {
             return Some(event);
         }
-        self.report_late()
+        if let Some(event) = self.report_late() {
+            return Some(event);
+        }
+        self.report_idle()
     }
 
     // Whether so many connections were accepted, and none is open.

@@ -19,8 +19,8 @@ impl<R: Wait + Clock> MioPort<'_, R> {
             return;
         };
         let now = passed.as_secs();
-        if now != self.second {
-            self.second = now;
+        if now != self.times.now {
+            self.times.now = now;
             self.looked = 0;
             self.knocks = true;
         }
@@ -38,11 +38,13 @@ impl<R: Wait + Clock> MioPort<'_, R> {
             let token = usize::from(event.token());
             if token == LISTENER {
                 self.knocks = true;
-            } else if let Some(flag) = self.ready.get_mut(token) {
-                *flag = true;
+            } else {
+                self.ready.push(token);
             }
         }
         self.note_time();
+        let now = self.times.now;
+        self.lingering.drop_inputs(now);
     }
 }
 
@@ -79,27 +81,31 @@ impl<R: Wait + Clock> Port for MioPort<'_, R> {
     fn read(&mut self, slot: usize, into: &mut [u8]) -> Received {
         let received = read_slot(&mut self.book, slot, into);
         if let Received::Bytes(_) = received {
-            self.note_passed(slot);
+            self.times.read(slot);
         }
         received
     }
 
     fn write(&mut self, slot: usize, bytes: &[u8]) -> Sent {
         let sent = write_slot(&mut self.book, slot, bytes);
-        if let Sent::Bytes(_) = sent {
-            self.note_passed(slot);
+        match sent {
+            Sent::Bytes(_) => self.times.written(slot),
+            Sent::Nothing => self.times.held(slot),
+            Sent::Failure => {}
         }
         sent
     }
 
     fn again(&mut self, slot: usize) {
         self.book.change(slot, Change::Marked(Last::Yields), false);
-        if let Some(flag) = self.ready.get_mut(slot) {
-            *flag = true;
-        }
+        self.ready.push(slot);
     }
 
     fn close(&mut self, slot: usize) {
-        self.book.close(slot);
+        if let Some(stream) = self.book.close(slot) {
+            let now = self.times.now;
+            self.lingering.close(stream, now);
+        }
+        self.free.push(slot);
     }
 }

@@ -148,14 +148,16 @@ impl<S: Drop> Book<S> {
     }
 
     // rule: Traffic of a book
-    /// Records that a slot's connection was closed, and drops its stream.
-    pub fn close(&mut self, slot: usize)
+    /// Records that a slot's connection was closed, and gives its stream.
+    pub fn close(&mut self, slot: usize) -> Option<S>
         requires live { IsOpen (slots_after self.old.moves slot) }
+        ensures stream { result ≡ option_map (λ place. place.stream) (kept_at self.old.places.items slot) }
         ensures closes { Closes slot (slots_after self.old.moves) (slots_after self.new.moves) }
         ensures accepted { accepted_in self.new.moves ≡ accepted_in self.old.moves }
         ensures capacity { vec_len self.new.places ≡ vec_len self.old.places }
     {
-        let _ = put(&mut self.places, slot, None);
+        let closed = put(&mut self.places, slot, None);
         self.moves.push(&Move::Closed(slot));
+        closed.map(|place| place.stream)
     }
 }

@@ -6,11 +6,11 @@ use crate::lines::expand;
 use http_ports::run;
 use http_sessions::Buffers;
 use http_talks::{Talk, Talks};
-use mio_ports::MioPort;
+use mio_ports::{Limits, MioPort};
 use std::alloc::Global;
 use std::io::{Read, Write};
 use std::net::{Net, Shutdown, TcpListener, TcpStream};
-use std::sync::Wait;
+use std::sync::{Arc, Wait};
 use std::test::Fail;
 use std::time::Clock;
 
@@ -49,7 +49,7 @@ fn connect_all(
 // Serves so many connections of a listener; for how many memory ran out.
 fn serve<R: Wait + Net + Clock + AllocGlobal>(
     rt: &R,
-    listener: &TcpListener,
+    listener: TcpListener,
     limit: u64,
 ) -> Option<u64> {
     let alloc = rt.alloc();
@@ -58,7 +58,12 @@ fn serve<R: Wait + Net + Clock + AllocGlobal>(
     let mut desk = Echo { alloc };
     let mut room = Buffers::new(alloc).ok()?;
     let mut conns: [Option<Talk>; 2] = [None, None];
-    let mut port = MioPort::new(rt, listener, 2, limit, 1)?;
+    let limits = Limits {
+        message: 1,
+        idle: 1,
+    };
+    let listener = Arc::new(alloc, listener).ok()?;
+    let mut port = MioPort::new(rt, listener, 2, limit, limits)?;
     Some(run(
         rt,
         &mut port,
@@ -86,7 +91,7 @@ fn serves_others_beside_silent_clients_of_a_listener(rt: HostRuntime) -> Result<
     listener.set_nonblocking(true).map_err(|_| "no listener")?;
     let mut streams = Vec::new(rt.alloc());
     connect_all(&rt, &listener, &mut streams).ok_or("no clients")?;
-    assert!(rt; serve(&rt, &listener, 5) == Some(0));
+    assert!(rt; serve(&rt, listener, 5) == Some(0));
     for (stream, row) in streams.iter_mut().zip(CLIENTS.lines()) {
         assert!(rt; is_served(rt.alloc(), stream, row) == Some(true), "{row}");
     }

@@ -8,8 +8,8 @@ use Rattle.port_books.proofs.book.Book.close.Goals as goal
 pub invariant_of-self : goal.invariant_of-self
 invariant_of-self g c = record {
   tied = rw c.push.ensures
-      (tied-push c.args.self.now.places.items c.put.new.places.items c.args.self.now.moves (move.Closed c.args.slot)
-      c.args.self.now.tied c.put.ensures.elsewhere (ap kept_waits c.put.ensures.put));
+      (tied-push c.args.self.now.places.items c.put-closed.new.places.items c.args.self.now.moves (move.Closed c.args.slot)
+      c.args.self.now.tied c.put-closed.ensures.elsewhere (ap kept_waits c.put-closed.ensures.put));
 }
 
 pub returns-clause-closes : goal.returns-clause-closes
@@ -19,8 +19,8 @@ pub returns-clause-accepted : goal.returns-clause-accepted
 returns-clause-accepted g c =
     rw c.push.ensures (accepted_in-push c.args.self.now.moves (move.Closed c.args.slot) ∙ omega arith)
 
-pub put-requires : goal.put-requires
-put-requires g c =
+pub put-closed-requires : goal.put-closed-requires
+put-closed-requires g c =
     omega (
       arith,
       c.args.self.now.places.ok,
