@@ -1,7 +1,7 @@
 # make demo          prints requests of examples/ and their replies, by the program built without a
 #                    proof; after make install it also starts the server
 # make test          the gate: the rules' marks, the words to avoid, the functions and clauses that the claims name, the
-#                    lists of crates and of the corpus, every proof from nothing, must-fail edits, tests and the
+#                    lists of crates and of the corpus, the pictures, every proof from nothing, must-fail edits, tests and the
 #                    program, and then the rows of tests/rows with the built program
 # make mutants CRATE..  tries the edits that the gate doesn't, of these crates or of all; the prover
 #                    must reject each
@@ -41,6 +41,7 @@ test:
 	tests/claims.py
 	tests/crates.py
 	tests/corpus.py
+	docs/pictures/draw.py --check
 	rt ci
 	tests/rows.py
 
