@@ -17,7 +17,7 @@ TOP = HERE.parent.parent
 ROWS = (("program", "laws"), ("server",), ("rollout and prices", "client"), ("catalogue", "protocol", "http"), ("base",))
 TITLES = {"http": "HTTP"}
 STYLE = """<style>
-text { font: 13px sans-serif; fill: #1b1f24 }
+svg { font: 13px sans-serif; fill: #1b1f24 }
 .title { font-weight: bold }
 .small { font-size: 12px; fill: #3b434d }
 rect { fill: #eef3f8; stroke: #5b7083; rx: 6 }
@@ -48,7 +48,7 @@ def of_class(kind):
 
 
 def text(x, y, words, kind=""):
-    """A line of text from a point on."""
+    """Words in one line, from a point on."""
     return f'<text x="{x}" y="{y}"{of_class(kind)}>{html.escape(words)}</text>'
 
 
