@@ -1,8 +1,6 @@
 // Walks whose link or installer fails at one call, whichever it is.
 
-use crate::link::Played;
-use crate::shelf::Shelf;
-use crate::two_steps::{replies_at, walk_from};
+use crate::two_steps::walk_in_pieces;
 use crate::walks::client_of;
 use std::alloc::Global;
 use std::process::Abort;
@@ -19,34 +17,38 @@ fn failed_device(walked: Result<Walk, ReadError<Fault>>) -> &'static str {
     }
 }
 
-// Walks in reads of two bytes, over a link and an installer that each fail at the call after so many: which of them
-// failed, and whether the commits are those up to the client's version and nothing is staged.
+// Which device failed a walk in reads of two bytes, over devices that each fail at the call after so many, and whether the
+// client was left with its commits alone.
 fn walk_failing(
     alloc: Global,
     client: &mut Client,
     link_calls: u64,
     installer_calls: u64,
-) -> Option<(&'static str, bool)> {
-    let start = String::from_str(alloc, client.version()).ok()?;
-    let (replies, bodies) = replies_at(start.as_str());
-    let mut link = Played::new(alloc, replies, bodies, 2, link_calls);
-    let mut shelf = Shelf::new(alloc, installer_calls);
-    let (walked, is_kept) = walk_from(start.as_str(), client, &mut link, &mut shelf, alloc);
-    Some((failed_device(walked), is_kept))
+) -> (&'static str, bool) {
+    let (walked, is_kept) = walk_in_pieces(alloc, client, 2, link_calls, installer_calls);
+    (failed_device(walked), is_kept)
 }
 
-// Which device failed a new client, if it was left with its commits alone, and its next walk, over sound devices, led
-// to 2.0.
-fn walk_twice(alloc: Global, link_calls: u64, installer_calls: u64) -> Option<&'static str> {
-    let mut client = client_of(alloc, "0 - -").ok()?;
-    let (failed, is_kept) = walk_failing(alloc, &mut client, link_calls, installer_calls)?;
-    let next = walk_failing(alloc, &mut client, u64::MAX, u64::MAX)?;
-    let is_at_end = next == ("none", true) && client.version() == "2.0";
-    if is_kept && is_at_end {
+// Which device failed a client, if it was left with its commits alone, and its next walk, over sound devices, led to 2.0.
+fn walk_on(
+    alloc: Global,
+    client: &mut Client,
+    link_calls: u64,
+    installer_calls: u64,
+) -> Option<&'static str> {
+    let (failed, is_kept) = walk_failing(alloc, client, link_calls, installer_calls);
+    let next = walk_failing(alloc, client, u64::MAX, u64::MAX);
+    if is_kept && next == ("none", true) && client.version() == "2.0" {
         Some(failed)
     } else {
         None
     }
+}
+
+// The same of a new client.
+fn walk_twice(alloc: Global, link_calls: u64, installer_calls: u64) -> Option<&'static str> {
+    let mut client = client_of(alloc, "0 - -").ok()?;
+    walk_on(alloc, &mut client, link_calls, installer_calls)
 }
 
 // Lets each call of a device fail until a walk has no such call, and returns how many there are.

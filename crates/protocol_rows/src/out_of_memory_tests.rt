@@ -4,14 +4,12 @@
 
 use crate::bodies::{UNKNOWN, unknown_bytes};
 use crate::client_requests::{DOWNGRADE, downgrade_bytes};
-use crate::link::Played;
-use crate::shelf::Shelf;
-use crate::two_steps::{replies_at, walk_from};
+use crate::two_steps::walk_in_pieces;
 use crate::walks::client_of;
 use omaha_json::read_request;
 use omaha_json_client::read_reply;
 use std::alloc::Global;
-use update_client::{Client, Fault};
+use update_client::{Client, Fault, Walk};
 use values::ReadError;
 
 // Whether one of two tries came to what it should, and none to anything else; `None` is a try that ran out of memory.
@@ -73,19 +71,20 @@ fn write_request_without_memory(rt: HostRuntime) {
     assert!(rt; are_right(writes_request(rt.alloc()), writes_request(rt.alloc())));
 }
 
-// Whether a client that begins as it is walks to 2.0; `None` if it ran out of memory and is at its last commit.
-fn walks_from(alloc: Global, client: &mut Client) -> Option<bool> {
-    let start = String::from_str(alloc, client.version()).ok()?;
-    let (replies, bodies) = replies_at(start.as_str());
-    let mut link = Played::new(alloc, replies, bodies, 65536, u64::MAX);
-    let mut shelf = Shelf::new(alloc, u64::MAX);
-    let (walked, is_kept) = walk_from(start.as_str(), client, &mut link, &mut shelf, alloc);
+// Whether a walk came to its end, which was the right one; `None` if it ran out of memory and left the client at its last
+// commit.
+fn came_to(walked: Result<Walk, ReadError<Fault>>, is_kept: bool, is_at_end: bool) -> Option<bool> {
     match walked {
-        Ok(_) => Some(client.version() == "2.0"),
-        Err(ReadError::Memory) if is_kept => None,
-        Err(ReadError::Fault(Fault::Link | Fault::Install)) if is_kept => None,
+        Ok(_) => Some(is_at_end),
+        Err(ReadError::Fault(Fault::Link | Fault::Install) | ReadError::Memory) if is_kept => None,
         Err(_) => Some(false),
     }
+}
+
+// Whether a client that begins as it is walks to 2.0.
+fn walks_from(alloc: Global, client: &mut Client) -> Option<bool> {
+    let (walked, is_kept) = walk_in_pieces(alloc, client, 65536, u64::MAX, u64::MAX);
+    came_to(walked, is_kept, client.version() == "2.0")
 }
 
 // Whether one of two walks of a client ends at 2.0, the second from where the first ended.

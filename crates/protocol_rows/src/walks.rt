@@ -122,8 +122,33 @@ fn walk_over(
     print_walk(alloc, &walked, client, link, shelf)
 }
 
-// What a walk of such a client comes to over such replies and bodies. The limits are the most bytes of a
-// read, and after how many calls the link and the installer fail.
+// What a walk comes to over a link, and an installer that fails at the call after so many.
+fn play_over(
+    alloc: Global,
+    client: &mut Client,
+    link: &mut Played<'_>,
+    calls: u64,
+) -> Result<String, AllocError> {
+    let mut shelf = Shelf::new(alloc, calls);
+    walk_over(alloc, client, link, &mut shelf)
+}
+
+// What a walk comes to over such replies and bodies. The limits are the most bytes of a read, and after how many calls the
+// link and the installer fail.
+fn play_for(
+    alloc: Global,
+    client: &mut Client,
+    replies: &str,
+    bodies: &str,
+    limits: &str,
+) -> Result<String, AllocError> {
+    let piece = number_at(limits, 0, 65536).min(65536) as usize;
+    let calls = number_at(limits, 1, u64::MAX);
+    let mut link = Played::new(alloc, replies, bodies, piece, calls);
+    play_over(alloc, client, &mut link, number_at(limits, 2, u64::MAX))
+}
+
+// The same of a client as a row has it.
 fn play(
     alloc: Global,
     start: &str,
@@ -132,11 +157,7 @@ fn play(
     limits: &str,
 ) -> Result<String, AllocError> {
     let mut client = client_of(alloc, start)?;
-    let piece = number_at(limits, 0, 65536).min(65536) as usize;
-    let calls = number_at(limits, 1, u64::MAX);
-    let mut link = Played::new(alloc, replies, bodies, piece, calls);
-    let mut shelf = Shelf::new(alloc, number_at(limits, 2, u64::MAX));
-    walk_over(alloc, &mut client, &mut link, &mut shelf)
+    play_for(alloc, &mut client, replies, bodies, limits)
 }
 
 // `START | REPLIES | BODIES | LIMITS`
