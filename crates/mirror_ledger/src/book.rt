@@ -78,7 +78,7 @@ impl<P: BudgetName> Model for Share<P> {
 // rule: Present budgets
 /// What raises the budget of a mirror's book, which contracts see as the present budget.
 ///
-/// There is one for each book, and nothing else raises it: so the book has this budget too, whenever its lock is taken.
+/// There is one for each book, and nothing else raises it: so the book has this budget too, each time it is locked.
 #[derive(Drop)]
 pub struct Raiser<P: BudgetName> {
     now: u64,

@@ -33,7 +33,7 @@ pub use crate::books::{Books, Shares};
 pub use crate::budgets::{Budgets, Treasurer};
 pub use crate::closing::close;
 pub use crate::job::{BudgetJob, TillJob};
-pub use crate::opening::{Blanks, open_books};
+pub use crate::opening::{Blanks, Opened, open_books};
 pub use crate::raise_error::RaiseError;
 pub use crate::raisers::Raisers;
 pub use crate::running::{Ran, run_with_tills};

@@ -109,6 +109,17 @@ fn split_shares<A: BudgetName, B: BudgetName, C: BudgetName, D: BudgetName>(
     Ok(shares)
 }
 
+/// Books that were opened, and what works with them.
+#[derive(Drop)]
+pub struct Opened<A: BudgetName, B: BudgetName, C: BudgetName, D: BudgetName> {
+    /// The books of all mirrors.
+    pub books: Books<A, B, C, D>,
+    /// The shares of each worker.
+    pub shares: Vec<Shares<A, B, C, D>>,
+    /// The raisers of the books.
+    pub raisers: Raisers<A, B, C, D>,
+}
+
 // rule: Shares at the opening
 /// Opens a book for each mirror, with the total 0, shares of 0 for each worker, and the raisers of the books.
 ///
@@ -121,7 +132,7 @@ pub fn open_books<A: BudgetName, B: BudgetName, C: BudgetName, D: BudgetName, R:
     blanks: Blanks,
     mirrors: Vec<Mirror>,
     workers: usize,
-) -> Result<(Books<A, B, C, D>, Vec<Shares<A, B, C, D>>, Raisers<A, B, C, D>), AllocError>
+) -> Result<Opened<A, B, C, D>, AllocError>
     requires some_mirror { 0 < vec_len mirrors }
     requires few_mirrors { vec_len mirrors ≤ 4 }
     requires bounded { are_bounded mirrors.items ≡ true }
@@ -131,19 +142,17 @@ pub fn open_books<A: BudgetName, B: BudgetName, C: BudgetName, D: BudgetName, R:
     requires second { IsNamed blanks.second blanks.raises.1 B.name B.parts B.budget B.most B.raising workers mirrors.items 1 }
     requires third { IsNamed blanks.third blanks.raises.2 C.name C.parts C.budget C.most C.raising workers mirrors.items 2 }
     requires fourth { IsNamed blanks.fourth blanks.raises.3 D.name D.parts D.budget D.most D.raising workers mirrors.items 3 }
-    ensures given { IfOk result (λ opened. opened.0 ≡ mirrors.items) }
-    ensures present { IfOk result (λ opened. opened.2 ≡ mirrors.items) }
-    ensures workers { IfOk result (λ opened. vec_len opened.1 ≡ workers) }
-    ensures unused { IfOk result (λ opened. All (λ s. AreUnused s.first s.second s.third s.fourth s.asks) opened.1.items) }
+    ensures given { IfOk result (λ opened. opened.books ≡ mirrors.items) }
+    ensures present { IfOk result (λ opened. opened.raisers ≡ mirrors.items) }
+    ensures workers { IfOk result (λ opened. vec_len opened.shares ≡ workers) }
+    ensures unused { IfOk result (λ opened. All (λ s. AreUnused s.first s.second s.third s.fourth s.asks) opened.shares.items) }
 {
     let _ = rt;
     let (raises_0, raises_1, raises_2, raises_3) = blanks.raises;
-    let (first_book, first, raiser_0) = Book::open(blanks.first, raises_0, budget_of(&mirrors, 0));
-    let (second_book, second, raiser_1) =
-        Book::open(blanks.second, raises_1, budget_of(&mirrors, 1));
-    let (third_book, third, raiser_2) = Book::open(blanks.third, raises_2, budget_of(&mirrors, 2));
-    let (fourth_book, fourth, raiser_3) =
-        Book::open(blanks.fourth, raises_3, budget_of(&mirrors, 3));
+    let (book_0, first, raiser_0) = Book::open(blanks.first, raises_0, budget_of(&mirrors, 0));
+    let (book_1, second, raiser_1) = Book::open(blanks.second, raises_1, budget_of(&mirrors, 1));
+    let (book_2, third, raiser_2) = Book::open(blanks.third, raises_2, budget_of(&mirrors, 2));
+    let (book_3, fourth, raiser_3) = Book::open(blanks.fourth, raises_3, budget_of(&mirrors, 3));
     let rest = Rest {
         first,
         second,
@@ -160,10 +169,14 @@ pub fn open_books<A: BudgetName, B: BudgetName, C: BudgetName, D: BudgetName, R:
     };
     let books = Books {
         given: mirrors,
-        first: Mutex::new(first_book),
-        second: Mutex::new(second_book),
-        third: Mutex::new(third_book),
-        fourth: Mutex::new(fourth_book),
+        first: Mutex::new(book_0),
+        second: Mutex::new(book_1),
+        third: Mutex::new(book_2),
+        fourth: Mutex::new(book_3),
     };
-    Ok((books, shares, raisers))
+    Ok(Opened {
+        books,
+        shares,
+        raisers,
+    })
 }

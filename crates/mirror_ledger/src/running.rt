@@ -14,7 +14,7 @@ use crate::book::BudgetName;
 use crate::budgets::Treasurer;
 use crate::closing::{close_parts, gather_tills};
 use crate::job::{BudgetJob, TillJob, WithBudgets, WithTill};
-use crate::opening::{Blanks, open_books};
+use crate::opening::{Blanks, Opened, open_books};
 use crate::raisers::Raisers;
 use crate::till::Till;
 use crate::working::tills_of;
@@ -137,10 +137,12 @@ fn own_parted<
 {
     match ran {
         Ok((Treasurer { raisers, .. }, end)) => (raisers, Some(end)),
-        Err(WithBudgets {
-            budgets: Treasurer { raisers, .. },
-            ..
-        }) => (raisers, None),
+        Err(
+            WithBudgets {
+                budgets: Treasurer { raisers, .. },
+                ..
+            },
+        ) => (raisers, None),
     }
 }
 
@@ -179,8 +181,11 @@ fn run_over<
         × AreTotalsOf ran.mirrors.items asks ran.totals.items) }
     ensures own { IfOk result (λ ran. HasEnded (λ before after. O.comes_to before after own.old) mirrors.items ran.mirrors.items ran.own) }
 {
-    let (books, shares, raisers) =
-        open_books::<A, B, C, D, R>(rt, alloc, blanks, mirrors, jobs.len())?;
+    let Opened {
+        books,
+        shares,
+        raisers,
+    } = open_books::<A, B, C, D, R>(rt, alloc, blanks, mirrors, jobs.len())?;
     let tills = tills_of(alloc, &books, shares)?;
     let beside = WithBudgets {
         job: own,

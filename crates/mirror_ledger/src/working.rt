@@ -10,7 +10,7 @@ ghost use Rattle.mirror_ledger.specs.Tills.{AreOpened, AreTotalsOf};
 use crate::book::BudgetName;
 use crate::books::{Books, Shares};
 use crate::closing::{close_parts, gather_tills};
-use crate::opening::{Blanks, open_books};
+use crate::opening::{Blanks, Opened, open_books};
 use crate::till::{Hand, Till};
 use records::Mirror;
 use std::alloc::{AllocError, Global};
@@ -88,8 +88,11 @@ fn work_over<
     ensures err { OnErr result ((job.new ≡ job.old)
         ⊎ ((asks : List (List Ask)) × (end : J.End) × J.comes_to job.old job.new mirrors.items asks end)) }
 {
-    let (books, shares, raisers) =
-        open_books::<A, B, C, D, R>(rt, alloc, blanks, mirrors, workers)?;
+    let Opened {
+        books,
+        shares,
+        raisers,
+    } = open_books::<A, B, C, D, R>(rt, alloc, blanks, mirrors, workers)?;
     let mut tills = tills_of(alloc, &books, shares)?;
     let end = job.work(rt, &mut tills);
     let parts = gather_tills(tills);
