@@ -7,9 +7,11 @@ mod KeptLemmas
 mod LawLemmas
 mod ListLemmas
 mod MoveLemmas
+mod OperatorLemmas
 mod PendingLemmas
 mod PlaceLemmas
 mod PlanLemmas
+mod PresentLemmas
 mod RequestLemmas
 mod RestartLemmas
 mod RunLemmas

@@ -1,6 +1,6 @@
 -- A service that starts from a dump replies as the one that was dumped.
 use Rattle.std.proofs.Common.{◌≡◌, ℕ, zero, suc, ◌<◌, List, [], ◌∷◌, ◌++◌, length, map, Option, None, Some, Result, refl, sym, ap, ◌∙◌, subst}
-use Rattle.std.specs.List.{zip}
+use Rattle.std.specs.List.{AllZip, zip}
 use Rattle.std.specs.Option.{option_and_then, option_map}
 use Rattle.std.specs.Result.{is_ok}
 use Rattle.std.proofs.Math.Seq.{take-length}
@@ -13,7 +13,7 @@ use Rattle.catalogue_laws.specs.Contents.{edits_of_content}
 use Rattle.catalogue_laws.specs.Histories.{History}
 use Rattle.editions.specs.Editions.{content_of, content_or_none}
 use Rattle.mirror_ledger.specs.Asks.{Ask}
-use Rattle.mirror_ledger.specs.Raising.{AreRaised, IsRaised}
+use Rattle.mirror_ledger.specs.Budgets.{Account}
 use Rattle.omaha_json.specs.ReplyWriting.{reply_bytes}
 use Rattle.omaha_json.specs.declared.reply.AppReply.{AppReply}
 use Rattle.omaha_json.specs.declared.reply.AppState.TheVariants as state
@@ -38,20 +38,20 @@ use Rattle.update_desk.specs.Answering.{IsReply}
 use Rattle.update_desk.specs.Asking.{asks_of}
 use Rattle.interleavings.specs.Jobs.{outcomes_of}
 use Rattle.interleavings.specs.Moves.{rendered_at}
-use Rattle.interleavings.specs.Restart.{DumpsAreProfiles, RestartsKeepReplies, ServicesOpenAgain}
-use Rattle.interleavings.specs.Services.{content_at}
+use Rattle.interleavings.specs.Restart.{DumpsAreProfiles, IsRaised, RestartsKeepReplies, ServicesOpenAgain}
+use Rattle.interleavings.specs.Services.{content_at, present, with_budgets_of}
+use Rattle.interleavings.proofs.OperatorLemmas.{operators_only_raise}
+use Rattle.interleavings.proofs.PresentLemmas.{budget_at-present}
 
 pub dumps_are_profiles : DumpsAreProfiles
-dumps_are_profiles mirrors history reply dump =
+dumps_are_profiles state reply dump =
     let made = dump.reads_back.made in
     record {
-      batch = edits_of_content (content_of history);
-      named = dump.now;
+      batch = edits_of_content (content_of state.history);
       read = dump.reads_back.read;
-      made = ap (service_if (edits_of_content (content_of history), dump.now)) made;
+      made = ap (service_if (edits_of_content (content_of state.history), state.mirrors)) made;
       opens = ap (λ (r : Result (List App) Refused). is_ok r) made;
       content = ap (λ (r : Result (List App) Refused). content_or_none (then_run (run []) r)) made;
-      raised = dump.raised;
     }
 
 map-same : {A B : Type 0} (one other : A → B) (items : List A) → ((item : A) → one item ≡ other item) →
@@ -63,23 +63,29 @@ map-same one other (item ∷ items) same =
     cc
 
 -- raised mirrors have the same codebases
-same-codebase : (mirrors named : List Mirror) (index : ℕ) → AreRaised mirrors named →
+same-codebase : (mirrors named : List Mirror) → AllZip IsRaised mirrors named → (index : ℕ) →
     codebase_at named index ≡ codebase_at mirrors index
-same-codebase [] [] index raised = refl
-same-codebase [] (other ∷ named) index raised = absurd raised
-same-codebase (mirror ∷ mirrors) [] index raised = absurd raised
-same-codebase (mirror ∷ mirrors) (other ∷ named) zero raised = raised.0.codebase
-same-codebase (mirror ∷ mirrors) (other ∷ named) (suc index) raised = same-codebase mirrors named index raised.1
+same-codebase [] [] raised index = refl
+same-codebase [] (other ∷ named) raised index = absurd raised
+same-codebase (mirror ∷ mirrors) [] raised index = absurd raised
+same-codebase (mirror ∷ mirrors) (other ∷ named) raised zero = raised.0.codebase
+same-codebase (mirror ∷ mirrors) (other ∷ named) raised (suc index) = same-codebase mirrors named raised.1 index
+
+-- and so have those of a service
+present-codebase : (books : ℕ → Account) (mirrors : List Mirror) (index : ℕ) →
+    codebase_at (with_budgets_of books mirrors) index ≡ codebase_at mirrors index
+present-codebase books [] index = refl
+present-codebase books (mirror ∷ mirrors) zero = refl
+present-codebase books (mirror ∷ mirrors) (suc index) = present-codebase (λ i. books (suc i)) mirrors index
 
 -- so a reply is the same over both
-module _ (mirrors named : List Mirror) (raised : AreRaised mirrors named) where
+module _ (mirrors named : List Mirror) (codebases : (index : ℕ) → codebase_at named index ≡ codebase_at mirrors index) where
   same-check : (release : Option Release) (diff : Option Diff) (outcome : Option ℕ) →
       check_reply named release diff outcome ≡ check_reply mirrors release diff outcome
   same-check None diff outcome = refl
   same-check (Some release) diff None = refl
   same-check (Some release) diff (Some mirror) =
-      ap (λ (codebase : List ℕ). check.Offered (offer_of codebase release diff))
-      (same-codebase mirrors named mirror raised)
+      ap (λ (codebase : List ℕ). check.Offered (offer_of codebase release diff)) (codebases mirror)
 
   same-client : (client : Option Client) (asked : AppAsk × Decision) →
       client_reply named client asked ≡ client_reply mirrors client asked
@@ -189,12 +195,14 @@ IsReply-one plans history mirrors request moment before after text other first s
     ∙ sym first.written
 
 pub restarts_keep_replies : PlansAreOne → RestartsKeepReplies
-restarts_keep_replies plans mirrors history text start =
-    let apps = content_of history in
-    let named = start.named in
-    let long = length_all_zip IsRaised mirrors named start.raised in
+restarts_keep_replies plans began dumped calls text leads start =
+    let apps = content_of dumped.history in
+    let mirrors = began.mirrors in
+    let named = dumped.mirrors in
+    let raised = operators_only_raise began dumped calls leads in
+    let long = length_all_zip IsRaised mirrors named raised in
     let same = λ (request : Request) (moment : ℕ) (plan : List (Option Choice)) (outcomes : List (Option ℕ)).
-    same-reply mirrors named start.raised apps request (payloads_of plan) outcomes moment in
+    same-reply mirrors named (same-codebase mirrors named raised) apps request (payloads_of plan) outcomes moment in
     let there = λ (request : Request) (moment : ℕ) (before after : List Ask) (text : List ℕ).
     IsReply-same apps mirrors named request moment before after text long (same request moment) in
     let back = λ (request : Request) (moment : ℕ) (before after : List Ask) (text : List ℕ).
@@ -208,7 +216,7 @@ restarts_keep_replies plans mirrors history text start =
             (subst (λ (c : List App). IsReply (record { content = c; mirrors = named }) request moment before after text) start.content reply),
       );
       one = λ request moment before after text other first second.
-          IsReply-one plans history mirrors request moment before after text other first
+          IsReply-one plans dumped.history mirrors request moment before after text other first
           (back request moment before after other
           (subst (λ (c : List App). IsReply (record { content = c; mirrors = named }) request moment before after other) start.content second));
     }
@@ -217,14 +225,15 @@ pub services_open_again : ServicesOpenAgain
 services_open_again mirrors service text workers start =
     let last = ap content_of (take-length service.history) in
     let content = start.content ∙ sym last in
+    let now = present mirrors service in
     record {
       content = content;
       replies = λ moment pending.
           let apps = content_at service.history (length service.history) in
-          ap (λ (c : List App). rendered_at start.named c moment pending) content
+          ap (λ (c : List App). rendered_at now c moment pending) content
           ∙ ap (λ (reply : Reply). record { moment = moment; reply = reply })
-          (same-reply mirrors start.named start.raised apps pending.request (payloads_of pending.choices)
+          (same-reply mirrors now (present-codebase service.books mirrors) apps pending.request (payloads_of pending.choices)
           (outcomes_of pending) moment);
       totals = λ mirror. refl;
-      budgets = λ mirror. refl;
+      budgets = λ mirror below. budget_at-present service.books mirrors mirror below;
     }

@@ -174,9 +174,13 @@ published-replied history before after outcome reply replied (inl same) = same
 published-replied history before after outcome reply replied (inr (memory, kept)) =
     absurd (false≢true (ap (λ (o : Option (DeskStatus × List ℕ)). is_some o) (sym (ap publish_reply memory) ∙ replied)))
 
+-- a script with a reply is published by somebody who knows of as many batches as its base says
+pub is-published : (before : History) (base : ℕ) (batch : List Edit) (reply : DeskStatus × List ℕ) (after : History) →
+    IsPublished before base batch reply after → after ≡ published before base batch
+is-published before base batch reply after done =
+    published-replied (published before base batch) before after done.outcome reply done.replied
+    (press_publishes before base batch done.outcome after done.published)
+
 pub scripts_are_published : ScriptsArePublished
 scripts_are_published before input script reply after read performed =
-    let done : IsPublished before script.0 script.1 reply after =
-    subst (λ r. IsScriptReply before r reply after) read performed in
-    published-replied (published before script.0 script.1) before after done.outcome reply done.replied
-    (press_publishes before script.0 script.1 done.outcome after done.published)
+    is-published before script.0 script.1 reply after (subst (λ r. IsScriptReply before r reply after) read performed)

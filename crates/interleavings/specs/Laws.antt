@@ -1,11 +1,12 @@
 -- What holds of a service after every list of events: every interleaving of publishers, workers and operators. Each
 -- law is said of a machine, so that wrong machines can be held against it.
-use Rattle.std.specs.Prelude.{◌≡◌, ℕ, ◌≤◌, true, All, Contains, List, [], ◌∷◌, ◌++◌, IfSome, length, slice_get, sum_by, take, Option, None, Some}
+use Rattle.std.specs.Prelude.{◌≡◌, ℕ, ◌≤◌, if◌then◌else◌, true, All, Contains, List, [], ◌∷◌, ◌++◌, IfSome, length, nat_le, slice_get, sum_by, take, Option, None, Some}
 use Rattle.std.specs.Option.{option_map_or}
 use Rattle.catalogue.specs.declared.edit.Edit.{Edit}
 use Rattle.catalogue_laws.specs.Histories.{History, LeadsTo}
 use Rattle.editions.specs.Editions.{IsAccepted, content_of, max_batches}
 use Rattle.mirror_ledger.specs.Named.{budget_at}
+use Rattle.mirror_ledger.specs.Raising.{raise_at}
 use Rattle.omaha_json.specs.declared.reply.Reply.{Reply}
 use Rattle.omaha_json.specs.declared.request.Request.{Request}
 use Rattle.par_tables.specs.Tables.{AreTables}
@@ -19,7 +20,7 @@ use Rattle.replies.specs.declared.choices.Plan.{Plan}
 use Rattle.interleavings.specs.Choices.{IsByPrices}
 use Rattle.interleavings.specs.Events.{Event, Machine, Publish, Raise, service_after}
 use Rattle.interleavings.specs.Jobs.{EndedJob, Job, Pending, Rendered, Worker, granted_for, is_decided, jobs_of, outcomes_of}
-use Rattle.interleavings.specs.Services.{Service, content_at, published, raised_budget}
+use Rattle.interleavings.specs.Services.{Service, content_at, present, published, raised_budget}
 
 -- what holds of a service after every list of events since it opened with an accepted batch
 abbrev pub Always : Machine → (List Mirror → List Edit → List Event → Service → Type 0) → Type 0
@@ -120,6 +121,22 @@ pub record IsBooked (mirrors : List Mirror) (events : List Event) (service : Ser
 abbrev pub TotalsAreWithinBudgets : Machine → Type 0
 TotalsAreWithinBudgets machine =
     Always machine (λ mirrors batch events service. (mirror : ℕ) → IsBooked mirrors events service mirror)
+
+-- the mirrors after an event: a raise of a present budget to one that is no less changes it
+abbrev pub mirrors_after : Event → List Mirror → List Mirror
+mirrors_after (Raise raised bytes) mirrors =
+    if nat_le (budget_at mirrors raised) bytes then raise_at mirrors raised bytes else mirrors
+mirrors_after event mirrors = mirrors
+
+-- the mirrors after some events
+abbrev pub mirrors_by : List Event → List Mirror → List Mirror
+mirrors_by [] mirrors = mirrors
+mirrors_by (event ∷ events) mirrors = mirrors_by events (mirrors_after event mirrors)
+
+-- the present mirrors are those that the raises left, each of which changed just the budget of one mirror
+abbrev pub BudgetsAreThoseOfRaises : Machine → Type 0
+BudgetsAreThoseOfRaises machine =
+    Always machine (λ mirrors batch events service. present mirrors service ≡ mirrors_by events mirrors)
 
 -- a worker's share of a mirror is what the mirror granted for its jobs: for those that ended, with a reply or without
 -- one, and for the one that it has

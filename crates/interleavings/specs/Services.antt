@@ -58,6 +58,17 @@ abbrev pub with_budget : (ℕ → Account) → ℕ → ℕ → ℕ → Account
 with_budget books raised bytes mirror =
     record (books mirror) { budget = raised_budget raised bytes mirror (books mirror).budget }
 
+-- mirrors with the budgets of their books
+abbrev pub with_budgets_of : (ℕ → Account) → List Mirror → List Mirror
+with_budgets_of books [] = []
+with_budgets_of books (mirror ∷ mirrors) =
+    record { name = mirror.name; codebase = mirror.codebase; budget = (books 0).budget }
+    ∷ with_budgets_of (λ index. books (suc index)) mirrors
+
+-- the mirrors of a service with their present budgets
+abbrev pub present : List Mirror → Service → List Mirror
+present mirrors service = with_budgets_of service.books mirrors
+
 -- a list whose item at an index is changed, if there is one
 abbrev pub changed_at : {A : Type 0} → ℕ → (A → A) → List A → List A
 changed_at index change [] = []

@@ -1,15 +1,19 @@
 -- What the contracts of the program's functions say by helpers of events: `published`, `has_room`, `with_grant`,
--- `with_budget` and `IsReplyOf`. No law reads a contract as a whole step of `happens`, and `Enter`, `Learn` and `Drop`
--- have none.
-use Rattle.std.specs.Prelude.{◌≡◌, ◌<◌, ◌≤◌, ◌⊎◌, ◌↔◌, ℕ, true, List, ◌++◌, length, Result, Ok, Err}
+-- `with_budget` and `IsReplyOf`; and by events, what the operator's calls say. `Enter`, `Learn` and `Drop` have no law.
+use Rattle.std.specs.Prelude.{◌≡◌, ◌<◌, ◌≤◌, ◌⊎◌, ◌↔◌, ℕ, All, Bool, true, false, List, ◌++◌, length, Result, Ok, Err}
 use Rattle.catalogue.specs.declared.edit.Edit.{Edit}
 use Rattle.catalogue.specs.declared.fault.Refused.{Refused}
 use Rattle.catalogue_laws.specs.Histories.{History, LeadsTo}
 use Rattle.editions.specs.Editions.{Continues, content_of}
 use Rattle.editions.specs.declared.fault.NextError.TheVariants as error
+use Rattle.http_desks.specs.Calls.{Call}
 use Rattle.http_desks.specs.declared.desk.DeskStatus.{DeskStatus}
 use Rattle.mirror_ledger.specs.Asks.{Ask}
 use Rattle.mirror_ledger.specs.Budgets.{Account, Grants, HasRoom, Raises}
+use Rattle.mirror_ledger.specs.Named.{budget_at}
+use Rattle.mirror_ledger.specs.Raising.{IsAt, RaisesTo}
+use Rattle.mirror_ledger.specs.declared.raise_error.RaiseError.{RaiseError}
+use Rattle.mirror_ledger.specs.declared.raise_error.RaiseError.TheVariants as fault
 use Rattle.omaha_json.specs.ReplyWriting.{reply_bytes}
 use Rattle.omaha_json.specs.declared.reply.Reply.{Reply}
 use Rattle.omaha_json.specs.declared.request.Request.{Request}
@@ -18,13 +22,15 @@ use Rattle.publisher.specs.Publishing.{Publishes}
 use Rattle.publisher.specs.declared.fault.PublishError.{PublishError}
 use Rattle.publisher.specs.declared.fault.PublishError.TheVariants as publishing
 use Rattle.records.specs.declared.mirror.Mirror.{Mirror}
+use Rattle.service_desks.specs.Operators.{IsCall, State}
 use Rattle.service_desks.specs.Scripts.{Performs}
 use Rattle.service_desks.specs.Workers.{Progress, Replies, stock_of}
 use Rattle.update_desk.specs.Answering.{IsReply, Stock}
 use Rattle.update_desk.specs.Asking.{asks_of}
+use Rattle.interleavings.specs.Events.{Event, Publish, Raise, happens, run}
 use Rattle.interleavings.specs.Jobs.{Pending, is_decided, outcomes_of}
 use Rattle.interleavings.specs.Laws.{IsReplyOf}
-use Rattle.interleavings.specs.Services.{has_room, published, with_budget, with_grant}
+use Rattle.interleavings.specs.Services.{Service, has_room, present, published, with_budget, with_grant}
 
 -- `Edition::next`, from the edition that is published: an edition that it returns has the published history
 abbrev pub NextIsPublished : Type 0
@@ -68,6 +74,46 @@ RaisesAreEvents =
     (books : ℕ → Account) (mirror bytes : ℕ) (new : Account) →
     (((books mirror).budget ≤ bytes) × Raises (books mirror) new bytes) ⊎ ((bytes < (books mirror).budget) × (new ≡ books mirror)) →
     with_budget books mirror bytes mirror ≡ new
+
+-- the operator's view of a service over its mirrors: what is published, and the mirrors with their present budgets
+abbrev pub state_of : List Mirror → Service → State
+state_of mirrors service = record { mirrors = present mirrors service; history = service.history }
+
+-- what a raise by a name comes to in a service: the event of that mirror and number; or nothing, and then the event
+-- wouldn't change the service either, if the number is below the present budget
+abbrev pub IsRaiseIn : List Mirror → Service → List Mirror → List ℕ → ℕ → Result (Unit {0}) RaiseError → Type 0
+IsRaiseIn mirrors service new name budget (Ok done) =
+    (index : ℕ) × IsAt mirrors name index × (new ≡ present mirrors (happens mirrors service (Raise index budget)))
+IsRaiseIn mirrors service new name budget (Err (fault.Lower now)) =
+    (index : ℕ) × IsAt mirrors name index × (now ≡ budget_at (present mirrors service) index)
+    × (new ≡ present mirrors service) × (present mirrors (happens mirrors service (Raise index budget)) ≡ new)
+IsRaiseIn mirrors service new name budget (Err other) = new ≡ present mirrors service
+
+-- `Budgets::raise` from the present mirrors of a service is its event `Raise`
+abbrev pub RaisesByNameAreEvents : Type 0
+RaisesByNameAreEvents =
+    (mirrors : List Mirror) (service : Service) (new : List Mirror) (name : List ℕ) (budget : ℕ)
+    (result : Result (Unit {0}) RaiseError) →
+    RaisesTo (present mirrors service) new name budget result → IsRaiseIn mirrors service new name budget result
+
+-- an event of an operator
+abbrev pub is_of_operator : Event → Bool
+is_of_operator (Publish known batch) = true
+is_of_operator (Raise mirror bytes) = true
+is_of_operator event = false
+
+-- a service comes from another one by events of an operator, one at the most
+pub record IsOperatorStep (mirrors : List Mirror) (before : Service) (left : State) : Type 0 where
+  pub events : List Event
+  pub few : length events ≤ 1
+  pub own : All (λ event. is_of_operator event ≡ true) events
+  pub leaves : state_of mirrors (run happens mirrors before events) ≡ left
+
+-- each call of the operator's desk is such a step
+abbrev pub OperatorCallsAreEvents : Type 0
+OperatorCallsAreEvents =
+    (mirrors : List Mirror) (service : Service) (call : Call) (after : State) →
+    IsCall (state_of mirrors service) call after → IsOperatorStep mirrors service after
 
 -- a reply in bytes, and what was asked for it, are those of a reply in the making whose choices are all decided
 pub record IsOfPending (stock : Stock) (request : Request) (moment : ℕ) (before after : List Ask)

@@ -4,11 +4,11 @@ ghost use Rattle.interleavings.specs.Entries.{JobsGoByWhatIsPublished};
 ghost use Rattle.interleavings.specs.Events.{happens};
 ghost use Rattle.interleavings.specs.Headline.{OffersLeadToTargets, RepliesSayTrue};
 ghost use Rattle.interleavings.specs.LargerRuns.{DifferentialAndPin, HeardOfABatch, PinnedOffer, SecondMirrorGrants, TwoAppsInOneReply};
-ghost use Rattle.interleavings.specs.Laws.{BatchesArePublishedInTurn, BatchesArePublishedWhole, JobsGoByWhatWasSeen, PlansAreByPrices, PublishedIsAccepted, PublishedStays, RepliesAreOfOneCatalogue, SeenIsPublished, SeenNeverFalls, SharesAreOfJobs, TotalsAreWithinBudgets};
+ghost use Rattle.interleavings.specs.Laws.{BatchesArePublishedInTurn, BatchesArePublishedWhole, BudgetsAreThoseOfRaises, JobsGoByWhatWasSeen, PlansAreByPrices, PublishedIsAccepted, PublishedStays, RepliesAreOfOneCatalogue, SeenIsPublished, SeenNeverFalls, SharesAreOfJobs, TotalsAreWithinBudgets};
 ghost use Rattle.interleavings.specs.Requests.{RepliesAreToGivenRequests};
-ghost use Rattle.interleavings.specs.Restart.{DumpsAreProfiles, RestartsKeepReplies, ServicesOpenAgain};
+ghost use Rattle.interleavings.specs.Restart.{DumpsAreProfiles, OperatorsOnlyRaise, RestartsKeepReplies, ServicesOpenAgain};
 ghost use Rattle.interleavings.specs.Runs.{BudgetEnds, BudgetRaised, DropAfterGrant, FailedConditions, PublishBetween, StalePublish};
-ghost use Rattle.interleavings.specs.Ties.{AnswersAreOfPending, FullIsNotPublished, GrantsAreBooked, NextIsPublished, PressPublishes, RaisesAreEvents, RejectedIsNotPublished, RoomIsTested, ScriptsArePublished, WorkersReplyByOneHistory};
+ghost use Rattle.interleavings.specs.Ties.{AnswersAreOfPending, FullIsNotPublished, GrantsAreBooked, NextIsPublished, OperatorCallsAreEvents, PressPublishes, RaisesAreEvents, RaisesByNameAreEvents, RejectedIsNotPublished, RoomIsTested, ScriptsArePublished, WorkersReplyByOneHistory};
 ghost use Rattle.interleavings.specs.Wrong.{EntriesBreak, GrantsBreak, PlansAndRepliesBreak, PublishesBreak, RequestsBreak};
 
 // rule: Service
@@ -22,15 +22,17 @@ ghost use Rattle.interleavings.specs.Wrong.{EntriesBreak, GrantsBreak, PlansAndR
 /// Each rendered reply is the reply to its request at its time, by its outcomes and by the first batches that are
 /// published, of the number that its job entered; its job goes by no fewer batches than its worker had seen or heard
 /// of before. What a worker has seen never falls, and is published. Each mirror's total is the sum of the workers'
-/// shares and within its current budget, which is the highest one that it was given. Each share is the sum of
-/// what the mirror granted for the worker's jobs: for those that ended with a reply, for those that were dropped, and
-/// for the one that it has.
+/// shares and within its current budget, which is the highest one that it was given. The mirrors with their present
+/// budgets are those that the raises left, each of which changed one budget, or none if it was to a lower one. Each share
+/// is the sum of what the mirror granted for the worker's jobs: for those that ended with a reply, for those that were
+/// dropped, and for the one that it has.
 pub fn every_interleaving()
     ensures replies { RepliesAreOfOneCatalogue happens }
     ensures later { JobsGoByWhatWasSeen happens }
     ensures seen { SeenNeverFalls happens }
     ensures published { SeenIsPublished happens }
     ensures budgets { TotalsAreWithinBudgets happens }
+    ensures exact { BudgetsAreThoseOfRaises happens }
     ensures shares { SharesAreOfJobs happens }
 {
     catalogue_laws::growth();
@@ -111,12 +113,13 @@ pub fn plans()
 /// States that a service which starts from a dump replies as the one that was dumped.
 ///
 /// Each dump is read as a profile, of which `make_service` makes the service of one batch. The batch is accepted and
-/// makes the content that was dumped, and the mirrors are those that were dumped. Both services then reply to each
+/// makes the content that was dumped, and the mirrors are those that were dumped, with their budgets at the dump: what the
+/// operator's calls made of them, none below the one that the service began with. Both services then reply to each
 /// request, at each time, with the same bytes, if their mirrors grant the same. In the events: edition 1 of the
-/// service that opens has the content of the last edition that was dumped, and a job that enters either renders the
-/// same replies. The totals of the mirrors begin at 0 again, and their budgets are those of the dump, none below the
-/// first one.
+/// service that opens has the content of the last edition that was dumped, a job that enters either renders the same
+/// replies, and each mirror has the same budget. The totals of the mirrors begin at 0 again.
 pub fn restart()
+    ensures raises { OperatorsOnlyRaise }
     ensures dumps { DumpsAreProfiles }
     ensures replies { RestartsKeepReplies }
     ensures opens { ServicesOpenAgain }
@@ -124,12 +127,13 @@ pub fn restart()
     theorems::laws::plans();
 }
 
-/// States what the contracts of `Edition::next`, `Press::publish`, `Book::grant`, `Book::raise`,
-/// `update_desk::reply_to`, a worker's desk and the operator's desk say by helpers of events.
+/// States what the contracts of `Edition::next`, `Press::publish`, `Book::grant`, `Book::raise`, `Budgets::raise`,
+/// `update_desk::reply_to`, a worker's desk and the operator's desk say by events and helpers of them.
 ///
 /// The helpers say what is published, whether a book has room, which book it is after a grant or a raise, and what the
-/// reply of a job is. The events `Enter`, `Learn` and `Drop` have no such law, and none says that a call is one whole
-/// event.
+/// reply of a job is. A raise by a name from the present mirrors is the event `Raise` of that mirror, or none; and each
+/// call of the operator's desk, from what is published and the present mirrors, is one event `Publish` or `Raise`, or
+/// none. The events `Enter`, `Learn` and `Drop` have no such law, and none says that a worker's call is one whole event.
 pub fn ties()
     ensures next { NextIsPublished }
     ensures rejected { RejectedIsNotPublished }
@@ -138,6 +142,8 @@ pub fn ties()
     ensures room { RoomIsTested }
     ensures grants { GrantsAreBooked }
     ensures raises { RaisesAreEvents }
+    ensures named { RaisesByNameAreEvents }
+    ensures operator { OperatorCallsAreEvents }
     ensures answers { AnswersAreOfPending }
     ensures workers { WorkersReplyByOneHistory }
     ensures scripts { ScriptsArePublished }

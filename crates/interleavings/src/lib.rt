@@ -4,7 +4,7 @@
 //! each reply is that of one published catalogue, and no mirror grants more than its budget. Read `specs/Events.antt`
 //! for what can happen, `specs/Jobs.antt` for what a worker keeps, `specs/Choices.antt` for what it chooses by prices,
 //! `specs/Laws.antt`, `specs/Entries.antt` and `specs/Requests.antt` for what holds, and `specs/Restart.antt` for a
-//! service that starts from a dump. `specs/Ties.antt` reads the contracts of single calls in helpers of events;
+//! service that starts from a dump. `specs/Ties.antt` reads the contracts of single calls in events and helpers of them;
 //! `Enter`, `Learn` and `Drop` have none.
 //!
 //! It says nothing of threads: that what they do is a list of these events follows from no contract. Nor does it say

@@ -1,21 +1,37 @@
--- Copies of mirrors with their present budgets.
-use Rattle.std.proofs.Common.{◌≡◌, ◌∙◌, ℕ, ◌+◌, ◌<◌, suc, List, [], ◌∷◌, ◌++◌, ap, arith, get_or, length, subst, sym, take}
-use Rattle.std.proofs.Math.Seq.{take-suc}
-use Rattle.std.proofs.lemmas.List.Elements.{AllZip-push}
+-- The mirrors after one budget was raised.
+use Rattle.std.proofs.Common.{◌≡◌, ℕ, zero, suc, ◌<◌, List, [], ◌∷◌, ap, arith, get_or, length, refl, set}
 use Rattle.records.specs.declared.mirror.Mirror.{Mirror}
-use Rattle.mirror_ledger.specs.Raising.{AreRaised, IsRaised}
+use Rattle.mirror_ledger.specs.Named.{budget_at}
+use Rattle.mirror_ledger.specs.Raising.{raise_at}
 
--- one more mirror is copied
-pub AreRaised-push :
-    (given now pushed : List Mirror) (index : ℕ) (mirror copy : Mirror) →
-    index < length given → mirror ≡ get_or given index mirror → pushed ≡ now ++ copy ∷ [] →
-    AreRaised (take index given) now → IsRaised mirror copy → AreRaised (take (index + 1) given) pushed
-AreRaised-push given now pushed index mirror copy below at made raised one =
-    let next : index + 1 ≡ suc index = omega arith in
-    let longer =
-    ap (λ (n : ℕ). take n given) next
-    ∙ take-suc given index mirror below
-    ∙ ap (λ (m : Mirror). take index given ++ m ∷ []) (sym at) in
-    subst (λ (these : List Mirror). AreRaised (take (index + 1) given) these) (sym made)
-    (subst (λ (first : List Mirror). AreRaised first (now ++ copy ∷ [])) (sym longer)
-    (AllZip-push IsRaised (take index given) now mirror copy raised one))
+-- there are as many
+pub length-raise_at : (mirrors : List Mirror) (index budget : ℕ) → length (raise_at mirrors index budget) ≡ length mirrors
+length-raise_at [] index budget = refl
+length-raise_at (mirror ∷ mirrors) zero budget = refl
+length-raise_at (mirror ∷ mirrors) (suc index) budget = ap suc (length-raise_at mirrors index budget)
+
+-- the one at the index has the budget
+pub budget_at-raised : (mirrors : List Mirror) (index budget : ℕ) → index < length mirrors →
+    budget_at (raise_at mirrors index budget) index ≡ budget
+budget_at-raised [] index budget below = absurd (omega (arith, below))
+budget_at-raised (mirror ∷ mirrors) zero budget below = refl
+budget_at-raised (mirror ∷ mirrors) (suc index) budget below = budget_at-raised mirrors index budget (omega (arith, below))
+
+-- each other one has its own
+pub budget_at-other : (mirrors : List Mirror) (index other budget : ℕ) → (index ≡ other → ⊥) →
+    budget_at (raise_at mirrors index budget) other ≡ budget_at mirrors other
+budget_at-other [] index other budget apart = refl
+budget_at-other (mirror ∷ mirrors) zero zero budget apart = absurd (apart refl)
+budget_at-other (mirror ∷ mirrors) zero (suc other) budget apart = refl
+budget_at-other (mirror ∷ mirrors) (suc index) zero budget apart = refl
+budget_at-other (mirror ∷ mirrors) (suc index) (suc other) budget apart =
+    budget_at-other mirrors index other budget (λ same. apart (ap suc same))
+
+-- the mirror at the index in place of itself, with the budget
+pub raise_at-set : (mirrors : List Mirror) (index budget : ℕ) (mirror : Mirror) → mirror ≡ get_or mirrors index mirror → index < length mirrors →
+    set mirrors index (record { name = mirror.name; codebase = mirror.codebase; budget = budget }) ≡ raise_at mirrors index budget
+raise_at-set [] index budget mirror is below = absurd (omega (arith, below))
+raise_at-set (first ∷ mirrors) zero budget mirror is below =
+    ap (λ (m : Mirror). record { name = m.name; codebase = m.codebase; budget = budget } ∷ mirrors) is
+raise_at-set (first ∷ mirrors) (suc index) budget mirror is below =
+    ap (λ (rest : List Mirror). first ∷ rest) (raise_at-set mirrors index budget mirror is (omega (arith, below)))

@@ -72,14 +72,14 @@ AreOpened-unused {T} mirrors_of first second third fourth asks_of one two three 
 
 -- the totals of books that are closed by what the tills' asks came to
 pub AreTotalsOf-parts :
-    (fixed : Bool) (books mirrors : List Mirror) (workers : List (List Ask)) (totals : List ℕ) (first second third fourth : ℕ) →
+    (books mirrors : List Mirror) (workers : List (List Ask)) (totals : List ℕ) (first second third fourth : ℕ) →
     books ≡ mirrors →
     totals ≡ totals_of books first second third fourth →
     first ≡ granted_by workers 0 → second ≡ granted_by workers 1 → third ≡ granted_by workers 2 → fourth ≡ granted_by workers 3 →
-    (fixed ≡ true → (index : ℕ) → index < length books → slice_index totals index ≤ budget_at books index) →
-    AreTotalsOf fixed mirrors workers totals
-AreTotalsOf-parts fixed books mirrors workers totals first second third fourth same summed one two three four within =
-    subst (λ (all : List Mirror). AreTotalsOf fixed all workers totals) same
+    ((index : ℕ) → index < length books → slice_index totals index ≤ budget_at books index) →
+    AreTotalsOf mirrors workers totals
+AreTotalsOf-parts books mirrors workers totals first second third fourth same summed one two three four within =
+    subst (λ (all : List Mirror). AreTotalsOf all workers totals) same
     (record {
       sums = summed
           ∙ ap (λ (k : ℕ). totals_of books k second third fourth) one

@@ -28,11 +28,20 @@ pub record Raises (old new : Account) (bytes : ℕ) : Type 0 where
   pub total : new.total ≡ old.total
 
 -- rule: Budget of a mirror
--- what holds of every book: its ledger counts the total, which is within the budget; the budget is between the first
--- one and the most that it may come to, by the ledger's name, and at most 2^60
-pub record IsKept (first most counted : ℕ) (account : Account) : Type 0 where
+-- what holds of every book: one ledger counts the total, which is within the budget; a second ledger counts what the
+-- budget was raised by, above the first one; and the budget is at most what it may come to, by the ledger's name, and at
+-- most 2^60
+pub record IsKept (first most counted raised : ℕ) (account : Account) : Type 0 where
   pub adds_up : counted ≡ account.total
   pub within : account.total ≤ account.budget
   pub from : first ≤ account.budget
   pub to : account.budget ≤ most
   pub bounded : account.budget ≤ 2 ^ 60
+  pub raised_by : first + raised ≡ account.budget
+
+-- rule: Present budgets
+-- what holds of the part with which a budget is raised: it is all parts of the second ledger, so the first budget and its
+-- amount are the present budget
+pub record IsRaiser (first parts amount now : ℕ) : Type 0 where
+  pub whole : parts ≡ 1
+  pub adds_up : first + amount ≡ now

@@ -6,7 +6,7 @@ use Rattle.std.specs.declared.sync.ledger.Blank.{Blank}
 use Rattle.records.specs.Mirrors.{max_budget}
 use Rattle.records.specs.declared.mirror.Mirror.{Mirror}
 
--- the first budget of the mirror at an index, 0 if there is none
+-- the budget of the mirror at an index, 0 if there is none
 abbrev pub budget_at : List Mirror → ℕ → ℕ
 budget_at mirrors index = slice_index (map (λ (mirror : Mirror). mirror.budget) mirrors) index
 
@@ -19,15 +19,17 @@ abbrev pub max_at : Bool → List Mirror → ℕ → ℕ
 max_at rises mirrors index = if rises then max_budget else budget_at mirrors index
 
 -- a blank is of a ledger's name, which has a part for each worker and carries the first budget of the mirror at an
--- index, and no less as the most that it may come to
-pub record IsNamed (blank : Blank) (name parts budget most workers : ℕ) (mirrors : List Mirror) (index : ℕ) : Type 0 where
+-- index, and no less as the most that it may come to; and a second blank is of the ledger of its raises, which has one part
+pub record IsNamed (blank raises : Blank) (name parts budget most raising workers : ℕ) (mirrors : List Mirror) (index : ℕ) : Type 0 where
   pub same_name : blank.name ≡ name
   pub same_parts : blank.parts ≡ parts
+  pub same_raising : raises.name ≡ raising
+  pub one_raises : raises.parts ≡ 1
   pub part_each : parts ≡ workers
   pub carried : budget ≡ budget_at mirrors index
   pub reached : budget ≤ most
 
--- what holds of the mirrors of all books: there are one to four, and the four names carry their first budgets
+-- one to four mirrors have these budgets, and a place without a mirror has the budget 0
 pub record AreGiven (mirrors : List Mirror) (first second third fourth : ℕ) : Type 0 where
   pub some : 0 < length mirrors
   pub few : length mirrors ≤ 4

@@ -1,10 +1,11 @@
--- What a raise of a budget comes to, and what is known of budgets that were raised; this project's profile.
-use Rattle.std.specs.Prelude.{◌≡◌, ℕ, ◌<◌, ◌≤◌, Bool, true, IsSome, List, length, Option, None, Result, Ok, Err}
-use Rattle.std.specs.List.{AllZip, list_all, position}
+-- What a raise of a budget comes to; this project's profile.
+use Rattle.std.specs.Prelude.{◌≡◌, ℕ, zero, suc, ◌<◌, ◌≤◌, Bool, true, IsSome, List, [], ◌∷◌, length, Option, None, Some, Result, Ok, Err}
+use Rattle.std.specs.List.{list_all, position}
 use Rattle.std.specs.Str.{bytes_eq}
 use Rattle.records.specs.Mirrors.{is_mirror, max_budget}
 use Rattle.records.specs.declared.mirror.Mirror.{Mirror}
 use Rattle.values.specs.Lists.{IsOnce}
+use Rattle.mirror_ledger.specs.Named.{budget_at}
 use Rattle.mirror_ledger.specs.declared.raise_error.RaiseError.{RaiseError}
 use Rattle.mirror_ledger.specs.declared.raise_error.RaiseError.TheVariants as fault
 
@@ -23,24 +24,24 @@ pub record AreNamed (mirrors : List Mirror) : Type 0 where
 abbrev pub index_of : List Mirror → List ℕ → Option ℕ
 index_of mirrors name = position (has_name name) mirrors
 
+-- the mirrors, with another budget of the one at an index
+abbrev pub raise_at : List Mirror → ℕ → ℕ → List Mirror
+raise_at [] index budget = []
+raise_at (mirror ∷ mirrors) zero budget = record { name = mirror.name; codebase = mirror.codebase; budget = budget } ∷ mirrors
+raise_at (mirror ∷ mirrors) (suc index) budget = mirror ∷ raise_at mirrors index budget
+
+-- the mirror of a name is the one at an index
+abbrev pub IsAt : List Mirror → List ℕ → ℕ → Type 0
+IsAt mirrors name index = index_of mirrors name ≡ Some index
+
 -- rule: Raise by a name
--- what raising the budget of the mirror of a name comes to: the first fault that there is, and `Lower` only with a budget
--- that is above the one that was asked for
-abbrev pub RaisesTo : List Mirror → List ℕ → ℕ → Result (Unit {0}) RaiseError → Type 0
-RaisesTo mirrors name budget (Ok done) = IsSome (index_of mirrors name) × (budget ≤ max_budget)
-RaisesTo mirrors name budget (Err fault.UnknownMirror) = index_of mirrors name ≡ None
-RaisesTo mirrors name budget (Err fault.TooHigh) = IsSome (index_of mirrors name) × (max_budget < budget)
-RaisesTo mirrors name budget (Err (fault.Lower now)) =
-    IsSome (index_of mirrors name) × (budget ≤ max_budget) × (budget < now) × (now ≤ max_budget)
-
--- a mirror and its copy with a budget that is no less
-pub record IsRaised (given now : Mirror) : Type 0 where
-  pub name : now.name ≡ given.name
-  pub codebase : now.codebase ≡ given.codebase
-  pub from : given.budget ≤ now.budget
-  pub to : now.budget ≤ max_budget
-
--- rule: Present budgets
--- each of the mirrors, in order, with a budget that is no less than the first one
-abbrev pub AreRaised : List Mirror → List Mirror → Type 0
-AreRaised given now = AllZip IsRaised given now
+-- what raising the budget of the mirror of a name comes to, from the mirrors with their budgets before it to those after
+-- it: that mirror alone has another budget, just the number, which is no less; or all is as before, and it is the first
+-- fault that there is, `Lower` with the budget as it is
+abbrev pub RaisesTo : List Mirror → List Mirror → List ℕ → ℕ → Result (Unit {0}) RaiseError → Type 0
+RaisesTo old new name budget (Ok done) =
+    (index : ℕ) × IsAt old name index × (budget ≤ max_budget) × (budget_at old index ≤ budget) × (new ≡ raise_at old index budget)
+RaisesTo old new name budget (Err fault.UnknownMirror) = (index_of old name ≡ None) × (new ≡ old)
+RaisesTo old new name budget (Err fault.TooHigh) = IsSome (index_of old name) × (max_budget < budget) × (new ≡ old)
+RaisesTo old new name budget (Err (fault.Lower now)) =
+    (index : ℕ) × IsAt old name index × (budget ≤ max_budget) × (budget < now) × (now ≡ budget_at old index) × (new ≡ old)

@@ -1,5 +1,5 @@
 -- Tills that are opened for work and closed after it; this project's profile.
-use Rattle.std.specs.Prelude.{◌≡◌, ℕ, ◌<◌, ◌≤◌, All, Bool, true, List, [], length, map, slice_index, sum_by, Result, Ok, Err}
+use Rattle.std.specs.Prelude.{◌≡◌, ℕ, ◌<◌, ◌≤◌, All, Bool, true, List, [], length, map, slice_index, sum_by, Option, None, Some, Result, Ok, Err}
 use Rattle.std.specs.List.{AllZip}
 use Rattle.records.specs.declared.mirror.Mirror.{Mirror}
 use Rattle.mirror_ledger.specs.Asks.{Ask, granted_at}
@@ -18,10 +18,11 @@ pub record AreOpened {T : Type 0} (mirrors_of : T → List Mirror) (asks_of : T 
 abbrev pub granted_by : List (List Ask) → ℕ → ℕ
 granted_by workers index = sum_by (λ (asks : List Ask). granted_at index asks) workers
 
--- each mirror's total: what it granted to all workers, and no more than its first budget, if no budget may be raised
-pub record AreTotalsOf (fixed : Bool) (mirrors : List Mirror) (workers : List (List Ask)) (totals : List ℕ) : Type 0 where
+-- each mirror's total: what it granted to all workers, and no more than its budget, of mirrors with their budgets at the
+-- end
+pub record AreTotalsOf (mirrors : List Mirror) (workers : List (List Ask)) (totals : List ℕ) : Type 0 where
   pub sums : totals ≡ totals_of mirrors (granted_by workers 0) (granted_by workers 1) (granted_by workers 2) (granted_by workers 3)
-  pub within : fixed ≡ true → (index : ℕ) → index < length mirrors → slice_index totals index ≤ budget_at mirrors index
+  pub within : (index : ℕ) → index < length mirrors → slice_index totals index ≤ budget_at mirrors index
 
 -- a till of these mirrors that has asked for nothing yet, and has no other beside it and no budget that may be raised,
 -- if it is single
@@ -45,3 +46,9 @@ pub record HaveWorked {J E : Type 0} (comes_to : J → List Ask → E → Type 0
   pub each : AllZip (λ job done. WorksAs comes_to job done.0 done.1) jobs worked
   pub asked : workers ≡ map (λ (done : List Ask × Result E J). done.0) worked
   pub ended : ends ≡ map (λ (done : List Ask × Result E J). done.1) worked
+
+-- the own job came to this end, from the mirrors with their budgets before it to those after it; or it did not begin, and
+-- no budget was raised
+abbrev pub HasEnded : {E : Type 0} → (List Mirror → List Mirror → E → Type 0) → List Mirror → List Mirror → Option E → Type 0
+HasEnded comes_to before after (Some end) = comes_to before after end
+HasEnded comes_to before after None = after ≡ before

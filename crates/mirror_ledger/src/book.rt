@@ -3,33 +3,50 @@
 ghost use Rattle.std.specs.Prelude.{◌≡◌, ◌↔◌, ℕ, ◌+◌, ◌-◌, ◌^◌, ◌<◌, ◌≤◌, IfErr, IsOk, OnOk, OnErr};
 ghost use Rattle.mirror_ledger.specs.Budgets.{Account, Grants, HasRoom, Raises, bytes_left};
 
-use std::marker::{Brand, Model};
+use std::marker::{Brand, Model, PhantomData};
 use std::sync::ledger;
 use std::sync::ledger::{Blank, Ledger};
 
-/// The name of a mirror's ledger, which also has the mirror's first budget and the most that it may come to, for
-/// contracts.
+/// The name of a mirror's ledger, which also has, for contracts, the mirror's first budget, the most that it may come to,
+/// and the name of the ledger of its raises.
 pub trait BudgetName: Ledger {
     ghost budget: { ℕ };
 
     ghost most: { ℕ };
+
+    ghost raising: { ℕ };
 }
 
 impl BudgetName for Brand {
     ghost budget = { 0 };
 
     ghost most = { 0 };
+
+    ghost raising = { 0 };
+}
+
+/// The name of the ledger that counts what a mirror's budget was raised by, which has one part.
+pub struct Raising<P: BudgetName> {
+    marker: PhantomData<P>,
+}
+
+impl<P: BudgetName> Ledger for Raising<P> {
+    ghost name = { P.raising };
+
+    ghost parts = { 1 };
 }
 
 // rule: Budget of a mirror
 /// The book of a mirror: its budget and the bytes that it was granted, which never exceed it.
 ///
-/// Contracts see it as an `Account`. Its total is the sum of all shares of its ledger.
+/// Contracts see it as an `Account`. Its total is the sum of all shares of its ledger, and its budget is that of its
+/// `Raiser`.
 #[derive(Drop)]
 pub struct Book<P: BudgetName> {
     total: u64,
     budget: u64,
     counted: ledger::Book<P>,
+    raised: ledger::Book<Raising<P>>,
 }
 
 impl<P: BudgetName> Model for Book<P> {
@@ -39,7 +56,7 @@ impl<P: BudgetName> Model for Book<P> {
 
     ghost view = { λ b. record { budget = b.budget; total = b.total } };
 
-    ghost invariant = { λ b. IsKept P.budget P.most b.counted.total (record { budget = b.budget; total = b.total }) };
+    ghost invariant = { λ b. IsKept P.budget P.most b.counted.total b.raised.total (record { budget = b.budget; total = b.total }) };
 }
 
 /// A worker's part of a mirror's book, which contracts see as the bytes that the worker was granted.
@@ -58,6 +75,27 @@ impl<P: BudgetName> Model for Share<P> {
     ghost invariant = { λ share. share.mark.parts ≡ 1 };
 }
 
+// rule: Present budgets
+/// What raises the budget of a mirror's book, which contracts see as the present budget.
+///
+/// There is one for each book, and nothing else raises it: so the book has this budget too, each time it is locked.
+#[derive(Drop)]
+pub struct Raiser<P: BudgetName> {
+    now: u64,
+    mark: ledger::Share<Raising<P>>,
+}
+
+impl<P: BudgetName> Model for Raiser<P> {
+    ghost use Rattle.std.specs.Prelude.{ℕ};
+    ghost use Rattle.mirror_ledger.specs.Budgets.{IsRaiser};
+
+    ghost Value = { ℕ };
+
+    ghost view = { λ raiser. raiser.now };
+
+    ghost invariant = { λ raiser. IsRaiser P.budget raiser.mark.parts raiser.mark.amount raiser.now };
+}
+
 /// The budget has no room for the bytes.
 #[derive(Debug, Drop)]
 pub struct NoRoom {
@@ -73,10 +111,16 @@ pub struct Lower {
 }
 
 impl<P: BudgetName> Book<P> {
-    /// Opens the book of a budget in bytes, and its ledger with all parts.
-    pub(crate) fn open(blank: Blank, budget: u64) -> (Book<P>, ledger::Share<P>)
+    /// Opens the book of a budget in bytes, and its ledger with all parts, and the raiser of the book.
+    pub(crate) fn open(
+        blank: Blank,
+        raises: Blank,
+        budget: u64,
+    ) -> (Book<P>, ledger::Share<P>, Raiser<P>)
         requires name { blank.name ≡ P.name }
         requires parts { blank.parts ≡ P.parts }
+        requires raising { raises.name ≡ P.raising }
+        requires one { raises.parts ≡ 1 }
         requires budget { budget ≡ P.budget }
         requires most { budget ≤ P.most }
         requires bounded { budget ≤ 2 ^ 60 }
@@ -84,14 +128,17 @@ impl<P: BudgetName> Book<P> {
         ensures total { result.0.total ≡ 0 }
         ensures parts { result.1.parts ≡ P.parts }
         ensures amount { result.1.amount ≡ 0 }
+        ensures raiser { result.2 ≡ budget }
     {
         let (counted, all) = blank.open::<P>();
+        let (raised, mark) = raises.open::<Raising<P>>();
         let book = Book {
             total: 0,
             budget,
             counted,
+            raised,
         };
-        (book, all)
+        (book, all, Raiser { now: budget, mark })
     }
 
     // rule: Grant of bytes
@@ -124,40 +171,45 @@ impl<P: BudgetName> Book<P> {
     }
 
     // rule: Raise of a budget
-    /// Raises the budget to a number of bytes, at most 2^60.
+    // rule: Present budgets
+    /// Raises the budget to a number of bytes, at most 2^60, by the raiser of the book, which has the same budget before
+    /// and after.
     ///
     /// What was granted stays. If the budget is above that, it returns `Lower` and changes nothing. It takes no memory.
-    pub fn raise(&mut self, budget: u64) -> Result<(), Lower>
+    pub fn raise(&mut self, raiser: &mut Raiser<P>, budget: u64) -> Result<(), Lower>
         requires most { budget ≤ P.most }
         requires bounded { budget ≤ 2 ^ 60 }
-        ensures succeeds { IsOk result ↔ (self.old.budget ≤ budget) }
+        ensures present { self.old.budget ≡ raiser.old }
+        ensures succeeds { IsOk result ↔ (raiser.old ≤ budget) }
         ensures raised { OnOk result (Raises self.old self.new budget) }
-        ensures lower { IfErr result (λ refusal. (refusal.now ≡ self.old.budget) × (budget < refusal.now) × (refusal.now ≤ 2 ^ 60)) }
-        ensures err { OnErr result (self.new ≡ self.old) }
+        ensures raiser { OnOk result (raiser.new ≡ budget) }
+        ensures lower { IfErr result (λ refusal. (refusal.now ≡ raiser.old) × (budget < refusal.now)) }
+        ensures err { OnErr result ((self.new ≡ self.old) × (raiser.new ≡ raiser.old)) }
     {
+        self.raised.audit(&mut raiser.mark);
         if budget < self.budget {
             return Err(Lower { now: self.budget });
         }
-        self.budget = budget;
+        let Book {
+            budget: now,
+            raised,
+            ..
+        } = self;
+        raised.add(&mut raiser.mark, budget - *now);
+        *now = budget;
+        raiser.now = budget;
         Ok(())
     }
 
-    /// The present budget, in bytes.
-    pub fn budget(&self) -> u64
-        ensures budget { result ≡ self.now.budget }
-        ensures from { P.budget ≤ result }
-        ensures bounded { result ≤ 2 ^ 60 }
-    {
-        self.budget
-    }
-
-    /// Returns the total, which is the amount of all parts of the ledger and within the budget.
-    pub(crate) fn gather(&mut self, all: &mut ledger::Share<P>) -> u64
+    /// Returns the total, which is the amount of all parts of the ledger and within the present budget.
+    pub(crate) fn gather(&mut self, all: &mut ledger::Share<P>, raiser: &mut Raiser<P>) -> u64
         requires { all.old.parts ≡ P.parts }
         ensures total { result ≡ all.old.amount }
-        ensures within { result ≤ P.most }
+        ensures raiser { raiser.new ≡ raiser.old }
+        ensures within { result ≤ raiser.old }
     {
         self.counted.audit(all);
+        self.raised.audit(&mut raiser.mark);
         self.total
     }
 }

@@ -1,23 +1,24 @@
 //! The budgets of mirrors, as they are and raised.
 
-ghost use Rattle.std.specs.Prelude.{◌≡◌, ◌<◌, ◌≤◌, ◌^◌, Bool, IfErr, IfOk, List, true};
+ghost use Rattle.std.specs.Prelude.{◌≡◌, Bool, IfOk, List, true};
 ghost use Rattle.records.specs.declared.mirror.Mirror.{Mirror};
-ghost use Rattle.mirror_ledger.specs.Named.{are_rising, budget_at};
-ghost use Rattle.mirror_ledger.specs.Raising.{AreRaised, IsRaised, RaisesTo, index_of};
+ghost use Rattle.mirror_ledger.specs.Named.{are_rising};
+ghost use Rattle.mirror_ledger.specs.Raising.{RaisesTo, index_of};
 
 use crate::book::{BudgetName, Lower};
 use crate::books::Books;
 use crate::raise_error::RaiseError;
+use crate::raisers::{Raisers, copied};
 use records::Mirror;
 use std::alloc::{AllocError, Global};
 use std::sync::Wait;
 
 const MAX_BUDGET: u64 = 1 << 60;
 
-/// What reports the mirrors with their present budgets, and raises these.
+/// What reports the mirrors with their present budgets, and alone raises these.
 pub trait Budgets {
-    // The mirrors with their first budgets.
-    ghost given: { Self → List Mirror };
+    // The mirrors with their present budgets.
+    ghost present: { Self → List Mirror };
 
     // Whether budgets may be raised.
     ghost rises: { Self → Bool };
@@ -26,90 +27,56 @@ pub trait Budgets {
     ///
     /// Fails with `UnknownMirror`, then with `TooHigh`, above 2^60 bytes, then with `Lower`, below the budget as it is;
     /// then nothing is changed. It takes no memory, and may wait for a lock.
-    fn raise<R: Wait>(&self, rt: &R, name: &str, budget: u64) -> Result<(), RaiseError>
-        requires { rises self.now ≡ true }
-        ensures { RaisesTo (given self.now) name.now budget result };
+    fn raise<R: Wait>(&mut self, rt: &R, name: &str, budget: u64) -> Result<(), RaiseError>
+        requires { rises self.old ≡ true }
+        ensures raises { RaisesTo (present self.old) (present self.new) name.now budget result }
+        ensures rises { rises self.new ≡ rises self.old };
 
-    /// Copies the mirrors, each with the budget that it has when it is looked at. It may wait for a lock.
-    fn mirrors<R: Wait>(&self, rt: &R, alloc: Global) -> Result<Vec<Mirror>, AllocError>
-        ensures { IfOk result (λ mirrors. AreRaised (given self.now) mirrors.items) };
+    /// Copies the mirrors, each with its present budget.
+    fn mirrors(&self, alloc: Global) -> Result<Vec<Mirror>, AllocError>
+        ensures { IfOk result (λ mirrors. mirrors.items ≡ present self.now) };
 }
 
-impl<A: BudgetName, B: BudgetName, C: BudgetName, D: BudgetName> Books<A, B, C, D> {
-    // The index of the mirror of a name.
-    fn index_of(&self, name: &str) -> Option<usize>
-        ensures { result ≡ index_of self.now name.now }
-    {
-        self.given
-            .iter()
-            .position(|mirror| name == mirror.name.as_str())
-    }
+/// The budgets of borrowed books, with the raisers of all of them.
+#[derive(Drop)]
+pub struct Treasurer<'a, A: BudgetName, B: BudgetName, C: BudgetName, D: BudgetName> {
+    /// The books of all mirrors.
+    pub books: &'a Books<A, B, C, D>,
+    /// Their raisers.
+    pub raisers: Raisers<A, B, C, D>,
+}
 
-    // Raises the budget of the mirror at an index.
-    fn raise_at<R: Wait>(&self, rt: &R, index: usize, budget: u64) -> Result<(), Lower>
-        requires rising { are_rising A.most B.most C.most D.most ≡ true }
-        requires bounded { budget ≤ 2 ^ 60 }
-        ensures { IfErr result (λ refusal. (budget < refusal.now) × (refusal.now ≤ 2 ^ 60)) }
-    {
-        match index {
-            0 => self.first.lock(rt).raise(budget),
-            1 => self.second.lock(rt).raise(budget),
-            2 => self.third.lock(rt).raise(budget),
-            _ => self.fourth.lock(rt).raise(budget),
-        }
-    }
-
-    // The present budget of the mirror at an index.
-    fn budget_at<R: Wait>(&self, rt: &R, index: usize) -> u64
-        requires { index < 4 }
-        ensures from { budget_at self.now index ≤ result }
-        ensures to { result ≤ 2 ^ 60 }
-    {
-        match index {
-            0 => self.first.lock(rt).budget(),
-            1 => self.second.lock(rt).budget(),
-            2 => self.third.lock(rt).budget(),
-            _ => self.fourth.lock(rt).budget(),
-        }
-    }
-
-    // Copies the mirror at an index, with the present budget.
-    fn copy_at<R: Wait>(&self, rt: &R, index: usize, mirror: &Mirror) -> Result<Mirror, AllocError>
-        requires index { index < 4 }
-        requires given { budget_at self.now index ≡ mirror.now.budget }
-        ensures { IfOk result (IsRaised mirror.now) }
-    {
-        let mut copy = mirror.clone()?;
-        copy.budget = self.budget_at(rt, index);
-        Ok(copy)
-    }
+// The index of the mirror of a name.
+fn index_of(mirrors: &[Mirror], name: &str) -> Option<usize>
+    ensures { result ≡ index_of mirrors.now name.now }
+{
+    mirrors
+        .iter()
+        .position(|mirror| name == mirror.name.as_str())
 }
 
 // rule: Raise by a name
 // rule: Present budgets
-impl<A: BudgetName, B: BudgetName, C: BudgetName, D: BudgetName> Budgets for Books<A, B, C, D> {
-    ghost given = { λ books. books };
+impl<A: BudgetName, B: BudgetName, C: BudgetName, D: BudgetName> Budgets
+    for Treasurer<'_, A, B, C, D> {
+    ghost present = { λ treasurer. treasurer.raisers };
 
     ghost rises = { λ _. are_rising A.most B.most C.most D.most };
 
-    fn raise<R: Wait>(&self, rt: &R, name: &str, budget: u64) -> Result<(), RaiseError> {
-        let Some(index) = self.index_of(name) else {
+    fn raise<R: Wait>(&mut self, rt: &R, name: &str, budget: u64) -> Result<(), RaiseError> {
+        let Some(index) = index_of(&self.raisers.mirrors, name) else {
             return Err(RaiseError::UnknownMirror);
         };
         if budget > MAX_BUDGET {
             return Err(RaiseError::TooHigh);
         }
-        match self.raise_at(rt, index, budget) {
+        match self.raisers.raise_at(rt, self.books, index, budget) {
             Ok(()) => Ok(()),
             Err(Lower { now }) => Err(RaiseError::Lower(now)),
         }
     }
 
-    fn mirrors<R: Wait>(&self, rt: &R, alloc: Global) -> Result<Vec<Mirror>, AllocError> {
-        let mut list = Vec::new(alloc);
-        for (index, mirror) in self.given.iter().enumerate() {
-            list.push(self.copy_at(rt, index, mirror)?)?;
-        }
-        Ok(list)
+    fn mirrors(&self, alloc: Global) -> Result<Vec<Mirror>, AllocError> {
+        copied(alloc, &self.raisers.mirrors)
     }
 }

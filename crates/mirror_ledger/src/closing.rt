@@ -1,12 +1,14 @@
 //! How books are closed.
 
 ghost use Rattle.std.specs.Prelude.{◌≡◌, ℕ, ◌+◌, ◌<◌, ◌≤◌, IfOk, length, map, slice_index, sum_by, vec_len};
-ghost use Rattle.mirror_ledger.specs.Named.{AreFixed, budget_at, totals_of};
+ghost use Rattle.mirror_ledger.specs.Named.{budget_at, totals_of};
 ghost use Rattle.mirror_ledger.specs.Tills.{granted_by};
 
 use crate::book::{BudgetName, Share};
 use crate::books::{Books, Shares};
+use crate::raisers::Raisers;
 use crate::till::Hand;
+use records::Mirror;
 use std::alloc::{AllocError, Global};
 use std::sync::{Wait, ledger};
 
@@ -88,58 +90,68 @@ pub(crate) fn gather_tills<A: BudgetName, B: BudgetName, C: BudgetName, D: Budge
     parts
 }
 
-/// Closes the books by all parts of their ledgers, and returns each mirror's total in bytes.
+/// Closes the books by all parts of their ledgers and by their raisers, and returns each mirror's total in bytes, and the
+/// mirrors with their budgets at the end.
 pub(crate) fn close_parts<A: BudgetName, B: BudgetName, C: BudgetName, D: BudgetName, R: Wait>(
     rt: &R,
     alloc: Global,
     books: Books<A, B, C, D>,
     parts: Parts<A, B, C, D>,
-) -> Result<Vec<u64>, AllocError>
+    raisers: Raisers<A, B, C, D>,
+) -> Result<(Vec<u64>, Vec<Mirror>), AllocError>
     requires first { parts.first.parts ≡ A.parts }
     requires second { parts.second.parts ≡ B.parts }
     requires third { parts.third.parts ≡ C.parts }
     requires fourth { parts.fourth.parts ≡ D.parts }
-    ensures totals { IfOk result (λ totals. totals.items ≡ totals_of books
+    ensures mirrors { IfOk result (λ closed. closed.1.items ≡ raisers) }
+    ensures totals { IfOk result (λ closed. closed.0.items ≡ totals_of closed.1.items
         parts.first.amount parts.second.amount parts.third.amount parts.fourth.amount) }
-    ensures within { AreFixed books A.most B.most C.most D.most → IfOk result (λ totals.
-        (index : ℕ) → index < length books → slice_index totals.items index ≤ budget_at books index) }
+    ensures within { IfOk result (λ closed.
+        (index : ℕ) → index < length closed.1.items → slice_index closed.0.items index ≤ budget_at closed.1.items index) }
 {
-    let count = books.given.len();
     let mut parts = parts;
+    let Raisers {
+        mirrors,
+        mut first,
+        mut second,
+        mut third,
+        mut fourth,
+    } = raisers;
     let totals = [
-        books.first.lock(rt).gather(&mut parts.first),
-        books.second.lock(rt).gather(&mut parts.second),
-        books.third.lock(rt).gather(&mut parts.third),
-        books.fourth.lock(rt).gather(&mut parts.fourth),
+        books.first.lock(rt).gather(&mut parts.first, &mut first),
+        books.second.lock(rt).gather(&mut parts.second, &mut second),
+        books.third.lock(rt).gather(&mut parts.third, &mut third),
+        books.fourth.lock(rt).gather(&mut parts.fourth, &mut fourth),
     ];
-    let granted = Vec::from_slice(alloc, &totals[..count])?;
-    Ok(granted)
+    let granted = Vec::from_slice(alloc, &totals[..mirrors.len()])?;
+    Ok((granted, mirrors))
 }
 
 // rule: Total of a mirror
-/// Closes the books, and returns each mirror's total in bytes.
+/// Closes the books, and returns each mirror's total in bytes, and the mirrors with their budgets at the end.
 ///
-/// All shares of these books are handed in, and no others: as many as the ledgers have parts. A total is
-/// the sum of the mirror's shares, and within its budget as it then is, which is the first one if no budget may be
-/// raised. Out of memory is the only error.
+/// All shares of these books are handed in, and no others: as many as the ledgers have parts; and their raisers. A total
+/// is the sum of the mirror's shares, and within its budget at the end. Out of memory is the only error.
 pub fn close<A: BudgetName, B: BudgetName, C: BudgetName, D: BudgetName, R: Wait>(
     rt: &R,
     alloc: Global,
     books: Books<A, B, C, D>,
     shares: Vec<Shares<A, B, C, D>>,
-) -> Result<Vec<u64>, AllocError>
+    raisers: Raisers<A, B, C, D>,
+) -> Result<(Vec<u64>, Vec<Mirror>), AllocError>
     requires some { 0 < vec_len shares }
     requires first { vec_len shares ≡ A.parts }
     requires second { vec_len shares ≡ B.parts }
     requires third { vec_len shares ≡ C.parts }
     requires fourth { vec_len shares ≡ D.parts }
-    ensures totals { IfOk result (λ totals. totals.items ≡ totals_of books
+    ensures mirrors { IfOk result (λ closed. closed.1.items ≡ raisers) }
+    ensures totals { IfOk result (λ closed. closed.0.items ≡ totals_of closed.1.items
         (sum_by (λ s. s.first) shares.items)
         (sum_by (λ s. s.second) shares.items)
         (sum_by (λ s. s.third) shares.items)
         (sum_by (λ s. s.fourth) shares.items)) }
-    ensures within { AreFixed books A.most B.most C.most D.most → IfOk result (λ totals.
-        (index : ℕ) → index < length books → slice_index totals.items index ≤ budget_at books index) }
+    ensures within { IfOk result (λ closed.
+        (index : ℕ) → index < length closed.1.items → slice_index closed.0.items index ≤ budget_at closed.1.items index) }
 {
-    close_parts(rt, alloc, books, gathered(shares))
+    close_parts(rt, alloc, books, gathered(shares), raisers)
 }

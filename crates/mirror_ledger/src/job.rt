@@ -7,7 +7,7 @@ ghost use Rattle.mirror_ledger.specs.Raising.{AreNamed};
 
 use crate::budgets::Budgets;
 use crate::till::Till;
-use worker_threads::{Job, OwnJob};
+use worker_threads::Job;
 
 /// What one worker does with a till of its own.
 pub trait TillJob {
@@ -45,37 +45,40 @@ impl<J: TillJob, T: Till + Send + Drop> Job for WithTill<J, T> {
 /// What the caller's own thread does beside the workers, with the budgets of their mirrors.
 pub trait BudgetJob {
     /// What it comes to.
-    type End: Drop;
+    type End: Send + Drop;
 
     // Whether it may raise budgets.
     ghost raises: { Self → Bool };
 
-    // On these mirrors, from the job as it was to its end.
-    ghost comes_to: { List Mirror → Self → Self.End → Type 0 };
+    // From these mirrors with their budgets before it to those after it, from the job as it was to its end.
+    ghost comes_to: { List Mirror → List Mirror → Self → Self.End → Type 0 };
 
     /// Does the job.
-    fn work<B: Budgets>(&mut self, budgets: &B) -> Self::End
-        requires named { AreNamed (B.given budgets.now) }
-        requires rising { raises self.old ≡ true → B.rises budgets.now ≡ true }
+    fn work<B: Budgets>(&mut self, budgets: &mut B) -> Self::End
+        requires named { AreNamed (B.present budgets.old) }
+        requires rising { raises self.old ≡ true → B.rises budgets.old ≡ true }
         ensures raises { raises self.new ≡ raises self.old }
-        ensures comes { comes_to (B.given budgets.now) self.old result };
+        ensures comes { comes_to (B.present budgets.old) (B.present budgets.new) self.old result };
 }
 
-// The caller's own job, and the budgets.
+/// The caller's own job, and the budgets, which it gives back.
 #[derive(Drop)]
-pub(crate) struct WithBudgets<'a, 'b, O: BudgetJob, B: Budgets> {
+pub(crate) struct WithBudgets<'a, O: BudgetJob, B: Budgets> {
     pub(crate) job: &'a mut O,
-    pub(crate) budgets: &'b B,
-    ghost named: { AreNamed (B.given budgets.now) },
-    ghost rising: { O.raises job.now ≡ true → B.rises budgets.now ≡ true },
+    pub(crate) budgets: B,
+    ghost named: { AreNamed (B.present budgets) },
+    ghost rising: { O.raises job.now ≡ true → B.rises budgets ≡ true },
 }
 
-impl<O: BudgetJob, B: Budgets> OwnJob for WithBudgets<'_, '_, O, B> {
-    type End = O::End;
+impl<O: BudgetJob, B: Budgets + Send + Drop> Job for WithBudgets<'_, O, B> {
+    type End = (B, O::End);
 
-    ghost comes_to = { λ with end. O.comes_to (B.given with.budgets.now) with.job.now end };
+    ghost comes_to = { λ with end. O.comes_to (B.present with.budgets) (B.present end.0) with.job.now end.1 };
 
-    fn work(&mut self) -> O::End {
-        self.job.work(self.budgets)
+    fn work(self) -> (B, O::End) {
+        let WithBudgets { job, budgets } = self;
+        let mut budgets = budgets;
+        let end = job.work(&mut budgets);
+        (budgets, end)
     }
 }

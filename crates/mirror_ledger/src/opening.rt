@@ -7,12 +7,13 @@ ghost use Rattle.mirror_ledger.specs.Asks.{AreUnused};
 use crate::asks::AskList;
 use crate::book::{Book, BudgetName, Share};
 use crate::books::{Books, Shares};
+use crate::raisers::{Raisers, copied};
 use records::Mirror;
 use std::alloc::{AllocError, Global};
 use std::sync::ledger::Blank;
 use std::sync::{Mutex, Wait, ledger};
 
-/// Four new ledgers, one for the mirror at each index.
+/// Four new ledgers, one for the mirror at each index, and four of what the budgets are raised by.
 #[derive(Drop)]
 pub struct Blanks {
     /// That of the first mirror.
@@ -23,21 +24,25 @@ pub struct Blanks {
     pub third: Blank,
     /// That of the fourth mirror.
     pub fourth: Blank,
+    /// Those of the raises, in the same order.
+    pub raises: (Blank, Blank, Blank, Blank),
 }
 
 impl Blanks {
-    /// Makes four ledgers with a part for each worker.
+    /// Makes four ledgers with a part for each worker, and four of one part.
     pub fn new(workers: u64) -> Blanks
         ensures first { result.first.parts ≡ workers }
         ensures second { result.second.parts ≡ workers }
         ensures third { result.third.parts ≡ workers }
         ensures fourth { result.fourth.parts ≡ workers }
+        ensures raises { (result.raises.0.parts ≡ 1) × (result.raises.1.parts ≡ 1) × (result.raises.2.parts ≡ 1) × (result.raises.3.parts ≡ 1) }
     {
         Blanks {
             first: Blank::new(workers),
             second: Blank::new(workers),
             third: Blank::new(workers),
             fourth: Blank::new(workers),
+            raises: (Blank::new(1), Blank::new(1), Blank::new(1), Blank::new(1)),
         }
     }
 }
@@ -104,37 +109,50 @@ fn split_shares<A: BudgetName, B: BudgetName, C: BudgetName, D: BudgetName>(
     Ok(shares)
 }
 
+/// Books that were opened, and what works with them.
+#[derive(Drop)]
+pub struct Opened<A: BudgetName, B: BudgetName, C: BudgetName, D: BudgetName> {
+    /// The books of all mirrors.
+    pub books: Books<A, B, C, D>,
+    /// The shares of each worker.
+    pub shares: Vec<Shares<A, B, C, D>>,
+    /// The raisers of the books.
+    pub raisers: Raisers<A, B, C, D>,
+}
+
 // rule: Shares at the opening
-/// Opens a book for each mirror, with the total 0, and shares of 0 for each worker.
+/// Opens a book for each mirror, with the total 0, shares of 0 for each worker, and the raisers of the books.
 ///
-/// There are 1 to 4 mirrors of budgets to 2^60, and 1 to 8 workers. The four ledgers have a part for
-/// each worker, and their names carry the mirrors' budgets, 0 after the last mirror, and the most that
-/// each may be raised to. Out of memory is the only error.
+/// There are 1 to 4 mirrors of budgets to 2^60, and 1 to 8 workers. The four ledgers have a part for each worker, and
+/// their names carry the mirrors' budgets, 0 after the last mirror, and the most that each may be raised to; the four of
+/// the raises have one part. Out of memory is the only error.
 pub fn open_books<A: BudgetName, B: BudgetName, C: BudgetName, D: BudgetName, R: Wait>(
     rt: &R,
     alloc: Global,
     blanks: Blanks,
     mirrors: Vec<Mirror>,
     workers: usize,
-) -> Result<(Books<A, B, C, D>, Vec<Shares<A, B, C, D>>), AllocError>
+) -> Result<Opened<A, B, C, D>, AllocError>
     requires some_mirror { 0 < vec_len mirrors }
     requires few_mirrors { vec_len mirrors ≤ 4 }
     requires bounded { are_bounded mirrors.items ≡ true }
     requires some_worker { 0 < workers }
     requires few_workers { workers ≤ 8 }
-    requires first { IsNamed blanks.first A.name A.parts A.budget A.most workers mirrors.items 0 }
-    requires second { IsNamed blanks.second B.name B.parts B.budget B.most workers mirrors.items 1 }
-    requires third { IsNamed blanks.third C.name C.parts C.budget C.most workers mirrors.items 2 }
-    requires fourth { IsNamed blanks.fourth D.name D.parts D.budget D.most workers mirrors.items 3 }
-    ensures given { IfOk result (λ opened. opened.0 ≡ mirrors.items) }
-    ensures workers { IfOk result (λ opened. vec_len opened.1 ≡ workers) }
-    ensures unused { IfOk result (λ opened. All (λ s. AreUnused s.first s.second s.third s.fourth s.asks) opened.1.items) }
+    requires first { IsNamed blanks.first blanks.raises.0 A.name A.parts A.budget A.most A.raising workers mirrors.items 0 }
+    requires second { IsNamed blanks.second blanks.raises.1 B.name B.parts B.budget B.most B.raising workers mirrors.items 1 }
+    requires third { IsNamed blanks.third blanks.raises.2 C.name C.parts C.budget C.most C.raising workers mirrors.items 2 }
+    requires fourth { IsNamed blanks.fourth blanks.raises.3 D.name D.parts D.budget D.most D.raising workers mirrors.items 3 }
+    ensures given { IfOk result (λ opened. opened.books ≡ mirrors.items) }
+    ensures present { IfOk result (λ opened. opened.raisers ≡ mirrors.items) }
+    ensures workers { IfOk result (λ opened. vec_len opened.shares ≡ workers) }
+    ensures unused { IfOk result (λ opened. All (λ s. AreUnused s.first s.second s.third s.fourth s.asks) opened.shares.items) }
 {
     let _ = rt;
-    let (first_book, first) = Book::open(blanks.first, budget_of(&mirrors, 0));
-    let (second_book, second) = Book::open(blanks.second, budget_of(&mirrors, 1));
-    let (third_book, third) = Book::open(blanks.third, budget_of(&mirrors, 2));
-    let (fourth_book, fourth) = Book::open(blanks.fourth, budget_of(&mirrors, 3));
+    let (raises_0, raises_1, raises_2, raises_3) = blanks.raises;
+    let (book_0, first, raiser_0) = Book::open(blanks.first, raises_0, budget_of(&mirrors, 0));
+    let (book_1, second, raiser_1) = Book::open(blanks.second, raises_1, budget_of(&mirrors, 1));
+    let (book_2, third, raiser_2) = Book::open(blanks.third, raises_2, budget_of(&mirrors, 2));
+    let (book_3, fourth, raiser_3) = Book::open(blanks.fourth, raises_3, budget_of(&mirrors, 3));
     let rest = Rest {
         first,
         second,
@@ -142,12 +160,23 @@ pub fn open_books<A: BudgetName, B: BudgetName, C: BudgetName, D: BudgetName, R:
         fourth,
     };
     let shares = split_shares(alloc, rest, workers)?;
+    let raisers = Raisers {
+        mirrors: copied(alloc, &mirrors)?,
+        first: raiser_0,
+        second: raiser_1,
+        third: raiser_2,
+        fourth: raiser_3,
+    };
     let books = Books {
         given: mirrors,
-        first: Mutex::new(first_book),
-        second: Mutex::new(second_book),
-        third: Mutex::new(third_book),
-        fourth: Mutex::new(fourth_book),
+        first: Mutex::new(book_0),
+        second: Mutex::new(book_1),
+        third: Mutex::new(book_2),
+        fourth: Mutex::new(book_3),
     };
-    Ok((books, shares))
+    Ok(Opened {
+        books,
+        shares,
+        raisers,
+    })
 }

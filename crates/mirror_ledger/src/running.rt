@@ -1,6 +1,6 @@
 //! Jobs with tills in threads, over books that are opened for them and closed after them.
 
-ghost use Rattle.std.specs.Prelude.{◌≡◌, ◌&&◌, ◌<◌, ◌≤◌, Bool, List, All, IfOk, IfSome, length, map, nat_eq, not, true, vec_len};
+ghost use Rattle.std.specs.Prelude.{◌≡◌, ◌&&◌, ◌<◌, ◌≤◌, Bool, List, All, IfErr, IfOk, None, Some, length, map, nat_eq, not, true, vec_len};
 ghost use Rattle.std.specs.List.{AllZip};
 ghost use Rattle.records.specs.declared.mirror.Mirror.{Mirror};
 ghost use Rattle.worker_threads.specs.Jobs.{EndsAs};
@@ -8,12 +8,14 @@ ghost use Rattle.mirror_ledger.specs.Asks.{Ask};
 ghost use Rattle.mirror_ledger.specs.Named.{AreTops, IsNamed, are_bounded};
 ghost use Rattle.mirror_ledger.specs.Raising.{AreNamed};
 ghost use Rattle.mirror_ledger.specs.Running.{end_of, till_of};
-ghost use Rattle.mirror_ledger.specs.Tills.{AreTotalsOf, HaveWorked, IsFresh};
+ghost use Rattle.mirror_ledger.specs.Tills.{AreTotalsOf, HasEnded, HaveWorked, IsFresh};
 
 use crate::book::BudgetName;
+use crate::budgets::Treasurer;
 use crate::closing::{close_parts, gather_tills};
 use crate::job::{BudgetJob, TillJob, WithBudgets, WithTill};
-use crate::opening::{Blanks, open_books};
+use crate::opening::{Blanks, Opened, open_books};
+use crate::raisers::Raisers;
 use crate::till::Till;
 use crate::working::tills_of;
 use records::Mirror;
@@ -21,7 +23,7 @@ use std::alloc::{AllocError, Global};
 use std::marker::Brand;
 use std::sync::Wait;
 use std::thread::Threads;
-use worker_threads::{Gate, OwnJob, run_together};
+use worker_threads::{Gate, Job, run_together};
 
 /// What jobs with tills came to.
 #[derive(Drop)]
@@ -32,6 +34,8 @@ pub struct Ran<J: TillJob + Drop, O: BudgetJob> {
     pub own: Option<O::End>,
     /// Each mirror's total in bytes.
     pub totals: Vec<u64>,
+    /// The mirrors with their budgets at the end.
+    pub mirrors: Vec<Mirror>,
 }
 
 // Gives each job a till.
@@ -90,7 +94,7 @@ fn split<J: TillJob + Drop, T: Till + Drop>(
 // Does jobs with a till each, and the own job beside them.
 fn work_together<
     J: TillJob + Send + Drop,
-    O: OwnJob,
+    O: Job + Drop,
     T: Till + Send + Drop,
     G: Gate + Sync,
     R: Threads + Wait + Sync,
@@ -100,11 +104,11 @@ fn work_together<
     gate: &G,
     jobs: Vec<J>,
     tills: Vec<T>,
-    own: &mut O,
-) -> Result<(Vec<T>, Vec<Result<J::End, J>>, Option<O::End>), AllocError>
+    own: O,
+) -> Result<(Vec<T>, Vec<Result<J::End, J>>, Result<O::End, O>), AllocError>
     requires { vec_len jobs ≡ vec_len tills }
     ensures many { IfOk result (λ done. vec_len done.0 ≡ vec_len tills) }
-    ensures own { IfOk result (λ done. IfSome done.2 (O.comes_to own.old)) }
+    ensures own { IfOk result (λ done. EndsAs O.comes_to own done.2) }
     ensures works { IfOk result (λ done. (single : Bool) (mirrors : List Mirror)
         → All (IsFresh T.mirrors T.asks T.alone single mirrors) tills.items
         → HaveWorked (J.comes_to single mirrors) jobs.items (map T.asks done.0.items) done.1.items) }
@@ -115,6 +119,31 @@ fn work_together<
     };
     let (tills, ends) = split(alloc, all)?;
     Ok((tills, ends, own))
+}
+
+// The raisers that the own job had or still has, and what it came to, if it began.
+fn own_parted<
+    'a,
+    O: BudgetJob,
+    A: BudgetName + Send + Sync,
+    B: BudgetName + Send + Sync,
+    C: BudgetName + Send + Sync,
+    D: BudgetName + Send + Sync,
+>(
+    ran: Result<(Treasurer<'a, A, B, C, D>, O::End), WithBudgets<'a, O, Treasurer<'a, A, B, C, D>>>,
+) -> (Raisers<A, B, C, D>, Option<O::End>)
+    ensures ok { IfOk ran.entry (λ done. (result.0 ≡ done.0.raisers) × (result.1 ≡ Some done.1)) }
+    ensures err { IfErr ran.entry (λ with. (result.0 ≡ with.budgets.raisers) × (result.1 ≡ None)) }
+{
+    match ran {
+        Ok((Treasurer { raisers, .. }, end)) => (raisers, Some(end)),
+        Err(
+            WithBudgets {
+                budgets: Treasurer { raisers, .. },
+                ..
+            },
+        ) => (raisers, None),
+    }
 }
 
 // Runs jobs over books whose ledgers have these names.
@@ -142,34 +171,48 @@ fn run_over<
     requires named { AreNamed mirrors.items }
     requires some_worker { 0 < vec_len jobs }
     requires few_workers { vec_len jobs ≤ 8 }
-    requires first { IsNamed blanks.first A.name A.parts A.budget A.most (vec_len jobs) mirrors.items 0 }
-    requires second { IsNamed blanks.second B.name B.parts B.budget B.most (vec_len jobs) mirrors.items 1 }
-    requires third { IsNamed blanks.third C.name C.parts C.budget C.most (vec_len jobs) mirrors.items 2 }
-    requires fourth { IsNamed blanks.fourth D.name D.parts D.budget D.most (vec_len jobs) mirrors.items 3 }
+    requires first { IsNamed blanks.first blanks.raises.0 A.name A.parts A.budget A.most A.raising (vec_len jobs) mirrors.items 0 }
+    requires second { IsNamed blanks.second blanks.raises.1 B.name B.parts B.budget B.most B.raising (vec_len jobs) mirrors.items 1 }
+    requires third { IsNamed blanks.third blanks.raises.2 C.name C.parts C.budget C.most C.raising (vec_len jobs) mirrors.items 2 }
+    requires fourth { IsNamed blanks.fourth blanks.raises.3 D.name D.parts D.budget D.most D.raising (vec_len jobs) mirrors.items 3 }
     requires tops { AreTops (O.raises own.old) mirrors.items A.most B.most C.most D.most }
     ensures works { IfOk result (λ ran. (asks : List (List Ask))
         × HaveWorked (J.comes_to (not (O.raises own.old) && nat_eq (vec_len jobs) 1) mirrors.items) jobs.items asks ran.ends.items
-        × AreTotalsOf (not (O.raises own.old)) mirrors.items asks ran.totals.items) }
-    ensures own { IfOk result (λ ran. IfSome ran.own (O.comes_to mirrors.items own.old)) }
+        × AreTotalsOf ran.mirrors.items asks ran.totals.items) }
+    ensures own { IfOk result (λ ran. HasEnded (λ before after. O.comes_to before after own.old) mirrors.items ran.mirrors.items ran.own) }
 {
-    let (books, shares) = open_books::<A, B, C, D, R>(rt, alloc, blanks, mirrors, jobs.len())?;
+    let Opened {
+        books,
+        shares,
+        raisers,
+    } = open_books::<A, B, C, D, R>(rt, alloc, blanks, mirrors, jobs.len())?;
     let tills = tills_of(alloc, &books, shares)?;
-    let mut beside = WithBudgets {
+    let beside = WithBudgets {
         job: own,
-        budgets: &books,
+        budgets: Treasurer {
+            books: &books,
+            raisers,
+        },
     };
-    let (tills, ends, own) = work_together(rt, alloc, gate, jobs, tills, &mut beside)?;
+    let (tills, ends, own) = work_together(rt, alloc, gate, jobs, tills, beside)?;
+    let (raisers, own) = own_parted(own);
     let parts = gather_tills(tills);
-    let totals = close_parts(rt, alloc, books, parts)?;
-    Ok(Ran { ends, own, totals })
+    let (totals, mirrors) = close_parts(rt, alloc, books, parts, raisers)?;
+    Ok(Ran {
+        ends,
+        own,
+        totals,
+        mirrors,
+    })
 }
 
 // rule: Jobs with tills
 /// Does 1 to 8 jobs in a thread each, which begin together or not at all, with a till each over 1 to 4 valid mirrors, no
-/// two of one name, and the caller's own job beside them; returns what each came to, and each mirror's total in bytes.
+/// two of one name, and the caller's own job beside them; returns what each came to, each mirror's total in bytes, and the
+/// mirrors with their budgets at the end.
 ///
-/// Opens the mirrors' books for it and closes them after it. A total is what the mirror granted to all workers, and
-/// within its budget as it then is: the first one, if the own job may raise none. `gate` is called once in each thread
+/// Opens the mirrors' books for it and closes them after it. Only the own job raises budgets, so they are at the end what
+/// it left them at. A total is what the mirror granted to all workers, and within its budget at the end. `gate` is called once in each thread
 /// before its job begins. If a thread can't be started, no job begins, the own one neither, and each other is given
 /// back. Out of memory is the only error, before the jobs or after them.
 pub fn run_with_tills<
@@ -193,8 +236,8 @@ pub fn run_with_tills<
     requires few_workers { vec_len jobs ≤ 8 }
     ensures works { IfOk result (λ ran. (asks : List (List Ask))
         × HaveWorked (J.comes_to (not (O.raises own.old) && nat_eq (vec_len jobs) 1) mirrors.items) jobs.items asks ran.ends.items
-        × AreTotalsOf (not (O.raises own.old)) mirrors.items asks ran.totals.items) }
-    ensures own { IfOk result (λ ran. IfSome ran.own (O.comes_to mirrors.items own.old)) }
+        × AreTotalsOf ran.mirrors.items asks ran.totals.items) }
+    ensures own { IfOk result (λ ran. HasEnded (λ before after. O.comes_to before after own.old) mirrors.items ran.mirrors.items ran.own) }
 {
     let blanks = Blanks::new(jobs.len() as u64);
     run_over::<Brand, Brand, Brand, Brand, J, O, G, R>(rt, alloc, blanks, mirrors, gate, jobs, own)

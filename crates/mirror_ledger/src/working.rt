@@ -10,7 +10,7 @@ ghost use Rattle.mirror_ledger.specs.Tills.{AreOpened, AreTotalsOf};
 use crate::book::BudgetName;
 use crate::books::{Books, Shares};
 use crate::closing::{close_parts, gather_tills};
-use crate::opening::{Blanks, open_books};
+use crate::opening::{Blanks, Opened, open_books};
 use crate::till::{Hand, Till};
 use records::Mirror;
 use std::alloc::{AllocError, Global};
@@ -78,21 +78,25 @@ fn work_over<
     requires bounded { are_bounded mirrors.items ≡ true }
     requires some_worker { 0 < workers }
     requires few_workers { workers ≤ 8 }
-    requires first { IsNamed blanks.first A.name A.parts A.budget A.most workers mirrors.items 0 }
-    requires second { IsNamed blanks.second B.name B.parts B.budget B.most workers mirrors.items 1 }
-    requires third { IsNamed blanks.third C.name C.parts C.budget C.most workers mirrors.items 2 }
-    requires fourth { IsNamed blanks.fourth D.name D.parts D.budget D.most workers mirrors.items 3 }
+    requires first { IsNamed blanks.first blanks.raises.0 A.name A.parts A.budget A.most A.raising workers mirrors.items 0 }
+    requires second { IsNamed blanks.second blanks.raises.1 B.name B.parts B.budget B.most B.raising workers mirrors.items 1 }
+    requires third { IsNamed blanks.third blanks.raises.2 C.name C.parts C.budget C.most C.raising workers mirrors.items 2 }
+    requires fourth { IsNamed blanks.fourth blanks.raises.3 D.name D.parts D.budget D.most D.raising workers mirrors.items 3 }
     requires fixed { AreFixed mirrors.items A.most B.most C.most D.most }
     ensures ok { IfOk result (λ ended. (asks : List (List Ask)) × (length asks ≡ workers)
-        × J.comes_to job.old job.new mirrors.items asks ended.0 × AreTotalsOf true mirrors.items asks ended.1.items) }
+        × J.comes_to job.old job.new mirrors.items asks ended.0 × AreTotalsOf mirrors.items asks ended.1.items) }
     ensures err { OnErr result ((job.new ≡ job.old)
         ⊎ ((asks : List (List Ask)) × (end : J.End) × J.comes_to job.old job.new mirrors.items asks end)) }
 {
-    let (books, shares) = open_books::<A, B, C, D, R>(rt, alloc, blanks, mirrors, workers)?;
+    let Opened {
+        books,
+        shares,
+        raisers,
+    } = open_books::<A, B, C, D, R>(rt, alloc, blanks, mirrors, workers)?;
     let mut tills = tills_of(alloc, &books, shares)?;
     let end = job.work(rt, &mut tills);
     let parts = gather_tills(tills);
-    let totals = close_parts(rt, alloc, books, parts)?;
+    let (totals, _mirrors) = close_parts(rt, alloc, books, parts, raisers)?;
     Ok((end, totals))
 }
 
@@ -116,7 +120,7 @@ pub fn work_with_tills<J: Work<R>, R: Wait>(
     requires some_worker { 0 < workers }
     requires few_workers { workers ≤ 8 }
     ensures ok { IfOk result (λ ended. (asks : List (List Ask)) × (length asks ≡ workers)
-        × J.comes_to job.old job.new mirrors.items asks ended.0 × AreTotalsOf true mirrors.items asks ended.1.items) }
+        × J.comes_to job.old job.new mirrors.items asks ended.0 × AreTotalsOf mirrors.items asks ended.1.items) }
     ensures err { OnErr result ((job.new ≡ job.old)
         ⊎ ((asks : List (List Ask)) × (end : J.End) × J.comes_to job.old job.new mirrors.items asks end)) }
 {

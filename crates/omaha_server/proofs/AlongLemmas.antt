@@ -9,11 +9,10 @@ use Rattle.http_desks.specs.Downloads.{Reads}
 use Rattle.http_sessions.specs.Sessions.{Serves}
 use Rattle.http_sessions.specs.declared.ends.Fault.{Fault}
 use Rattle.http_sessions.specs.declared.ends.Served.{Served}
-use Rattle.catalogue_laws.specs.Histories.{History}
 use Rattle.mirror_ledger.specs.Asks.{Ask}
 use Rattle.publisher.specs.Sights.{Sight}
 use Rattle.records.specs.declared.mirror.Mirror.{Mirror}
-use Rattle.service_desks.specs.Operators.{IsCall as IsOperatorCall}
+use Rattle.service_desks.specs.Operators.{IsCall as IsOperatorCall, State}
 use Rattle.service_desks.specs.Workers.{IsCall, Progress}
 use Rattle.update_desk.specs.Asking.{GrantsFirst}
 use Rattle.omaha_server.specs.Edges.{Edges, IsTime}
@@ -118,22 +117,19 @@ AreServed-along {D} mirrors sight asks Alone steps edges place listener sessions
           (record { sight = sight before; asks = first }) (part behind)) none (visits, many, along.1);
     }
 
--- what stays of the operator's desk: the mirrors, and the name of the press that it borrows
+-- what stays of the operator's desk: the names of what it borrows
 pub AreOperated-along :
-    {D N : Type 0} (name : D → N) (mirrors : D → List Mirror) (history : D → History) (steps : D → Call → D → Type 0) (edges : Edges) (place : Place)
+    {D N M : Type 0} (name : D → N) (other : D → M) (part : D → State) (steps : D → Call → D → Type 0) (edges : Edges) (place : Place)
     (listener : TcpListener) (before behind : D)
     → ((old : D) (call : Call) (new : D) → steps old call new →
-    (name new ≡ name old) × (mirrors new ≡ mirrors old) × IsOperatorCall (mirrors old) (history old) call (history new))
+    (name new ≡ name old) × (other new ≡ other old) × IsOperatorCall (part old) call (part new))
     → VisitsAt edges place listener place.edits (λ d. codes "/operate") (λ d. codes "text/plain") steps before behind
-    → (name behind ≡ name before) × AreOperated edges place listener (mirrors before) (history before)
-AreOperated-along {D} name mirrors history steps edges place listener before behind step (visits, many, served) =
-    let Kept : D → Type 0 = λ d. (name d ≡ name before) × (mirrors d ≡ mirrors before) in
-    let follows : Follows history Kept steps (IsOperatorCall (mirrors before)) = λ old call new kept stepped.
-    let told = step old call new stepped in (
-      (told.0 ∙ kept.0, told.1 ∙ kept.1),
-      subst (λ (m : List Mirror). IsOperatorCall m (history old) call (history new)) kept.1 told.2,
-    ) in
-    let along = Visits-along history Kept steps (IsOperatorCall (mirrors before)) follows (λ stream. edges.accepts listener place.seconds stream)
+    → (name behind ≡ name before) × (other behind ≡ other before) × AreOperated edges place listener (part before) (part behind)
+AreOperated-along {D} name other part steps edges place listener before behind step (visits, many, served) =
+    let Kept : D → Type 0 = λ d. (name d ≡ name before) × (other d ≡ other before) in
+    let follows : Follows part Kept steps IsOperatorCall = λ old call new kept stepped.
+    let told = step old call new stepped in ((told.0 ∙ kept.0, told.1 ∙ kept.1), told.2) in
+    let along = Visits-along part Kept steps IsOperatorCall follows (λ stream. edges.accepts listener place.seconds stream)
     (codes "/operate") (codes "text/plain") IsTime (edges.sizes place.packages) (edges.reads place.packages)
     visits before behind (refl, refl) served in
-    (along.0.0, record { after = history behind; visited = (visits, many, along.1) })
+    (along.0.0, along.0.1, (visits, many, along.1))

@@ -1,6 +1,6 @@
 -- What the workers of a server and its operator came to, once all began.
 use Rattle.std.proofs.Common.{◌≡◌, ◌∙◌, ℕ, zero, suc, ◌<◌, ◌&&◌, All, Bool, List, [], ◌∷◌, Option, Some, None, Result, Ok, Err, IfOk, inl, inr, refl, ap, arith, get_or, length, map, nat_eq, not, option_map, subst, sym}
-use Rattle.std.specs.Prelude.{IfSome, IsOk, IsSome}
+use Rattle.std.specs.Prelude.{IsOk, IsSome}
 use Rattle.std.specs.Io.KnownBytes.{Appends}
 use Rattle.std.specs.List.{AllZip}
 use Rattle.std.specs.Option.{is_some}
@@ -10,7 +10,7 @@ use Rattle.std.proofs.lemmas.Slice.Zip.{AllZip-long}
 use Rattle.std.specs.declared.net.tcp.TcpListener.{TcpListener}
 use Rattle.catalogue_laws.specs.Histories.{History}
 use Rattle.mirror_ledger.specs.Asks.{Ask}
-use Rattle.mirror_ledger.specs.Tills.{AreTotalsOf, HaveWorked, WorksAs}
+use Rattle.mirror_ledger.specs.Tills.{AreTotalsOf, HasEnded, HaveWorked, WorksAs}
 use Rattle.mirror_ledger.specs.declared.running.Ran.{Ran}
 use Rattle.publisher.specs.Sights.{Sight, fresh}
 use Rattle.records.specs.declared.mirror.Mirror.{Mirror}
@@ -29,6 +29,12 @@ use Rattle.streams.specs.Streams.{Known}
 use Rattle.streams.specs.Writing.{Breaks}
 
 module _ {R W : Type 0} (edges_of : R → Edges) (setup : Setup R W) (listener : TcpListener) (mirrors : List Mirror) (history : History) where
+  -- the operator's sessions led from the mirrors with their budgets to those after them
+  abbrev LedTo : Option TcpListener → List Mirror → List Mirror → Type 0
+  LedTo operator before after =
+      (left : History)
+      × IsOperated (edges_of setup.rt.now) setup.place.now operator (record { mirrors = before; history = history }) (record { mirrors = after; history = left })
+
   -- what a worker's job comes to
   abbrev comes : Bool → Clients R W → List Ask → Unit {0} → Type 0
   comes single clients asks end =
@@ -71,18 +77,18 @@ module _ {R W : Type 0} (edges_of : R → Edges) (setup : Setup R W) (listener :
 
   -- the totals of a server whose workers all began, and its operator's job
   pub AreTotals-run :
-      {O F X : Type 0} (operator : Option TcpListener) (Operated : F → Type 0) (raises : Bool) (jobs : List (Clients R W)) (count : ℕ)
-      (ran : Result (Ran (Clients R W) O (Unit {0}) F) X) (totals : List ℕ) →
-      ((end : F) → Operated end → IsOperated (edges_of setup.rt.now) setup.place.now operator mirrors history) →
-      raises ≡ is_some operator → length jobs ≡ setup.place.now.workers → count ≡ setup.place.now.workers →
+      {O F X : Type 0} (operator found : Option TcpListener) (raises : Bool) (jobs : List (Clients R W))
+      (count : ℕ) (ran : Result (Ran (Clients R W) O (Unit {0}) F) X) (totals : List ℕ) →
+      found ≡ operator → raises ≡ is_some operator → length jobs ≡ setup.place.now.workers → count ≡ setup.place.now.workers →
       AreClients setup listener history setup.place.now.workers jobs →
-      IfOk ran (λ done. (asks : List (List Ask)) × HaveWorked (comes (not raises && nat_eq count 1)) jobs asks done.ends.items × AreTotalsOf (not raises) mirrors asks done.totals.items) →
-      IfOk ran (λ done. IfSome done.own Operated) → HaveRun ran totals →
+      IfOk ran (λ done. (asks : List (List Ask)) × HaveWorked (comes (not raises && nat_eq count 1)) jobs asks done.ends.items × AreTotalsOf done.mirrors.items asks done.totals.items) →
+      IfOk ran (λ done. HasEnded (λ before after (end : F). LedTo found before after) mirrors done.mirrors.items done.own) → HaveRun ran totals →
       AreTotals (edges_of setup.rt.now) setup.place.now listener operator (record { edition = history; mirrors = mirrors }) totals
-  AreTotals-run operator Operated raises jobs count (Err error) totals told same many counted are works own run = absurd run
-  AreTotals-run {O} {F} operator Operated raises jobs count (Ok done) totals told same many counted are works own run =
+  AreTotals-run operator found raises jobs count (Err error) totals is same many counted are works own run = absurd run
+  AreTotals-run {O} {F} operator found raises jobs count (Ok done) totals is same many counted are works own run =
       let (asks, worked, sums) = works in
       let here = subst (λ (n : ℕ). AreClients setup listener history n jobs) (sym many) are in
+      let (left, operated) = led done.mirrors.items done.own run.1 own in
       record {
         asks = asks;
         many = ap length worked.asked ∙ length-map worked.worked (λ its. its.0) ∙ AllZip-long (λ job its. WorksAs (comes (not raises && nat_eq count 1)) job its.0 its.1) jobs worked.worked worked.each ∙ many;
@@ -90,15 +96,14 @@ module _ {R W : Type 0} (edges_of : R → Edges) (setup : Setup R W) (listener :
             subst (λ (n : ℕ). AreServed (edges_of setup.rt.now) setup.place.now listener (portion_at setup.place.now.sessions setup.place.now.workers worker) (is_single operator n) mirrors (fresh history) (get_or asks worker d)) counted
             (subst (λ (r : Bool). AreServed (edges_of setup.rt.now) setup.place.now listener (portion_at setup.place.now.sessions setup.place.now.workers worker) (not r && nat_eq count 1) mirrors (fresh history) (get_or asks worker d)) same
             (all-served (not raises && nat_eq count 1) jobs asks done.ends.items worker d here worked run.2 (omega (arith, below, many))));
-        operated = some-operated done.own run.1 own;
-        summed =
-            subst (λ (r : Bool). AreTotalsOf (not r) mirrors asks totals) same
-            (subst (AreTotalsOf (not raises) mirrors asks) (sym run.0) sums);
+        left = record { mirrors = done.mirrors.items; history = left };
+        operated = operated;
+        summed = subst (AreTotalsOf done.mirrors.items asks) (sym run.0) sums;
       }
     where
-      some-operated : (end : Option F) → IsSome end → IfSome end Operated → IsOperated (edges_of setup.rt.now) setup.place.now operator mirrors history
-      some-operated (Some end) some holds = told end holds
-      some-operated None some holds = absurd (false≢true some)
+      led : (after : List Mirror) (end : Option F) → IsSome end → HasEnded (λ before now (end : F). LedTo found before now) mirrors after end → LedTo operator mirrors after
+      led after (Some end) some holds = subst (λ (o : Option TcpListener). LedTo o mirrors after) is holds
+      led after None some holds = absurd (false≢true some)
 
 -- there is a listener as long as it is only looked at
 pub is_some-map : {A B : Type 0} (f : A → B) (option : Option A) (mapped : Option B) → option_map f option ≡ mapped → is_some option ≡ is_some mapped

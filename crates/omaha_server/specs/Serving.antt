@@ -11,7 +11,7 @@ use Rattle.mirror_ledger.specs.Asks.{Ask}
 use Rattle.mirror_ledger.specs.Tills.{AreTotalsOf}
 use Rattle.publisher.specs.Sights.{Sight, fresh}
 use Rattle.records.specs.declared.mirror.Mirror.{Mirror}
-use Rattle.service_desks.specs.Operators.{IsCall as IsOperatorCall}
+use Rattle.service_desks.specs.Operators.{IsCall as IsOperatorCall, State}
 use Rattle.service_desks.specs.Workers.{IsCall, Progress}
 use Rattle.streams.specs.Streams.{Known}
 use Rattle.streams.specs.Writing.{Breaks}
@@ -67,27 +67,32 @@ pub record AreServed (edges : Edges) (place : Place) (listener : TcpListener) (s
       (record { sight = sight; asks = [] }) (record { sight = left; asks = asks })
 
 -- the path of the operator's desk, and the type of its replies
-abbrev pub operator_path : History → List ℕ
-operator_path history = codes "/operate"
+abbrev pub operator_path : State → List ℕ
+operator_path state = codes "/operate"
 
-abbrev pub operator_type : History → List ℕ
-operator_type history = codes "text/plain"
+abbrev pub operator_type : State → List ℕ
+operator_type state = codes "text/plain"
 
 -- rule: Sessions of an operator
--- so many connections of the listener were served by the operator's desk, one after the other, from the published history
-pub record AreOperated (edges : Edges) (place : Place) (listener : TcpListener) (mirrors : List Mirror) (history : History) : Type 0 where
-  pub after : History
-  pub visited : VisitsAt edges place listener place.edits operator_path operator_type (IsOperatorCall mirrors) history after
+-- so many connections of the listener were served by the operator's desk, one after the other, from a published history
+-- and the mirrors with their budgets to those that its calls lead to
+abbrev pub AreOperated : Edges → Place → TcpListener → State → State → Type 0
+AreOperated edges place listener before after =
+    VisitsAt edges place listener place.edits operator_path operator_type IsOperatorCall before after
 
--- the same, if there is a listener for the operator
-abbrev pub IsOperated : Edges → Place → Option TcpListener → List Mirror → History → Type 0
-IsOperated edges place None mirrors history = ⊤
-IsOperated edges place (Some listener) mirrors history = AreOperated edges place listener mirrors history
+-- the same, if there is a listener for the operator; without one nothing is published, and no budget raised
+abbrev pub IsOperated : Edges → Place → Option TcpListener → State → State → Type 0
+IsOperated edges place None before after = after ≡ before
+IsOperated edges place (Some listener) before after = AreOperated edges place listener before after
+
+-- what the operator of a service begins with: its edition, and its mirrors
+abbrev pub state_of : Service → State
+state_of service = record { mirrors = service.mirrors; history = service.edition }
 
 -- rule: Totals of a server
 -- each worker served its portion, with a view that has seen the service's edition, and the operator's connections were
--- served; the totals are the sums of what the workers asked for, and within the budgets of the service, if there is no
--- operator who may raise them
+-- served; the totals are the sums of what the workers asked for, and each is within the budget that its mirror has after
+-- the operator's last connection
 pub record AreTotals (edges : Edges) (place : Place) (listener : TcpListener) (operator : Option TcpListener)
     (service : Service) (totals : List ℕ) : Type 0 where
   pub asks : List (List Ask)
@@ -95,8 +100,9 @@ pub record AreTotals (edges : Edges) (place : Place) (listener : TcpListener) (o
   pub served : (worker : ℕ) (d : List Ask) → worker < place.workers →
       AreServed edges place listener (portion_at place.sessions place.workers worker) (is_single operator place.workers)
       service.mirrors (fresh service.edition) (slice_index_or asks worker d)
-  pub operated : IsOperated edges place operator service.mirrors service.edition
-  pub summed : AreTotalsOf (not (is_some operator)) service.mirrors asks totals
+  pub left : State
+  pub operated : IsOperated edges place operator (state_of service) left
+  pub summed : AreTotalsOf left.mirrors asks totals
 
 -- the line that says that the server listens was printed
 abbrev pub IsReady : Known → Known → Type 0

@@ -1,11 +1,12 @@
--- Mirrors whose budgets were raised are mirrors that a profile may name.
-use Rattle.std.proofs.Common.{◌≡◌, ◌∙◌, ◌≤◌, ◌+◌, ◌&&◌, Bool, cond, ℕ, List, [], ◌∷◌, length, nat_le, true, ap, ap₂, arith, refl, subst, sym}
+-- Mirrors after a raise of a budget are mirrors that a profile may name.
+use Rattle.std.proofs.Common.{◌≡◌, ◌∙◌, zero, suc, Result, Ok, Err, ◌≤◌, ◌+◌, ◌&&◌, Bool, cond, ℕ, List, [], ◌∷◌, length, nat_le, true, ap, arith, refl, subst, sym}
 use Rattle.std.specs.List.{count_by, list_all}
 use Rattle.std.specs.Str.{bytes_eq}
 use Rattle.std.proofs.lemmas.Bool.{and_parts}
 use Rattle.std.proofs.lemmas.Bool.Decides.{nat_tests}
-use Rattle.std.proofs.lemmas.Slice.Zip.{AllZip-long}
-use Rattle.mirror_ledger.specs.Raising.{AreRaised, IsRaised}
+use Rattle.mirror_ledger.specs.Raising.{RaisesTo, raise_at}
+use Rattle.mirror_ledger.specs.declared.raise_error.RaiseError.{RaiseError}
+use Rattle.mirror_ledger.specs.declared.raise_error.RaiseError.TheVariants as fault
 use Rattle.profile_toml.specs.Laws.{AreMirrors}
 use Rattle.profile_toml.specs.Mirrors.{is_named, max_mirrors}
 use Rattle.records.specs.Forms.{is_cohort_name}
@@ -19,40 +20,60 @@ both-from a b one other = ap (λ c. c && b) one ∙ other
 nat_le-from : (a b : ℕ) → a ≤ b → nat_le a b ≡ true
 nat_le-from a b below = grind (arith, nat_tests)
 
--- a mirror stays valid
-is_mirror-raised : (given now : Mirror) → IsRaised given now → is_mirror given ≡ true → is_mirror now ≡ true
-is_mirror-raised given now raised valid =
+-- a mirror with another budget
+abbrev with-budget : Mirror → ℕ → Mirror
+with-budget mirror budget = record { name = mirror.name; codebase = mirror.codebase; budget = budget }
+
+-- it stays valid
+is_mirror-raised : (mirror : Mirror) (budget : ℕ) → budget ≤ max_budget → is_mirror mirror ≡ true → is_mirror (with-budget mirror budget) ≡ true
+is_mirror-raised mirror budget few valid =
     let outer = and_parts _ _ valid in
-    let inner = and_parts (is_cohort_name given.name) (is_codebase given.codebase) outer.0 in
-    both-from _ _
-    (both-from _ _ (ap is_cohort_name raised.name ∙ inner.0) (ap is_codebase raised.codebase ∙ inner.1))
-    (nat_le-from now.budget max_budget raised.to)
+    both-from (is_cohort_name mirror.name && is_codebase mirror.codebase) _ outer.0 (nat_le-from budget max_budget few)
 
-are_mirrors-raised : (given now : List Mirror) → AreRaised given now → list_all is_mirror given ≡ true → list_all is_mirror now ≡ true
-are_mirrors-raised [] [] raised valid = refl
-are_mirrors-raised [] (mirror ∷ now) raised valid = absurd raised
-are_mirrors-raised (mirror ∷ given) [] raised valid = absurd raised
-are_mirrors-raised (mirror ∷ given) (other ∷ now) raised valid =
+are_mirrors-raised : (mirrors : List Mirror) (index budget : ℕ) → budget ≤ max_budget → list_all is_mirror mirrors ≡ true →
+    list_all is_mirror (raise_at mirrors index budget) ≡ true
+are_mirrors-raised [] index budget few valid = refl
+are_mirrors-raised (mirror ∷ mirrors) zero budget few valid =
     let parts = and_parts (is_mirror mirror) _ valid in
-    ap (λ c. c && list_all is_mirror now) (is_mirror-raised mirror other raised.0 parts.0) ∙ are_mirrors-raised given now raised.1 parts.1
+    ap (λ c. c && list_all is_mirror mirrors) (is_mirror-raised mirror budget few parts.0) ∙ parts.1
+are_mirrors-raised (mirror ∷ mirrors) (suc index) budget few valid =
+    let parts = and_parts (is_mirror mirror) _ valid in
+    ap (λ c. c && list_all is_mirror (raise_at mirrors index budget)) parts.0 ∙ are_mirrors-raised mirrors index budget few parts.1
 
--- as many have a name as before
-count_named-raised : (name : List ℕ) (given now : List Mirror) → AreRaised given now →
-    count_by (is_named name) now ≡ count_by (is_named name) given
-count_named-raised name [] [] raised = refl
-count_named-raised name [] (mirror ∷ now) raised = absurd raised
-count_named-raised name (mirror ∷ given) [] raised = absurd raised
-count_named-raised name (mirror ∷ given) (other ∷ now) raised =
-    count_by-cons (is_named name) other now
-    ∙ ap₂ ◌+◌ (ap (λ n. cond (bytes_eq name n) 1 0) raised.0.name) (count_named-raised name given now raised.1)
-    ∙ sym (count_by-cons (is_named name) mirror given)
+-- there are as many
+length-raised : (mirrors : List Mirror) (index budget : ℕ) → length (raise_at mirrors index budget) ≡ length mirrors
+length-raised [] index budget = refl
+length-raised (mirror ∷ mirrors) zero budget = refl
+length-raised (mirror ∷ mirrors) (suc index) budget = ap suc (length-raised mirrors index budget)
 
-pub AreMirrors-raised : (given now : List Mirror) → AreRaised given now → AreMirrors given → AreMirrors now
-AreMirrors-raised given now raised are =
-    let many : length given ≡ length now = sym (AllZip-long IsRaised given now raised) in
+-- and as many of a name
+count_named-raised : (name : List ℕ) (mirrors : List Mirror) (index budget : ℕ) →
+    count_by (is_named name) (raise_at mirrors index budget) ≡ count_by (is_named name) mirrors
+count_named-raised name [] index budget = refl
+count_named-raised name (mirror ∷ mirrors) zero budget =
+    count_by-cons (is_named name) (with-budget mirror budget) mirrors ∙ sym (count_by-cons (is_named name) mirror mirrors)
+count_named-raised name (mirror ∷ mirrors) (suc index) budget =
+    count_by-cons (is_named name) mirror (raise_at mirrors index budget)
+    ∙ ap (λ n. cond (bytes_eq name mirror.name) 1 0 + n) (count_named-raised name mirrors index budget)
+    ∙ sym (count_by-cons (is_named name) mirror mirrors)
+
+AreMirrors-raised : (mirrors : List Mirror) (index budget : ℕ) → budget ≤ max_budget → AreMirrors mirrors → AreMirrors (raise_at mirrors index budget)
+AreMirrors-raised mirrors index budget few are =
+    let many = sym (length-raised mirrors index budget) in
     record {
       some = subst (λ n. 1 ≤ n) many are.some;
       few = subst (λ n. n ≤ max_mirrors) many are.few;
-      formed = are_mirrors-raised given now raised are.formed;
-      once = λ name. subst (λ n. n ≤ 1) (sym (count_named-raised name given now raised)) (are.once name);
+      formed = are_mirrors-raised mirrors index budget few are.formed;
+      once = λ name. subst (λ n. n ≤ 1) (sym (count_named-raised name mirrors index budget)) (are.once name);
     }
+
+-- also if the raise comes to a fault
+pub AreMirrors-raises : (old new : List Mirror) (name : List ℕ) (budget : ℕ) (result : Result (Unit {0}) RaiseError) →
+    RaisesTo old new name budget result → AreMirrors old → AreMirrors new
+AreMirrors-raises old new name budget (Ok done) raises are =
+    let (index, at, few, low, same) = raises in subst AreMirrors (sym same) (AreMirrors-raised old index budget few are)
+AreMirrors-raises old new name budget (Err fault.UnknownMirror) raises are = subst AreMirrors (sym raises.1) are
+AreMirrors-raises old new name budget (Err fault.TooHigh) raises are =
+    let (some, high, same) = raises in subst AreMirrors (sym same) are
+AreMirrors-raises old new name budget (Err (fault.Lower now)) raises are =
+    let (index, at, few, low, is, same) = raises in subst AreMirrors (sym same) are

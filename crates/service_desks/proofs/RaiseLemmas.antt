@@ -1,11 +1,15 @@
 -- What the digits of a raise spell.
-use Rattle.std.proofs.Common.{◌≡◌, ◌^◌, ◌-◌, ◌<◌, ◌≤◌, ◌⊎◌, ℕ, List, length, true, Result, Ok, Err, arith, inl, inr}
+use Rattle.std.proofs.Common.{◌≡◌, ◌^◌, ◌-◌, ◌<◌, ◌≤◌, ◌⊎◌, ℕ, List, length, true, Result, Ok, Err, arith, inl, inr, subst, sym}
 use Rattle.std.specs.Char.{is_ascii_digit}
 use Rattle.std.specs.List.{list_all}
 use Rattle.std.specs.Result.{result_unwrap_or}
 use Rattle.std.specs.Str.Parse.{ParsesUnsigned, digits_value}
 use Rattle.std.proofs.lemmas.Bool.{and_parts, cases_lt, leb-true}
 use Rattle.std.proofs.lemmas.Str.Parse.{IsNumeralModel, numerals_by_value, parse_digits, tells_all_ascii_digits}
+use Rattle.mirror_ledger.specs.Raising.{RaisesTo}
+use Rattle.mirror_ledger.specs.declared.raise_error.RaiseError.{RaiseError}
+use Rattle.mirror_ledger.specs.declared.raise_error.RaiseError.TheVariants as fault
+use Rattle.records.specs.declared.mirror.Mirror.{Mirror}
 use Rattle.service_desks.specs.Raises.{is_number}
 
 -- the strings of ASCII digits are those of decimal digits
@@ -44,3 +48,16 @@ Spells-parse {E} digits (Err error) read parses is at =
       same = λ low. absurd (omega (arith, at, low));
       high = λ high. above (digits_value 10 digits) (cases_lt (digits_value 10 digits) (2 ^ 64)) (λ fits. gives (number.some, fits));
     }
+
+-- what a raise to the number that is read comes to is what one to the number that is spelled comes to
+pub RaisesTo-spells : (old new : List Mirror) (name : List ℕ) (value read : ℕ) (result : Result (Unit {0}) RaiseError) →
+    Spells value read → RaisesTo old new name read result → RaisesTo old new name value result
+RaisesTo-spells old new name value read (Ok done) spells raises =
+    let (index, at, few, low, same) = raises in
+    subst (λ (n : ℕ). RaisesTo old new name n (Ok done)) (sym (spells.same few)) raises
+RaisesTo-spells old new name value read (Err fault.UnknownMirror) spells raises = raises
+RaisesTo-spells old new name value read (Err fault.TooHigh) spells raises =
+    let (some, high, same) = raises in (some, spells.high high, same)
+RaisesTo-spells old new name value read (Err (fault.Lower now)) spells raises =
+    let (index, at, few, below, is, same) = raises in
+    subst (λ (n : ℕ). RaisesTo old new name n (Err (fault.Lower now))) (sym (spells.same few)) raises

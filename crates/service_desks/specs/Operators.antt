@@ -7,7 +7,6 @@ use Rattle.http_desks.specs.declared.desk.DeskStatus.{DeskStatus}
 use Rattle.http_desks.specs.declared.desk.DeskStatus.TheVariants as status
 use Rattle.http_desks.specs.declared.desk.Off.{Off}
 use Rattle.http_desks.specs.declared.desk.Off.TheVariants as off
-use Rattle.mirror_ledger.specs.Raising.{AreRaised}
 use Rattle.profile_writer.specs.Profiles.{IsProfileFile, IsReadAs}
 use Rattle.records.specs.declared.mirror.Mirror.{Mirror}
 use Rattle.service_desks.specs.Raises.{RaisesBy, is_raise}
@@ -16,11 +15,9 @@ use Rattle.service_desks.specs.Scripts.{Performs}
 -- rule: Dump
 -- a reply is the profile of a history's content and of the mirrors with their present budgets, and is read as them
 pub record IsDump (mirrors : List Mirror) (history : History) (reply : DeskStatus × List ℕ) : Type 0 where
-  pub now : List Mirror
-  pub raised : AreRaised mirrors now
   pub succeeded : reply.0 ≡ status.Success
-  pub written : IsProfileFile (content_of history) now reply.1
-  pub reads_back : IsReadAs (content_of history) now reply.1
+  pub written : IsProfileFile (content_of history) mirrors reply.1
+  pub reads_back : IsReadAs (content_of history) mirrors reply.1
 
 -- what a dump comes to, unless memory runs out
 abbrev pub Dumps : List Mirror → History → Result (DeskStatus × List ℕ) Off → Type 0
@@ -32,16 +29,22 @@ Dumps mirrors history (Err off.Closed) = ⊥
 abbrev pub dump_word : List ℕ
 dump_word = codes "dump"
 
--- what a body comes to: a dump or a raise, if it asks for one, and then nothing is published; else a script
-abbrev pub IsOperated : List Mirror → History → List ℕ → Result (DeskStatus × List ℕ) Off → History → Type 0
-IsOperated mirrors before body answer after =
-    ((body ≡ dump_word) × Dumps mirrors before answer × (after ≡ before))
-    ⊎ ((is_raise body ≡ true) × RaisesBy mirrors body answer × (after ≡ before))
-    ⊎ ((body ≢ dump_word) × (is_raise body ≡ false) × Performs before body answer after)
+-- what an operator changes: the published history, and the mirrors' budgets
+pub record State : Type 0 where
+  pub mirrors : List Mirror
+  pub history : History
+
+-- what a body comes to: a dump, if it asks for one, and then all is as before; a raise, if it asks for one, and then
+-- nothing is published; else a script, and then no budget is raised
+abbrev pub IsOperated : State → List ℕ → Result (DeskStatus × List ℕ) Off → State → Type 0
+IsOperated before body answer after =
+    ((body ≡ dump_word) × Dumps before.mirrors before.history answer × (after ≡ before))
+    ⊎ ((is_raise body ≡ true) × RaisesBy before.mirrors after.mirrors body answer × (after.history ≡ before.history))
+    ⊎ ((body ≢ dump_word) × (is_raise body ≡ false) × Performs before.history body answer after.history × (after.mirrors ≡ before.mirrors))
 
 -- rule: Operator's desk
--- a call of the desk over mirrors, which have these first budgets, with the published history before and after it; the
--- desk knows no package
-abbrev pub IsCall : List Mirror → History → Call → History → Type 0
-IsCall mirrors before (Asks body moment answer) after = IsOperated mirrors before body answer after
-IsCall mirrors before (Looks name found) after = (found ≡ None) × (after ≡ before)
+-- a call of the desk, with the mirrors and their budgets and the published history before and after it; the desk knows no
+-- package
+abbrev pub IsCall : State → Call → State → Type 0
+IsCall before (Asks body moment answer) after = IsOperated before body answer after
+IsCall before (Looks name found) after = (found ≡ None) × (after ≡ before)

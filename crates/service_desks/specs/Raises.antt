@@ -67,19 +67,20 @@ raise_reply name digits (Ok done) = (status.Success, raised_line name digits)
 raise_reply name digits (Err refused) = (status.UnprocessableContent, unraised_line refused)
 
 -- a budget was raised, or was not, and the reply says which
-pub record IsRaiseReply (mirrors : List Mirror) (name digits : List ℕ) (reply : DeskStatus × List ℕ) : Type 0 where
+pub record IsRaiseReply (old new : List Mirror) (name digits : List ℕ) (reply : DeskStatus × List ℕ) : Type 0 where
   pub outcome : Result (Unit {0}) RaiseError
-  pub raised : RaisesTo mirrors name (digits_value 10 digits) outcome
+  pub raised : RaisesTo old new name (digits_value 10 digits) outcome
   pub replied : reply ≡ raise_reply name digits outcome
 
--- the reply to a body that asks for a raise, valid or not
-abbrev pub IsReplyToRaise : List Mirror → Option (List ℕ × List ℕ) → DeskStatus × List ℕ → Type 0
-IsReplyToRaise mirrors (Some asked) reply = IsRaiseReply mirrors asked.0 asked.1 reply
-IsReplyToRaise mirrors None reply = reply ≡ (status.BadRequest, invalid_raise_line)
+-- the reply to a body that asks for a raise; an invalid one raises nothing
+abbrev pub IsReplyToRaise : List Mirror → List Mirror → Option (List ℕ × List ℕ) → DeskStatus × List ℕ → Type 0
+IsReplyToRaise old new (Some asked) reply = IsRaiseReply old new asked.0 asked.1 reply
+IsReplyToRaise old new None reply = (reply ≡ (status.BadRequest, invalid_raise_line)) × (new ≡ old)
 
 -- rule: Reply to a raise
--- what a body comes to that asks for a raise of a budget of these mirrors, unless memory runs out
-abbrev pub RaisesBy : List Mirror → List ℕ → Result (DeskStatus × List ℕ) Off → Type 0
-RaisesBy mirrors body (Ok reply) = IsReplyToRaise mirrors (raise_of body) reply
-RaisesBy mirrors body (Err off.Memory) = Unit {0}
-RaisesBy mirrors body (Err off.Closed) = ⊥
+-- what a body comes to that asks for a raise of a budget, from the mirrors with their budgets before it to those after it;
+-- if memory runs out, nothing is raised
+abbrev pub RaisesBy : List Mirror → List Mirror → List ℕ → Result (DeskStatus × List ℕ) Off → Type 0
+RaisesBy old new body (Ok reply) = IsReplyToRaise old new (raise_of body) reply
+RaisesBy old new body (Err off.Memory) = new ≡ old
+RaisesBy old new body (Err off.Closed) = ⊥

@@ -20,21 +20,21 @@ use std::thread::Threads;
 /// `bad raise`. Any other body is a script, as for `perform_script`. It is off only if memory runs out, and then
 /// nothing is published or raised. It knows no package.
 #[derive(Drop)]
-pub struct Operator<'a, R: Threads + Wait + AllocGlobal, B: Budgets> {
+pub struct Operator<'r, 'p, 'b, R: Threads + Wait + AllocGlobal, B: Budgets> {
     /// What starts threads and has the memory of editions and replies.
-    pub rt: &'a R,
+    pub rt: &'r R,
     /// The press.
-    pub press: &'a mut Press,
+    pub press: &'p mut Press,
     /// The budgets of one to four valid mirrors of the packages, no two of one name; they may be raised.
-    pub budgets: &'a B,
+    pub budgets: &'b mut B,
     /// In how many pieces the tables of an edition are made, from 1 to 16.
     pub workers: usize,
-    ghost listed: { AreMirrors (B.given budgets.now) },
+    ghost listed: { AreMirrors (B.present budgets.now) },
     ghost rising: { B.rises budgets.now ≡ true },
     ghost counted: { (1 ≤ workers) × (workers ≤ 16) },
 }
 
-impl<R: Threads + Wait + AllocGlobal, B: Budgets> Desk for Operator<'_, R, B> {
+impl<R: Threads + Wait + AllocGlobal, B: Budgets> Desk for Operator<'_, '_, '_, R, B> {
     ghost use Rattle.std.specs.Prelude.{◌≡◌};
     ghost use Rattle.service_desks.specs.Operators.{IsCall};
 
@@ -43,8 +43,9 @@ impl<R: Threads + Wait + AllocGlobal, B: Budgets> Desk for Operator<'_, R, B> {
     ghost content_type = { λ _. codes "text/plain" };
 
     ghost steps = { λ old call new.
-        (new.press.ghost_name ≡ old.press.ghost_name) × (B.given new.budgets.now ≡ B.given old.budgets.now)
-        × IsCall (B.given old.budgets.now) old.press.now call new.press.now };
+        (new.press.ghost_name ≡ old.press.ghost_name) × (new.budgets.ghost_name ≡ old.budgets.ghost_name)
+        × IsCall (record { mirrors = B.present old.budgets.now; history = old.press.now }) call
+        (record { mirrors = B.present new.budgets.now; history = new.press.now }) };
 
     fn path(&self) -> &str {
         "/operate"
@@ -57,7 +58,7 @@ impl<R: Threads + Wait + AllocGlobal, B: Budgets> Desk for Operator<'_, R, B> {
     fn answer(&mut self, body: &[u8], _moment: u64) -> Result<Answer, Off> {
         let alloc = self.rt.alloc();
         if body == b"dump".as_slice() {
-            dump(self.rt, alloc, self.press, self.budgets)
+            dump(alloc, self.press, self.budgets)
         } else if body.starts_with(b"raise ") {
             perform_raise(self.rt, alloc, self.budgets, body)
         } else {

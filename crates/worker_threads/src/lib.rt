@@ -1,7 +1,7 @@
 //! Jobs of threads that begin together or not at all.
 //!
-//! `run_together` gives each `Job` a thread of its own, lets all begin once each has one, does the caller's `OwnJob`
-//! beside them, and returns what each came to; a job that did not begin is given back. A `Gate` is called as a thread
+//! `run_together` gives each `Job` a thread of its own, lets all begin once each has one, does a `Job` of the caller's
+//! own beside them, and returns what each came to; a job that did not begin is given back. A `Gate` is called as a thread
 //! begins. `portion_of` divides a number among workers, whose portions add up to it. Read `specs/Jobs.antt` and `specs/Portions.antt`.
 //!
 //! It does not promise that a job ends.
@@ -17,6 +17,6 @@ mod started;
 mod together;
 
 pub use crate::gate::{Free, Gate};
-pub use crate::job::{Job, OwnJob};
+pub use crate::job::Job;
 pub use crate::portion::portion_of;
 pub use crate::together::run_together;

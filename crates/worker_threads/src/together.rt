@@ -1,12 +1,12 @@
 //! Jobs that begin together, or not at all.
 
-ghost use Rattle.std.specs.Prelude.{◌≡◌, ◌≤◌, [], reverse, IfErr, IfOk, IfSome, vec_capacity, vec_len};
+ghost use Rattle.std.specs.Prelude.{◌≡◌, ◌≤◌, [], reverse, IfErr, IfOk, vec_capacity, vec_len};
 ghost use Rattle.std.specs.List.{AllZip};
 ghost use Rattle.worker_threads.specs.Jobs.{EndsAs};
 ghost use Rattle.worker_threads.specs.Started.{IsStarted};
 
 use crate::gate::Gate;
-use crate::job::{Job, OwnJob};
+use crate::job::Job;
 use crate::start::Start;
 use crate::started::{Started, join_all};
 use std::alloc::Global;
@@ -87,14 +87,14 @@ fn start_jobs<'s, E, J: Job + Send + Drop + 's, G: Gate + Sync, R: Wait + Sync>(
     handles
 }
 
-// Does the own job if the others may begin.
-fn work_beside<O: OwnJob, R: Wait>(rt: &R, start: &Start, own: &mut O) -> Option<O::End>
-    ensures { IfSome result (O.comes_to own.old) }
+// Does the caller's own job if the others may begin, or gives it back.
+fn work_beside<O: Job, R: Wait>(rt: &R, start: &Start, own: O) -> Result<O::End, O>
+    ensures { EndsAs O.comes_to own result }
 {
     if start.open(rt) {
-        Some(own.work())
+        Ok(own.work())
     } else {
-        None
+        Err(own)
     }
 }
 
@@ -103,34 +103,34 @@ fn work_beside<O: OwnJob, R: Wait>(rt: &R, start: &Start, own: &mut O) -> Option
 /// returns what each came to, in order.
 ///
 /// `gate` is called once in each thread before its job begins, with the job's number from 0 and 0 tables. If a
-/// thread can't be started, no job begins, the own one neither, and each other is given back. Without memory for their
-/// list nothing is started, and all are given back.
-pub fn run_together<J: Job + Send + Drop, O: OwnJob, G: Gate + Sync, R: Threads + Wait + Sync>(
+/// thread can't be started, no job begins, the own one neither, and each is given back. Without memory for their list
+/// nothing is started, and all are given back.
+pub fn run_together<J: Job + Send + Drop, O: Job + Drop, G: Gate + Sync, R: Threads + Wait + Sync>(
     rt: &R,
     alloc: Global,
     gate: &G,
     jobs: Vec<J>,
-    own: &mut O,
-) -> Result<(Vec<Result<J::End, J>>, Option<O::End>), Vec<J>>
+    own: O,
+) -> Result<(Vec<Result<J::End, J>>, Result<O::End, O>), (Vec<J>, O)>
     ensures each { IfOk result (λ ended. AllZip (EndsAs J.comes_to) jobs.items ended.0.items) }
-    ensures own { IfOk result (λ ended. IfSome ended.1 (O.comes_to own.old)) }
-    ensures err { IfErr result (λ back. back ≡ jobs) }
+    ensures own { IfOk result (λ ended. EndsAs O.comes_to own ended.1) }
+    ensures err { IfErr result (λ back. (back.0 ≡ jobs) × (back.1 ≡ own)) }
 {
     let start = Start::new();
     let begins = &start;
     thread::scope(
         thread::scope_env(),
         rt,
-        |scope| -> Result<(Vec<Result<J::End, J>>, Option<O::End>), Vec<J>>
+        |scope| -> Result<(Vec<Result<J::End, J>>, Result<O::End, O>), (Vec<J>, O)>
             ensures each { IfOk result (λ ended. AllZip (EndsAs J.comes_to) jobs.items ended.0.items) }
-            ensures own { IfOk result (λ ended. IfSome ended.1 (O.comes_to own.entry.now)) }
-            ensures err { IfErr result (λ back. back ≡ jobs) }
+            ensures own { IfOk result (λ ended. EndsAs O.comes_to own ended.1) }
+            ensures err { IfErr result (λ back. (back.0 ≡ jobs) × (back.1 ≡ own)) }
         {
             let Ok(handles) = Vec::with_capacity(alloc, jobs.len()) else {
-                return Err(jobs);
+                return Err((jobs, own));
             };
             let Ok(ends) = Vec::with_capacity(alloc, jobs.len()) else {
-                return Err(jobs);
+                return Err((jobs, own));
             };
             let handles = start_jobs(scope, rt, begins, gate, jobs, handles);
             let own = work_beside(rt, begins, own);

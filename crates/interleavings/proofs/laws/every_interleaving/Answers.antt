@@ -1,4 +1,5 @@
 use Rattle.interleavings.proofs.LawLemmas.{jobs_go_by_what_was_seen, replies_are_of_one_catalogue, seen_is_published, seen_never_falls, shares_are_of_jobs, totals_are_within_budgets}
+use Rattle.interleavings.proofs.PresentLemmas.{budgets_are_those_of_raises}
 use Rattle.interleavings.proofs.laws.every_interleaving.Goals as goal
 
 pub returns : goal.returns
@@ -14,5 +15,6 @@ returns c =
       seen = seen_never_falls quotes graphs growth prefixes valid;
       published = seen_is_published quotes graphs growth prefixes valid;
       budgets = totals_are_within_budgets quotes graphs growth prefixes valid;
+      exact = budgets_are_those_of_raises;
       shares = shares_are_of_jobs quotes graphs growth prefixes valid;
     }

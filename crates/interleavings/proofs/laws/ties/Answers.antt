@@ -1,3 +1,4 @@
+use Rattle.interleavings.proofs.OperatorLemmas.{operator_calls_are_events, raises_by_name_are_events}
 use Rattle.interleavings.proofs.TieLemmas.{answers_are_of_pending, full_is_not_published, grants_are_booked, next_is_published, press_publishes, raises_are_events, rejected_is_not_published, room_is_tested, scripts_are_published, workers_reply_by_one_history}
 use Rattle.interleavings.proofs.laws.ties.Goals as goal
 
@@ -11,6 +12,8 @@ returns c =
       room = room_is_tested;
       grants = grants_are_booked;
       raises = raises_are_events;
+      named = raises_by_name_are_events;
+      operator = operator_calls_are_events;
       answers = answers_are_of_pending;
       workers = workers_reply_by_one_history;
       scripts = scripts_are_published;

@@ -1,6 +1,4 @@
-use Rattle.std.proofs.Common.{◌≡◌, ◌&&◌, List, arith, length, map, nat_eq, not, subst, sym, vec_len}
-use Rattle.records.specs.declared.mirror.Mirror.{Mirror}
-use Rattle.mirror_ledger.specs.Named.{AreFixed}
+use Rattle.std.proofs.Common.{◌≡◌, ◌&&◌, arith, length, map, nat_eq, not, refl, vec_len}
 use Rattle.mirror_ledger.proofs.PairLemmas.{AreFresh}
 use Rattle.mirror_ledger.proofs.TillLemmas.{AreTotalsOf-parts}
 use Rattle.mirror_ledger.proofs.running.run_over.Goals as goal
@@ -17,11 +15,8 @@ returns-clause-works g c =
     let gathered = c.gather_tills-parts.ensures in (
       asks,
       c.in_ok-tills-2.ensures.works (not rises && nat_eq (vec_len c.args.jobs) 1) mirrors fresh,
-      AreTotalsOf-parts (not rises) _ mirrors asks c.in_ok-totals.totals.items
-          parts.first.amount parts.second.amount parts.third.amount parts.fourth.amount c.in_ok-books.ensures.given
+      AreTotalsOf-parts _ c.in_ok-totals.mirrors.items asks c.in_ok-totals.totals.items
+          parts.first.amount parts.second.amount parts.third.amount parts.fourth.amount refl
           c.in_ok-totals.ensures.totals gathered.first.1 gathered.second.1 gathered.third.1 gathered.fourth.1
-          (λ is.
-          c.in_ok-totals.ensures.within
-          (subst (λ (all : List Mirror). AreFixed all g.A.BudgetName.most g.B.BudgetName.most g.C.BudgetName.most g.D.BudgetName.most)
-          (sym c.in_ok-books.ensures.given) (c.requires.tops.fixed is))),
+          c.in_ok-totals.ensures.within,
     )

@@ -1,6 +1,4 @@
-use Rattle.std.proofs.Common.{List, arith, false, inr, map, subst, sym, true}
-use Rattle.records.specs.declared.mirror.Mirror.{Mirror}
-use Rattle.mirror_ledger.specs.Named.{AreFixed}
+use Rattle.std.proofs.Common.{◌∙◌, arith, false, inr, map}
 use Rattle.mirror_ledger.proofs.NamedLemmas.{AreTops-fixed}
 use Rattle.mirror_ledger.proofs.TillLemmas.{AreTotalsOf-parts, OnErr-any, length-asks}
 use Rattle.mirror_ledger.proofs.working.work_over.Goals as goal
@@ -25,11 +23,9 @@ returns-clause-ok g c =
         c.in_ok-books.ensures.workers,
       ),
       worked,
-      AreTotalsOf-parts true _ c.args.mirrors.items (map (λ t. t.shares.asks) c.work-end.new.tills.items) c.in_ok-totals.totals.items
-          parts.first.amount parts.second.amount parts.third.amount parts.fourth.amount c.in_ok-books.ensures.given
+      AreTotalsOf-parts _ c.args.mirrors.items (map (λ t. t.shares.asks) c.work-end.new.tills.items) c.in_ok-totals.totals.items
+          parts.first.amount parts.second.amount parts.third.amount parts.fourth.amount
+          (c.in_ok-totals.ensures.mirrors ∙ c.in_ok-books.ensures.present)
           c.in_ok-totals.ensures.totals gathered.first.1 gathered.second.1 gathered.third.1 gathered.fourth.1
-          (λ is.
-          c.in_ok-totals.ensures.within
-          (subst (λ (all : List Mirror). AreFixed all g.A.BudgetName.most g.B.BudgetName.most g.C.BudgetName.most g.D.BudgetName.most)
-          (sym c.in_ok-books.ensures.given) c.requires.fixed)),
+          c.in_ok-totals.ensures.within,
     )

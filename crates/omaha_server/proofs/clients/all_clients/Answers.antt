@@ -1,4 +1,4 @@
-use Rattle.std.proofs.Common.{◌≡◌, [], ◌∷◌, arith, length, not, ap, ◌∙◌, is_ok, true, Some}
+use Rattle.std.proofs.Common.{◌≡◌, [], ◌∷◌, arith, Some}
 use Rattle.std.proofs.lemmas.List.{length-append}
 use Rattle.std.proofs.lemmas.List.Elements.{All-pop}
 use Rattle.publisher.specs.Sights.{fresh}
