@@ -114,7 +114,7 @@ def server():
             "the press; who raises budgets"), "thread"),
         *box(640, 20, 300, 60, "the published edition", ("written by the press, entered by views",), "shared"),
         *box(640, 100, 300, 60, "a book for each mirror", ("granted on by tills, under a lock",), "shared"),
-        *box(640, 180, 300, 60, "the log", ("whole lines of each worker",), "shared"),
+        *box(640, 180, 300, 60, "the log's thread", ("writes lines from a ring of each worker",), "thread"),
         *box(640, 290, 300, 74, "the folder of packages", ("read block by block, hashed,", "the last block held back"), "outside"),
         *arrow([(180, 85), (240, 85)]),
         *arrow([(240, 110), (180, 110)]),

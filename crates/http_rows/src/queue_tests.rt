@@ -1,10 +1,11 @@
 // Lines of a log that are sent to its writer.
 
 use crate::writers::Paper;
-use log_queues::{LineSender, LogWriter, Signal, open_log};
+use log_queues::{LineSender, Page, Signal, open_log, start_writer};
 use std::alloc::Global;
-use std::sync::Wait;
-use std::thread::{Threads, join};
+use std::sync::{Mutex, Wait};
+use std::thread;
+use std::thread::Threads;
 
 // A sheet that takes all, or fails so often after so many bytes.
 fn paper(alloc: Global, room: usize, fails: usize) -> Paper {
@@ -16,7 +17,7 @@ fn paper(alloc: Global, room: usize, fails: usize) -> Paper {
 }
 
 // Sends the lines of a row, `0 text` by the first sender, `1 text` by the second.
-fn send(senders: &mut [LineSender<'_>], row: &str) -> Option<()> {
+fn send(senders: &mut [LineSender], row: &str) -> Option<()> {
     for line in row.split_inclusive('\n') {
         let (sender, line) = line.split_once(' ')?;
         let index: usize = sender.parse().ok()?;
@@ -27,11 +28,11 @@ fn send(senders: &mut [LineSender<'_>], row: &str) -> Option<()> {
 
 // Whether a log of two senders with room for so many bytes each is written so, each row at once.
 fn logs(alloc: Global, bytes: usize, rows: &[&str], paper: &mut Paper, wanted: &str) -> Option<bool> {
-    let signal = Signal::new();
-    let (mut senders, mut writer) = open_log(alloc, 2, bytes, &signal).ok()?;
+    let mut log = open_log(alloc, 2, bytes).ok()?;
+    let mut page = Page::new(paper);
     for row in rows {
-        send(&mut senders, row)?;
-        writer.write_now(paper);
+        send(&mut log.senders, row)?;
+        log.writer.write_now(&mut page);
     }
     Some(paper.bytes.as_slice() == wanted.as_bytes())
 }
@@ -62,36 +63,38 @@ fn a_full_disk_joins_no_sent_lines(rt: HostRuntime) {
     assert!(rt; logs(rt.alloc(), 64, &["0 first\n", "0 second\n"], &mut full, "fir\nsecond\n") == Some(true));
 }
 
-// Sends ten lines by one sender, and ends.
-fn send_ten(sender: &mut LineSender<'_>, signal: &Signal) {
-    for _ in 0..10 {
-        sender.send(b"line\n");
+// Sends ten lines by each sender, and ends.
+fn send_ten(senders: &mut [LineSender], signal: &Signal) {
+    for sender in senders {
+        for _ in 0..10 {
+            sender.send(b"line\n");
+        }
     }
     signal.end();
 }
 
-// How many bytes a writer writes in a thread of its own.
-fn written<R: Threads + Wait + Sync>(rt: &R, alloc: Global) -> Option<usize> {
-    let signal = &Signal::new();
-    let (senders, writer) = open_log(alloc, 1, 64, signal).ok()?;
-    let (mut senders, mut writer) = (senders, writer);
+// Sends them while a thread writes, and waits for that.
+fn send_beside<R: Threads + Wait + Sync>(rt: &R, alloc: Global, page: &Mutex<Page<'_, Paper>>) -> bool {
+    let Ok(log) = open_log(alloc, 3, 64) else {
+        return false;
+    };
+    let mut senders = log.senders;
+    let (writer, signal) = (log.writer, log.signal);
+    thread::scope(thread::scope_env(), rt, |scope| -> bool {
+        let is_started = start_writer(scope, rt, writer, page);
+        send_ten(&mut senders, &signal);
+        is_started
+    })
+}
+
+// Whether three senders' lines are all written in a thread of its own.
+fn is_written<R: Threads + Wait + Sync>(rt: &R, alloc: Global) -> bool {
     let mut all = paper(alloc, 0, 0);
-    let ((), count) = join(
-        rt,
-        move || {
-            for sender in senders.iter_mut() {
-                send_ten(sender, signal);
-            }
-        },
-        move || {
-            writer.write_to(rt, signal, &mut all);
-            all.bytes.len()
-        },
-    );
-    Some(count)
+    let is_started = send_beside(rt, alloc, &Mutex::new(Page::new(&mut all)));
+    is_started && all.bytes.len() == 150
 }
 
 #[test]
 fn a_writer_ends_once_all_is_written(rt: HostRuntime) {
-    assert!(rt; written(&rt, rt.alloc()) == Some(50));
+    assert!(rt; is_written(&rt, rt.alloc()));
 }

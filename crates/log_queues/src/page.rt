@@ -6,9 +6,16 @@ use streams::WriteWhole;
 
 /// What a log is written to, and whether it ends in a part of a line.
 #[derive(Drop)]
-pub(crate) struct Page<'a, W: WriteWhole> {
+pub struct Page<'a, W: WriteWhole> {
     pub(crate) out: &'a mut W,
     pub(crate) is_cut: bool,
+}
+
+impl<'a, W: WriteWhole> Page<'a, W> {
+    /// Makes the page of a writer that ends in a whole line, or has none.
+    pub fn new(out: &'a mut W) -> Page<'a, W> {
+        Page { out, is_cut: false }
+    }
 }
 
 impl<W: WriteWhole> Page<'_, W> {

@@ -8,18 +8,19 @@ use std::alloc::Global;
 use std::io;
 use std::io::Write;
 use std::marker::Model;
+use std::sync::Arc;
 
 /// One thread's end of a log. It takes no lock and waits for nobody.
 #[derive(Drop)]
-pub struct LineSender<'a> {
+pub struct LineSender {
     pub(crate) alloc: Global,
     pub(crate) ring: Producer<u8>,
     // how many lines were lost since the last one that went
     pub(crate) lost: u64,
-    pub(crate) signal: &'a Signal,
+    pub(crate) signal: Arc<Signal, Global>,
 }
 
-impl<'a> Model for LineSender<'a> {
+impl Model for LineSender {
     ghost use Rattle.rtrb.specs.Ring.{known_free, sent};
     ghost use Rattle.log_queues.specs.Queues.{Sending};
 
@@ -30,7 +31,7 @@ impl<'a> Model for LineSender<'a> {
     ghost invariant = { λ _. Unit {0} };
 }
 
-impl LineSender<'_> {
+impl LineSender {
     // Puts bytes into the ring, all or none; whether there was room.
     fn push(&mut self, bytes: &[u8]) -> bool
         ensures ok { IsTrue result → self.new.sent ≡ self.old.sent ++ bytes.now }
@@ -74,7 +75,7 @@ impl LineSender<'_> {
     }
 }
 
-impl Write for LineSender<'_> {
+impl Write for LineSender {
     ghost use Rattle.std.specs.Prelude.{None};
 
     // what was lost is not written

@@ -1,6 +1,6 @@
 // The one thread that writes a log.
 
-ghost use Rattle.std.specs.Prelude.{◌≡◌, All, IfOk, length};
+ghost use Rattle.std.specs.Prelude.{◌≡◌, All, IfOk, IfSome, length};
 ghost use Rattle.rtrb.specs.Ring.{received};
 ghost use Rattle.log_queues.specs.Queues.{HasWritten, opened};
 
@@ -9,15 +9,28 @@ use crate::sender::LineSender;
 use crate::signal::Signal;
 use rtrb::{Consumer, RingBuffer};
 use std::alloc::{AllocError, Global};
-use std::sync::Wait;
+use std::sync::{Arc, Mutex, Wait};
+use std::thread;
+use std::thread::{Scope, Threads};
 use streams::WriteWhole;
 
-/// What the senders of a log send to, and whether the log ends in a part of a line.
+/// What the senders of a log send to.
 #[derive(Drop)]
 pub struct LogWriter {
     rings: Vec<Consumer<u8>>,
     room: Vec<u8>,
-    is_cut: bool,
+    signal: Arc<Signal, Global>,
+}
+
+/// A log: the senders, what writes their lines, and what ends it.
+#[derive(Drop)]
+pub struct Log {
+    /// One for each thread that sends lines.
+    pub senders: Vec<LineSender>,
+    /// What writes their lines.
+    pub writer: LogWriter,
+    /// Ends the writer once all lines are sent.
+    pub signal: Arc<Signal, Global>,
 }
 
 // rule: Written log
@@ -42,34 +55,52 @@ impl LogWriter {
     /// Writes what has come from each sender, without waiting for more, and returns whether it was anything.
     ///
     /// A line that can't be written is lost. If a part of one was written, the next one is preceded by a line feed.
-    pub fn write_now<W: WriteWhole>(&mut self, out: &mut W) -> bool {
-        let mut page = Page {
-            out,
-            is_cut: self.is_cut,
-        };
+    pub fn write_now<W: WriteWhole>(&mut self, page: &mut Page<'_, W>) -> bool {
         let mut found = false;
         for ring in self.rings.iter_mut() {
-            if write_ring(ring, &mut self.room, &mut page) {
+            if write_ring(ring, &mut self.room, page) {
                 found = true;
             }
         }
-        self.is_cut = page.is_cut;
         found
     }
 
-    /// Writes what the senders send as it comes, until the signal's end, and all that was sent before it.
-    pub fn write_to<R: Wait, W: WriteWhole>(&mut self, rt: &R, signal: &Signal, out: &mut W) {
+    /// Writes what the senders send as it comes, until the signal's end, and all that was sent before it. No one else has
+    /// the page until then.
+    pub fn write_all<R: Wait, W: WriteWhole>(self, rt: &R, page: &Mutex<Page<'_, W>>) {
+        let mut writer = self;
+        let mut page = page.lock(rt);
         for _ in rt.forever() {
-            let is_over = signal.is_over();
-            if self.write_now(out) {
+            let is_over = writer.signal.is_over();
+            if writer.write_now(&mut page) {
                 continue;
             }
             if is_over {
                 return;
             }
-            signal.wait(rt);
+            writer.signal.wait(rt);
         }
     }
+}
+
+// Does a job in a thread of its own; whether there can be one.
+fn start<'s, E, F: FnOnce() + Send + Drop + 's>(scope: &Scope<'s, E>, job: F) -> bool
+    requires { F.pre job }
+{
+    match scope.spawn(job) {
+        Ok(_) => true,
+        Err(_) => false,
+    }
+}
+
+/// Writes what the senders of a log send in a thread of its own, as `write_all` does, and returns whether there can be one.
+pub fn start_writer<'s, E, R: Wait + Sync, W: WriteWhole + Send>(
+    scope: &Scope<'s, E>,
+    rt: &'s R,
+    writer: LogWriter,
+    page: &'s Mutex<Page<'_, W>>,
+) -> bool {
+    start(scope, move || writer.write_all(rt, page))
 }
 
 // So many bytes of room.
@@ -78,14 +109,15 @@ fn room_of(alloc: Global, bytes: usize) -> Result<Vec<u8>, AllocError> {
 }
 
 // A sender and its end of the ring.
-fn open_ring<'a>(
+fn open_ring(
     alloc: Global,
     bytes: usize,
-    signal: &'a Signal,
-) -> Result<(LineSender<'a>, Consumer<u8>), AllocError>
+    signal: &Arc<Signal, Global>,
+) -> Result<(LineSender, Consumer<u8>), AllocError>
     ensures { IfOk result (λ made. made.0 ≡ opened bytes) }
 {
     let (ring, end) = RingBuffer::new(alloc, bytes)?;
+    let signal = Arc::try_clone(signal)?;
     let sender = LineSender {
         alloc,
         ring,
@@ -95,17 +127,16 @@ fn open_ring<'a>(
     Ok((sender, end))
 }
 
-/// Opens a log: so many senders, each for a thread of its own, and their writer. Each sender has room for `bytes`.
-pub fn open_log<'a>(
+// So many senders, and their ends of the rings.
+fn open_rings(
     alloc: Global,
     count: usize,
     bytes: usize,
-    signal: &'a Signal,
-) -> Result<(Vec<LineSender<'a>>, LogWriter), AllocError>
+    signal: &Arc<Signal, Global>,
+) -> Result<(Vec<LineSender>, Vec<Consumer<u8>>), AllocError>
     ensures many { IfOk result (λ made. length made.0.items ≡ count) }
     ensures fresh { IfOk result (λ made. All (λ sender. sender ≡ opened bytes) made.0.items) }
 {
-    let room = room_of(alloc, bytes)?;
     let mut senders = Vec::new(alloc);
     let mut rings = Vec::new(alloc);
     for _ in 0..count {
@@ -113,10 +144,24 @@ pub fn open_log<'a>(
         senders.push(sender)?;
         rings.push(end)?;
     }
+    Ok((senders, rings))
+}
+
+/// Opens a log of so many senders, each with room for `bytes`.
+pub fn open_log(alloc: Global, count: usize, bytes: usize) -> Result<Log, AllocError>
+    ensures many { IfOk result (λ log. length log.senders.items ≡ count) }
+    ensures fresh { IfOk result (λ log. All (λ sender. sender ≡ opened bytes) log.senders.items) }
+{
+    let signal = Arc::new(alloc, Signal::new())?;
+    let (senders, rings) = open_rings(alloc, count, bytes, &signal)?;
     let writer = LogWriter {
         rings,
-        room,
-        is_cut: false,
+        room: room_of(alloc, bytes)?,
+        signal: Arc::try_clone(&signal)?,
     };
-    Ok((senders, writer))
+    Ok(Log {
+        senders,
+        writer,
+        signal,
+    })
 }

@@ -9,6 +9,7 @@ ghost use Rattle.omaha_server.specs.Serving.{portion_at};
 use crate::place::Place;
 use crate::setup::Setup;
 use crate::system::System;
+use log_queues::LineSender;
 use mirror_ledger::{Till, TillJob};
 use publisher::View;
 use service_desks::Worker;
@@ -30,6 +31,8 @@ pub(crate) struct Clients<'a, 'b, R, W: WriteWhole> {
     pub(crate) sessions: Option<u64>,
     /// The worker's view of the published editions.
     pub(crate) view: View,
+    /// The worker's end of the log, if there is one.
+    pub(crate) lines: Option<LineSender>,
 }
 
 // rule: Sessions of a server
@@ -47,9 +50,11 @@ impl<R: System + Clock + Wait + AllocGlobal, W: WriteWhole> TillJob for Clients<
             listener,
             sessions,
             view,
+            lines,
         } = self;
+        let mut lines = lines;
         let mut desk = Worker::new(setup.rt, view, till);
-        setup.serve(listener, &mut desk, sessions);
+        setup.serve(listener, &mut desk, sessions, &mut lines);
         let (_view, till) = desk.into_parts();
         (till, ())
     }
@@ -73,6 +78,7 @@ fn clients_of<'a, 'b, R, W: WriteWhole>(
     listener: &'a TcpListener,
     worker: usize,
     view: View,
+    lines: Option<LineSender>,
 ) -> Clients<'a, 'b, R, W>
     requires { worker < setup.now.place.now.workers }
     ensures { IsClients setup.now listener.now worker view result }
@@ -82,28 +88,31 @@ fn clients_of<'a, 'b, R, W: WriteWhole>(
         listener,
         sessions: portion_at(setup.place, worker),
         view,
+        lines,
     }
 }
 
-/// The connections of each worker, which has one of the views.
+/// The connections of each worker, which has one of the views, and one of the log's senders if there are some.
 pub(crate) fn all_clients<'a, 'b, R, W: WriteWhole>(
     alloc: Global,
     setup: &'a Setup<'a, 'b, R, W>,
     listener: &'a TcpListener,
     views: Vec<View>,
+    senders: Vec<LineSender>,
 ) -> Result<Vec<Clients<'a, 'b, R, W>>, AllocError>
     requires { length views.items ≡ setup.now.place.now.workers }
     ensures many { IfOk result (λ jobs. length jobs.items ≡ setup.now.place.now.workers) }
     ensures jobs { IfOk result (λ jobs. (history : History) → All (λ sight. sight ≡ fresh history) views.items
         → AreClients setup.now listener.now history setup.now.place.now.workers jobs.items) }
 {
-    let mut views = views;
+    let (mut views, mut senders) = (views, senders);
     let mut jobs = Vec::new(alloc);
     for worker in 0..setup.place.workers {
         let Some(view) = views.pop() else {
             unreachable!()
         };
-        let Ok(()) = jobs.push(clients_of(setup, listener, worker, view)) else {
+        let clients = clients_of(setup, listener, worker, view, senders.pop());
+        let Ok(()) = jobs.push(clients) else {
             return Err(AllocError);
         };
     }

@@ -1,55 +1,42 @@
-// One log that several workers write to.
+// The log of a server, to which each of its threads sends lines.
 
-use std::io;
-use std::io::Write;
-use std::sync::{Mutex, Wait};
+use log_queues::{LineSender, Log, LogWriter, Page, Signal, open_log};
+use std::alloc::{AllocError, Global};
+use std::sync::{Arc, Mutex};
 use streams::WriteWhole;
 
-/// The writer of a log, and whether the log ends in a part of a line.
+// How many bytes of lines may wait for the log in each thread.
+const ROOM: usize = 1 << 19;
+
+/// What writes the lines of a log, to what, and what ends it.
 #[derive(Drop)]
-pub(crate) struct SharedLog<'a, W: WriteWhole> {
-    out: &'a mut W,
-    is_cut: bool,
+pub(crate) struct Writing<'a, 'b, W: WriteWhole> {
+    /// What they are written to.
+    pub(crate) page: &'a Mutex<Page<'b, W>>,
+    /// What writes them.
+    pub(crate) writer: LogWriter,
+    /// What says that there are no more.
+    pub(crate) signal: Arc<Signal, Global>,
 }
 
-impl<'a, W: WriteWhole> SharedLog<'a, W> {
-    /// Makes a log of a writer.
-    pub(crate) fn new(out: &'a mut W) -> SharedLog<'a, W> {
-        SharedLog { out, is_cut: false }
-    }
-
-    // Writes bytes after a line feed, if the log ends in a part of a line and they don't begin with one.
-    fn append(&mut self, bytes: &[u8]) -> io::Result<()> {
-        if self.is_cut && !bytes.starts_with(b"\n") {
-            self.out.write_whole(b"\n")?;
-        }
-        self.out.write_whole(bytes)
-    }
-}
-
-/// A worker's writer to the log: what it is given is written whole, or fails, before others write.
-#[derive(Drop)]
-pub(crate) struct LogLines<'a, 'b, R: Wait, W: WriteWhole> {
-    /// What waits for the others.
-    pub(crate) rt: &'a R,
-    /// The log.
-    pub(crate) log: &'a Mutex<SharedLog<'b, W>>,
-}
-
-impl<R: Wait, W: WriteWhole> Write for LogLines<'_, '_, R, W> {
-    ghost use Rattle.std.specs.Prelude.{None};
-
-    ghost contents = { λ _. None };
-
-    fn write(&mut self, bytes: &[u8]) -> io::Result<usize> {
-        let mut log = self.log.lock(self.rt);
-        let written = log.append(bytes);
-        log.is_cut = written.is_err();
-        written?;
-        Ok(bytes.len())
-    }
-
-    fn flush(&mut self) -> io::Result<()> {
-        Ok(())
-    }
+/// Opens a log of so many senders, and gives what writes their lines; without a page there are no senders.
+pub(crate) fn open_lines<'a, 'b, W: WriteWhole>(
+    alloc: Global,
+    count: usize,
+    page: Option<&'a Mutex<Page<'b, W>>>,
+) -> Result<(Vec<LineSender>, Option<Writing<'a, 'b, W>>), AllocError> {
+    let Some(page) = page else {
+        return Ok((Vec::new(alloc), None));
+    };
+    let Log {
+        senders,
+        writer,
+        signal,
+    } = open_log(alloc, count, ROOM)?;
+    let writing = Writing {
+        page,
+        writer,
+        signal,
+    };
+    Ok((senders, Some(writing)))
 }

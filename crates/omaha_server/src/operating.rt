@@ -6,6 +6,7 @@ ghost use Rattle.omaha_server.specs.Serving.{AreOperated};
 
 use crate::setup::Setup;
 use crate::system::System;
+use log_queues::LineSender;
 use mirror_ledger::{BudgetJob, Budgets};
 use publisher::Press;
 use service_desks::Operator;
@@ -23,6 +24,8 @@ pub(crate) struct Operating<'a, 'b, R: Threads + Wait + AllocGlobal, W: WriteWho
     pub(crate) listener: Option<&'a TcpListener>,
     /// The press of what is served.
     pub(crate) press: Press,
+    /// The operator's end of the log, if there is one.
+    pub(crate) lines: Option<LineSender>,
 }
 
 // Serves the connections of a listener by the operator's desk.
@@ -30,6 +33,7 @@ fn serve_desk<R: System + Clock + Threads + Wait + AllocGlobal, W: WriteWhole, B
     setup: &Setup<'_, '_, R, W>,
     listener: &TcpListener,
     desk: &mut Operator<'_, '_, '_, R, B>,
+    lines: &mut Option<LineSender>,
 )
     ensures same_press { desk.new.press.ghost_name ≡ desk.old.press.ghost_name }
     ensures same_budgets { desk.new.budgets.ghost_name ≡ desk.old.budgets.ghost_name }
@@ -37,7 +41,7 @@ fn serve_desk<R: System + Clock + Threads + Wait + AllocGlobal, W: WriteWhole, B
         (record { mirrors = B.present desk.old.budgets.now; history = desk.old.press.now })
         (record { mirrors = B.present desk.new.budgets.now; history = desk.new.press.now }) }
 {
-    setup.serve(listener, desk, setup.place.edits);
+    setup.serve(listener, desk, setup.place.edits, lines);
 }
 
 // The same, over a press and budgets that may be raised.
@@ -46,6 +50,7 @@ fn operate<R: System + Clock + Threads + Wait + AllocGlobal, W: WriteWhole, B: B
     listener: &TcpListener,
     press: &mut Press,
     budgets: &mut B,
+    lines: &mut Option<LineSender>,
 )
     requires listed { AreMirrors (B.present budgets.old) }
     requires rising { B.rises budgets.old ≡ true }
@@ -59,7 +64,7 @@ fn operate<R: System + Clock + Threads + Wait + AllocGlobal, W: WriteWhole, B: B
         budgets,
         workers: setup.place.workers,
     };
-    serve_desk(setup, listener, &mut desk);
+    serve_desk(setup, listener, &mut desk, lines);
 }
 
 // rule: Sessions of an operator
@@ -80,7 +85,7 @@ impl<R: System + Clock + Threads + Wait + AllocGlobal, W: WriteWhole> BudgetJob
 
     fn work<B: Budgets>(&mut self, budgets: &mut B) {
         if let Some(listener) = self.listener {
-            operate(self.setup, listener, &mut self.press, budgets);
+            operate(self.setup, listener, &mut self.press, budgets, &mut self.lines);
         }
     }
 }

@@ -3,13 +3,14 @@
 ghost use Rattle.std.specs.Prelude.{◌≡◌, ◌⊎◌, ◌≤◌, All, length, IfErr, IfOk, IsOk, IsTrue};
 ghost use Rattle.publisher.specs.Sights.{fresh};
 ghost use Rattle.omaha_server.specs.Edges.{is_dash};
+ghost use Rattle.omaha_server.specs.Jobs.{IsManned};
 ghost use Rattle.omaha_server.specs.Runs.{HasServed, HaveRun, PrintsLines};
 ghost use Rattle.omaha_server.specs.Serving.{AreTotals, IsListening, IsLogged, IsOpened, IsReady, IsSilent, IsUnlogged, Serves, Stops};
 ghost use Rattle.omaha_server.specs.declared.error.ServerError.TheVariants.{Memory, NoPlace, OperatorNet, Thread};
 
-use crate::clients::all_clients;
+use crate::clients::{Clients, all_clients};
 use crate::error::ServerError;
-use crate::logging::SharedLog;
+use crate::logging::{Writing, open_lines};
 use crate::mirrors::Mirrors;
 use crate::operating::Operating;
 use crate::place::Place;
@@ -19,12 +20,14 @@ use crate::system::System;
 use crate::totals::{names_of, totals_string};
 use editions::Edition;
 use http_connections::print_ready;
+use log_queues::{Page, start_writer};
 use mirror_ledger::{BudgetJob, Ran, TillJob, run_with_tills};
 use publisher::{Press, PublishError, View, open_edition};
 use std::alloc::{AllocError, Global};
 use std::fs::File;
 use std::net::TcpListener;
 use std::sync::{Mutex, Wait};
+use std::thread;
 use std::thread::Threads;
 use std::time::Clock;
 use streams::WriteWhole;
@@ -118,7 +121,74 @@ fn totals_in<J: TillJob + Drop, O: BudgetJob>(
 }
 
 // rule: Totals of a server
-// Serves at listeners by a worker for each view and by the operator's desk, and gives the press back.
+// Runs the jobs of the workers and of the operator, with a till for each worker, and returns the mirrors' totals.
+fn run_jobs<
+    R: System + Clock + Threads + Wait + Sync + AllocGlobal,
+    W: WriteWhole + Send,
+    G: Gate + Sync,
+>(
+    setup: &Setup<'_, '_, R, W>,
+    listeners: &Listeners,
+    gate: &G,
+    mirrors: Mirrors,
+    jobs: Vec<Clients<'_, '_, R, W>>,
+    own: &mut Operating<'_, '_, R, W>,
+) -> Result<Vec<u64>, ServerError>
+    requires manned { IsManned setup.now listeners.now.clients listeners.now.operator jobs.items own.old }
+    ensures ok { IfOk result (λ totals. AreTotals (R.edges setup.now.rt.now) setup.now.place.now listeners.now.clients listeners.now.operator
+        (record { edition = own.old.press; mirrors = mirrors }) totals.items) }
+    ensures err { IfErr result (λ error. (error ≡ Thread) ⊎ (error ≡ Memory)) }
+{
+    let rt = setup.rt;
+    totals_in(run_with_tills(rt, rt.alloc(), mirrors.into_vec(), gate, jobs, own))
+}
+
+// The same, beside a thread that writes the log.
+fn run_logged<
+    R: System + Clock + Threads + Wait + Sync + AllocGlobal,
+    W: WriteWhole + Send,
+    G: Gate + Sync,
+>(
+    setup: &Setup<'_, '_, R, W>,
+    listeners: &Listeners,
+    gate: &G,
+    mirrors: Mirrors,
+    jobs: Vec<Clients<'_, '_, R, W>>,
+    own: &mut Operating<'_, '_, R, W>,
+    log: Writing<'_, '_, W>,
+) -> Result<Vec<u64>, ServerError>
+    requires manned { IsManned setup.now listeners.now.clients listeners.now.operator jobs.items own.old }
+    ensures ok { IfOk result (λ totals. AreTotals (R.edges setup.now.rt.now) setup.now.place.now listeners.now.clients listeners.now.operator
+        (record { edition = own.old.press; mirrors = mirrors }) totals.items) }
+    ensures err { IfErr result (λ error. (error ≡ Thread) ⊎ (error ≡ Memory)) }
+{
+    let rt = setup.rt;
+    let Writing {
+        page,
+        writer,
+        signal,
+    } = log;
+    thread::scope(
+        thread::scope_env(),
+        rt,
+        |scope| -> Result<Vec<u64>, ServerError>
+            requires manned { IsManned setup.now listeners.now.clients listeners.now.operator jobs.items own.now }
+            ensures ok { IfOk result (λ totals. AreTotals (R.edges setup.entry.now.rt.now) setup.entry.now.place.now listeners.entry.now.clients
+                listeners.entry.now.operator (record { edition = own.entry.now.press; mirrors = mirrors }) totals.items) }
+            ensures err { IfErr result (λ error. (error ≡ Thread) ⊎ (error ≡ Memory)) }
+        {
+            if !start_writer(scope, rt, writer, page) {
+                return Err(ServerError::Thread);
+            }
+            let totals = run_jobs(setup, listeners, gate, mirrors, jobs, own);
+            signal.end();
+            totals
+        },
+    )
+}
+
+// Serves at listeners by a worker for each view and by the operator's desk, each of which has a sender to the log, if
+// there is one, and gives the press back.
 fn run_workers<
     R: System + Clock + Threads + Wait + Sync + AllocGlobal,
     W: WriteWhole + Send,
@@ -138,21 +208,31 @@ fn run_workers<
     ensures err { IfErr result.1 (λ error. (error ≡ Thread) ⊎ (error ≡ Memory)) }
 {
     let alloc = setup.rt.alloc();
-    let Ok(jobs) = all_clients(alloc, setup, &listeners.clients, views) else {
+    let Ok((senders, log)) = open_lines(alloc, setup.place.workers + 1, setup.log) else {
+        return (press, Err(ServerError::Memory));
+    };
+    let mut senders = senders;
+    let lines = senders.pop();
+    let Ok(jobs) = all_clients(alloc, setup, &listeners.clients, views, senders) else {
         return (press, Err(ServerError::Memory));
     };
     let mut own = Operating {
         setup,
         listener: listeners.operator.as_ref(),
         press,
+        lines,
     };
-    let ran = run_with_tills(setup.rt, alloc, mirrors.into_vec(), gate, jobs, &mut own);
+    let totals = match log {
+        None => run_jobs(setup, listeners, gate, mirrors, jobs, &mut own),
+        Some(log) => run_logged(setup, listeners, gate, mirrors, jobs, &mut own, log),
+    };
     let Operating {
         setup: _,
         listener: _,
         press,
+        lines: _,
     } = own;
-    (press, totals_in(ran))
+    (press, totals)
 }
 
 // Serves at the addresses of a place whose folder was found, over an edition that was published, and ends its press.
@@ -241,7 +321,7 @@ fn serve_over<
     place: &'a Place,
     gate: &G,
     out: &mut O,
-    log: Option<&'a Mutex<SharedLog<'b, W>>>,
+    log: Option<&'a Mutex<Page<'b, W>>>,
 ) -> Result<(), ServerError>
     ensures serves { Serves (R.edges rt.now) place.now service (O.output out.old) (O.output out.new) result }
     ensures unlogged { IfErr result IsUnlogged }
@@ -267,7 +347,7 @@ fn serve_logged<
     ensures serves { Serves (R.edges rt.now) place.now service (O.output out.old) (O.output out.new) result }
     ensures unlogged { IfErr result IsUnlogged }
 {
-    let log = Mutex::new(SharedLog::new(writer));
+    let log = Mutex::new(Page::new(writer));
     serve_over(rt, service, place, gate, out, Some(&log))
 }
 
@@ -339,7 +419,7 @@ pub fn serve<
             place,
             gate,
             out,
-            None::<&'static Mutex<SharedLog<'static, File>>>,
+            None::<&'static Mutex<Page<'static, File>>>,
         ),
         Some(path) => {
             let path = path.as_str();
