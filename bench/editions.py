@@ -10,8 +10,10 @@ that follow. The program prints milliseconds by the clock of the machine; of eac
 
 `tables` is all tables of the catalogue, by each number of workers, made the second time: before the first of them the
 allocator of glibc joins the small pieces of memory that making the catalogue freed. `publish` is the next edition
-after a batch that sets the share of one cohort, beside `of the app`, which is all tables of a catalogue of one such
-app. `KiB` is by how much the peak memory grows for an edition that is kept beside the one before it.
+after a batch, of 20 such editions the one that took least time: a batch of no edit, of the share of one cohort or of one
+cohort of each app, of another target of one cohort, or of a release that is withdrawn or offered again; and how many
+tables it makes. `of an app` is all tables of a catalogue of
+one such app. `KiB` is by how much the peak memory grows for an edition that is kept beside the one before it.
 """
 
 import argparse
@@ -25,20 +27,28 @@ import graphs
 import publisher
 
 LINE = "edition_times: editions par_tables catalogue values\n"
+KINDS = (
+    ("none", "no edit"),
+    ("share", "one share"),
+    ("shares", "a share of each app"),
+    ("target", "one target"),
+    ("withdrawn", "one withdrawal"),
+)
 HEAD = r"""//! Makes the tables of catalogues, and editions.
 
 #![tactic(auto)]
 
 use catalogue::{
     AddApp, AddCohort, AddDiff, AddRelease, Batch, Catalogue, Edit, Refused, SetFloor,
-    SetRollback, SetShare, SetTarget,
+    SetRollback, SetShare, SetTarget, SetWithdrawn,
 };
 use editions::{Edition, NextError};
-use par_tables::{Free, build};
+use par_tables::{Free, Gate, build};
 use std::alloc::{AllocError, Global};
 use std::io;
 use std::rt::Clock;
 use std::sync::Wait;
+use std::sync::atomic::{AtomicU64, Ordering};
 use std::thread::Threads;
 use std::time::Instant;
 use values::{ReadError, Text};
@@ -83,41 +93,78 @@ fn run_build<R: Threads + Wait + Clock>(rt: &R, alloc: Global, apps: u64, releas
     Ok(built(rt, alloc, &catalogue, workers)?)
 }
 
-fn change_of(alloc: Global) -> Result<Batch, AllocError> {
+fn withdrawn_set(alloc: Global, on: bool) -> Result<Edit, AllocError> {
+    let app = id_of(alloc, 0)?;
+    let version = version_of(alloc, 1)?;
+    Ok(Edit::SetWithdrawn(SetWithdrawn { app, version, on }))
+}
+
+fn share_of(alloc: Global, app: u64, share: u64) -> Result<Edit, AllocError> {
+    let app = id_of(alloc, app)?;
+    let cohort = cohort_of(alloc, 0)?;
+    Ok(Edit::SetShare(SetShare { app, cohort, share }))
+}
+
+// A batch of a kind, another one each turn.
+fn change_of(alloc: Global, mode: &str, apps: u64, turn: u64) -> Result<Batch, AllocError> {
     let mut edits = Vec::new(alloc);
-    edits.push(share_set(alloc)?)?;
+    match mode {
+        "none" => {}
+        "shares" => {
+            for app in 0..apps {
+                edits.push(share_of(alloc, app, turn)?)?;
+            }
+        }
+        "target" => edits.push(target_set(alloc, 0, 0, turn)?)?,
+        "withdrawn" => edits.push(withdrawn_set(alloc, turn % 2 == 0)?)?,
+        _ => edits.push(share_of(alloc, 0, turn)?)?,
+    }
     Ok(Batch::new(edits))
 }
 
-// The nanoseconds of the last of so many publishes, each of one edit, and the number of the last edition.
-fn published<R: Clock>(rt: &R, alloc: Global, batch: Batch, turns: u64) -> Result<(u64, u64), NextError> {
+// How many tables the pieces that began have.
+#[derive(Drop)]
+struct Counter {
+    tables: AtomicU64,
+}
+
+impl Gate for Counter {
+    fn begin(&self, _piece: usize, tables: usize) {
+        self.tables.fetch_add(tables as u64, Ordering::SeqCst);
+    }
+}
+
+// The nanoseconds of the fastest of so many publishes, each of one batch of a kind, and how many tables one more makes.
+fn published<R: Threads + Wait + Clock>(rt: &R, alloc: Global, mode: &str, apps: u64, batch: Batch, turns: u64) -> Result<(u64, u64), NextError> {
     let mut edition = Edition::empty(alloc).next(batch)?;
-    let mut passed = 0;
-    for _turn in 0..turns {
-        let change = change_of(alloc)?;
+    let mut least = u64::MAX;
+    for turn in 0..turns {
+        let change = change_of(alloc, mode, apps, turn)?;
         let start = Instant::now(rt);
         let next = edition.next(change)?;
-        passed = passed_since(rt, start);
+        least = least.min(passed_since(rt, start));
         edition = next;
     }
-    Ok((passed, edition.number()))
+    let counter = Counter { tables: AtomicU64::new(0) };
+    edition.next_with(rt, change_of(alloc, mode, apps, turns)?, 1, &counter)?;
+    Ok((least, counter.tables.load(Ordering::SeqCst)))
 }
 
 // The same with the edition before each one kept until the end.
 fn kept<R: Clock>(rt: &R, alloc: Global, batch: Batch) -> Result<(u64, u64), NextError> {
     let edition = Edition::empty(alloc).next(batch)?;
-    let change = change_of(alloc)?;
+    let change = change_of(alloc, "share", 1, 0)?;
     let start = Instant::now(rt);
     let next = edition.next(change)?;
     let passed = passed_since(rt, start);
     Ok((passed, edition.number().saturating_add(next.number())))
 }
 
-fn run_publish<R: Clock>(rt: &R, alloc: Global, mode: &str, apps: u64, releases: u64, next: u64, turns: u64) -> Result<(u64, u64), NextError> {
+fn run_publish<R: Threads + Wait + Clock>(rt: &R, alloc: Global, mode: &str, apps: u64, releases: u64, next: u64, turns: u64) -> Result<(u64, u64), NextError> {
     let batch = batch_of(alloc, apps, 4, releases, next, "none")?;
     match mode {
         "kept" => kept(rt, alloc, batch),
-        _ => published(rt, alloc, batch, turns),
+        _ => published(rt, alloc, mode, apps, batch, turns),
     }
 }
 
@@ -128,8 +175,9 @@ fn run<R: Threads + Wait + Clock>(rt: &R, alloc: Global, mode: &str, apps: u64, 
     }
 }
 
-// Each line of the input: `build`, `publish` or `kept`, the apps, the releases, the differentials from each, and the
-// workers or the publishes. It prints nanoseconds, and how many tables there are, or the number of the edition.
+// Each line of the input: `build`, `kept` or the kind of a batch, the apps, the releases, the differentials from each,
+// and the workers or the publishes. It prints nanoseconds, and how many tables were made, or the sum of the editions'
+// numbers.
 fn main(rt: HostRuntime) -> io::Result<()> {
     let alloc = rt.alloc();
     for line in rt.lines(alloc) {
@@ -185,10 +233,12 @@ def main():
         for workers in asked.workers:
             passed, tables, _ = least(program, asked.runs, "build", asked.apps, asked.releases, asked.next, workers)
             print(f"tables by {workers:2} workers  {passed / 1e6:10.2f} ms  {tables} tables", flush=True)
-        passed, _, one = least(program, asked.runs, "publish", asked.apps, asked.releases, asked.next, 3)
+        for mode, what in KINDS:
+            passed, tables, _ = least(program, asked.runs, mode, asked.apps, asked.releases, asked.next, 20)
+            print(f"publish of {what:26}{passed / 1e6:8.3f} ms, {tables:3} tables made", flush=True)
         own, tables, _ = least(program, asked.runs, "build", 1, asked.releases, asked.next, 1)
-        print(f"publish of one edit   {passed / 1e6:10.2f} ms, of the app {own / 1e6:.2f} ms for {tables} tables", flush=True)
-        none = least(program, asked.runs, "publish", asked.apps, asked.releases, asked.next, 0)[2]
+        print(f"tables of an app      {own / 1e6:10.2f} ms  {tables} tables", flush=True)
+        none = least(program, asked.runs, "share", asked.apps, asked.releases, asked.next, 0)[2]
         kept = least(program, asked.runs, "kept", asked.apps, asked.releases, asked.next, 1)[2]
         print(f"memory                {none:10,} KiB, {kept - none:,} KiB more for a kept edition", flush=True)
     finally:

@@ -5,6 +5,7 @@ mod LastAppLemmas
 mod LastPackageLemmas
 mod MakingLemmas
 mod OtherAppLemmas
+mod OtherReleaseLemmas
 mod ReleaseSettingLemmas
 mod SettingLemmas
 mod SpellingLemmas

@@ -1,5 +1,5 @@
 -- An edit leaves an app that it doesn't name as it is, with its index.
-use Rattle.std.proofs.Common.{◌≡◌, ℕ, zero, suc, Bool, true, false, cond, ◌||◌, List, [], ◌∷◌, ◌++◌, Some, None, refl, ap, sym, ◌∙◌}
+use Rattle.std.proofs.Common.{◌≡◌, ℕ, zero, suc, Bool, true, false, cond, List, [], ◌∷◌, ◌++◌, Some, refl, ap, sym, ◌∙◌}
 use Rattle.std.specs.List.{list_any, slice_get}
 use Rattle.std.proofs.lemmas.Bool.{false≢true, or_parts}
 use Rattle.catalogue_laws.proofs.HistoryLemmas.{Makes}
@@ -14,7 +14,7 @@ use Rattle.catalogue.specs.declared.edit.Edit.{Edit}
 use Rattle.catalogue.specs.declared.edit.Edit.TheVariants as edit
 
 -- the identifier of the app that a change is of
-abbrev app_changed : Change → List ℕ
+abbrev pub app_changed : Change → List ℕ
 app_changed (NewApp e) = e.app
 app_changed (NewRelease e) = e.app
 app_changed (NewDiff e) = e.app
@@ -22,7 +22,7 @@ app_changed (NewCohort e) = e.app
 app_changed (SetsRelease id version new) = id
 app_changed (SetsCohort id name new) = id
 
-slice_get-push :
+pub slice_get-push :
     {A : Type 0} (xs : List A) (i : ℕ) (x item : A) → slice_get xs i ≡ Some x →
     slice_get (xs ++ item ∷ []) i ≡ Some x
 slice_get-push [] i x item at = absurd cc
@@ -30,7 +30,7 @@ slice_get-push (y ∷ ys) zero x item at = at
 slice_get-push (y ∷ ys) (suc i) x item at = slice_get-push ys i x item at
 
 -- an item that doesn't pass stays in its place
-slice_get-change :
+pub slice_get-change :
     {A : Type 0} (p : A → Bool) (f : A → A) (xs : List A) (i : ℕ) (x : A) → slice_get xs i ≡ Some x →
     p x ≡ false → slice_get (change p f xs) i ≡ Some x
 slice_get-change p f [] i x at fails = absurd cc
@@ -50,7 +50,7 @@ slice_get-change p f (y ∷ ys) (suc i) x at fails = cases (p y) (slice_get-chan
     cases true others = at
     cases false others = others
 
-slice_get-changed :
+pub slice_get-changed :
     (index : ℕ) (app : App) (c : Change) (apps : List App) → same_id (app_changed c) app.id ≡ false →
     slice_get apps index ≡ Some app → slice_get (changed c apps) index ≡ Some app
 slice_get-changed index app (NewApp e) apps apart at = slice_get-push apps index app (new_app e) at
@@ -66,7 +66,7 @@ slice_get-changed index app (SetsCohort id name new) apps apart at =
     slice_get-change (is_app id) (in_cohort name (with_setting new)) apps index app at apart
 
 -- an edit names the app that its change is of
-app_named-change_of : (e : Edit) → app_changed (change_of e) ≡ app_named e
+pub app_named-change_of : (e : Edit) → app_changed (change_of e) ≡ app_named e
 app_named-change_of (edit.AddApp e) = refl
 app_named-change_of e = refl
 

@@ -1,6 +1,6 @@
 -- What holds of a content after a whole history of accepted batches: each item is there because
 -- some edit added it, and a setting is that of the last edit that set it; this project's profile.
-use Rattle.std.specs.Prelude.{◌≡◌, ℕ, ◌==◌, ◌&&◌, ◌++◌, Bool, false, List, [], ◌∷◌, if◌then◌else◌, find, option_map, Option, None, Some, Ok, unwrap_or}
+use Rattle.std.specs.Prelude.{◌≡◌, ℕ, ◌==◌, ◌&&◌, ◌++◌, Bool, true, false, List, [], ◌∷◌, if◌then◌else◌, find, option_map, Option, None, Some, Ok, unwrap_or}
 use Rattle.std.specs.List.{list_any, flat_map, slice_get}
 use Rattle.std.specs.Option.{option_map_or}
 use Rattle.std.specs.Str.{bytes_eq}
@@ -290,3 +290,34 @@ BatchesKeepOtherApps =
     (batch : List Edit) (apps made : List App) → outcome batch apps ≡ Ok made →
     (index : ℕ) (app : App) → slice_get apps index ≡ Some app →
     list_any (λ e. same_id (app_named e) app.id) batch ≡ false → slice_get made index ≡ Some app
+
+-- rule: Edit of releases or differentials
+-- the edit changes the releases or the differentials of the app that it names; no edit of an app, of a cohort or of
+-- its settings does
+abbrev pub changes_releases : Edit → Bool
+changes_releases (edit.AddRelease e) = true
+changes_releases (edit.AddDiff e) = true
+changes_releases (edit.SetStone e) = true
+changes_releases (edit.SetWithdrawn e) = true
+changes_releases (edit.SetAudience e) = true
+changes_releases (edit.SetFloor e) = true
+changes_releases e = false
+
+-- an edit of the batch changes those of the app of an identifier
+abbrev pub changes_releases_of : List Edit → List ℕ → Bool
+changes_releases_of batch id = list_any (λ e. changes_releases e && same_id (app_named e) id) batch
+
+-- a content has an app at an index with the releases and the differentials of a given app
+pub record HasReleasesOf (app : App) (made : List App) (index : ℕ) : Type 0 where
+  pub new : App
+  pub there : slice_get made index ≡ Some new
+  pub releases : new.releases ≡ app.releases
+  pub diffs : new.diffs ≡ app.diffs
+
+-- a batch leaves the releases and the differentials of an app as they are if none of its edits changes them, and the
+-- app keeps its index
+abbrev pub BatchesKeepOtherReleases : Type 0
+BatchesKeepOtherReleases =
+    (batch : List Edit) (apps made : List App) → outcome batch apps ≡ Ok made →
+    (index : ℕ) (app : App) → slice_get apps index ≡ Some app →
+    changes_releases_of batch app.id ≡ false → HasReleasesOf app made index

@@ -10,7 +10,7 @@
 
 ghost use Rattle.catalogue_laws.specs.ContentExamples.{SmallContentHasItsEdits};
 ghost use Rattle.catalogue_laws.specs.Contents.{ContentsAreMade};
-ghost use Rattle.catalogue_laws.specs.Histories.{AppsWereAdded, AudiencesAreTheLastSet, BatchesKeepOtherApps, CohortsWereAdded, DiffsWereAdded, FloorsAreTheLastSet, HistoriesAreValid, HistoriesGrow, OpenFlagsAreTheLastSet, PrefixesAreAccepted, ReleasesWereAdded, RollbackFlagsAreTheLastSet, SharesAreTheLastSet, StonesAreTheLastSet, TargetsAreTheLastSet, WithdrawalsAreTheLastSet};
+ghost use Rattle.catalogue_laws.specs.Histories.{AppsWereAdded, AudiencesAreTheLastSet, BatchesKeepOtherApps, BatchesKeepOtherReleases, CohortsWereAdded, DiffsWereAdded, FloorsAreTheLastSet, HistoriesAreValid, HistoriesGrow, OpenFlagsAreTheLastSet, PrefixesAreAccepted, ReleasesWereAdded, RollbackFlagsAreTheLastSet, SharesAreTheLastSet, StonesAreTheLastSet, TargetsAreTheLastSet, WithdrawalsAreTheLastSet};
 
 /// States that an item is there exactly if some edit of the history added it.
 pub fn additions()
@@ -51,6 +51,12 @@ pub fn prefixes()
 /// States that a batch leaves the apps that none of its edits names as they are, with their indexes.
 pub fn other_apps()
     ensures { BatchesKeepOtherApps }
+{}
+
+/// States that a batch leaves the releases and the differentials of an app as they are if none of its edits changes
+/// those of that app.
+pub fn other_releases()
+    ensures { BatchesKeepOtherReleases }
 {}
 
 /// States that what a history leads to is valid.

@@ -17,6 +17,7 @@ use std::alloc::{AllocError, Global};
 use std::marker::Model;
 use std::sync::Arc;
 use std::thread::Threads;
+use values::Items;
 
 const MAX_BATCHES: usize = 4096;
 
@@ -46,11 +47,11 @@ impl Model for Edition {
     ghost invariant = { λ e. IsSound (map arc_value e.batches.items) e.catalogue e.tables };
 }
 
-// What a batch leads to, with a mark for each app that it may change.
+// What a batch leads to, with marks of the cohorts of each app whose tracks it may change.
 #[derive(Drop)]
 struct Draft {
     made: Catalogue,
-    marks: Vec<bool>,
+    marks: Vec<Items<bool>>,
 }
 
 // The same batches with one more, in a list of its own.
@@ -71,7 +72,7 @@ fn followed(
 }
 
 // rule: Tables of an edition
-// The tables of the next edition: those of the marked apps, and this edition's of the others.
+// The tables of the next edition: those of the marked cohorts, and this edition's of the others.
 fn next_tables(
     alloc: Global,
     before: &Catalogue,
@@ -162,7 +163,7 @@ impl Edition {
         Ok(Draft { made, marks })
     }
 
-    // The next edition, by the tables of the marked apps.
+    // The next edition, by the tables of the marked cohorts.
     fn followed_by(
         &self,
         batch: Batch,
@@ -188,9 +189,9 @@ impl Edition {
     // rule: The next edition
     /// Makes the edition with one more batch, and leaves this one as it is.
     ///
-    /// The tables of the apps that no edit of the batch names are kept: they share their rows with this edition's.
-    /// The calling thread makes those of the other apps. Returns the batch's first rejected edit if there is one,
-    /// then `HistoryFull` if this edition holds 4096 batches.
+    /// A table is kept if the batch changes neither the releases and differentials of its app nor its cohort, but for
+    /// the cohort's share and open flag: it shares its rows with this edition's. The calling thread makes the others.
+    /// Returns the batch's first rejected edit if there is one, then `HistoryFull` if this edition holds 4096 batches.
     pub fn next(&self, batch: Batch) -> Result<Edition, NextError>
         ensures { Continues self.now batch result }
     {
@@ -199,8 +200,8 @@ impl Edition {
         self.followed_by(batch, draft, built.as_slice())
     }
 
-    /// Makes the edition that `next` makes, with the tables of the apps that the batch names in `workers` pieces, from
-    /// 1 to 16, each of which may have a thread of its own and calls `gate` before its first table.
+    /// Makes the edition that `next` makes, with the tables that it doesn't keep in `workers` pieces, from 1 to 16, each
+    /// of which may have a thread of its own and calls `gate` before its first table.
     ///
     /// The errors are those of `next`; after one of them no piece has begun, unless it is `Memory`.
     pub fn next_with<R: Threads, G: Gate + Sync>(

@@ -2,8 +2,8 @@
 //!
 //! Contracts see an `Edition` as its history, the list of its batches; `Edition::next` returns the
 //! edition with one more batch, or the reason why there is none. Read `specs/Editions.antt`. It keeps the tables of
-//! the apps that the batch doesn't name, by `specs/Marks.antt`; `Edition::next_with` makes the others by several
-//! threads.
+//! the tracks whose graphs the batch can't change, by `specs/Marks.antt`; `Edition::next_with` makes the others by
+//! several threads.
 //!
 //! It does not publish editions, and replies to no requests: crates above do.
 

@@ -1,4 +1,4 @@
--- The built tables, one for each track of a marked app in turn.
+-- The built tables, one for each track of a marked cohort in turn.
 use Rattle.std.proofs.Common.{◌≡◌, ℕ, zero, suc, ◌+◌, ◌<◌, Bool, true, false, cond, List, [], ◌∷◌, ◌++◌, drop, get_or, length, map, take, Option, None, Some, refl, sym, ap, ◌∙◌, subst, arith}
 use Rattle.std.specs.List.{All, filter}
 use Rattle.std.specs.Option.{is_some}
@@ -11,7 +11,7 @@ use Rattle.payload_graph.specs.Net.{Net, net_among}
 use Rattle.price_cert.specs.Tables.{Certificate}
 use Rattle.par_tables.proofs.PlaceLemmas.{found_net, nets_of-cons}
 use Rattle.par_tables.proofs.TargetLemmas.{nets_of-targeted}
-use Rattle.par_tables.specs.Marks.{is_marked, AreTablesFor, IsNext, IsTableOf}
+use Rattle.par_tables.specs.Marks.{is_marked, AreTablesFor, IsNext, IsTableOf, Marks}
 use Rattle.par_tables.specs.Pieces.{has_target, tracks_of, HasTarget}
 use Rattle.par_tables.specs.Tables.{net_of_table, nets_of}
 use Rattle.par_tables.specs.Tracks.{keys_of}
@@ -91,7 +91,7 @@ is_chosen {X} p xs index d within passes =
 
 -- the built tables are those of the marked tracks that have a target
 built_nets :
-    (apps : List App) (marks : List Bool) (built : List Certificate) → AreTablesFor apps marks built →
+    (apps : List App) (marks : Marks) (built : List Certificate) → AreTablesFor apps marks built →
     map net_of_table built ≡ nets_of apps (filter (is_marked marks) (tracks_of apps))
 built_nets apps marks built are =
     are.nets
@@ -100,7 +100,7 @@ built_nets apps marks built are =
 
 -- the next one is that of the next marked track
 pub IsNext-built :
-    (apps : List App) (marks : List Bool) (keys : List TrackKey) (built : List Certificate) (index next : ℕ) (d : TrackKey) →
+    (apps : List App) (marks : Marks) (keys : List TrackKey) (built : List Certificate) (index next : ℕ) (d : TrackKey) →
     AreTablesFor apps marks built → keys ≡ tracks_of apps → All (HasTarget apps) keys → index < length keys →
     next ≡ length (filter (is_marked marks) (take index keys)) →
     IsNext apps marks built next (get_or keys index d)
@@ -141,7 +141,7 @@ IsNext-built apps marks keys built index next d are listed all within counted ma
 
 -- how many of the first tracks are marked, with one more
 pub length-marked_more :
-    (marks : List Bool) (keys : List TrackKey) (index : ℕ) (d : TrackKey) → index < length keys →
+    (marks : Marks) (keys : List TrackKey) (index : ℕ) (d : TrackKey) → index < length keys →
     length (filter (is_marked marks) (take (index + 1) keys))
     ≡ length (filter (is_marked marks) (take index keys)) + cond (is_marked marks (get_or keys index d)) 1 0
 length-marked_more marks keys index d within =

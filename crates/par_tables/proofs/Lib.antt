@@ -10,5 +10,7 @@ mod OwnLemmas
 mod PieceLemmas
 mod PlaceLemmas
 mod PlacingLemmas
+mod ReleasedLemmas
+mod SourceLemmas
 mod TargetLemmas
 mod TrackLemmas

@@ -1,5 +1,5 @@
 -- The tracks that have a target, and the tables that are made for them.
-use Rattle.std.proofs.Common.{◌≡◌, ◌<◌, Bool, true, cond, List, [], ◌∷◌, ◌++◌, length, Option, None, Some, refl, sym, ap, ◌∙◌}
+use Rattle.std.proofs.Common.{◌≡◌, ◌<◌, true, cond, List, [], ◌∷◌, ◌++◌, length, Option, None, Some, refl, sym, ap, ◌∙◌}
 use Rattle.std.specs.List.{All, filter, slice_get}
 use Rattle.std.specs.Option.{is_some, option_and_then}
 use Rattle.std.proofs.lemmas.List.Elements.{All-nil, filter_passes}
@@ -9,7 +9,7 @@ use Rattle.payload_graph.specs.declared.payload.TrackKey.{TrackKey}
 use Rattle.payload_graph.specs.Net.{Net, net_among, net_in}
 use Rattle.price_cert.specs.Tables.{Certificate}
 use Rattle.par_tables.proofs.PlaceLemmas.{found_net, nets_of-cons}
-use Rattle.par_tables.specs.Marks.{marked_keys, marked_tracks, AreTablesFor}
+use Rattle.par_tables.specs.Marks.{marked_keys, marked_tracks, AreTablesFor, Marks}
 use Rattle.par_tables.specs.Pieces.{has_target, tracks_of, HasTarget}
 use Rattle.par_tables.specs.Tables.{Adds, AreTables, IsTable, nets_of}
 use Rattle.par_tables.specs.Tracks.{keys_of}
@@ -58,9 +58,9 @@ AreTables-tracks apps keys tables listed adds = record {
   certified = adds.certified (All-nil IsTable);
 }
 
--- so are those of the marked apps
+-- so are those of the marked cohorts
 pub AreTablesFor-tracks :
-    (apps : List App) (marks : List Bool) (keys : List TrackKey) (tables : List Certificate) →
+    (apps : List App) (marks : Marks) (keys : List TrackKey) (tables : List Certificate) →
     keys ≡ marked_tracks apps marks → Adds apps keys [] tables → AreTablesFor apps marks tables
 AreTablesFor-tracks apps marks keys tables listed adds = record {
   nets = adds.nets ∙ ap (nets_of apps) listed ∙ nets_of-targeted apps (marked_keys apps marks);

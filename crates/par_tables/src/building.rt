@@ -1,4 +1,4 @@
-//! The tables of a catalogue, or of some of its apps, by one thread or by several.
+//! The tables of a catalogue, or of some of its cohorts, by one thread or by several.
 
 ghost use Rattle.std.specs.Prelude.{◌≡◌, ◌<◌, ◌≤◌, [], All, IfOk, length, take};
 ghost use Rattle.par_tables.specs.Marks.{AreTablesFor};
@@ -12,6 +12,7 @@ use payload_graph::TrackKey;
 use price_cert::Certified;
 use std::alloc::{AllocError, Global};
 use std::thread::{Threads, join};
+use values::Items;
 use worker_threads::Gate;
 
 // Makes the tables of the first pieces of the tracks that have a target: the last of them in a thread of its own.
@@ -106,20 +107,19 @@ pub fn build<R: Threads, G: Gate + Sync>(
     Ok(tables)
 }
 
-// rule: Tables of marked apps
-/// Makes those of a catalogue's tables whose app is marked, in their order, in pieces as `build` does.
+// rule: Tables of marked cohorts
+/// Makes those of a catalogue's tables whose cohort is marked, in their order, in pieces as `build` does.
 ///
-/// There is a mark for each app.
+/// The marks are those of the cohorts of each app; a cohort without one counts as marked.
 pub fn build_for<R: Threads, G: Gate + Sync>(
     rt: &R,
     alloc: Global,
     catalogue: &Catalogue,
-    marks: &[bool],
+    marks: &[Items<bool>],
     workers: usize,
     gate: &G,
 ) -> Result<Vec<Certified>, AllocError>
-    requires marks { length marks.now ≡ length catalogue.now }
-    requires workers { (1 ≤ workers) × (workers ≤ 16) }
+    requires { (1 ≤ workers) × (workers ≤ 16) }
     ensures { IfOk result (λ tables. AreTablesFor catalogue.now marks.now tables.items) }
 {
     let keys = tracks_for(alloc, catalogue, marks)?;
@@ -127,16 +127,13 @@ pub fn build_for<R: Threads, G: Gate + Sync>(
     Ok(tables)
 }
 
-// rule: Tables of marked apps
+// rule: Tables of marked cohorts
 /// Makes the list that `build_for` makes, by the calling thread alone.
-///
-/// There is a mark for each app.
 pub fn tables_for(
     alloc: Global,
     catalogue: &Catalogue,
-    marks: &[bool],
+    marks: &[Items<bool>],
 ) -> Result<Vec<Certified>, AllocError>
-    requires { length marks.now ≡ length catalogue.now }
     ensures { IfOk result (λ tables. AreTablesFor catalogue.now marks.now tables.items) }
 {
     let keys = tracks_for(alloc, catalogue, marks)?;

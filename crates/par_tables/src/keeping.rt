@@ -1,7 +1,8 @@
 //! The tables of a content of which some are kept from another content.
 
-ghost use Rattle.std.specs.Prelude.{◌≡◌, ◌+◌, ◌∷◌, ◌<◌, [], false, if◌then◌else◌, true, IfOk, OnOk, length, slice_get};
+ghost use Rattle.std.specs.Prelude.{◌≡◌, ◌+◌, ◌∷◌, ◌<◌, [], false, if◌then◌else◌, true, IfOk, OnOk, length};
 ghost use Rattle.par_tables.specs.Marks.{is_marked, AreTablesFor, IsNext, IsTableOf, IsTrack, KeepsOthers};
+ghost use Rattle.par_tables.specs.Sources.{source_at};
 ghost use Rattle.par_tables.specs.Tables.{Adds, AreTables};
 
 use crate::listing::TrackTables;
@@ -10,8 +11,9 @@ use catalogue::Catalogue;
 use payload_graph::TrackKey;
 use price_cert::Certified;
 use std::alloc::{AllocError, Global};
+use values::Items;
 
-// The table before of a track whose app is the same in both contents.
+// The table before of a track whose graph has the same source in both contents.
 fn find_kept<'a>(
     before: &Catalogue,
     tables: &'a TrackTables,
@@ -19,7 +21,7 @@ fn find_kept<'a>(
     key: &TrackKey,
 ) -> &'a Certified
     requires tables { AreTables before.now tables.now }
-    requires same { slice_get made.now key.now.app ≡ slice_get before.now key.now.app }
+    requires same { source_at made.now key.now.app key.now.cohort ≡ source_at before.now key.now.app key.now.cohort }
     requires track { IsTrack made.now key.now }
     ensures { IsTableOf made.now key.now result.now }
 {
@@ -29,12 +31,12 @@ fn find_kept<'a>(
     tables.find(key).unwrap()
 }
 
-// The table of a track: the next built one if its app is marked, else the one before.
+// The table of a track: the next built one if its cohort is marked, else the one before.
 fn source_of<'a>(
     before: &Catalogue,
     tables: &'a TrackTables,
     made: &Catalogue,
-    marks: &[bool],
+    marks: &[Items<bool>],
     built: &'a [Certified],
     next: usize,
     key: &TrackKey,
@@ -70,7 +72,7 @@ fn push_copy(
 }
 
 // The index of the built table after that of a track.
-fn index_after(marks: &[bool], built: &[Certified], next: usize, key: &TrackKey) -> usize
+fn index_after(marks: &[Items<bool>], built: &[Certified], next: usize, key: &TrackKey) -> usize
     requires { is_marked marks.now key.now ≡ true → next < length built.now }
     ensures { result ≡ next + (if is_marked marks.now key.now then 1 else 0) }
 {
@@ -83,16 +85,17 @@ fn index_after(marks: &[bool], built: &[Certified], next: usize, key: &TrackKey)
 }
 
 // rule: Kept tables
-/// Makes the list of a content's tables: of the marked apps copies of those that were built, and of the others copies
-/// of those of the content before. A copy shares its rows.
+/// Makes the list of a content's tables: of the marked cohorts copies of those that were built, and of the others
+/// copies of those of the content before. A copy shares its rows.
 ///
-/// An app without a mark is the same in both contents, and `built` is what `build_for` makes by the marks.
+/// The graphs of a cohort without a mark have the same source in both contents: the same releases and differentials of
+/// the app, and the cohort itself but for its share and its open flag. `built` is what `build_for` makes by the marks.
 pub fn merged(
     alloc: Global,
     before: &Catalogue,
     tables: &TrackTables,
     made: &Catalogue,
-    marks: &[bool],
+    marks: &[Items<bool>],
     built: &[Certified],
 ) -> Result<Vec<Certified>, AllocError>
     requires tables { AreTables before.now tables.now }

@@ -5,9 +5,9 @@
 //! There is one such list, by `laws`.
 //!
 //! `build` makes the same list by several threads, each of which has a piece of it: read `specs/Pieces.antt`.
-//! `build_for` makes the tables of some apps, and `merged` adds those of the others, kept of the content before:
-//! read `specs/Marks.antt`. `tables_for` is `build_for` by one thread. `tables_of` makes the tables of any tracks that
-//! have a target, also of clients with a pin.
+//! `build_for` makes the tables of some cohorts, and `merged` adds those of the others, kept of the content before:
+//! read `specs/Marks.antt`, and `specs/Sources.antt` for what a table depends on. `tables_for` is `build_for` by one
+//! thread. `tables_of` makes the tables of any tracks that have a target, also of clients with a pin.
 //!
 //! It does not find prices, which `solver` does. Only `build` and `build_for` start threads.
 

@@ -1,42 +1,41 @@
 //! The tracks of a catalogue that have a target.
 
-ghost use Rattle.std.specs.Prelude.{◌≡◌, ◌+◌, ◌<◌, All, IfOk, OnOk, length, take};
-ghost use Rattle.std.specs.List.{filter};
+ghost use Rattle.std.specs.Prelude.{◌≡◌, ◌+◌, ◌<◌, true, All, IfOk, OnOk, length, take};
+ghost use Rattle.std.specs.List.{filter, list_all};
 ghost use Rattle.std.specs.Option.{is_some};
-ghost use Rattle.payload_graph.specs.Chains.{cohort_target};
+ghost use Rattle.records.specs.Validity.{is_valid_cohort};
 ghost use Rattle.payload_graph.specs.Net.{net_in};
 ghost use Rattle.par_tables.specs.Marks.{is_marked, marked_keys, marked_tracks};
 ghost use Rattle.par_tables.specs.Pieces.{has_target, tracks_of, HasTarget};
 ghost use Rattle.par_tables.specs.Tracks.{app_keys, joined_from, keys_of};
 
 use crate::keys::cohort_keys;
-use catalogue::{App, Catalogue, Cohort};
+use catalogue::{App, Catalogue};
 use cohorts::track_target;
 use payload_graph::TrackKey;
 use std::alloc::{AllocError, Global};
+use values::Items;
 
-fn has_target_in_cohort(app: &App, cohort: &Cohort, key: &TrackKey) -> bool
-    ensures { result ≡ is_some (cohort_target app.now cohort.now key.now) }
-{
-    match track_target(app.releases.as_slice(), cohort, key.lane, &key.pin) {
-        Some(version) => app.find_release(&version).is_some(),
-        None => false,
-    }
-}
-
+// A target is released, so it isn't looked for among the releases.
 fn has_target_in(app: &App, key: &TrackKey) -> bool
+    requires { list_all (is_valid_cohort app.now.releases) app.now.cohorts ≡ true }
     ensures { result ≡ is_some (net_in app.now key.now) }
 {
     match app.cohorts.as_slice().get(key.cohort) {
-        Some(cohort) => has_target_in_cohort(app, cohort, key),
+        Some(cohort) => {
+            track_target(app.releases.as_slice(), cohort, key.lane, &key.pin).is_some()
+        }
         None => false,
     }
 }
 
 /// Whether a track has a target; a track that isn't there has none.
+///
+/// Only for clients with a pin it goes along the releases.
 pub fn has_target(catalogue: &Catalogue, key: &TrackKey) -> bool
     ensures { result ≡ has_target catalogue.now key.now }
 {
+    catalogue.validity();
     match catalogue.apps().get(key.app) {
         Some(app) => has_target_in(app, key),
         None => false,
@@ -91,18 +90,25 @@ fn targeted(
     Ok(keys)
 }
 
-/// Whether the app of a track is marked; an app without a mark counts as marked.
-pub(crate) fn is_marked(marks: &[bool], key: &TrackKey) -> bool
+/// Whether the cohort of a track is marked; one without a mark counts as marked.
+pub(crate) fn is_marked(marks: &[Items<bool>], key: &TrackKey) -> bool
     ensures { result ≡ is_marked marks.now key.now }
 {
     match marks.get(key.app) {
-        Some(marked) => *marked,
+        Some(own) => match own.as_slice().get(key.cohort) {
+            Some(marked) => *marked,
+            None => true,
+        },
         None => true,
     }
 }
 
-// Those of the tracks whose apps are marked.
-fn marked(alloc: Global, listed: &[TrackKey], marks: &[bool]) -> Result<Vec<TrackKey>, AllocError>
+// Those of the tracks whose cohorts are marked.
+fn marked(
+    alloc: Global,
+    listed: &[TrackKey],
+    marks: &[Items<bool>],
+) -> Result<Vec<TrackKey>, AllocError>
     ensures { IfOk result (λ keys. keys.items ≡ filter (is_marked marks.now) listed.now) }
 {
     let mut keys = Vec::new(alloc);
@@ -124,11 +130,11 @@ pub(crate) fn tracks(alloc: Global, catalogue: &Catalogue) -> Result<Vec<TrackKe
     Ok(keys)
 }
 
-/// The keys of the tracks of marked apps that have a target, in order.
+/// The keys of the tracks of marked cohorts that have a target, in order.
 pub(crate) fn tracks_for(
     alloc: Global,
     catalogue: &Catalogue,
-    marks: &[bool],
+    marks: &[Items<bool>],
 ) -> Result<Vec<TrackKey>, AllocError>
     ensures value { IfOk result (λ keys. keys.items ≡ marked_tracks catalogue.now marks.now) }
     ensures targets { IfOk result (λ keys. All (HasTarget catalogue.now) keys.items) }

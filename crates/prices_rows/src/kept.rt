@@ -185,23 +185,37 @@ fn is_kept<R: Threads>(rt: &R, alloc: Global, row: &str) -> Option<bool> {
     Some(is_first && is_counted && is_as_from_nothing(alloc, third)?)
 }
 
-// None named, one app, in another case, twice, the other, both, and a new one.
+// Of no edit, of edits that no graph reads, of those of a cohort, of those of an app's releases or differentials, and of
+// a new app.
 const ROWS: &str = r#"|0 5
+{ do = "set_share", app = "one", cohort = "main", share = 7 }|0 5
+{ do = "set_share", app = "demo", cohort = "beta", share = 7 }, { do = "set_share", app = "DEMO", cohort = "stable", share = 7 }, { do = "set_share", app = "one", cohort = "main", share = 0 }|0 5
+{ do = "set_open", app = "demo", cohort = "beta", on = true }|0 5
+{ do = "add_cohort", app = "demo", cohort = "gamma" }|0 5
+{ do = "add_cohort", app = "demo", cohort = "gamma" }, { do = "set_target", app = "demo", cohort = "gamma", target = "3.0" }|1 6
+{ do = "set_target", app = "one", cohort = "main", target = "1.0" }|0 5
+{ do = "set_target", app = "demo", cohort = "beta", target = "2.0" }|2 5
+{ do = "set_target", app = "demo", cohort = "stable", target = "4.0", held = "2.0" }|2 5
+{ do = "set_target", app = "demo", cohort = "stable" }|0 3
+{ do = "set_rollback", app = "one", cohort = "main", on = true }|2 6
+{ do = "set_rollback", app = "demo", cohort = "beta", on = false }|1 4
 { do = "set_withdrawn", app = "demo", version = "3.0", on = true }|4 5
 { do = "set_withdrawn", app = "DEMO", version = "3.0", on = true }|4 5
-{ do = "set_share", app = "demo", cohort = "beta", share = 7 }, { do = "set_share", app = "demo", cohort = "stable", share = 7 }|4 5
-{ do = "set_share", app = "one", cohort = "main", share = 7 }|1 5
-{ do = "set_share", app = "one", cohort = "main", share = 7 }, { do = "set_share", app = "demo", cohort = "beta", share = 7 }|5 5
-{ do = "set_target", app = "demo", cohort = "stable" }|2 3
-{ do = "set_rollback", app = "one", cohort = "main", on = true }|2 6
+{ do = "set_stone", app = "demo", version = "3.0", on = true }|4 5
+{ do = "set_audience", app = "demo", version = "3.0", cohorts = ["stable"] }|4 5
+{ do = "set_floor", app = "demo", version = "4.0", floor = "2.0" }|4 5
+{ do = "add_release", app = "one", version = "2.0", name = "one-2.0.bin", size = 5, sha256 = "9999999999999999999999999999999999999999999999999999999999999999" }|1 5
+{ do = "add_diff", app = "demo", from = "1.0", to = "4.0", name = "demo-1.0-4.0.bin", size = 100, sha256 = "1414141414141414141414141414141414141414141414141414141414141414" }, { do = "set_share", app = "one", cohort = "main", share = 7 }|4 5
 { do = "add_app", app = "two", default = "main" }|0 5
 { do = "add_app", app = "two", default = "main" }, { do = "add_release", app = "two", version = "1.0", name = "two-1.0.bin", size = 5, sha256 = "8888888888888888888888888888888888888888888888888888888888888888" }, { do = "set_target", app = "two", cohort = "main", target = "1.0", held = "1.0" }|2 7"#;
 
-// rule: Apps that a batch may change
+// rule: Edit of releases or differentials
 // rule: Kept tables
-// rule: Tables of marked apps
+// rule: Source of a graph
+// rule: Tables of marked cohorts
+// rule: Tracks that a batch may change
 #[test]
-fn makes_the_tables_of_the_named_apps_alone(rt: HostRuntime) {
+fn makes_only_the_tables_whose_graphs_may_change(rt: HostRuntime) {
     for row in ROWS.lines() {
         assert!(rt; is_kept(&rt, rt.alloc(), row) == Some(true), "{row}");
     }

@@ -14,6 +14,7 @@ use price_cert::Certified;
 use solver::solve;
 use std::alloc::Global;
 use std::thread::Threads;
+use values::Items;
 
 // Whether one of two tries came to what it should, and none to anything else; `None` is a try that ran out of memory.
 fn are_right(first: Option<bool>, second: Option<bool>) -> bool {
@@ -55,24 +56,21 @@ fn build_and_tables_without_memory(rt: HostRuntime) {
     assert!(rt; are_right(first, builds(&rt, rt.alloc())));
 }
 
-// The tables of the apps, or of none; `None` if memory ran out.
+// The tables of both cohorts of the app, or of none; `None` if memory ran out.
 fn built_for<R: Threads>(
     rt: &R,
     alloc: Global,
     catalogue: &Catalogue,
     mark: bool,
 ) -> Option<&'static Vec<Certified>> {
-    let marks = [mark];
-    if catalogue.apps().len() != 1 {
-        return None;
-    }
+    let marks = [Items::new(vec![in alloc; mark; 2].ok()?)];
     keep(
         alloc,
         build_for(rt, alloc, catalogue, &marks, 2, &Free).ok()?,
     )
 }
 
-// Whether the tables are made of the app that is marked, and of no other.
+// Whether the tables are made of the cohorts that are marked, and of no other.
 fn builds_for<R: Threads>(rt: &R, alloc: Global) -> Option<bool> {
     let catalogue = catalogue_of(alloc, DEMO, "")?;
     let marked = built_for(rt, alloc, catalogue, true)?;
@@ -80,7 +78,7 @@ fn builds_for<R: Threads>(rt: &R, alloc: Global) -> Option<bool> {
     Some(marked.len() == 4 && none.is_empty())
 }
 
-// rule: Tables of marked apps
+// rule: Tables of marked cohorts
 #[test]
 fn build_for_without_memory(rt: HostRuntime) {
     let first = builds_for(&rt, rt.alloc());

@@ -1,7 +1,7 @@
 -- What may be chosen for an app of a request.
-use Rattle.std.proofs.Common.{◌≡◌, ℕ, inr, List, [], ◌∷◌, Option, None, Some, refl, sym, ap, ◌∙◌, subst}
-use Rattle.std.specs.List.{slice_get}
-use Rattle.std.specs.Option.{option_and_then, option_map, IfSome}
+use Rattle.std.proofs.Common.{◌≡◌, ℕ, ◌<◌, inr, Bool, true, false, cond, List, [], ◌∷◌, get_or, length, Option, None, Some, refl, sym, ap, ◌∙◌, subst, arith}
+use Rattle.std.specs.List.{AllZip, slice_get}
+use Rattle.std.specs.Option.{option_and_then, option_map, option_map_or, IfSome, MatchOption}
 use Rattle.records.specs.Lookups.{releases_at}
 use Rattle.records.specs.declared.content.App.{App}
 use Rattle.records.specs.declared.content.Cohort.{Cohort}
@@ -16,9 +16,11 @@ use Rattle.payload_graph.specs.declared.place.Place.TheVariants.{At}
 use Rattle.payload_graph.specs.Net.{net_among, net_in, net_of}
 use Rattle.quotes.specs.Quotes.{IsQuote, IsQuoteAmong}
 use Rattle.quotes.specs.declared.quote.Quote.TheVariants.{Next}
-use Rattle.replies.specs.Clients.{Client, key_of}
-use Rattle.replies.specs.Plans.{IsChoice, IsChoiceAmong, IsClientChoice}
+use Rattle.replies.proofs.ZipLemmas.{AllZip-at}
+use Rattle.replies.specs.Clients.{Client, IsAssigned, IsInCohort, client_in, client_of, track_by}
+use Rattle.replies.specs.Plans.{IsAssignedChoice, IsChoice, IsChoiceAmong, IsChosen, IsClientChoice, IsTrackChoice, wants_update}
 use Rattle.replies.specs.declared.choices.Choice.{Choice}
+use Rattle.replies.specs.declared.client.Assignment.{Assignment}
 
 -- the releases at an app's index are the app's
 releases_at-there : (apps : List App) (index : ℕ) (app : App)
@@ -76,24 +78,75 @@ IsChoice-next apps key place payload sum bytes app there quoted own =
     subst (λ (o : Option App). IfSome o (λ app. IsChoice app key place (Some (record { payload = payload; bytes = bytes })))) (sym there)
     (record { sum = sum; first = quote.1; bytes = own })
 
--- what is chosen at the place of a client, by its track's key
-pub IsClientChoice-among :
-    (apps : List App) (client : Client) (ask : AppAsk) (key : TrackKey) (place : Place) (choice : Option Choice) →
-    slice_get apps client.index ≡ Some client.app → key ≡ key_of client →
-    place ≡ place_of (releases_at apps client.index) ask.fp ask.version →
-    IsChoiceAmong apps key place choice → IsClientChoice client ask choice
-IsClientChoice-among apps client ask key place choice there keyed placed chosen =
-    let releases = releases_at-there apps client.index client.app there in
-    let at : place ≡ place_of client.app.releases ask.fp ask.version =
-    placed ∙ ap (λ (releases : List Release). place_of releases ask.fp ask.version) releases in
-    let own = subst (λ (key : TrackKey). IsChoiceAmong apps key place choice) keyed chosen in
-    let here = IsChoice-among apps (key_of client) place choice client.app there own in
-    subst (λ (place : Place). IsChoice client.app (key_of client) place choice) at here
+-- what is chosen for a client of a track, at the place that it sent
+pub IsTrackChoice-among :
+    (apps : List App) (key : TrackKey) (ask : AppAsk) (place : Place) (choice : Option Choice) →
+    key.app < length apps → place ≡ place_of (releases_at apps key.app) ask.fp ask.version →
+    IsChoiceAmong apps key place choice → IsTrackChoice apps key ask choice
+IsTrackChoice-among apps key ask place choice within placed chosen = in_apps (slice_get apps key.app) refl chosen
+  where
+    in_apps :
+        (found : Option App) → slice_get apps key.app ≡ found → IfSome found (λ app. IsChoice app key place choice) →
+        IfSome found (λ app. IsChoice app key (place_of app.releases ask.fp ask.version) choice)
+    in_apps None there none = none
+    in_apps (Some app) there some =
+        let at : place ≡ place_of app.releases ask.fp ask.version =
+        placed ∙ ap (λ (releases : List Release). place_of releases ask.fp ask.version) (releases_at-there apps key.app app there) in
+        subst (λ (p : Place). IsChoice app key p choice) at some
 
 -- without a target nothing
-pub IsClientChoice-no_graph :
-    (apps : List App) (client : Client) (ask : AppAsk) →
-    slice_get apps client.index ≡ Some client.app → None ≡ net_among apps (key_of client) →
-    IsClientChoice client ask None
-IsClientChoice-no_graph apps client ask there none =
-    IsChoice-no_graph apps (key_of client) (place_of client.app.releases ask.fp ask.version) client.app there (sym none)
+pub IsTrackChoice-no_graph :
+    (apps : List App) (key : TrackKey) (ask : AppAsk) → None ≡ net_among apps key → IsTrackChoice apps key ask None
+IsTrackChoice-no_graph apps key ask none = in_apps (slice_get apps key.app) refl
+  where
+    in_apps :
+        (found : Option App) → slice_get apps key.app ≡ found →
+        IfSome found (λ app. IsChoice app key (place_of app.releases ask.fp ask.version) None)
+    in_apps None there = tt
+    in_apps (Some app) there =
+        IsChoice-no_graph apps key (place_of app.releases ask.fp ask.version) app there (sym none)
+
+-- what is chosen by an assignment is what is chosen for the app of the request
+pub IsChosen-assigned :
+    (apps : List App) (session : List ℕ) (ask : AppAsk) (assigned : Option Assignment) (choice : Option Choice) →
+    IsAssigned apps session ask assigned → IsAssignedChoice apps ask assigned choice → IsChosen apps session ask choice
+IsChosen-assigned apps session ask assigned choice is chosen = by_wish (wants_update ask) chosen
+  where
+    Chosen : Option Client → Type 0
+    Chosen client = MatchOption client (choice ≡ None) (λ c. IsClientChoice c ask choice)
+
+    in_app :
+        (a : Assignment) (app : Option App) → slice_get apps a.key.app ≡ app → IsInCohort apps (Some a) →
+        IfSome app (λ there. IsChoice there a.key (place_of there.releases ask.fp ask.version) choice) →
+        Chosen (option_map (λ (there : App). record { index = a.key.app; app = there; track = track_by there a }) app)
+    in_app a None there within none =
+        let few : a.key.cohort < 0 =
+        subst (λ (cohorts : List Cohort). a.key.cohort < length cohorts)
+        (ap (λ (o : Option App). option_map_or (λ (app : App). app.cohorts) o []) there) within in
+        absurd (omega arith)
+    in_app a (Some app) there within some = some
+
+    by_assignment :
+        (a : Option Assignment) → IsInCohort apps a →
+        MatchOption a (choice ≡ None) (λ assignment. IsTrackChoice apps assignment.key ask choice) →
+        Chosen (option_and_then (client_in apps) a)
+    by_assignment None within none = none
+    by_assignment (Some a) within some = in_app a (slice_get apps a.key.app) refl within some
+
+    by_wish :
+        (wants : Bool) →
+        MatchOption (cond wants assigned None) (choice ≡ None) (λ assignment. IsTrackChoice apps assignment.key ask choice) →
+        Chosen (cond wants (client_of apps session ask) None)
+    by_wish false none = none
+    by_wish true some = subst Chosen is.client (by_assignment assigned is.cohort some)
+
+-- of clients that are assigned side by side each is
+pub IsAssigned-at :
+    (apps : List App) (session : List ℕ) (asks : List AppAsk) (clients : List (Option Assignment)) (index : ℕ)
+    (ask : AppAsk) (client : Option Assignment) →
+    AllZip (IsAssigned apps session) asks clients → index < length asks → ask ≡ get_or asks index ask →
+    client ≡ get_or clients index client → IsAssigned apps session ask client
+IsAssigned-at apps session asks clients index ask client along within item own =
+    subst (IsAssigned apps session ask) (sym own)
+    (subst (λ (a : AppAsk). IsAssigned apps session a (get_or clients index client)) (sym item)
+    (AllZip-at (IsAssigned apps session) asks clients index ask client along within))

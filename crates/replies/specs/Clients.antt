@@ -59,6 +59,10 @@ pub record IsAssigned (apps : List App) (session : List ℕ) (ask : AppAsk) (ass
   pub client : option_and_then (client_in apps) assigned ≡ client_of apps session ask
   pub cohort : IsInCohort apps assigned
 
+-- so is the client of some session
+abbrev pub IsClient : List App → AppAsk → Option Assignment → Type 0
+IsClient apps ask assigned = (session : List ℕ) × IsAssigned apps session ask assigned
+
 -- rule: Key of a client
 -- the key of a client's track
 abbrev pub key_of : Client → TrackKey

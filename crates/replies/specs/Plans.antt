@@ -19,6 +19,7 @@ use Rattle.quotes.specs.Sums.{HasNoChain}
 use Rattle.replies.specs.Clients.{Client, IsAssigned, client_of, is_pinned, key_of}
 use Rattle.replies.specs.declared.choices.Choice.{Choice}
 use Rattle.replies.specs.declared.choices.Plan.{Plan}
+use Rattle.replies.specs.declared.client.Assignment.{Assignment}
 
 -- an update check that isn't disabled
 abbrev pub is_open : Check → Bool
@@ -55,6 +56,17 @@ IsChoiceAmong apps key place choice = IfSome (slice_get apps key.app) (λ app. I
 abbrev pub IsClientChoice : Client → AppAsk → Option Choice → Type 0
 IsClientChoice client ask choice =
     IsChoice client.app (key_of client) (place_of client.app.releases ask.fp ask.version) choice
+
+-- the same of a client of a track, at the place that it sent, by the key of the track
+abbrev pub IsTrackChoice : List App → TrackKey → AppAsk → Option Choice → Type 0
+IsTrackChoice apps key ask choice =
+    IfSome (slice_get apps key.app) (λ app. IsChoice app key (place_of app.releases ask.fp ask.version) choice)
+
+-- the same by the client's assignment: nothing if its app is unknown or it wants no update
+abbrev pub IsAssignedChoice : List App → AppAsk → Option Assignment → Option Choice → Type 0
+IsAssignedChoice apps ask assigned choice =
+    MatchOption (if wants_update ask then assigned else None) (choice ≡ None)
+    (λ assignment. IsTrackChoice apps assignment.key ask choice)
 
 -- rule: Chosen payload
 -- what is chosen for an app of a session's request: nothing if the app is unknown or wants no update

@@ -2,7 +2,7 @@
 
 ghost use Rattle.std.specs.Prelude.{◌≡◌, ◌<◌, IfOk, Some, length, slice_get};
 ghost use Rattle.std.specs.List.{AllZip};
-ghost use Rattle.replies.specs.Clients.{IsAssigned, IsInCohort, client_in, cohort_of, key_of};
+ghost use Rattle.replies.specs.Clients.{IsAssigned, IsInCohort, client_in, cohort_of};
 
 use catalogue::{App, Catalogue, Cohort};
 use cohorts::{Session, Track, track_target};
@@ -20,6 +20,7 @@ pub struct Assignment {
 }
 
 // rule: Client of an app
+// rule: Key of a client
 /// Finds the app that is asked for, and assigns its client to a track.
 pub(crate) fn assign(
     catalogue: &Catalogue,
@@ -104,20 +105,6 @@ impl<'a> Client<'a> {
                 pin,
                 target,
             },
-        }
-    }
-
-    // rule: Key of a client
-    /// Returns the key of the client's track.
-    pub(crate) fn key(&self) -> TrackKey
-        ensures { result ≡ key_of (record { index = self.now.index; app = self.now.app.now; track = self.now.track }) }
-    {
-        TrackKey {
-            app: self.index,
-            cohort: self.track.cohort,
-            lane: self.track.lane,
-            rollback: self.track.rollback,
-            pin: self.track.pin,
         }
     }
 

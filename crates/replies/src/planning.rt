@@ -1,6 +1,6 @@
 //! What is chosen for each app of a request.
 
-ghost use Rattle.std.specs.Prelude.{◌≡◌, ◌<◌, false, true, All, IfOk, IfSome, Some, length, option_map, slice_get};
+ghost use Rattle.std.specs.Prelude.{◌≡◌, ◌<◌, false, true, All, IfOk, IfSome, Some, length, option_map};
 ghost use Rattle.std.specs.List.{AllZip};
 ghost use Rattle.records.specs.Lookups.{diffs_at, releases_at};
 ghost use Rattle.cohorts.specs.Offers.{is_any};
@@ -9,12 +9,13 @@ ghost use Rattle.payload_graph.specs.Places.{IsWithin};
 ghost use Rattle.payload_graph.specs.Net.{net_among};
 ghost use Rattle.price_cert.specs.Tables.{Certificate};
 ghost use Rattle.editions.specs.Editions.{content_of, IsTrackKey};
-ghost use Rattle.replies.specs.Clients.{IsAssigned, key_of};
-ghost use Rattle.replies.specs.Plans.{pinned_key, ArePinnedTables, HasTable, IsChoiceAmong, IsChosen, IsClientChoice, IsPlan, IsPlanOf};
+ghost use Rattle.replies.specs.Clients.{IsAssigned, IsClient};
+ghost use Rattle.replies.specs.Pinned.{key_pinned};
+ghost use Rattle.replies.specs.Plans.{ArePinnedTables, HasTable, IsAssignedChoice, IsChoiceAmong, IsPlan, IsPlanOf, IsTrackChoice};
 
 use crate::checks::wants_update;
 use crate::choices::{Choice, Plan};
-use crate::client::{Assignment, Client, assign_each};
+use crate::client::{Assignment, assign_each};
 use crate::pinned::{find_pinned, is_any, pinned_tables};
 use catalogue::{App, Catalogue};
 use editions::Edition;
@@ -63,26 +64,20 @@ fn choose_by(
     }
 }
 
-// What a client that wants an update is offered, by its track's table, if the track has a target.
+// What a client of a track that wants an update is offered, by the track's table, if the track has a target.
 fn choose_for(
     catalogue: &Catalogue,
-    client: &Client<'_>,
+    key: &TrackKey,
     ask: &AppAsk,
     table: Option<&Certified>,
 ) -> Option<Choice>
-    requires app { slice_get catalogue.now client.now.index ≡ Some client.now.app.now }
-    requires table { option_map (λ table. table.now.net) table
-        ≡ net_among catalogue.now (key_of (record { index = client.now.index; app = client.now.app.now; track = client.now.track })) }
-    ensures { IsClientChoice (record { index = client.now.index; app = client.now.app.now; track = client.now.track }) ask.now result }
+    requires app { key.now.app < length catalogue.now }
+    requires table { option_map (λ table. table.now.net) table ≡ net_among catalogue.now key.now }
+    ensures { IsTrackChoice catalogue.now key.now ask.now result }
 {
-    let place = place_of(
-        catalogue,
-        client.index,
-        ask.fp.as_str(),
-        ask.version.as_str(),
-    );
+    let place = place_of(catalogue, key.app, ask.fp.as_str(), ask.version.as_str());
     match table {
-        Some(table) => choose_by(catalogue, &client.key(), &place, table),
+        Some(table) => choose_by(catalogue, key, &place, table),
         None => None,
     }
 }
@@ -106,29 +101,24 @@ fn find_table<'a>(
 }
 
 // rule: Chosen payload
-// What is chosen for the client of an app that is asked for.
+// What is chosen for the client that asks for an app.
 fn choose_app(
     edition: &Edition,
     tables: &[Certified],
-    request: &Request,
     ask: &AppAsk,
     client: Option<Assignment>,
 ) -> Option<Choice>
-    requires assigned { IsAssigned (content_of edition.now) request.now.session ask.now client }
-    requires table { IfSome (pinned_key (content_of edition.now) request.now.session ask.now)
-        (HasTable (content_of edition.now) tables.now) }
+    requires assigned { IsClient (content_of edition.now) ask.now client }
+    requires table { IfSome (key_pinned ask.now client) (HasTable (content_of edition.now) tables.now) }
     requires own { All (λ (table : Certificate). net_among (content_of edition.now) table.net.key ≡ Some table.net) tables.now }
-    ensures { IsChosen (content_of edition.now) request.now.session ask.now result }
+    ensures { IsAssignedChoice (content_of edition.now) ask.now client result }
 {
-    let _ = request;
-    let assignment = client?;
+    let Assignment { key, .. } = client?;
     if !wants_update(ask) {
         return None;
     }
-    let catalogue = edition.catalogue();
-    let client = Client::new(catalogue, &assignment);
-    let table = find_table(edition, tables, &client.key());
-    choose_for(catalogue, &client, ask, table)
+    let table = find_table(edition, tables, &key);
+    choose_for(edition.catalogue(), &key, ask, table)
 }
 
 // What is chosen for each app of a request.
@@ -146,7 +136,7 @@ fn choose_each(
     let asks = request.apps.as_slice();
     let mut choices = Vec::with_capacity(alloc, asks.len())?;
     for (index, ask) in asks.iter().enumerate() {
-        let choice = choose_app(edition, tables, request, ask, clients[index]);
+        let choice = choose_app(edition, tables, ask, clients[index]);
         choices.push(choice)?;
     }
     Ok(choices)
