@@ -1,2 +1,3 @@
 mod DownloadLemmas
+mod TransferLemmas
 pub mod ReplyLemmas

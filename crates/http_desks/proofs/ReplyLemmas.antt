@@ -1,5 +1,5 @@
 -- The reply to a message, by the parts that were written.
-use Rattle.std.proofs.Common.{◌≡◌, ◌≢◌, ℕ, Bool, true, false, not, eqb, List, [], ◌++◌, append-nil, length, Option, None, Some, Result, Ok, Err, inl, inr, refl, sym, subst, ap, cond, arith}
+use Rattle.std.proofs.Common.{◌≡◌, ◌≢◌, ℕ, Bool, true, false, not, eqb, List, [], ◌∷◌, ◌++◌, append-nil, length, Option, None, Some, Result, Ok, Err, inl, inr, refl, sym, subst, ap, ◌∙◌, cond, arith}
 use Rattle.std.proofs.lemmas.Bool.{eqb-true, eq-eqb}
 use Rattle.std.specs.Prelude.{codes}
 use Rattle.std.specs.Option.{option_eq}
@@ -8,16 +8,21 @@ use Rattle.http_heads.specs.Replies.{head_bytes}
 use Rattle.http_heads.specs.declared.reply.ReplyHead.{ReplyHead}
 use Rattle.http_heads.specs.declared.status.Status.{Status}
 use Rattle.http_heads.specs.declared.status.Status.TheVariants as status
-use Rattle.http_desks.specs.Downloads.{Downloads, Reads, download, joined_blocks}
+use Rattle.http_desks.specs.Downloads.{Reads, download, joined_blocks}
 use Rattle.http_wire.specs.Sending.{AppendsPart}
 use Rattle.values.specs.declared.failed.Failed.{Failed}
 use Rattle.http_wire.proofs.KnownLemmas.{Appends-then, AppendsPart-then}
+use Rattle.http_desks.specs.declared.answering.Begun.{Begun}
+use Rattle.http_desks.specs.declared.answering.Begun.TheVariants as begun
 use Rattle.http_desks.specs.declared.answering.Handled.{Handled}
 use Rattle.http_desks.specs.declared.answering.Handled.TheVariants.{Answered, Cut}
+use Rattle.http_desks.specs.declared.method.Method.{Method}
+use Rattle.http_desks.specs.declared.method.Method.TheVariants.{Get}
 use Rattle.values.specs.declared.declared.Declared.{Declared}
-use Rattle.http_desks.specs.Calls.{Call}
-use Rattle.http_desks.specs.Uses.{Mismatched, Read, Broken, Use}
-use Rattle.http_desks.specs.Replies.{Answers, Fetches, head_lines}
+use Rattle.http_desks.specs.Begins.{Begins, BeginsFetch, Rests, done_of}
+use Rattle.http_desks.specs.Calls.{Call, Leads, Looks}
+use Rattle.http_desks.specs.Uses.{Mismatched, Read, Broken, Fetched, IsRouted, IsUse, Use, calls_of}
+use Rattle.http_desks.specs.Replies.{Answers, Fetches, head_lines, reply_to}
 
 -- the head of a reply is the lines of its parts
 pub head_bytes-lines :
@@ -102,24 +107,6 @@ pub head_alone :
 head_alone sizes reads declared closes told old new tells other head =
     (Mismatched, (told, tells, other_size told declared.size other), (refl, head))
 
--- the package was sent, in whole or not
-pub download_done :
-    (sizes : Option ℕ → Type 0) (reads : Reads) (declared : Declared) (closes whole : Bool) (told : Option ℕ)
-    (old between new : Option (List ℕ)) →
-    sizes told →
-    false ≡ not (option_eq eqb told (Some declared.size)) →
-    Appends old between (package_head declared closes) →
-    Downloads reads declared.size declared.hash between new (Ok whole) →
-    Fetches sizes reads declared closes old new (Ok (cond whole Answered Cut))
-download_done sizes reads declared closes whole told old between new tells same head (blocks, last, read, is_whole, sent) = (
-  Read blocks last,
-  (subst sizes (same_size told declared.size same) tells, read),
-  (
-    ap (λ (b : Bool). Some (cond b Answered Cut)) (sym is_whole),
-    Appends-then old between new (package_head declared closes) (download declared.hash blocks last) head sent,
-  ),
-)
-
 AppendsPart-behind :
     (old between new : Option (List ℕ)) (first text : List ℕ) →
     Appends old between first →
@@ -129,23 +116,108 @@ AppendsPart-behind old between new first text whole part =
     subst (AppendsPart old new) (ap (λ (end : List ℕ). first ++ end) (append-nil text))
     (AppendsPart-then old between new first text [] whole part)
 
--- a write failed after some blocks of the package, or at the last one
-pub download_failed :
-    (sizes : Option ℕ → Type 0) (reads : Reads) (declared : Declared) (closes : Bool) (told : Option ℕ)
-    (old between new : Option (List ℕ)) (failed : Failed) →
-    sizes told →
-    false ≡ not (option_eq eqb told (Some declared.size)) →
+-- a package was sent after its head
+pub head_then :
+    (sizes : Option ℕ → Type 0) (reads : Reads) (declared : Declared) (closes : Bool)
+    (old between new : Option (List ℕ)) (result : Result Handled Failed) →
+    sizes (Some declared.size) →
     Appends old between (package_head declared closes) →
-    Downloads reads declared.size declared.hash between new (Err failed) →
-    Fetches sizes reads declared closes old new (Err failed)
-download_failed sizes reads declared closes told old between new failed tells same head (inl (blocks, few, read, part)) = (
+    Rests reads declared between new result →
+    Fetches sizes reads declared closes old new result
+head_then sizes reads declared closes old between new (Ok handled) sized head (whole, is, (blocks, last, read, is_whole, sent)) = (
+  Read blocks last,
+  (sized, read),
+  (
+    ap (λ (b : Bool). Some (cond b Answered Cut)) (sym is_whole) ∙ ap Some (sym is),
+    Appends-then old between new (package_head declared closes) (download declared.hash blocks last) head sent,
+  ),
+)
+head_then sizes reads declared closes old between new (Err failed) sized head (inl (blocks, few, read, part)) = (
   Broken blocks,
-  (subst sizes (same_size told declared.size same) tells, few, read),
+  (sized, few, read),
   AppendsPart-behind old between new (package_head declared closes) (joined_blocks blocks) head part,
 )
-download_failed sizes reads declared closes told old between new failed tells same head (inr (blocks, last, read, right, part)) = (
+head_then sizes reads declared closes old between new (Err failed) sized head (inr (blocks, last, read, right, part)) = (
   Read blocks (Some last),
-  (subst sizes (same_size told declared.size same) tells, read),
+  (sized, read),
   AppendsPart-behind old between new (package_head declared closes) (download declared.hash blocks (Some last)) head
       (subst (AppendsPart between new) (sym (ap (λ b. cond b (joined_blocks blocks ++ last) (joined_blocks blocks)) right)) part),
 )
+
+-- the file has the declared size
+pub sized_as :
+    (sizes : Option ℕ → Type 0) (told : Option ℕ) (size : ℕ) → sizes told →
+    false ≡ not (option_eq eqb told (Some size)) → sizes (Some size)
+sized_as sizes told size tells same = subst sizes (same_size told size same) tells
+
+module _
+    {D : Type 0} (steps : D → Call → D → Type 0) (kind body : List ℕ) (closes : Bool)
+    (before after : D)
+  where
+    -- a reply that is written
+    pub done_begins :
+        (IsFit : Use → Type 0) (old new : Option (List ℕ)) (result : Result Handled Failed) →
+        Answers IsFit steps kind body closes before after old new result →
+        Begins IsFit steps kind body closes before after old new (done_of result)
+    done_begins IsFit old new (Ok handled) answers = answers
+    done_begins IsFit old new (Err failed) answers = answers
+
+    -- a package that the desk knows
+    pub fetch_begins :
+        (sizes : Option ℕ → Type 0) (reads : Reads) (method : Method) (name : List ℕ) (declared : Declared)
+        (old new : Option (List ℕ)) (result : Result Begun Failed) →
+        method ≡ Get → Leads steps before (Looks name (Some declared) ∷ []) after →
+        BeginsFetch sizes reads name declared closes old new result →
+        Begins (IsRouted sizes reads method name) steps kind body closes before after old new result
+    fetch_begins sizes reads method name declared old new (Ok (begun.Done handled)) get calls (fetch, fits, writes) = record {
+      used = Fetched name declared fetch;
+      fits = (refl, get, fits);
+      calls = calls;
+      writes = writes;
+    }
+    fetch_begins sizes reads method name declared old new (Ok (begun.Sends path told)) get calls (same, known, sized, head) =
+        subst (λ (n : List ℕ). IsRouted sizes reads method name (Fetched n told (Broken []))
+        × Leads steps before (calls_of body (Fetched n told (Broken []))) after
+        × Appends old new (reply_to kind closes (Fetched n told (Broken [])))) (sym same)
+        (subst (λ (d : Declared). IsRouted sizes reads method name (Fetched name d (Broken []))
+        × Leads steps before (calls_of body (Fetched name d (Broken []))) after
+        × Appends old new (reply_to kind closes (Fetched name d (Broken [])))) (sym known)
+        ((refl, get, (sized, omega arith, tt)), calls, head))
+    fetch_begins sizes reads method name declared old new (Err failed) get calls (fetch, fits, writes) = record {
+      used = Fetched name declared fetch;
+      fits = (refl, get, fits);
+      calls = calls;
+      writes = writes;
+    }
+
+    -- a use that fits the narrower fits the wider
+    pub Begins-wider :
+        (IsFit IsWide : Use → Type 0) (old new : Option (List ℕ)) (result : Result Begun Failed) →
+        ((used : Use) → IsFit used → IsWide used) →
+        Begins IsFit steps kind body closes before after old new result →
+        Begins IsWide steps kind body closes before after old new result
+    Begins-wider IsFit IsWide old new (Ok (begun.Done handled)) wider begins =
+        Answers-wider IsFit IsWide steps kind body closes before after old new (Ok handled) wider begins
+    Begins-wider IsFit IsWide old new (Ok (begun.Sends name declared)) wider (fits, calls, head) =
+        (wider (Fetched name.now declared (Broken [])) fits, calls, head)
+    Begins-wider IsFit IsWide old new (Err failed) wider begins =
+        Answers-wider IsFit IsWide steps kind body closes before after old new (Err failed) wider begins
+
+    -- the package after its head
+    pub rest_answers :
+        (path : List ℕ) (tells : ℕ → Type 0) (sizes : List ℕ → Option ℕ → Type 0) (reads : List ℕ → Reads) (method : Method)
+        (target name : List ℕ) (declared : Declared) (old between new : Option (List ℕ)) (result : Result Handled Failed) →
+        IsUse path tells sizes reads method target (Fetched name declared (Broken [])) →
+        Leads steps before (calls_of body (Fetched name declared (Broken []))) after →
+        Appends old between (reply_to kind closes (Fetched name declared (Broken []))) →
+        Rests (reads name) declared between new result →
+        Answers (IsUse path tells sizes reads method target) steps kind body closes before after old new result
+    rest_answers path tells sizes reads method target name declared old between new result (routed, get, (sized, few, none)) calls head rests =
+        let head_alone : Appends old between (package_head declared closes) =
+        subst (Appends old between) (append-nil (package_head declared closes)) head in
+        let (fetch, fits, writes) = head_then (sizes name) (reads name) declared closes old between new result sized head_alone rests in record {
+          used = Fetched name declared fetch;
+          fits = (routed, get, fits);
+          calls = calls;
+          writes = writes;
+        }

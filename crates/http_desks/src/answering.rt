@@ -1,16 +1,18 @@
 ghost use Rattle.std.specs.Prelude.{◌≡◌, ◌+◌, ℕ, length, Some, is_ok, if◌then◌else◌};
 ghost use Rattle.http_desks.specs.declared.answering.Handled.TheVariants.{Answered};
+ghost use Rattle.http_desks.specs.Begins.{Begins, done_of};
 ghost use Rattle.http_desks.specs.Replies.{Answers, Writes, empty_reply, kind_for};
 ghost use Rattle.http_desks.specs.Uses.{IsAsked, IsRouted, IsUse};
 
 use crate::clock::Clock;
 use crate::desk::Desk;
 use crate::empty::send_empty;
-use crate::fetching::fetch;
+use crate::fetching::{begin_fetch, send_rest};
 use crate::method::Method;
 use crate::package::Packages;
 use http_heads::{Allow, ReplyHead, Status, package_name, path_of};
 use http_wire::{Failed, Sink, send_reply};
+use values::Declared;
 
 /// How a reply came out.
 #[derive(Clone, Copy, Debug, Drop, PartialEq, Eq)]
@@ -21,6 +23,15 @@ pub enum Handled {
     Off,
     /// A package that is not whole.
     Cut,
+}
+
+/// How a reply begins.
+#[derive(Clone, Copy, Drop)]
+pub enum Begun<'n> {
+    /// It is written, and came out so.
+    Done(Handled),
+    /// The head of the package of this name is written. The package has bytes, and its file the declared length.
+    Sends(&'n [u8], Declared),
 }
 
 /// A whole message.
@@ -81,17 +92,17 @@ fn ask<W: Sink, D: Desk, C: Clock>(
     }
 }
 
-// Sends the package of this name, if the desk knows it and the method is GET.
-fn take<W: Sink, D: Desk, P: Packages>(
+// Begins the reply to a message for the package of this name, if the desk knows it and the method is GET.
+fn take<'n, W: Sink, D: Desk, P: Packages>(
     sink: &mut W,
     block: &mut [u8],
     desk: &mut D,
     packages: &P,
-    name: &[u8],
+    name: &'n [u8],
     request: &Request<'_>,
-) -> Result<Handled, Failed>
+) -> Result<Begun<'n>, Failed>
     requires { length block.old ≡ 65536 }
-    ensures taken { Answers (IsRouted (P.sizes packages.now name.now) (P.reads packages.now name.now) request.now.method name.now)
+    ensures taken { Begins (IsRouted (P.sizes packages.now name.now) (P.reads packages.now name.now) request.now.method name.now)
         D.steps (D.content_type desk.old) request.now.body.now request.now.closes
         desk.old desk.new (W.contents sink.old) (W.contents sink.new) result }
     ensures path { D.path desk.new ≡ D.path desk.old }
@@ -99,17 +110,27 @@ fn take<W: Sink, D: Desk, P: Packages>(
     ensures failed { W.failures sink.new ≡ W.failures sink.old + (if is_ok result then 0 else 1) }
 {
     let Some(declared) = desk.package(name) else {
-        return deny(sink, block, Status::NotFound, None, request.closes);
+        return done(deny(sink, block, Status::NotFound, None, request.closes));
     };
     match request.method {
-        Method::Get => fetch(sink, block, packages, name, &declared, request.closes),
-        _ => deny(
+        Method::Get => begin_fetch(sink, block, packages, name, &declared, request.closes),
+        _ => done(deny(
             sink,
             block,
             Status::MethodNotAllowed,
             Some(Allow::Get),
             request.closes,
-        ),
+        )),
+    }
+}
+
+// A reply that is written.
+fn done<'n>(handled: Result<Handled, Failed>) -> Result<Begun<'n>, Failed>
+    ensures { result ≡ done_of handled }
+{
+    match handled {
+        Ok(handled) => Ok(Begun::Done(handled)),
+        Err(error) => Err(error),
     }
 }
 
@@ -132,6 +153,45 @@ fn deny<W: Sink>(
 
 // rule: Route of a message
 // rule: Use of a message
+// rule: Reply that is begun
+/// Writes the reply to a message, but of a package with bytes its head alone, and returns how it came out.
+///
+/// The head of a package is followed by its blocks, which a `Transfer` makes. All else is as `answer` has it.
+pub fn begin<'a, W: Sink, D: Desk, Z: Packages + Clock>(
+    sink: &mut W,
+    block: &mut [u8],
+    desk: &mut D,
+    site: &Z,
+    request: &Request<'a>,
+) -> Result<Begun<'a>, Failed>
+    requires { length block.old ≡ 65536 }
+    ensures begins { Begins (IsUse (D.path desk.old) (Z.tells site.now) (Z.sizes site.now) (Z.reads site.now)
+        request.now.method request.now.target.now)
+        D.steps (D.content_type desk.old) request.now.body.now request.now.closes
+        desk.old desk.new (W.contents sink.old) (W.contents sink.new) result }
+    ensures path { D.path desk.new ≡ D.path desk.old }
+    ensures content_type { D.content_type desk.new ≡ D.content_type desk.old }
+    ensures failed { W.failures sink.new ≡ W.failures sink.old + (if is_ok result then 0 else 1) }
+{
+    let path = path_of(request.target);
+    if path == desk.path().as_bytes() {
+        return done(match request.method {
+            Method::Post => ask(sink, block, desk, site, request.body, request.closes),
+            _ => deny(
+                sink,
+                block,
+                Status::MethodNotAllowed,
+                Some(Allow::Post),
+                request.closes,
+            ),
+        });
+    }
+    match package_name(path) {
+        Some(name) => take(sink, block, desk, site, name, request),
+        None => done(deny(sink, block, Status::NotFound, None, request.closes)),
+    }
+}
+
 /// Writes the reply to a message, and returns how it came out.
 ///
 /// 404 if the target names neither the desk nor a package that the desk knows; 405 if the method is
@@ -154,21 +214,9 @@ pub fn answer<W: Sink, D: Desk, Z: Packages + Clock>(
     ensures content_type { D.content_type desk.new ≡ D.content_type desk.old }
     ensures failed { W.failures sink.new ≡ W.failures sink.old + (if is_ok result then 0 else 1) }
 {
-    let path = path_of(request.target);
-    if path == desk.path().as_bytes() {
-        return match request.method {
-            Method::Post => ask(sink, block, desk, site, request.body, request.closes),
-            _ => deny(
-                sink,
-                block,
-                Status::MethodNotAllowed,
-                Some(Allow::Post),
-                request.closes,
-            ),
-        };
-    }
-    match package_name(path) {
-        Some(name) => take(sink, block, desk, site, name, request),
-        None => deny(sink, block, Status::NotFound, None, request.closes),
+    match begin(sink, block, desk, site, request) {
+        Ok(Begun::Done(handled)) => Ok(handled),
+        Ok(Begun::Sends(name, declared)) => send_rest(sink, block, site, name, &declared),
+        Err(error) => Err(error),
     }
 }

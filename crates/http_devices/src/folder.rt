@@ -23,9 +23,10 @@ struct Opened<F: Drop> {
 
 /// The packages of a folder, each a file of the package's name.
 ///
-/// `open` and `size` open the file, and reads are from the file that was opened last: a file that is replaced
-/// later is not mixed with it. A symbolic link, a folder and what is no regular file are no package, and a name
-/// that could leave the folder opens nothing.
+/// `open` and `size` open the file. A read is from the file that was opened last; if that has another name, the file is
+/// opened again. So one download at a time reads one file, also if that is replaced meanwhile; of several at once each
+/// may go on in a new file of its name. A symbolic link, a folder and what is no regular file are no package, and a
+/// name that could leave the folder opens nothing.
 #[derive(Drop)]
 pub struct Folder<'a, S: RegularFiles<F>, F: Drop> {
     files: &'a S,
@@ -136,7 +137,7 @@ impl<'a, S: RegularFiles<F>, F: Read + Seek + Drop> Packages for Folder<'a, S, F
             return Err(Failed);
         };
         if opened.name.as_str() != name {
-            return Err(Failed);
+            let _ = opened.open(self.files, self.path, name);
         }
         match &mut opened.file {
             Some(file) => read_from(file, at, into),

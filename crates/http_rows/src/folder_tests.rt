@@ -147,19 +147,41 @@ fn replace(rt: &HostRuntime, folder: &str) -> Option<()> {
     fs::rename(rt, new, path_in(rt.alloc(), folder, "a.bin")?).ok()
 }
 
-// Whether the package that was opened is read although it is replaced, until one is opened again.
+// Whether the package that was opened is read although it is replaced, until another is read.
 fn is_kept(rt: &HostRuntime, path: &str) -> bool {
     let folder = Folder::new(rt.alloc(), rt, path);
     let is_first = has(&folder, "a.bin", 0, "10", "012");
     let is_replaced = replace(rt, path).is_some();
     let is_old = has_bytes(&folder, "a.bin", 3, "345") && has_bytes(&folder, "empty", 0, "failed");
-    is_first && is_replaced && is_old && has(&folder, "a.bin", 0, "4", "abc")
+    let is_new = has_bytes(&folder, "a.bin", 1, "bcd");
+    is_first && is_replaced && is_old && is_new && has(&folder, "a.bin", 0, "4", "abc")
+}
+
+// Whether two packages are read by turns, and one that can't be read between them.
+fn are_read_by_turns(rt: &HostRuntime, path: &str) -> bool {
+    let folder = Folder::new(rt.alloc(), rt, path);
+    is_written(rt, path, "b.bin", "abcdefghij")
+        && has(&folder, "a.bin", 0, "10", "012")
+        && has(&folder, "b.bin", 0, "10", "abc")
+        && has_bytes(&folder, "a.bin", 3, "345")
+        && has_bytes(&folder, "b.bin", 3, "def")
+        && has_bytes(&folder, "missing", 0, "failed")
+        && has_bytes(&folder, "a.bin", 7, "789")
 }
 
 #[test]
 fn reads_the_file_that_it_opened(rt: HostRuntime) -> Result<(), Fail> {
     let path = make_folder(&rt, "http_devices_replaced").ok_or("no folder")?;
     let is_read = is_kept(&rt, path);
+    fs::remove_dir_all(&rt, path)?;
+    assert!(rt; is_read);
+    Ok(())
+}
+
+#[test]
+fn reads_packages_by_turns(rt: HostRuntime) -> Result<(), Fail> {
+    let path = make_folder(&rt, "http_devices_turns").ok_or("no folder")?;
+    let is_read = are_read_by_turns(&rt, path);
     fs::remove_dir_all(&rt, path)?;
     assert!(rt; is_read);
     Ok(())

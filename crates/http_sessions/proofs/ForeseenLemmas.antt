@@ -1,13 +1,15 @@
 -- Bytes that are less than a message, and more after them.
-use Rattle.std.proofs.Common.{◌≡◌, ◌∙◌, ◌+◌, ◌-◌, ◌<◌, ◌≤◌, ◌++◌, ℕ, List, append_assoc, length, length-append, length-drop, take, drop, Ok, sym, subst, ap, arith}
-use Rattle.std.proofs.lemmas.List.{take-append-drop}
+use Rattle.std.proofs.Common.{◌≡◌, ◌∙◌, ◌+◌, ◌-◌, ◌<◌, ◌≤◌, ◌++◌, ℕ, List, append_assoc, length, length-append, length-drop, length-take, take, drop, Ok, sym, subst, ap, arith}
+use Rattle.std.proofs.lemmas.List.{length-take-le, take-append-drop}
 use Rattle.httparse.specs.Grammar.{RequestHead, print_request}
-use Rattle.httparse.specs.Spans.{IsRequestAt}
+use Rattle.httparse.specs.Spans.{IsRequestAt, span_bytes}
 use Rattle.httparse.specs.declared.spans.HeaderSpan.{HeaderSpan}
 use Rattle.httparse.specs.declared.spans.RequestSpans.{RequestSpans}
+use Rattle.http_sessions.specs.declared.foreseeing.Found.{Found}
 use Rattle.http_sessions.specs.declared.message.Plan.{Plan}
-use Rattle.http_sessions.specs.Readings.{IsPart, IsPlanOf}
+use Rattle.http_sessions.specs.Readings.{IsFound, IsPart, IsPlanOf}
 use Rattle.http_sessions.proofs.ReadingLemmas.{part_of_body}
+use Rattle.http_sessions.proofs.StopLemmas.{split_same}
 
 -- a whole head among the first bytes, and less than its body, also with more bytes
 pub part_with_more :
@@ -33,3 +35,45 @@ part_with_more bytes front places spans head plan at short within planned more l
       length-drop spans.len first,
     ) in
     subst (λ (l : List ℕ). IsPart l) all (part_of_body first others places spans head plan at short planned after)
+
+-- a whole head among the first bytes, and its body
+pub whole_found :
+    (bytes : List ℕ) (front : ℕ) (places : List HeaderSpan) (spans : RequestSpans) (head : RequestHead) (plan : Plan) (found : Found) →
+    IsRequestAt (take front bytes) places spans head →
+    length (print_request head) ≤ 16384 →
+    spans.len ≤ length (take front bytes) →
+    IsPlanOf head (Ok plan) →
+    plan.size ≤ length bytes - spans.len →
+    found.request.method ≡ plan.method →
+    found.request.target.now ≡ span_bytes (take front bytes) spans.path →
+    found.request.body.now ≡ take plan.size (drop spans.len bytes) →
+    found.request.closes ≡ plan.closes →
+    found.length ≡ spans.len + plan.size →
+    IsFound bytes found
+whole_found bytes front places spans head plan found at short within planned room method target body closes long =
+    let first = take front bytes in
+    let behind = drop spans.len first ++ drop front bytes in
+    let (framed, named, asked) = planned in
+    let all : bytes ≡ print_request head ++ behind =
+    sym (take-append-drop front bytes) ∙ ap (λ (l : List ℕ). l ++ drop front bytes) at.reads.1
+    ∙ append_assoc (print_request head) (drop spans.len first) (drop front bytes) in
+    let few : length (take spans.len bytes) ≡ length (print_request head) =
+    length-take-le spans.len bytes (omega (arith, within, length-take front bytes)) ∙ at.len in
+    let (heads, rest) = split_same (take spans.len bytes) (drop spans.len bytes) (print_request head) behind few
+    (take-append-drop spans.len bytes ∙ all) in
+    let size : length found.request.body.now ≡ plan.size =
+    ap length body ∙ length-take-le plan.size (drop spans.len bytes) (omega (arith, room, length-drop spans.len bytes)) in record {
+      head = head;
+      after = drop plan.size (drop spans.len bytes);
+      valid = at.reads.0;
+      short = short;
+      framed = framed ∙ ap Ok (sym size);
+      method = method ∙ named;
+      target = target ∙ at.path;
+      closes = closes ∙ asked;
+      whole = all ∙ ap (λ (l : List ℕ). print_request head ++ l)
+          (sym rest ∙ sym (take-append-drop plan.size (drop spans.len bytes))
+          ∙ ap (λ (l : List ℕ). l ++ drop plan.size (drop spans.len bytes)) (sym body))
+          ∙ sym (append_assoc (print_request head) found.request.body.now (drop plan.size (drop spans.len bytes)));
+      long = omega (arith, long, size, at.len, length-append (print_request head) found.request.body.now);
+    }

@@ -47,7 +47,7 @@ same_head :
     (head ≡ other) × (after ≡ behind)
 same_head bytes head other after behind one two = request_unique bytes head other after behind one.0 two.0
 
-split_same :
+pub split_same :
     (front back first last : List ℕ) →
     length front ≡ length first →
     front ++ back ≡ first ++ last →

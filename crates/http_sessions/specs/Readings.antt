@@ -8,6 +8,7 @@ use Rattle.http_wire.specs.Heads.{IsLongHead, IsPartOfHead}
 use Rattle.values.specs.declared.failed.Failed.{Failed}
 use Rattle.http_desks.specs.Uses.{method_of}
 use Rattle.http_sessions.specs.declared.foreseeing.Foreseen.{Foreseen}
+use Rattle.http_sessions.specs.declared.foreseeing.Found.{Found}
 use Rattle.http_sessions.specs.declared.foreseeing.Foreseen.TheVariants as foreseen
 use Rattle.http_sessions.specs.declared.message.Message.{Message}
 use Rattle.http_sessions.specs.declared.message.Message.TheVariants.{Whole, Rejected, Ended}
@@ -43,11 +44,26 @@ IsRejected why bytes =
 abbrev pub IsPart : List ℕ → Type 0
 IsPart bytes = IsPartOfHead bytes ⊎ IsPartOfBody bytes
 
+-- the bytes are this message, and others after it
+pub record IsFound (bytes : List ℕ) (found : Found) : Type 0 where
+  pub head : RequestHead
+  pub after : List ℕ
+  pub valid : IsRequestHead head
+  pub short : length (print_request head) ≤ 16384
+  pub framed : message_length head ≡ Ok (length found.request.body.now)
+  pub method : found.request.method ≡ method_of head.method
+  pub target : found.request.target.now ≡ head.target
+  pub closes : found.request.closes ≡ asks_close head
+  pub whole : bytes ≡ (print_request head ++ found.request.body.now) ++ after
+  pub long : found.length ≡ length (print_request head ++ found.request.body.now)
+
 -- rule: Part of a message
--- what the bytes are before a message is read: less than a message, and still less with more bytes up to a length
+-- what the bytes are before a message is read: less than a message, and still less with more bytes up to a length; or
+-- a whole message and others
 abbrev pub IsForeseen : List ℕ → Foreseen → Type 0
 IsForeseen bytes (foreseen.Part need) =
     IsPart bytes × ((more : List ℕ) → length (bytes ++ more) < need → IsPart (bytes ++ more))
+IsForeseen bytes (foreseen.Whole found) = IsFound bytes found
 IsForeseen bytes foreseen.Turn = ⊤
 
 -- what the bytes are, of which some wait; the target and the body are at the front of these cells

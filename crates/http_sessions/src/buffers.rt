@@ -34,4 +34,11 @@ impl Buffers {
             block,
         })
     }
+
+    /// Returns the room for a reply, of `BLOCK` bytes.
+    pub fn block(&mut self) -> &mut [u8]
+        ensures { length result.now ≡ 65536 }
+    {
+        &mut self.block
+    }
 }

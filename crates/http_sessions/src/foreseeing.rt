@@ -5,22 +5,34 @@ ghost use Rattle.http_sessions.specs.Readings.{IsForeseen};
 
 use crate::buffers::Buffers;
 use crate::message::examine;
+use http_desks::Request;
 use http_wire::MAX_HEAD;
 use httparse::Status;
 use httparse::spans::{HeaderSpan, parse_request};
 
+/// A whole message at the front of a connection's bytes.
+#[derive(Clone, Copy, Drop)]
+pub struct Found<'b> {
+    /// What is asked; `closes` is whether the head asks for the end of the connection.
+    pub request: Request<'b>,
+    /// How many bytes the message has.
+    pub length: usize,
+}
+
 /// What a connection's bytes are, before a message is read from them.
 #[derive(Clone, Copy, Drop)]
-pub enum Foreseen {
+pub enum Foreseen<'b> {
     /// Less than a message; so they are with more bytes, as long as there are fewer than so many in all.
     Part(usize),
-    /// Perhaps a message, or bytes that no message begins with.
+    /// A whole message is at their front.
+    Whole(Found<'b>),
+    /// Perhaps bytes that no message begins with.
     Turn,
 }
 
 // rule: Part of a message
-// Looks whether the bytes are less than a message, with room for the fields of a head.
-fn foresee_in(bytes: &[u8], fields: &mut [HeaderSpan]) -> Foreseen
+// Looks what the bytes are, with room for the fields of a head.
+fn foresee_in<'b>(bytes: &'b [u8], fields: &mut [HeaderSpan]) -> Foreseen<'b>
     ensures { IsForeseen bytes.now result }
 {
     let front = &bytes[..bytes.len().min(MAX_HEAD)];
@@ -31,13 +43,22 @@ fn foresee_in(bytes: &[u8], fields: &mut [HeaderSpan]) -> Foreseen
     };
     match examine(front, fields, &spans) {
         Ok(plan) if bytes.len() - spans.len < plan.size => Foreseen::Part(spans.len + plan.size),
-        _ => Foreseen::Turn,
+        Ok(plan) => Foreseen::Whole(Found {
+            request: Request {
+                method: plan.method,
+                target: spans.path.of(front),
+                body: &bytes[spans.len..spans.len + plan.size],
+                closes: plan.closes,
+            },
+            length: spans.len + plan.size,
+        }),
+        Err(_) => Foreseen::Turn,
     }
 }
 
 impl Buffers {
-    /// Looks whether the bytes of a connection are less than a message, without copying them.
-    pub fn foresee(&mut self, bytes: &[u8]) -> Foreseen
+    /// Looks what the bytes of a connection are, without copying them.
+    pub fn foresee<'b>(&mut self, bytes: &'b [u8]) -> Foreseen<'b>
         ensures { IsForeseen bytes.now result }
     {
         foresee_in(bytes, &mut self.fields)

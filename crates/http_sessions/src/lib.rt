@@ -1,8 +1,10 @@
 //! Sessions: the bytes of a connection in, the replies out, however the bytes come in pieces.
 //!
 //! A `Session` is advanced message by message: `turn` reads one, replies and returns the session
-//! if the connection stays open. `serve_at` is a loop over `turn`, and `serve` the same without a watch. Read `specs/Messages.antt`,
-//! `specs/Stops.antt` and `specs/Sessions.antt`; `laws` says that a stream is cut in one way.
+//! if the connection stays open. `serve_at` is a loop over `turn`, and `serve` the same without a watch.
+//! `Buffers::foresee` finds the next message in bytes that came, for a caller that replies to it in parts. Read
+//! `specs/Messages.antt`, `specs/Stops.antt`, `specs/Readings.antt` and `specs/Sessions.antt`; `laws` says that a stream
+//! is cut in one way.
 //!
 //! `Buffers` and `Session` take their memory when they are made, and no message takes any. The crate
 //! does not open connections, and sets no limit of time.
@@ -21,7 +23,7 @@ mod turning;
 
 pub use crate::buffers::Buffers;
 pub use crate::ends::{End, Fault, Served};
-pub use crate::foreseeing::Foreseen;
+pub use crate::foreseeing::{Foreseen, Found};
 pub use crate::serving::{serve, serve_at};
 pub use crate::session::{MAX_MESSAGES, Session, Turn};
 pub use http_desks::{Answer, Clock, Declared, Desk, DeskStatus, Off, Packages, Site};

@@ -1,2 +1,4 @@
 mod TalkLemmas
 mod TurnLemmas
+mod FoundLemmas
+mod SendLemmas

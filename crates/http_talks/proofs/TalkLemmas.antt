@@ -1,6 +1,8 @@
 -- What is said on a connection, after more bytes were sent or came, or memory ran out.
-use Rattle.std.proofs.Common.{◌≡◌, ◌∙◌, ◌+◌, ◌==◌, ◌++◌, ◌<◌, ℕ, List, [], ◌∷◌, append-nil, append_assoc, length, take, drop, refl, sym, subst, ap, arith}
+use Rattle.std.proofs.Common.{◌≡◌, ◌∙◌, ◌+◌, ◌-◌, ◌==◌, ◌++◌, ◌<◌, ℕ, List, [], ◌∷◌, append-nil, append_assoc, length, length-drop, take, drop, refl, sym, subst, ap, arith}
 use Rattle.std.specs.Prelude.{flat_map}
+use Rattle.std.proofs.Math.Seq.{take-append_seam}
+use Rattle.std.proofs.lemmas.List.{take_all}
 use Rattle.std.proofs.lemmas.Simd.{chunk-drop}
 use Rattle.http_desks.specs.declared.method.Method.{Method}
 use Rattle.http_desks.specs.Calls.{Call}
@@ -26,6 +28,8 @@ AreReplies-sent stage.Busy sent waits left replies first cut is =
     append_assoc sent first left ∙ ap (λ (l : List ℕ). sent ++ l) (sym cut) ∙ is
 AreReplies-sent stage.Part sent waits left replies first cut is =
     append_assoc sent first left ∙ ap (λ (l : List ℕ). sent ++ l) (sym cut) ∙ is
+AreReplies-sent (stage.Sends sending) sent waits left replies first cut is =
+    append_assoc sent first left ∙ ap (λ (l : List ℕ). sent ++ l) (sym cut) ∙ is
 AreReplies-sent stage.Over sent waits left replies first cut is =
     append_assoc sent first left ∙ ap (λ (l : List ℕ). sent ++ l) (sym cut) ∙ is
 AreReplies-sent stage.Lost sent waits left replies [] cut (none, (rest, is)) =
@@ -37,6 +41,7 @@ pub sent_part :
     (at : Stage) (sent waits replies : List ℕ) → AreReplies at sent waits replies → (left : List ℕ) × (replies ≡ sent ++ left)
 sent_part stage.Busy sent waits replies is = (waits, sym is)
 sent_part stage.Part sent waits replies is = (waits, sym is)
+sent_part (stage.Sends sending) sent waits replies is = (waits, sym is)
 sent_part stage.Over sent waits replies is = (waits, sym is)
 sent_part stage.Lost sent waits replies (none, left) = left
 
@@ -44,11 +49,20 @@ sent_part stage.Lost sent waits replies (none, left) = left
 pub part_of : (at : Stage) → phase_of at ≡ Waiting → at ≡ stage.Part
 part_of stage.Busy is = absurd (grind (arith, is))
 part_of stage.Part is = refl
+part_of (stage.Sends sending) is = absurd (grind (arith, is))
 part_of stage.Over is = absurd (grind (arith, is))
 part_of stage.Lost is = absurd (grind (arith, is))
 
 pub drop-cut : (bytes : List ℕ) (at count : ℕ) → drop at bytes ≡ take count (drop at bytes) ++ drop (at + count) bytes
 drop-cut bytes at count = chunk-drop at count bytes
+
+-- bytes that were written over the first of others, without these
+pub written_over : (len : ℕ) (block items : List ℕ) → length block ≡ len → take len (block ++ items) ≡ block
+written_over len block items long = subst (λ (n : ℕ). take n (block ++ items) ≡ block) long (take-append_seam block items)
+
+-- the bytes from a place on
+pub rest_from : (at : ℕ) (bytes : List ℕ) → take (length bytes - at) (drop at bytes) ≡ drop at bytes
+rest_from at bytes = take_all (length bytes - at) (drop at bytes) (omega (arith, length-drop at bytes))
 
 module _ (IsFit : Method → List ℕ → Use → Type 0) (kind : List ℕ) where
   -- a connection that was accepted

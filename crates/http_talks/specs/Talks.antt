@@ -1,16 +1,18 @@
 -- What is said on a connection so far: messages and their replies (RFC 9112, section 9.3), in any parts; this project's
 -- profile.
-use Rattle.std.specs.Prelude.{◌≡◌, ⊤, ◌<◌, ℕ, Bool, true, false, ◌==◌, List, [], ◌++◌, drop, length, flat_map, Some}
+use Rattle.std.specs.Prelude.{◌≡◌, ⊤, ◌+◌, ◌<◌, ℕ, Bool, true, false, ◌==◌, List, [], ◌++◌, drop, length, flat_map, Some}
 use Rattle.std.specs.List.{AllByRecursion}
 use Rattle.http_desks.specs.declared.method.Method.{Method}
 use Rattle.http_desks.specs.Calls.{Call}
-use Rattle.http_desks.specs.Uses.{Use}
+use Rattle.http_desks.specs.Transfers.{IsAt as HasMade, package_size}
+use Rattle.http_desks.specs.Uses.{Broken, Fetched, Use}
 use Rattle.http_sessions.specs.declared.ends.End.{End}
-use Rattle.http_sessions.specs.Messages.{Exchange, IsOpen, exchange_bytes, exchange_calls, open_reply}
+use Rattle.http_sessions.specs.Messages.{Exchange, IsOpen, closing, exchange_bytes, exchange_calls, open_reply}
 use Rattle.http_sessions.specs.Readings.{IsPart}
-use Rattle.http_sessions.specs.Stops.{Ends, More, Stop, StopsAt, Waits, begun, stop_bytes, stop_calls}
+use Rattle.http_sessions.specs.Stops.{Ends, Last, More, Stop, StopsAt, Waits, begun, stop_bytes, stop_calls}
 use Rattle.http_sessions.specs.Sessions.{Serves, TurnEnds, wrote}
 use Rattle.http_ports.specs.Speech.{Busy, Over, Phase, Waiting}
+use Rattle.http_talks.specs.declared.talk.Sending.{Sending}
 use Rattle.http_talks.specs.declared.talk.Stage.{Stage}
 use Rattle.http_talks.specs.declared.talk.Stage.TheVariants as stage
 use Rattle.http_talks.specs.declared.talk.Talk.{Talk}
@@ -24,6 +26,7 @@ pending talk = drop talk.sent talk.made.items
 abbrev pub phase_of : Stage → Phase
 phase_of stage.Busy = Busy
 phase_of stage.Part = Waiting
+phase_of (stage.Sends sending) = Busy
 phase_of stage.Over = Over
 phase_of stage.Lost = Over
 
@@ -31,8 +34,17 @@ phase_of stage.Lost = Over
 abbrev pub is_lost : Stage → Bool
 is_lost stage.Busy = false
 is_lost stage.Part = false
+is_lost (stage.Sends sending) = false
 is_lost stage.Over = false
 is_lost stage.Lost = true
+
+-- a package is sent, of which there are more blocks
+abbrev pub IsSending : Stage → Type 0
+IsSending stage.Busy = ⊥
+IsSending stage.Part = ⊥
+IsSending (stage.Sends sending) = ⊤
+IsSending stage.Over = ⊥
+IsSending stage.Lost = ⊥
 
 -- what a turn of the session over these bytes came to
 abbrev pub HasTurned :
@@ -45,11 +57,25 @@ HasTurned IsFit steps kind start kept before behind turned =
 abbrev pub StaysPart : List ℕ → ℕ → Type 0
 StaysPart bytes need = (more : List ℕ) → length (bytes ++ more) < need → IsPart (bytes ++ more)
 
+-- the last message is used for a package of which these full blocks were made
+pub record IsSent (last : Bool) (sending : Sending) (e : Exchange) (blocks : List (List ℕ)) : Type 0 where
+  pub used : e.used ≡ Fetched sending.name.items sending.declared (Broken blocks)
+  pub closes : sending.closes ≡ closing last e.head
+  pub size : package_size sending.transfer ≡ sending.declared.size
+  pub blocks_made : HasMade blocks sending.transfer
+
+-- a package is sent, as the reply to the message that these bytes are
+abbrev pub SendsFor : Bool → Sending → Stop → List ℕ → Type 0
+SendsFor last sending stop rest =
+    (e : Exchange) × (blocks : List (List ℕ)) × (stop ≡ Last e) × (rest ≡ exchange_bytes e) × IsSent last sending e blocks
+
 -- how far the session is after so many messages: by what is after them, and what was not looked at
 abbrev pub IsAt : Stage → ℕ → List ℕ → ℕ → ℕ → Stop → List ℕ → List ℕ → Type 0
 IsAt stage.Busy replies kept need count stop rest unread = (stop ≡ More) × (replies ≡ count) × (kept ≡ rest ++ unread)
 IsAt stage.Part replies kept need count stop rest unread =
     (stop ≡ Waits) × (replies ≡ count) × (kept ≡ rest) × (unread ≡ []) × StaysPart kept need
+IsAt (stage.Sends sending) replies kept need count stop rest unread =
+    (sending.closes ≡ false → replies ≡ count + 1) × (kept ≡ unread) × SendsFor (count == 999) sending stop rest
 IsAt stage.Over replies kept need count stop rest unread =
     (how : End) × Ends (count == 999) (Some unread) stop rest how × (begun stop ≡ 1)
 IsAt stage.Lost replies kept need count stop rest unread = ⊤
@@ -58,6 +84,7 @@ IsAt stage.Lost replies kept need count stop rest unread = ⊤
 abbrev pub AreReplies : Stage → List ℕ → List ℕ → List ℕ → Type 0
 AreReplies stage.Busy sent pending replies = sent ++ pending ≡ replies
 AreReplies stage.Part sent pending replies = sent ++ pending ≡ replies
+AreReplies (stage.Sends sending) sent pending replies = sent ++ pending ≡ replies
 AreReplies stage.Over sent pending replies = sent ++ pending ≡ replies
 AreReplies stage.Lost sent pending replies = (pending ≡ []) × ((left : List ℕ) × (replies ≡ sent ++ left))
 

@@ -1,16 +1,24 @@
--- What a turn of a session leaves of a connection; this project's profile.
-use Rattle.std.specs.Prelude.{◌≡◌, ◌≢◌, ⊤, ℕ, List, ◌++◌, Ok}
+-- What a turn of a session, or a reply, leaves of a connection; this project's profile.
+use Rattle.std.specs.Prelude.{◌≡◌, ◌≢◌, ⊤, ◌+◌, ◌==◌, ℕ, Bool, true, false, List, [], ◌++◌, Some, Ok}
 use Rattle.http_desks.specs.declared.method.Method.{Method}
 use Rattle.http_desks.specs.Calls.{Call, Leads}
+use Rattle.http_desks.specs.Transfers.{IsAt as HasMade, package_size}
 use Rattle.http_desks.specs.Uses.{Use}
+use Rattle.http_desks.specs.declared.answering.Handled.{Handled}
+use Rattle.http_desks.specs.declared.answering.Handled.TheVariants.{Answered}
+use Rattle.values.specs.declared.declared.Declared.{Declared}
+use Rattle.http_sessions.specs.declared.ends.End.{End}
 use Rattle.http_sessions.specs.declared.ends.Served.{Served}
 use Rattle.http_sessions.specs.declared.session.Session.{Session}
 use Rattle.http_sessions.specs.declared.session.Turn.TheVariants.{Ended, Open}
-use Rattle.http_sessions.specs.Sessions.{replies, waiting}
-use Rattle.http_talks.specs.Talks.{Said, pending}
+use Rattle.http_sessions.specs.Stops.{Ends, More, Stop, Waits, begun, end_after}
+use Rattle.http_sessions.specs.Sessions.{Serves, replies, waiting}
+use Rattle.http_talks.specs.Talks.{Said, SendsFor, pending}
 use Rattle.http_talks.specs.declared.outcome.After.{After}
 use Rattle.http_talks.specs.declared.outcome.After.TheVariants as after
 use Rattle.http_talks.specs.declared.outcome.Opened.{Opened}
+use Rattle.http_talks.specs.declared.outcome.Started.{Started}
+use Rattle.http_talks.specs.declared.talk.Sending.{Sending}
 use Rattle.http_talks.specs.declared.talk.Stage.TheVariants as stage
 use Rattle.http_talks.specs.declared.talk.Talk.{Talk}
 use Rattle.http_talks.specs.declared.turning.Turned.{Turned}
@@ -24,6 +32,7 @@ IsOpened next left made opened =
 abbrev pub IsOpenAfter : Session → List ℕ → List ℕ → After → Type 0
 IsOpenAfter next left made after.Part = ⊥
 IsOpenAfter next left made (after.Open opened) = IsOpened next left made opened
+IsOpenAfter next left made (after.Sends started) = ⊥
 IsOpenAfter next left made (after.Over bytes) = ⊥
 IsOpenAfter next left made after.Lost = ⊤
 
@@ -32,9 +41,84 @@ abbrev pub IsAfter : ℕ → Turned → After → Type 0
 IsAfter start turned after.Part = (served : Served) × (turned.result ≡ Ok (Ended served)) × (served.requests ≡ start)
 IsAfter start turned (after.Open opened) =
     (next : Session) × (turned.result ≡ Ok (Open next)) × IsOpened next turned.left.now turned.made.items opened
+IsAfter start turned (after.Sends started) = ⊥
 IsAfter start turned (after.Over made) =
     (served : Served) × (turned.result ≡ Ok (Ended served)) × (served.requests ≢ start) × (made.items ≡ turned.made.items)
 IsAfter start turned after.Lost = ⊤
+
+-- a package of this name, of which no block was made
+pub record IsNew (name : List ℕ) (declared : Declared) (closes : Bool) (sending : Sending) : Type 0 where
+  pub path : sending.name.items ≡ name
+  pub known : sending.declared ≡ declared
+  pub ends : sending.closes ≡ closes
+  pub size : package_size sending.transfer ≡ declared.size
+  pub none_made : HasMade [] sending.transfer
+
+-- what a reply leaves that was written, after so many others
+abbrev pub IsDone : ℕ → Handled → Bool → List ℕ → List ℕ → After → Type 0
+IsDone start handled closes left made after.Part = ⊥
+IsDone start handled closes left made (after.Open opened) =
+    (handled ≡ Answered) × (closes ≡ false) × (opened.begun ≡ start + 1) × (opened.kept.items ≡ left)
+    × (opened.made.items ≡ made)
+IsDone start handled closes left made (after.Sends started) = ⊥
+IsDone start handled closes left made (after.Over bytes) =
+    ((how : End) × (end_after closes (Some handled) ≡ Some how)) × (bytes.items ≡ made)
+IsDone start handled closes left made after.Lost = ⊤
+
+-- what the head of a package leaves, after so many other replies
+abbrev pub IsStarted : ℕ → Sending → List ℕ → List ℕ → After → Type 0
+IsStarted start sending left made after.Part = ⊥
+IsStarted start sending left made (after.Open opened) = ⊥
+IsStarted start sending left made (after.Sends started) =
+    (started.sending ≡ sending) × (sending.closes ≡ false → started.begun ≡ start + 1) × (started.kept.items ≡ left)
+    × (started.made.items ≡ made)
+IsStarted start sending left made (after.Over bytes) = ⊥
+IsStarted start sending left made after.Lost = ⊤
+
+-- a part of a session over the bytes that are kept, after so many messages: what it leaves, what it made, and how it ends
+abbrev pub Makes :
+    {D : Type 0} → (Method → List ℕ → Use → Type 0) → (D → Call → D → Type 0) → List ℕ → ℕ → (ℕ → Stop → List ℕ → Type 0)
+    → Bool → List ℕ → List ℕ → List ℕ → D → D → Type 0
+Makes IsFit steps kind start IsEnd whole kept left made before behind =
+    Serves IsFit steps kind start IsEnd whole [] (Some kept) (Some left) (Some []) (Some made) before behind
+
+-- how it ends: with less than a message, and all is kept
+abbrev pub EndsPart : List ℕ → ℕ → Stop → List ℕ → Type 0
+EndsPart kept count stop rest = (count ≡ 0) × (stop ≡ Waits) × (rest ≡ kept)
+
+-- with a message after which the session goes on
+abbrev pub EndsOpen : ℕ → List ℕ → Opened → ℕ → Stop → List ℕ → Type 0
+EndsOpen start left opened count stop rest =
+    (count ≡ 1) × (stop ≡ More) × (opened.kept.items ≡ rest ++ left) × (opened.begun ≡ start + 1)
+
+-- with a message that is used for a package, of which the head was made
+abbrev pub EndsSending : ℕ → Started → ℕ → Stop → List ℕ → Type 0
+EndsSending start started count stop rest =
+    (count ≡ 0) × (started.sending.closes ≡ false → started.begun ≡ start + 1)
+    × SendsFor (start == 999) started.sending stop rest
+
+-- with the last reply
+abbrev pub EndsOver : ℕ → List ℕ → ℕ → Stop → List ℕ → Type 0
+EndsOver start left count stop rest =
+    (count ≡ 0) × ((how : End) × Ends (start == 999) (Some left) stop rest how) × (begun stop ≡ 1)
+
+-- anyhow, since memory ran out
+abbrev pub EndsLost : ℕ → Stop → List ℕ → Type 0
+EndsLost count stop rest = ⊤
+
+-- what a part of a session leaves
+abbrev pub Leaves :
+    {D : Type 0} → (Method → List ℕ → Use → Type 0) → (D → Call → D → Type 0) → List ℕ → ℕ → List ℕ → D → D → After → Type 0
+Leaves IsFit steps kind start kept before behind after.Part =
+    (made : List ℕ) × Makes IsFit steps kind start (EndsPart kept) true kept [] made before behind
+Leaves IsFit steps kind start kept before behind (after.Open opened) =
+    (left : List ℕ) × Makes IsFit steps kind start (EndsOpen start left opened) true kept left opened.made.items before behind
+Leaves IsFit steps kind start kept before behind (after.Sends started) =
+    Makes IsFit steps kind start (EndsSending start started) true kept started.kept.items started.made.items before behind
+Leaves IsFit steps kind start kept before behind (after.Over made) =
+    (left : List ℕ) × Makes IsFit steps kind start (EndsOver start left) true kept left made.items before behind
+Leaves IsFit steps kind start kept before behind after.Lost =
+    (left : List ℕ) × (made : List ℕ) × (whole : Bool) × Makes IsFit steps kind start EndsLost whole kept left made before behind
 
 -- the connection then
 abbrev pub IsApplied : Talk → After → Talk → Type 0
@@ -44,6 +128,9 @@ IsApplied old after.Part new =
 IsApplied old (after.Open opened) new =
     (new.stage ≡ stage.Busy) × (new.begun ≡ opened.begun) × (new.kept.items ≡ opened.kept.items)
     × (pending new ≡ opened.made.items)
+IsApplied old (after.Sends started) new =
+    (new.stage ≡ stage.Sends started.sending) × (new.begun ≡ started.begun) × (new.kept.items ≡ started.kept.items)
+    × (pending new ≡ started.made.items)
 IsApplied old (after.Over made) new = (new.stage ≡ stage.Over) × (pending new ≡ made.items)
 IsApplied old after.Lost new = (new.stage ≡ stage.Lost) × (pending new ≡ pending old)
 

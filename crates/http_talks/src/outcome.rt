@@ -1,6 +1,8 @@
-// What a turn leaves of a connection.
+// What a turn or a reply leaves of a connection.
 
 ghost use Rattle.std.specs.Prelude.{◌<◌};
+
+use crate::talk::Sending;
 
 // A session that goes on: how many replies were begun, what is kept, and what was made.
 #[derive(Drop)]
@@ -11,13 +13,25 @@ pub(crate) struct Opened {
     ghost few: { begun < 1000 },
 }
 
-// What a turn leaves.
+// A package whose head was made: how many replies will have been begun, and what is kept.
+#[derive(Drop)]
+pub(crate) struct Started {
+    pub(crate) sending: Sending,
+    pub(crate) begun: u32,
+    pub(crate) kept: Vec<u8>,
+    pub(crate) made: Vec<u8>,
+    ghost few: { begun < 1000 },
+}
+
+// What is left.
 #[derive(Drop)]
 pub(crate) enum After {
     // The bytes are less than a message.
     Part,
     // The session goes on.
     Open(Opened),
+    // A package is sent.
+    Sends(Started),
     // It has ended, and this was made.
     Over(Vec<u8>),
     // Memory ran out.

@@ -1,12 +1,26 @@
 ghost use Rattle.std.specs.Prelude.{◌<◌, ◌≤◌, vec_len};
 
+use http_desks::{Declared, Transfer};
+
+// A package that is being sent.
+#[derive(Drop)]
+pub(crate) struct Sending {
+    pub(crate) transfer: Transfer,
+    pub(crate) name: Vec<u8>,
+    pub(crate) declared: Declared,
+    // whether the connection ends after it
+    pub(crate) closes: bool,
+}
+
 // How far a connection's session is.
-#[derive(Clone, Copy, Drop)]
+#[derive(Drop)]
 pub(crate) enum Stage {
     // What is kept may be a message.
     Busy,
     // What is kept is less than a message.
     Part,
+    // The reply to the last message is a package of which there are more blocks.
+    Sends(Sending),
     // The session has ended.
     Over,
     // Memory ran out.
@@ -17,7 +31,7 @@ pub(crate) enum Stage {
 #[derive(Drop)]
 pub struct Talk {
     pub(crate) stage: Stage,
-    // how many replies were begun
+    // how many replies were begun; while a package is sent after which the connection goes on, one more
     pub(crate) begun: u32,
     // what was received and not yet used
     pub(crate) kept: Vec<u8>,

@@ -3,16 +3,18 @@ ghost use Rattle.http_desks.specs.Calls.{Call, Leads};
 ghost use Rattle.http_desks.specs.Uses.{IsUse};
 ghost use Rattle.http_ports.specs.Speech.{IsNext, Waiting};
 ghost use Rattle.http_talks.specs.Turns.{GoesOn, IsApplied};
-ghost use Rattle.http_talks.specs.Talks.{Said, is_lost, pending, phase_of};
+ghost use Rattle.http_talks.specs.Talks.{IsSending, Said, is_lost, pending, phase_of};
 ghost use Rattle.http_talks.specs.declared.talk.Stage.TheVariants as stage;
 
 use crate::after::after_turn;
 use crate::outcome::After;
+use crate::replying::reply;
+use crate::sending::send_on;
 use crate::talk::{Stage, Talk};
 use crate::turning::turn_over;
 use http_desks::{Clock, Desk, Packages};
 use http_ports::{Next, Protocol};
-use http_sessions::{Buffers, Foreseen};
+use http_sessions::{Buffers, Foreseen, Found};
 use std::alloc::Global;
 
 /// The sessions of a site, as what is said on connections.
@@ -26,7 +28,6 @@ pub struct Talks<'a, Z> {
 
 // How a connection goes on; one that is busy and has made nothing is lost.
 fn next_of(talk: &mut Talk) -> Next
-    requires { talk.old.stage ≡ stage.Part → pending talk.old ≡ [] }
     ensures next { IsNext result (pending talk.new) (phase_of talk.new.stage) }
     ensures left { (talk.new ≡ talk.old) ⊎ ((talk.new.stage ≡ stage.Lost) × (pending talk.new ≡ [])) }
 {
@@ -37,7 +38,7 @@ fn next_of(talk: &mut Talk) -> Next
         Stage::Part => Next::Waits,
         Stage::Over => Next::Over,
         Stage::Lost => Next::Over,
-        Stage::Busy => {
+        Stage::Busy | Stage::Sends(_) => {
             talk.stage = Stage::Lost;
             Next::Over
         }
@@ -74,6 +75,16 @@ fn apply(alloc: Global, talk: &mut Talk, after: After)
                 sent: 0,
             };
         }
+        After::Sends(started) => {
+            *talk = Talk {
+                stage: Stage::Sends(started.sending),
+                begun: started.begun,
+                kept: started.kept,
+                need: 0,
+                made: started.made,
+                sent: 0,
+            };
+        }
     }
 }
 
@@ -90,7 +101,6 @@ fn turn<D: Desk, Z: Packages + Clock>(
     requires sent { pending talk.old ≡ [] }
     ensures goes_on { GoesOn (IsUse (D.path desk.old) (Z.tells site.now) (Z.sizes site.now) (Z.reads site.now))
         D.steps (D.content_type desk.old) talk.old desk.old talk.new desk.new }
-    ensures part { talk.new.stage ≡ stage.Part → pending talk.new ≡ [] }
     ensures path { D.path desk.new ≡ D.path desk.old }
     ensures content_type { D.content_type desk.new ≡ D.content_type desk.old }
 {
@@ -157,16 +167,37 @@ impl<Z: Packages + Clock> Protocol for Talks<'_, Z> {
         }
     }
 
-    fn go_on<D: Desk>(&self, room: &mut Buffers, talk: &mut Talk, desk: &mut D) -> Next {
+    fn go_on<D: Desk>(&self, room: &mut Buffers, talk: &mut Talk, desk: &mut D) -> Next
+        requires { pending talk.old ≡ [] }
+        ensures next { IsNext result (pending talk.new) (phase_of talk.new.stage) }
+        ensures calls { GoesOn (IsUse (D.path desk.old) (Z.tells self.now.site.now) (Z.sizes self.now.site.now) (Z.reads self.now.site.now))
+            D.steps (D.content_type desk.old) talk.old desk.old talk.new desk.new }
+        ensures block { IsSending talk.old.stage → length (pending talk.new) ≤ 65536 }
+        ensures path { D.path desk.new ≡ D.path desk.old }
+        ensures content_type { D.content_type desk.new ≡ D.content_type desk.old }
+    {
         match talk.stage {
             Stage::Part => Next::Waits,
             Stage::Over => Next::Over,
             Stage::Lost => Next::Over,
+            Stage::Sends(_) => {
+                send_on(self.alloc, self.site, talk);
+                next_of(talk)
+            }
             Stage::Busy => match room.foresee(&talk.kept) {
                 Foreseen::Part(need) => {
                     talk.stage = Stage::Part;
                     talk.need = need;
+                    talk.sent = 0;
+                    talk.made = Vec::new(self.alloc);
                     Next::Waits
+                }
+                Foreseen::Whole(found) => {
+                    let after = reply(
+                        self.alloc, room, self.site, talk.begun, &talk.kept, &found, desk,
+                    );
+                    apply(self.alloc, talk, after);
+                    next_of(talk)
                 }
                 Foreseen::Turn => {
                     turn(self.alloc, self.site, room, talk, desk);

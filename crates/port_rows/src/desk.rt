@@ -1,10 +1,10 @@
-// A desk that echoes, and a site with one package.
+// A desk that echoes, and the files of its packages.
 
 ghost use Rattle.std.specs.Prelude.{codes};
 ghost use Rattle.http_desks.specs.Calls.{Call};
 
-use http_desks::{Answer, Clock, Declared, Desk, DeskStatus, Off, Packages};
-use http_wire::Failed;
+use http_desks::{Answer, Declared, Desk, DeskStatus, Off};
+use http_memory::{Content, File, FixedClock, Shelf};
 use std::alloc::Global;
 
 // The SHA-256 of `abc`, as FIPS 180 has it.
@@ -13,7 +13,89 @@ const ABC: [u8; 32] = [
     0xb0, 0x03, 0x61, 0xa3, 0x96, 0x17, 0x7a, 0x9c, 0xb4, 0x10, 0xff, 0x61, 0xf2, 0x00, 0x15, 0xad,
 ];
 
-/// Replies to each message to `/echo` with its body. Each package is declared as `abc`.
+// The SHA-256 of no bytes, as FIPS 180 has it.
+const NOTHING: [u8; 32] = [
+    0xe3, 0xb0, 0xc4, 0x42, 0x98, 0xfc, 0x1c, 0x14, 0x9a, 0xfb, 0xf4, 0xc8, 0x99, 0x6f, 0xb9, 0x24,
+    0x27, 0xae, 0x41, 0xe4, 0x64, 0x9b, 0x93, 0x4c, 0xa4, 0x95, 0x99, 0x1b, 0x78, 0x52, 0xb8, 0x55,
+];
+
+// The SHA-256 of 131073 bytes `a`, as sha256sum prints it.
+const LONG: [u8; 32] = [
+    0x7e, 0x00, 0x9e, 0xa4, 0xef, 0x88, 0x2e, 0x38, 0x5b, 0x3c, 0x0b, 0xcb, 0xbf, 0xa8, 0xd0, 0x09,
+    0xbb, 0x0a, 0x63, 0x3b, 0xdd, 0x76, 0x44, 0x15, 0xc0, 0x91, 0x82, 0xee, 0x0e, 0x75, 0xda, 0x73,
+];
+
+// The SHA-256 of 131072 bytes `b`, as sha256sum prints it.
+const EVEN: [u8; 32] = [
+    0x58, 0xef, 0x9a, 0x3f, 0xab, 0x7a, 0x3e, 0x76, 0x9d, 0x1b, 0x03, 0xb9, 0x65, 0x73, 0x17, 0xf4,
+    0x50, 0x9d, 0xbf, 0xc3, 0xad, 0x36, 0x96, 0xa6, 0xa2, 0x01, 0x58, 0x33, 0x70, 0x63, 0x9e, 0x59,
+];
+
+// The names of packages, and what is declared of them.
+const PACKAGES: [(&[u8], u64, [u8; 32]); 8] = [
+    (b"a.bin", 3, ABC),
+    (b"cut.bin", 3, ABC),
+    (b"empty.bin", 0, NOTHING),
+    (b"long.bin", 131_073, LONG),
+    (b"even.bin", 131_072, EVEN),
+    (b"other.bin", 131_073, LONG),
+    (b"short.bin", 131_073, LONG),
+    (b"grown.bin", 131_073, LONG),
+];
+
+/// The time.
+pub(crate) const CLOCK: FixedClock = FixedClock {
+    seconds: 1_795_512_605,
+};
+
+/// The files: `cut.bin` and `other.bin` have other bytes than declared, of `short.bin` the end can't be read, and
+/// `grown.bin` has a byte more.
+pub(crate) const FILES: Shelf<'static> = Shelf {
+    files: &[
+        File {
+            name: b"a.bin",
+            content: Content::Bytes(b"abc"),
+            readable: 3,
+        },
+        File {
+            name: b"cut.bin",
+            content: Content::Bytes(b"xbc"),
+            readable: 3,
+        },
+        File {
+            name: b"empty.bin",
+            content: Content::Bytes(b""),
+            readable: 0,
+        },
+        File {
+            name: b"long.bin",
+            content: Content::Repeated(b'a', 131_073),
+            readable: 131_073,
+        },
+        File {
+            name: b"even.bin",
+            content: Content::Repeated(b'b', 131_072),
+            readable: 131_072,
+        },
+        File {
+            name: b"other.bin",
+            content: Content::Repeated(b'c', 131_073),
+            readable: 131_073,
+        },
+        File {
+            name: b"short.bin",
+            content: Content::Repeated(b'a', 131_073),
+            readable: 70_000,
+        },
+        File {
+            name: b"grown.bin",
+            content: Content::Repeated(b'a', 131_074),
+            readable: 131_074,
+        },
+    ],
+};
+
+/// Replies to each message to `/echo` with its body.
 #[derive(Drop)]
 pub(crate) struct Echo {
     pub(crate) alloc: Global,
@@ -44,40 +126,15 @@ impl Desk for Echo {
         }
     }
 
-    fn package(&mut self, _name: &[u8]) -> Option<Declared> {
-        Some(Declared { size: 3, hash: ABC })
-    }
-}
-
-/// The file of each package is `abc`, but that of `cut.bin` has other bytes. The clock has stopped.
-#[derive(Drop)]
-pub(crate) struct Site;
-
-impl Packages for Site {
-    ghost reads = { λ _ _ _ _ _. Unit {0} };
-
-    ghost sizes = { λ _ _ _. Unit {0} };
-
-    fn size(&self, _name: &[u8]) -> Option<u64> {
-        Some(3)
-    }
-
-    fn read_at(&self, name: &[u8], at: u64, into: &mut [u8]) -> Result<(), Failed> {
-        if at != 0 || into.len() != 3 {
-            return Err(Failed);
+    fn package(&mut self, name: &[u8]) -> Option<Declared> {
+        for (known, size, hash) in &PACKAGES {
+            if *known == name {
+                return Some(Declared {
+                    size: *size,
+                    hash: *hash,
+                });
+            }
         }
-        into.copy_from_slice(b"abc");
-        if name == b"cut.bin".as_slice() {
-            into[0] = b'x';
-        }
-        Ok(())
-    }
-}
-
-impl Clock for Site {
-    ghost tells = { λ _ _. Unit {0} };
-
-    fn now(&self) -> u64 {
-        1_795_512_605
+        None
     }
 }

@@ -9,6 +9,8 @@
 #[cfg(test)]
 mod desk;
 #[cfg(test)]
+mod download_tests;
+#[cfg(test)]
 mod lines;
 #[cfg(test)]
 mod peers;

@@ -4,11 +4,13 @@ ghost use Rattle.std.specs.Prelude.{◌≡◌, ℕ, [], vec_len};
 ghost use Rattle.http_ports.specs.Traffic.{unused};
 ghost use Rattle.port_scripts.specs.Seats.{slots_of};
 
-use crate::desk::{Echo, Site};
+use crate::desk::{CLOCK, Echo, FILES};
 use crate::peers::{are_as_said, script_of};
+use http_desks::Site;
 use http_ports::{Port, run};
 use http_sessions::Buffers;
 use http_talks::{Talk, Talks};
+use http_wire::Unwatched;
 use port_scripts::Script;
 use std::sync::Wait;
 
@@ -19,7 +21,11 @@ fn serve<R: Wait + AllocGlobal>(rt: &R, room: &mut Buffers, script: &mut Script)
     requires two { vec_len script.old.seats ≡ 2 }
 {
     let alloc = rt.alloc();
-    let site = Site;
+    let site = Site {
+        packages: &FILES,
+        clock: &CLOCK,
+        watch: &Unwatched,
+    };
     let talks = Talks { alloc, site: &site };
     let mut desk = Echo { alloc };
     let mut conns: [Option<Talk>; 2] = [None, None];

@@ -1,11 +1,13 @@
 // Clients of a listener on the loopback, whom one thread serves in two slots. A row is what a client sends and what it
 // gets; one whose message ends with `+` leaves its connection open, and is late after a second.
 
-use crate::desk::{Echo, Site};
+use crate::desk::{CLOCK, Echo, FILES};
 use crate::lines::expand;
+use http_desks::Site;
 use http_ports::run;
 use http_sessions::Buffers;
 use http_talks::{Talk, Talks};
+use http_wire::Unwatched;
 use mio_ports::{Limits, MioPort};
 use std::alloc::Global;
 use std::io::{Read, Write};
@@ -34,16 +36,20 @@ fn connect(rt: &HostRuntime, listener: &TcpListener, row: &str) -> Option<TcpStr
     Some(stream)
 }
 
-// Connects the clients of all rows, in order.
-fn connect_all(
-    rt: &HostRuntime,
-    listener: &TcpListener,
-    streams: &mut Vec<TcpStream>,
-) -> Option<()> {
-    for row in CLIENTS.lines() {
-        streams.push(connect(rt, listener, row)?).ok()?;
+// Three downloads in two slots: the first two are sent side by side, and the third one is cut.
+const DOWNLOADS: &str = "\
+GET /p/long.bin HTTP/1.1~~|HTTP/1.1 200 OK~Content-Type: application/octet-stream~Content-Length: 131073~~%8192*aaaaaaaaaaaaaaaa%a
+GET /p/even.bin HTTP/1.1~~|HTTP/1.1 200 OK~Content-Type: application/octet-stream~Content-Length: 131072~~%8192*bbbbbbbbbbbbbbbb%
+GET /p/other.bin HTTP/1.1~~|HTTP/1.1 200 OK~Content-Type: application/octet-stream~Content-Length: 131073~~%8192*cccccccccccccccc%";
+
+// Connects the clients of all rows, in order, and returns their listener.
+fn connect_all(rt: &HostRuntime, streams: &mut Vec<TcpStream>, rows: &str) -> Option<TcpListener> {
+    let listener = TcpListener::bind(rt, "127.0.0.1:0").ok()?;
+    listener.set_nonblocking(true).ok()?;
+    for row in rows.lines() {
+        streams.push(connect(rt, &listener, row)?).ok()?;
     }
-    Some(())
+    Some(listener)
 }
 
 // Serves so many connections of a listener; for how many memory ran out.
@@ -53,7 +59,11 @@ fn serve<R: Wait + Net + Clock + AllocGlobal>(
     limit: u64,
 ) -> Option<u64> {
     let alloc = rt.alloc();
-    let site = Site;
+    let site = Site {
+        packages: &FILES,
+        clock: &CLOCK,
+        watch: &Unwatched,
+    };
     let talks = Talks { alloc, site: &site };
     let mut desk = Echo { alloc };
     let mut room = Buffers::new(alloc).ok()?;
@@ -84,16 +94,34 @@ fn is_served(alloc: Global, stream: &mut TcpStream, row: &str) -> Option<bool> {
     Some(got.as_slice() == wanted.as_slice())
 }
 
+// The first of rows whose client did not get what it says; empty if there is none.
+fn wrong_client<'a>(alloc: Global, streams: &mut [TcpStream], rows: &'a str) -> &'a str {
+    for (stream, row) in streams.iter_mut().zip(rows.lines()) {
+        if is_served(alloc, stream, row) != Some(true) {
+            return row;
+        }
+    }
+    ""
+}
+
 // rule: Traffic of a book
 #[test]
 fn serves_others_beside_silent_clients_of_a_listener(rt: HostRuntime) -> Result<(), Fail> {
-    let listener = TcpListener::bind(&rt, "127.0.0.1:0").map_err(|_| "no listener")?;
-    listener.set_nonblocking(true).map_err(|_| "no listener")?;
     let mut streams = Vec::new(rt.alloc());
-    connect_all(&rt, &listener, &mut streams).ok_or("no clients")?;
+    let listener = connect_all(&rt, &mut streams, CLIENTS).ok_or("no clients")?;
     assert!(rt; serve(&rt, listener, 5) == Some(0));
-    for (stream, row) in streams.iter_mut().zip(CLIENTS.lines()) {
-        assert!(rt; is_served(rt.alloc(), stream, row) == Some(true), "{row}");
-    }
+    let wrong = wrong_client(rt.alloc(), &mut streams, CLIENTS);
+    assert!(rt; wrong.is_empty(), "{wrong}");
+    Ok(())
+}
+
+// rule: Block of a package
+#[test]
+fn sends_packages_side_by_side_over_sockets(rt: HostRuntime) -> Result<(), Fail> {
+    let mut streams = Vec::new(rt.alloc());
+    let listener = connect_all(&rt, &mut streams, DOWNLOADS).ok_or("no clients")?;
+    assert!(rt; serve(&rt, listener, 3) == Some(0));
+    let wrong = wrong_client(rt.alloc(), &mut streams, DOWNLOADS);
+    assert!(rt; wrong.is_empty(), "{wrong}");
     Ok(())
 }

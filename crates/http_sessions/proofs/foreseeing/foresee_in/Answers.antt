@@ -1,7 +1,7 @@
-use Rattle.std.proofs.Common.{◌≡◌, ◌+◌, ◌<◌, ◌≤◌, ◌++◌, ℕ, List, [], append-nil, length, length-take, subst, ap, arith}
+use Rattle.std.proofs.Common.{◌≡◌, ◌+◌, ◌-◌, ◌<◌, ◌≤◌, ◌++◌, ℕ, List, [], append-nil, drop, length, length-take, take, refl, subst, ap, arith}
 use Rattle.httparse.specs.Grammar.{print_request}
 use Rattle.http_sessions.specs.Readings.{IsPart}
-use Rattle.http_sessions.proofs.ForeseenLemmas.{part_with_more}
+use Rattle.http_sessions.proofs.ForeseenLemmas.{part_with_more, whole_found}
 use Rattle.http_sessions.proofs.foreseeing.foresee_in.Goals as goal
 
 pub returns-in-Ok : goal.returns-in-Ok
@@ -18,3 +18,16 @@ returns-in-Ok c =
           (part [] (omega (arith, ap length (append-nil bytes), c.if-bytes-spans.true, within, length-take c.min.result bytes))),
       part,
     )
+
+pub returns-in-Ok-2 : goal.returns-in-Ok-2
+returns-in-Ok-2 c =
+    let bytes = c.args.bytes.now in
+    let found = c.in-Ok-Complete in
+    let (head, at) = rw found.spans-is at (rw found.field-0-is at found.ensures.complete) in
+    let within = (rw found.spans-is at (rw found.field-0-is at found.ensures.within)).section.len_fits in
+    let short : length (print_request head) ≤ 16384 =
+    omega (arith, at.len, within, length-take c.min.result bytes, c.min.ensures) in
+    let size : found.spans.len + c.in-Ok.plan.size - found.spans.len ≡ c.in-Ok.plan.size = omega arith in
+    whole_found bytes c.min.result _ found.spans head c.in-Ok.plan _ at short within (c.in-Ok.ensures.plan head at)
+    (omega (arith, c.if-bytes-spans.false, within, length-take c.min.result bytes)) refl c.of.ensures
+    (ap (λ (n : ℕ). take n (drop found.spans.len bytes)) size) refl refl

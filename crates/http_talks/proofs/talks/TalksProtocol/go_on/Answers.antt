@@ -1,9 +1,10 @@
-use Rattle.std.proofs.Common.{◌++◌, List, [], refl, sym, subst, append-nil, inl, inr}
+use Rattle.std.proofs.Common.{◌++◌, ◌∙◌, ℕ, List, [], refl, sym, subst, ap, append-nil, drop, inl, inr}
 use Rattle.http_desks.specs.Calls.{Call}
 use Rattle.http_desks.specs.Uses.{IsUse}
 use Rattle.http_talks.specs.Talks.{Said}
 use Rattle.http_talks.specs.declared.talk.Talk.{Talk}
 use Rattle.http_talks.proofs.TalkLemmas.{Said-lost, Said-part}
+use Rattle.http_talks.proofs.TurnLemmas.{left_on}
 use Rattle.http_talks.proofs.talks.TalksProtocol.go_on.Goals as goal
 
 pub returns-in-Part-clause-calls : goal.returns-in-Part-clause-calls
@@ -41,7 +42,8 @@ returns-in-Part-foresee-clause-calls g c =
       λ received sent made said.
           Said-part (IsUse (g.D.Desk.path c.args.desk.now) (g.Z.Clock.tells c.args.self.now.site.now)
           (g.Z.Packages.sizes c.args.self.now.site.now) (g.Z.Packages.reads c.args.self.now.site.now))
-          (g.D.Desk.content_type c.args.desk.now) c.args.talk.now _ received sent _ c.in-Busy.is refl refl refl refl is_part stays
+          (g.D.Desk.content_type c.args.desk.now) c.args.talk.now _ received sent _ c.in-Busy.is refl refl refl
+          (ap (λ (bytes : List ℕ). drop 0 bytes) c.new.ensures.items ∙ sym c.requires) is_part stays
           (subst (λ (calls : List Call). Said (IsUse (g.D.Desk.path c.args.desk.now) (g.Z.Clock.tells c.args.self.now.site.now)
           (g.Z.Packages.sizes c.args.self.now.site.now) (g.Z.Packages.reads c.args.self.now.site.now))
           (g.D.Desk.content_type c.args.desk.now) c.args.talk.now received sent calls) (sym (append-nil made)) said),
@@ -53,13 +55,54 @@ returns-in-Turn-clause-calls g c =
       calls,
       leads,
       λ received sent made said.
-          elim c.next_of.ensures.left [
+          elim c.next_of-in-Turn.ensures.left [
             | inl same ↦ subst (λ (talk : Talk). Said (IsUse (g.D.Desk.path c.args.desk.now) (g.Z.Clock.tells c.args.self.now.site.now)
                 (g.Z.Packages.sizes c.args.self.now.site.now) (g.Z.Packages.reads c.args.self.now.site.now))
                 (g.D.Desk.content_type c.args.desk.now) talk received sent (made ++ calls)) (sym same) (goes_on received sent made said)
             | inr (is, none) ↦ Said-lost (IsUse (g.D.Desk.path c.args.desk.now) (g.Z.Clock.tells c.args.self.now.site.now)
                 (g.Z.Packages.sizes c.args.self.now.site.now) (g.Z.Packages.reads c.args.self.now.site.now))
-                (g.D.Desk.content_type c.args.desk.now) c.turn.new.talk c.next_of.new.talk received sent (made ++ calls) is none
+                (g.D.Desk.content_type c.args.desk.now) c.turn.new.talk c.next_of-in-Turn.new.talk received sent (made ++ calls) is none
                 (goes_on received sent made said)
           ],
     )
+
+pub returns-in-Whole-clause-calls : goal.returns-in-Whole-clause-calls
+returns-in-Whole-clause-calls g c =
+    let (calls, leads, goes_on) =
+    left_on (IsUse (g.D.Desk.path c.args.desk.now) (g.Z.Clock.tells c.args.self.now.site.now)
+    (g.Z.Packages.sizes c.args.self.now.site.now) (g.Z.Packages.reads c.args.self.now.site.now)) (g.D.Desk.content_type c.args.desk.now)
+    g.D.Desk.steps c.args.talk.now c.apply.new.talk c.args.desk.now c.reply-after.new.desk c.reply-after.result
+    c.in-Busy.is c.requires (rw c.deref-in-Whole.ensures.value at c.reply-after.ensures.leaves) c.apply.ensures in (
+      calls,
+      leads,
+      λ received sent made said.
+          elim c.next_of-in-Whole.ensures.left [
+            | inl same ↦ subst (λ (talk : Talk). Said (IsUse (g.D.Desk.path c.args.desk.now) (g.Z.Clock.tells c.args.self.now.site.now)
+                (g.Z.Packages.sizes c.args.self.now.site.now) (g.Z.Packages.reads c.args.self.now.site.now))
+                (g.D.Desk.content_type c.args.desk.now) talk received sent (made ++ calls)) (sym same) (goes_on received sent made said)
+            | inr (is, none) ↦ Said-lost (IsUse (g.D.Desk.path c.args.desk.now) (g.Z.Clock.tells c.args.self.now.site.now)
+                (g.Z.Packages.sizes c.args.self.now.site.now) (g.Z.Packages.reads c.args.self.now.site.now))
+                (g.D.Desk.content_type c.args.desk.now) c.apply.new.talk c.next_of-in-Whole.new.talk received sent (made ++ calls) is none
+                (goes_on received sent made said)
+          ],
+    )
+
+pub returns-in-Sends-clause-calls : goal.returns-in-Sends-clause-calls
+returns-in-Sends-clause-calls g c = (
+  [],
+  refl,
+  λ received sent made said.
+      let sends = c.send_on.ensures.sends (g.D.Desk.path c.args.desk.now) (g.D.Desk.content_type c.args.desk.now)
+      received sent (made ++ [])
+      (subst (λ (calls : List Call). Said (IsUse (g.D.Desk.path c.args.desk.now) (g.Z.Clock.tells c.args.self.now.site.now)
+      (g.Z.Packages.sizes c.args.self.now.site.now) (g.Z.Packages.reads c.args.self.now.site.now))
+      (g.D.Desk.content_type c.args.desk.now) c.args.talk.now received sent calls) (sym (append-nil made)) said) in
+      elim c.next_of.ensures.left [
+        | inl same ↦ subst (λ (talk : Talk). Said (IsUse (g.D.Desk.path c.args.desk.now) (g.Z.Clock.tells c.args.self.now.site.now)
+            (g.Z.Packages.sizes c.args.self.now.site.now) (g.Z.Packages.reads c.args.self.now.site.now))
+            (g.D.Desk.content_type c.args.desk.now) talk received sent (made ++ [])) (sym same) sends
+        | inr (is, none) ↦ Said-lost (IsUse (g.D.Desk.path c.args.desk.now) (g.Z.Clock.tells c.args.self.now.site.now)
+            (g.Z.Packages.sizes c.args.self.now.site.now) (g.Z.Packages.reads c.args.self.now.site.now))
+            (g.D.Desk.content_type c.args.desk.now) c.send_on.new.talk c.next_of.new.talk received sent (made ++ []) is none sends
+      ],
+)

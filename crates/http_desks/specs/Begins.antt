@@ -1,0 +1,50 @@
+-- A reply that is begun: whole, unless it is a package with bytes, of which the head alone is written; this project's
+-- profile.
+use Rattle.std.specs.Prelude.{◌≡◌, ℕ, Bool, List, [], Option, Some, Result, Ok, Err, if◌then◌else◌}
+use Rattle.std.specs.Io.KnownBytes.{Appends}
+use Rattle.http_desks.specs.Calls.{Call, Leads}
+use Rattle.http_desks.specs.Downloads.{Downloads, Reads}
+use Rattle.http_desks.specs.Replies.{Answers, Fetches, fetch_reply, reply_to}
+use Rattle.http_desks.specs.Uses.{Broken, Fetched, Use, calls_of}
+use Rattle.http_desks.specs.declared.answering.Begun.{Begun}
+use Rattle.http_desks.specs.declared.answering.Begun.TheVariants as begun
+use Rattle.http_desks.specs.declared.answering.Handled.{Handled}
+use Rattle.http_desks.specs.declared.answering.Handled.TheVariants.{Answered, Cut}
+use Rattle.values.specs.declared.declared.Declared.{Declared}
+use Rattle.values.specs.declared.failed.Failed.{Failed}
+
+-- a reply that is written
+abbrev pub done_of : Result Handled Failed → Result Begun Failed
+done_of (Ok handled) = Ok (begun.Done handled)
+done_of (Err failed) = Err failed
+
+-- a package was sent after its head
+abbrev pub Rests : Reads → Declared → Option (List ℕ) → Option (List ℕ) → Result Handled Failed → Type 0
+Rests reads declared old new (Ok handled) =
+    (whole : Bool) × (handled ≡ (if whole then Answered else Cut))
+    × Downloads reads declared.size declared.hash old new (Ok whole)
+Rests reads declared old new (Err failed) = Downloads reads declared.size declared.hash old new (Err failed)
+
+-- the package was sent, in whole or in part; or its head, and its file has the declared size
+abbrev pub BeginsFetch :
+    (Option ℕ → Type 0) → Reads → List ℕ → Declared → Bool → Option (List ℕ) → Option (List ℕ) → Result Begun Failed → Type 0
+BeginsFetch sizes reads name declared closes old new (Ok (begun.Done handled)) =
+    Fetches sizes reads declared closes old new (Ok handled)
+BeginsFetch sizes reads name declared closes old new (Ok (begun.Sends path told)) =
+    (path.now ≡ name) × (told ≡ declared) × sizes (Some declared.size)
+    × Appends old new (fetch_reply declared closes (Broken []))
+BeginsFetch sizes reads name declared closes old new (Err failed) = Fetches sizes reads declared closes old new (Err failed)
+
+-- rule: Reply that is begun
+-- the reply was written; or the message is used for a package, of which the head was written and no block
+abbrev pub Begins :
+    {D : Type 0} → (Use → Type 0) → (D → Call → D → Type 0) → List ℕ → List ℕ → Bool → D → D
+    → Option (List ℕ) → Option (List ℕ) → Result Begun Failed → Type 0
+Begins IsFit steps kind body closes before after old new (Ok (begun.Done handled)) =
+    Answers IsFit steps kind body closes before after old new (Ok handled)
+Begins IsFit steps kind body closes before after old new (Ok (begun.Sends name declared)) =
+    IsFit (Fetched name.now declared (Broken []))
+    × Leads steps before (calls_of body (Fetched name.now declared (Broken []))) after
+    × Appends old new (reply_to kind closes (Fetched name.now declared (Broken [])))
+Begins IsFit steps kind body closes before after old new (Err failed) =
+    Answers IsFit steps kind body closes before after old new (Err failed)
