@@ -24,7 +24,7 @@ import tempfile
 import graphs
 import publisher
 
-LINE = "check_times: parallel_check solver price_cert payload_graph catalogue cohorts values\n"
+LINE = "check_times: reports solver price_cert payload_graph catalogue cohorts values\n"
 HEAD = r"""//! Checks a table of prices again and again.
 
 #![tactic(auto)]
@@ -36,7 +36,7 @@ use catalogue::{
     SetRollback, SetShare, SetTarget,
 };
 use cohorts::{Lane, Pin};
-use parallel_check::check_parallel;
+use reports::check_parallel;
 use payload_graph::{Graph, TrackKey};
 use price_cert::{Certified, Prices, Row, check};
 use solver::solve;
@@ -212,7 +212,7 @@ def main():
     asked = options.parse_args()
     folder = pathlib.Path(asked.keep or tempfile.mkdtemp()).resolve()
     try:
-        program = publisher.build(folder, "check_times", "parallel_check solver", LINE, HEAD + graphs.EDITS + BODY)
+        program = publisher.build(folder, "check_times", "reports solver", LINE, HEAD + graphs.EDITS + BODY)
         last = asked.releases - 1
         tables = (("valid", asked.releases), ("below the target", last - 1), ("in the middle", last // 2), ("at the lowest", 0))
         one = {max(os.sched_getaffinity(0))}

@@ -1,7 +1,7 @@
 //! Worked rows of what a server's desks and workers do: messages and sessions with their replies, budgets that several
 //! ask for, scripts, raises and dumps of an operator, and the gate of a server's workers.
 //!
-//! It has tests alone, so that `mirror_ledger`, `update_desk`, `service_desks` and `omaha_server` are proved once.
+//! It has tests alone, so that `mirror_ledger`, `service_desks` and `omaha_server` are proved once.
 
 #![tactic(auto)]
 

@@ -10,7 +10,7 @@ use Rattle.records.specs.declared.content.App.{App}
 use Rattle.records.specs.declared.mirror.Mirror.{Mirror}
 use Rattle.replies.specs.Replies.{AreOutcomes}
 use Rattle.replies.specs.declared.choices.Choice.{Choice}
-use Rattle.update_desk.specs.Asking.{asks_of}
+use Rattle.service_desks.specs.Asking.{asks_of}
 use Rattle.interleavings.specs.Choices.{Tables}
 use Rattle.interleavings.specs.Jobs.{Pending, bytes_asked, granted_to, outcomes_by_app}
 use Rattle.interleavings.specs.Moves.{after_rejection, asks_next, begun, with_outcome}

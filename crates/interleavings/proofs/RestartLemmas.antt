@@ -34,8 +34,8 @@ use Rattle.replies.specs.Replies.{AreOutcomes, Decision, app_reply, check_reply,
 use Rattle.replies.specs.declared.choices.Choice.{Choice}
 use Rattle.service_desks.specs.Workers.{stock_of}
 use Rattle.theorems.specs.Laws.{PlansAreOne}
-use Rattle.update_desk.specs.Answering.{IsReply}
-use Rattle.update_desk.specs.Asking.{asks_of}
+use Rattle.service_desks.specs.Answering.{IsReply}
+use Rattle.service_desks.specs.Asking.{asks_of}
 use Rattle.interleavings.specs.Jobs.{outcomes_of}
 use Rattle.interleavings.specs.Moves.{rendered_at}
 use Rattle.interleavings.specs.Restart.{DumpsAreProfiles, IsRaised, RestartsKeepReplies, ServicesOpenAgain}

@@ -20,7 +20,7 @@ use Rattle.publisher.specs.Sights.{Sight}
 use Rattle.publisher.specs.declared.fault.PublishError.{PublishError}
 use Rattle.service_desks.specs.Scripts.{IsPublished, IsScriptReply, publish_reply}
 use Rattle.service_desks.specs.Workers.{stock_of}
-use Rattle.update_desk.specs.Asking.{asks_of}
+use Rattle.service_desks.specs.Asking.{asks_of}
 use Rattle.interleavings.specs.Jobs.{Pending, bytes_asked, outcomes_by_app, outcomes_of}
 use Rattle.interleavings.specs.Services.{is_published, published, with_budget}
 use Rattle.interleavings.specs.Ties.{AnswersAreOfPending, FullIsNotPublished, GrantsAreBooked, NextIsPublished, PressPublishes, RaisesAreEvents, RejectedIsNotPublished, RoomIsTested, ScriptsArePublished, WorkersReplyByOneHistory}

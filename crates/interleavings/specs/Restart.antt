@@ -12,7 +12,7 @@ use Rattle.profile_toml.specs.Reading.{profile_of_bytes}
 use Rattle.records.specs.declared.mirror.Mirror.{Mirror}
 use Rattle.service_desks.specs.Operators.{IsCall, IsDump, State}
 use Rattle.service_desks.specs.Workers.{stock_of}
-use Rattle.update_desk.specs.Answering.{IsReply, Stock}
+use Rattle.service_desks.specs.Answering.{IsReply, Stock}
 use Rattle.interleavings.specs.Jobs.{Pending}
 use Rattle.interleavings.specs.Moves.{rendered_at}
 use Rattle.interleavings.specs.Services.{Service, content_at, opened, present}

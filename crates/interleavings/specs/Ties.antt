@@ -25,8 +25,8 @@ use Rattle.records.specs.declared.mirror.Mirror.{Mirror}
 use Rattle.service_desks.specs.Operators.{IsCall, State}
 use Rattle.service_desks.specs.Scripts.{Performs}
 use Rattle.service_desks.specs.Workers.{Progress, Replies, stock_of}
-use Rattle.update_desk.specs.Answering.{IsReply, Stock}
-use Rattle.update_desk.specs.Asking.{asks_of}
+use Rattle.service_desks.specs.Answering.{IsReply, Stock}
+use Rattle.service_desks.specs.Asking.{asks_of}
 use Rattle.interleavings.specs.Events.{Event, Publish, Raise, happens, run}
 use Rattle.interleavings.specs.Jobs.{Pending, is_decided, outcomes_of}
 use Rattle.interleavings.specs.Laws.{IsReplyOf}
@@ -126,7 +126,7 @@ pub record IsOfPending (stock : Stock) (request : Request) (moment : ℕ) (befor
   pub asked : after ≡ before ++ asks_of pending.choices (outcomes_of pending)
   pub written : text ≡ reply_bytes reply
 
--- `reply_to` of `update_desk` replies so
+-- `reply_to` of `service_desks` replies so
 abbrev pub AnswersAreOfPending : Type 0
 AnswersAreOfPending =
     (stock : Stock) (request : Request) (moment : ℕ) (before after : List Ask) (text : List ℕ) →

@@ -3,13 +3,12 @@
 ghost use Rattle.std.specs.Prelude.{◌<◌};
 
 use crate::server::{free_host, listen, serve_once};
-use http_client::HttpLink;
 use std::alloc::Global;
 use std::net::{Net, TcpListener, TcpStream};
 use std::str;
 use std::test::Fail;
 use std::thread::{Threads, join};
-use update_client::Link;
+use update_client::{HttpLink, Link};
 
 // What a link comes to that posts: the reply's body, or `failed`.
 fn post_by<L: Link>(link: &mut L, alloc: Global) -> Option<&'static str> {

@@ -1,6 +1,6 @@
 //! Rows of connections over the loopback, of posts and downloads by a client, and of a client whose devices fail.
 //!
-//! It has tests alone, so that `http_connections` and `http_client` are proved once.
+//! It has tests alone, so that `http_connections` and `update_client` are proved once.
 
 #![tactic(auto)]
 

@@ -4,7 +4,7 @@ use Rattle.std.specs.Io.KnownBytes.{Appends}
 use Rattle.streams.specs.Reading.{IsWhole}
 use Rattle.streams.specs.Streams.{Known}
 use Rattle.streams.specs.Writing.{Breaks}
-use Rattle.http_client.specs.declared.posting.Reply.{Reply}
+use Rattle.update_client.specs.declared.posting.Reply.{Reply}
 use Rattle.omaha_arguments.specs.declared.command.Publication.{Publication}
 use Rattle.omaha_arguments.specs.declared.command.Raise.{Raise}
 use Rattle.omaha_cli.specs.Once.{Files, IsUnreadable, max_profile}

@@ -7,8 +7,8 @@ use Rattle.update_client.specs.Installed.{Installed}
 use Rattle.update_client.specs.Walks.{Post}
 use Rattle.update_client.specs.declared.fault.Fault.{Fault}
 use Rattle.update_client.specs.declared.walking.Walk.{Walk as Walked}
-use Rattle.omaha_client.specs.Lines.{done_line}
-use Rattle.omaha_client.specs.Walking.{IsWalkOver}
+use Rattle.update_client.specs.Lines.{done_line}
+use Rattle.update_client.specs.Walking.{IsWalkOver}
 use Rattle.omaha_cli.specs.Rejections.{failure_of_walk}
 use Rattle.omaha_cli.specs.Reports.{Prints}
 use Rattle.omaha_cli.specs.Streams.{Streams}

@@ -9,7 +9,7 @@
 //!
 //! `serve` is served by `omaha_server`: read `specs/Serving.antt`. `check` with a folder of packages and `describe`
 //! print what `package_files` finds: read `specs/Comparing.antt` and `specs/Describing.antt`. `walk` is walked by
-//! `omaha_client`: read `specs/Walking.antt`; `publish`, `raise` and `dump` post by it: read `specs/Operating.antt`.
+//! `update_client`: read `specs/Walking.antt`; `publish`, `raise` and `dump` post by it: read `specs/Operating.antt`.
 
 #![tactic(auto)]
 
@@ -34,6 +34,6 @@ pub use crate::running::{Ending, Status, run};
 pub use crate::runtime::Runtime;
 pub use crate::unreadable::report_unreadable;
 pub use omaha_arguments::{Command, Comparison, Once, Publication, Question, Report, Serve, Walk};
-pub use omaha_client::Connector;
 pub use omaha_server::{LogFile, Place, ServerError, Service, System, answer, builtin_service};
 pub use package_files::Folders;
+pub use update_client::Connector;

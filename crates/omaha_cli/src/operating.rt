@@ -5,11 +5,10 @@ ghost use Rattle.omaha_cli.specs.Operating.{Calls, Dumps, IsRead, PrintsReply, P
 
 use crate::failure::Failure;
 use crate::once::MAX_PROFILE;
-use http_client::{LinkFault, Reply};
 use omaha_arguments::{Publication, Raise};
-use omaha_client::Connector;
 use std::alloc::Global;
 use streams::{Disk, ReadFailure, WriteWhole};
+use update_client::{Connector, LinkFault, Reply};
 use values::Text;
 
 // Reads a file.

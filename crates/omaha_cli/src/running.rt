@@ -15,7 +15,6 @@ use crate::reporting::report_on;
 use crate::serving::serve_profile;
 use crate::walking::walk_on;
 use omaha_arguments::{ArgumentError, Command, read_arguments};
-use omaha_client::Connector;
 use omaha_server::System;
 use package_files::Folders;
 use std::alloc::Global;
@@ -23,6 +22,7 @@ use std::sync::Wait;
 use std::thread::Threads;
 use std::time::Clock;
 use streams::{Disk, ReadWhole, WriteWhole, offer};
+use update_client::Connector;
 use values::Text;
 
 /// How a run ends.

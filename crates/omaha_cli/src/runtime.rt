@@ -1,12 +1,12 @@
 // What a run needs of its runtime.
 
-use omaha_client::Connector;
 use omaha_server::System;
 use package_files::Folders;
 use std::sync::Wait;
 use std::thread::Threads;
 use std::time::Clock;
 use streams::Disk;
+use update_client::Connector;
 
 /// What `run` needs of its runtime, for callers that are generic over it.
 ///

@@ -2,17 +2,16 @@
 
 ghost use Rattle.std.specs.Prelude.{◌≡◌, IfOk, IfErr, Ok, Err, string_bytes};
 ghost use Rattle.omaha_json_client.specs.RequestWriting.{IsAppid};
-ghost use Rattle.omaha_client.specs.Lines.{done_line};
+ghost use Rattle.update_client.specs.Lines.{done_line};
 ghost use Rattle.omaha_cli.specs.Walking.{WalksOn, client_of};
 ghost use Rattle.streams.specs.Streams.{Known};
 
 use crate::failure::Failure;
 use crate::printing::print;
 use omaha_arguments::Walk;
-use omaha_client::{Connector, DoneLine};
 use std::alloc::{AllocError, Global};
 use streams::WriteWhole;
-use update_client::{Client, Walk as Walked};
+use update_client::{Client, Connector, DoneLine, Walk as Walked};
 use values::Text;
 
 // The client of a walk.

@@ -14,7 +14,7 @@ use Rattle.publisher.specs.Sights.{Sight}
 use Rattle.records.specs.declared.mirror.Mirror.{Mirror}
 use Rattle.service_desks.specs.Operators.{IsCall as IsOperatorCall, State}
 use Rattle.service_desks.specs.Workers.{IsCall, Progress}
-use Rattle.update_desk.specs.Asking.{GrantsFirst}
+use Rattle.service_desks.specs.Asking.{GrantsFirst}
 use Rattle.omaha_server.specs.Edges.{Edges, IsTime}
 use Rattle.omaha_server.specs.Serving.{AreOperated, AreServed, DeskSteps, VisitsAt, desk_path, desk_type}
 use Rattle.omaha_server.specs.declared.place.Place.{Place}

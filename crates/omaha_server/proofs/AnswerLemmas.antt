@@ -17,10 +17,10 @@ use Rattle.omaha_json.specs.declared.request.Request.{Request}
 use Rattle.profile_toml.specs.Laws.{AreMirrors}
 use Rattle.publisher.specs.Heard.{GoesOn}
 use Rattle.publisher.specs.Sights.{Allows, Sight, fresh}
-use Rattle.same_batches.specs.Beginnings.{StartsWith}
+use Rattle.publisher.specs.Beginnings.{StartsWith}
 use Rattle.service_desks.specs.Workers.{Replies, stock_of}
-use Rattle.update_desk.specs.Answering.{IsReply}
-use Rattle.update_desk.specs.Asking.{AreGranted, GrantsFirst}
+use Rattle.service_desks.specs.Answering.{IsReply}
+use Rattle.service_desks.specs.Asking.{AreGranted, GrantsFirst}
 use Rattle.omaha_server.specs.Answering.{IsRepliedAlone, RepliesFor}
 
 -- the mirrors of a service have names of their own

@@ -10,8 +10,8 @@ use Rattle.omaha_json.specs.declared.request.Request.{Request}
 use Rattle.publisher.specs.Sights.{Sight}
 use Rattle.records.specs.declared.mirror.Mirror.{Mirror}
 use Rattle.service_desks.specs.Workers.{Replies, stock_of as offered_by}
-use Rattle.update_desk.specs.Answering.{IsReply, Stock}
-use Rattle.update_desk.specs.Asking.{AreGranted}
+use Rattle.service_desks.specs.Answering.{IsReply, Stock}
+use Rattle.service_desks.specs.Asking.{AreGranted}
 use Rattle.omaha_server.specs.declared.error.ServerError.{ServerError}
 use Rattle.omaha_server.specs.declared.error.ServerError.TheVariants as server
 use Rattle.omaha_server.specs.declared.service.Service.{Service}

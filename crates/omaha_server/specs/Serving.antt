@@ -15,7 +15,7 @@ use Rattle.service_desks.specs.Operators.{IsCall as IsOperatorCall, State}
 use Rattle.service_desks.specs.Workers.{IsCall, Progress}
 use Rattle.streams.specs.Streams.{Known}
 use Rattle.streams.specs.Writing.{Breaks}
-use Rattle.update_desk.specs.Asking.{GrantsFirst}
+use Rattle.service_desks.specs.Asking.{GrantsFirst}
 use Rattle.worker_threads.specs.Portions.{portion}
 use Rattle.omaha_server.specs.Edges.{Edges, IsTime, is_dash}
 use Rattle.omaha_server.specs.Totals.{names_of, totals_string}

@@ -1,3 +1,4 @@
 mod HeardLemmas
-mod RuleLemmas
 mod LearntLemmas
+mod ListLemmas
+mod RuleLemmas

@@ -6,7 +6,7 @@ use Rattle.crossbeam_utils.specs.Register.{Admits, TurnsAt, Forks, Merges}
 use Rattle.atomic_table.proofs.Lists.{at_set, at_snoc}
 use Rattle.std.specs.Arc.{arc_value}
 use Rattle.catalogue_laws.specs.Histories.{History}
-use Rattle.same_batches.specs.Beginnings.{StartsWith}
+use Rattle.publisher.specs.Beginnings.{StartsWith}
 use Rattle.publisher.specs.declared.shown.Shown.{Shown}
 use Rattle.publisher.specs.Heard.{GoesOn}
 use Rattle.publisher.specs.Rule.{Keeps, Meets}

@@ -1,7 +1,7 @@
 -- Histories that were heard; this project's profile.
 use Rattle.std.specs.Prelude.{ℕ, ◌≤◌, max, List, [], ◌∷◌, length}
 use Rattle.catalogue_laws.specs.Histories.{History}
-use Rattle.same_batches.specs.Beginnings.{StartsWith}
+use Rattle.publisher.specs.Beginnings.{StartsWith}
 
 -- the history begins with each of those that were heard
 abbrev pub GoesOn : History → List History → Type 0

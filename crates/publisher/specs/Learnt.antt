@@ -1,7 +1,7 @@
 -- What a view has learnt, beside what it has seen; this project's profile.
 use Rattle.std.specs.Prelude.{◌≡◌, ◌≤◌, Bool, false, true, List, ◌∷◌, length}
 use Rattle.catalogue_laws.specs.Histories.{History}
-use Rattle.same_batches.specs.Beginnings.{StartsWith}
+use Rattle.publisher.specs.Beginnings.{StartsWith}
 use Rattle.publisher.specs.Heard.{GoesOn, newest}
 use Rattle.publisher.specs.declared.learnt.Learnt.{Learnt}
 use Rattle.publisher.specs.declared.learnt.Learnt.TheVariants as learnt

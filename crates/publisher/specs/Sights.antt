@@ -1,7 +1,7 @@
 -- What a view has seen or learnt; this project's profile.
 use Rattle.std.specs.Prelude.{◌≡◌, ℕ, Bool, false, List, [], ◌∷◌, length}
 use Rattle.catalogue_laws.specs.Histories.{History}
-use Rattle.same_batches.specs.Beginnings.{StartsWith}
+use Rattle.publisher.specs.Beginnings.{StartsWith}
 use Rattle.publisher.specs.Heard.{GoesOn}
 
 -- a view: the histories that it has seen or learnt, whether no history begins with all that it has learnt, and the

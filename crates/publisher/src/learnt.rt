@@ -4,9 +4,9 @@ ghost use Rattle.publisher.specs.declared.learnt.Learnt.TheVariants.{Lost, Of};
 ghost use Rattle.publisher.specs.Heard.{GoesOn};
 ghost use Rattle.publisher.specs.Learnt.{IsLonger, Joins, heard_with, is_lost};
 
+use crate::histories::starts_with;
 use crate::receipt::Receipt;
 use editions::Edition;
-use same_batches::starts_with;
 use std::sync::Arc;
 
 /// What a view has learnt and not seen since.

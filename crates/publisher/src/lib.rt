@@ -6,13 +6,16 @@
 //! the view back. `meet` compares a view with a press. Read `specs/Publishing.antt` and `specs/Sights.antt`.
 //!
 //! Contracts see a press, an entered view and a receipt as a history. What a view has seen is kept by the rule of
-//! `left_right`; what it has learnt is kept as an edition, and `View::enter` compares its batches.
+//! `left_right`; what it has learnt is kept as an edition, and `View::enter` compares its batches. `is_same` compares two
+//! batches, and `starts_with` two histories, edit by edit and their strings byte by byte: read `specs/Beginnings.antt`.
 //!
 //! It does not promise that an entry succeeds, nor that a view that learns nothing sees a publish soon.
 
 #![tactic(auto)]
 
+mod edits;
 mod fault;
+mod histories;
 mod learnt;
 mod meeting;
 mod press;
@@ -20,9 +23,11 @@ mod receipt;
 mod rule;
 mod shown;
 mod steps;
+mod strings;
 mod view;
 
 pub use crate::fault::PublishError;
+pub use crate::histories::{is_same, starts_with};
 pub use crate::meeting::meet;
 pub use crate::press::{Press, open, open_edition};
 pub use crate::receipt::Receipt;

@@ -1,6 +1,6 @@
 ghost use Rattle.std.specs.Prelude.{◌≡◌, max, length, IfNone, IfSome};
 ghost use Rattle.catalogue_laws.specs.Histories.{History};
-ghost use Rattle.same_batches.specs.Beginnings.{StartsWith};
+ghost use Rattle.publisher.specs.Beginnings.{StartsWith};
 ghost use Rattle.publisher.specs.Heard.{IsLinked};
 ghost use Rattle.publisher.specs.Sights.{Allows, Learns, fresh};
 

@@ -1,6 +1,6 @@
 ghost use Rattle.std.specs.Prelude.{◌≡◌, ◌<◌, ◌≤◌, ◌⊎◌, [], ◌∷◌, All, length, IfErr, IfOk, MatchResult, Ok, Err};
 ghost use Rattle.std.specs.Arc.{arc_value};
-ghost use Rattle.same_batches.specs.Beginnings.{StartsWith};
+ghost use Rattle.publisher.specs.Beginnings.{StartsWith};
 ghost use Rattle.editions.specs.Editions.{Continues};
 ghost use Rattle.left_right.specs.Sides.{view as heard_by};
 ghost use Rattle.publisher.specs.declared.fault.PublishError.TheVariants.{Memory, NoPlace};

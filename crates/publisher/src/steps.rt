@@ -3,7 +3,7 @@
 ghost use Rattle.std.specs.Prelude.{◌≡◌, ◌⊎◌, ◌^◌, ◌<◌, [], ◌∷◌, length, All, IfSome, IfOk, IfErr, MatchResult};
 ghost use Rattle.std.specs.Arc.{arc_value};
 ghost use Rattle.left_right.specs.Sides.{view as heard_by};
-ghost use Rattle.same_batches.specs.Beginnings.{StartsWith};
+ghost use Rattle.publisher.specs.Beginnings.{StartsWith};
 ghost use Rattle.publisher.specs.Sights.{fresh};
 ghost use Rattle.publisher.specs.declared.fault.PublishError.TheVariants.{Memory, NoPlace};
 

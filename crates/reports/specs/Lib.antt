@@ -1,2 +1,3 @@
 pub mod Certificates
+pub mod Pieces
 pub mod Summaries

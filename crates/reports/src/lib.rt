@@ -1,18 +1,23 @@
-//! What is reported of an edition.
+//! What is reported of an edition, and the check of a table by several threads.
 //!
-//! `summary` counts what it has, `certify` writes the certificate of a track that is chosen by names, and
+//! `summary` counts what an edition has, `certify` writes the certificate of a track that is chosen by names, and
 //! `verify` says whether a certificate is valid. Read `specs/Summaries.antt` and `specs/Certificates.antt`.
+//! `check_parallel` returns what `price_cert::check` does, in both outcomes; `specs/Pieces.antt` has the pieces in which
+//! threads test the rows.
 //!
-//! It reads no file and prints nothing.
+//! It reads no file, prints nothing, finds no prices, and has no rule of its own.
 
 #![tactic(auto)]
 
 mod certifying;
+mod checking;
 mod counting;
 mod names;
+mod pieces;
 mod tables;
 mod verifying;
 
 pub use crate::certifying::certify;
+pub use crate::checking::check_parallel;
 pub use crate::counting::summary;
 pub use crate::verifying::verify;

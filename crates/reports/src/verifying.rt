@@ -8,10 +8,10 @@ ghost use Rattle.price_certificates.specs.Strings.{spelled_at};
 ghost use Rattle.editions.specs.Editions.{content_of};
 ghost use Rattle.reports.specs.Certificates.{IsJudged, Verifies, table_net};
 
+use crate::checking::check_parallel;
 use crate::tables::table_of;
 use catalogue::Catalogue;
 use editions::Edition;
-use parallel_check::check_parallel;
 use payload_graph::{Graph, TrackKey};
 use price_certificates::{Fault, read_key, read_prices};
 use std::alloc::{AllocError, Global};

@@ -1,2 +1,6 @@
+mod AnswerLemmas
+mod AskLemmas
 mod MirrorLemmas
+mod OrderLemmas
+mod PackageLemmas
 mod RaiseLemmas

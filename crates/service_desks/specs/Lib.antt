@@ -1,3 +1,5 @@
+pub mod Answering
+pub mod Asking
 pub mod Entries
 pub mod Lines
 pub mod Operators

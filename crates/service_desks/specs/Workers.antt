@@ -15,7 +15,7 @@ use Rattle.publisher.specs.Sights.{Sight}
 use Rattle.records.specs.Lookups.{declared_of}
 use Rattle.records.specs.declared.mirror.Mirror.{Mirror}
 use Rattle.values.specs.declared.declared.Declared.{Declared}
-use Rattle.update_desk.specs.Answering.{HasBegun, IsReply, Stock}
+use Rattle.service_desks.specs.Answering.{HasBegun, IsReply, Stock}
 use Rattle.service_desks.specs.Entries.{Enters, FindsNoEntry}
 
 -- what a worker has seen or learnt, and what it has asked its mirrors for

@@ -2,7 +2,7 @@
 
 ghost use Rattle.std.specs.Prelude.{◌≡◌, MatchResult, Ok, Err};
 ghost use Rattle.service_desks.specs.Workers.{Finds, Replies};
-ghost use Rattle.update_desk.specs.Asking.{GrantsFirst};
+ghost use Rattle.service_desks.specs.Asking.{GrantsFirst};
 
 use crate::replying::{find_by, reply_by};
 use http_desks::{Declared, Off};

@@ -1,26 +1,33 @@
 //! The desks of a service that publishes: a worker's, which replies to update checks, and the operator's, which
 //! publishes scripts, raises budgets and dumps the catalogue.
 //!
-//! A `Worker` is the `Desk` of `http_desks` that enters the published edition for each request, and replies from that
-//! edition alone, by what its till grants: read `specs/Entries.antt` and `specs/Workers.antt`. An `Operator` is the
-//! desk that borrows the press and the budgets: read `specs/Scripts.antt`, `specs/Raises.antt` and
-//! `specs/Operators.antt`. `perform_script` publishes a script without a desk.
+//! `reply_to` replies to a request from an edition. It asks a `Till` of `mirror_ledger` for each payload that the reply
+//! offers, and offers nothing that no mirror granted: read `specs/Asking.antt` and `specs/Answering.antt`.
+//! `find_package` finds what a catalogue declares of a package. A `Worker` is the `Desk` of `http_desks` that enters the
+//! published edition for each request, and replies from that edition alone: read `specs/Entries.antt` and
+//! `specs/Workers.antt`. An `Operator` is the desk that borrows the press and the budgets: read `specs/Scripts.antt`,
+//! `specs/Raises.antt` and `specs/Operators.antt`. `perform_script` publishes a script without a desk.
 //!
 //! It opens no press and no books, reads no stream and starts no session.
 
 #![tactic(auto)]
 
 mod answering;
+mod asking;
 mod dumps;
 mod held_view;
 mod lines;
 mod operator;
+mod packages;
 mod raises;
 mod replying;
 mod scripts;
+mod update_checks;
 mod worker;
 
 pub use crate::held_view::HeldView;
 pub use crate::operator::Operator;
+pub use crate::packages::find_package;
 pub use crate::scripts::perform_script;
+pub use crate::update_checks::reply_to;
 pub use crate::worker::Worker;

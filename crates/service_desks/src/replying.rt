@@ -2,15 +2,16 @@
 
 ghost use Rattle.std.specs.Prelude.{◌≡◌, MatchResult, Ok, Err};
 ghost use Rattle.service_desks.specs.Workers.{Finds, Replies};
-ghost use Rattle.update_desk.specs.Asking.{GrantsFirst};
+ghost use Rattle.service_desks.specs.Asking.{GrantsFirst};
 
+use crate::packages::find_package;
+use crate::update_checks::reply_to;
 use http_desks::{Declared, Off};
 use mirror_ledger::Till;
 use omaha_json::Request;
 use publisher::View;
 use std::alloc::Global;
 use std::sync::Wait;
-use update_desk::{find_package, reply_to};
 
 // rule: Reply of a worker
 // rule: Entry for a call

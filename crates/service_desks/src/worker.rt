@@ -47,7 +47,7 @@ impl<'a, R: Wait + AllocGlobal, T: Till> Worker<'a, R, T> {
 impl<R: Wait + AllocGlobal, T: Till> Desk for Worker<'_, R, T> {
     ghost use Rattle.std.specs.Prelude.{◌≡◌};
     ghost use Rattle.service_desks.specs.Workers.{IsCall};
-    ghost use Rattle.update_desk.specs.Asking.{GrantsFirst};
+    ghost use Rattle.service_desks.specs.Asking.{GrantsFirst};
 
     ghost path = { λ _. codes "/service/update2/json" };
 

@@ -1,1 +1,6 @@
+mod HandingLemmas
+mod KeepingLemmas
+mod KnownLemmas
+mod PrintedWalkLemmas
+mod ReplyLemmas
 pub mod WalkLemmas

@@ -1,5 +1,11 @@
+pub mod Bodies
 pub mod Clients
 pub mod Faults
 pub mod Installed
 pub mod Installing
+pub mod Keeping
+pub mod Lines
+pub mod Posts
+pub mod Replies
+pub mod Walking
 pub mod Walks

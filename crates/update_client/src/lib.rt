@@ -1,28 +1,53 @@
 //! A client that asks a server for updates and installs nothing but what it was offered.
 //!
-//! `Link` is what carries bytes from a server, `Installer` what keeps them. `install` stages one file
-//! block by block under a running SHA-256 and commits it only if its length and its digest are those
-//! that were offered; else the installer discards what was staged. `Client::walk` asks, installs what
-//! is offered, and asks again until there is no update. Read `specs/Installing.antt`, then
-//! `specs/Clients.antt` and `specs/Walks.antt`.
+//! `Link` is what carries bytes from a server, `Installer` what keeps them. `install` stages one file block by block under
+//! a running SHA-256 and commits it only if its length and its digest are those that were offered; else the installer
+//! discards what was staged. `Client::walk` asks, installs what is offered, and asks again until there is no update. Read
+//! `specs/Installing.antt`, then `specs/Clients.antt` and `specs/Walks.antt`.
 //!
-//! It opens no socket and writes no file: its caller's `Link` and `Installer` do.
+//! `HttpLink` is the `Link` over TCP, a connection for each post and each download, with a time limit for each read and
+//! each write. `post_over` and `open_over` do so over any source and sink, and `post_to` returns replies of any status: read
+//! `specs/Replies.antt` and `specs/Bodies.antt`. `walk_app` walks and prints a line for each step, `walk_app_at` of a
+//! `Connector` does so over TCP, and `operate_at` posts to an operator's listener: read `specs/Lines.antt` and
+//! `specs/Walking.antt`.
+//!
+//! It keeps no file, follows no redirect, reads no arguments, and looks for no server.
 
 #![tactic(auto)]
 
+mod body;
 mod client;
+mod connecting;
 mod fault;
+mod handing;
 mod hearing;
+mod http_link;
 mod installer;
 mod installing;
+mod keeper;
+mod lines;
 mod link;
+mod opening;
+mod posting;
+mod printed_walk;
+mod reading;
+mod walk_at;
 mod walking;
 
+pub use crate::body::Body;
 pub use crate::client::Client;
+pub use crate::connecting::post_to;
 pub use crate::fault::Fault;
 pub use crate::hearing::Accepted;
+pub use crate::http_link::{HttpLink, MAX_REPLY, UPDATE_PATH};
 pub use crate::installer::{Installer, Step};
 pub use crate::installing::install;
+pub use crate::lines::DoneLine;
 pub use crate::link::Link;
+pub use crate::opening::open_over;
+pub use crate::posting::{Reply, post_over};
+pub use crate::printed_walk::walk_app;
+pub use crate::walk_at::Connector;
 pub use crate::walking::{MAX_STEPS, Walk};
+pub use http_client_heads::LinkFault;
 pub use values::Failed;

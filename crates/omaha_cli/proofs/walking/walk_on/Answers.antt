@@ -1,7 +1,7 @@
 use Rattle.std.proofs.Common.{Ok, Err, inl, refl, subst, ap, ◌∙◌}
 use Rattle.std.proofs.lemmas.Result.{err_from_is_err_and}
 use Rattle.update_client.specs.Installed.{Installed}
-use Rattle.omaha_client.specs.Walking.{IsWalkOver}
+use Rattle.update_client.specs.Walking.{IsWalkOver}
 use Rattle.omaha_cli.specs.declared.failure.Failure.TheVariants as failure
 use Rattle.omaha_cli.proofs.walking.walk_on.Goals as goal
 

@@ -1,5 +1,5 @@
 use Rattle.std.proofs.Common.{◌≡◌, ⊎_elim, subst, sym, true≢false, ◌∙◌}
-use Rattle.same_batches.specs.Beginnings.{StartsWith}
+use Rattle.publisher.specs.Beginnings.{StartsWith}
 use Rattle.publisher.specs.Sights.{Allows, Sight}
 use Rattle.publisher.proofs.HeardLemmas.{beginnings-linked}
 use Rattle.publisher.proofs.meeting.meet.Goals as goal

@@ -1,5 +1,5 @@
 use Rattle.std.proofs.Common.{subst}
-use Rattle.same_batches.specs.Beginnings.{StartsWith}
+use Rattle.publisher.specs.Beginnings.{StartsWith}
 use Rattle.publisher.proofs.view.View.learn.Goals as goal
 
 pub returns-clause-learnt : goal.returns-clause-learnt

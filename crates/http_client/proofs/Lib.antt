@@ -1,3 +1,0 @@
-mod HandingLemmas
-mod KnownLemmas
-mod ReplyLemmas

@@ -1,8 +1,0 @@
-use Rattle.std.proofs.Common.{None}
-use Rattle.http_client.proofs.ReplyLemmas.{posted_within}
-use Rattle.http_client.proofs.connecting.post_on.Goals as goal
-
-pub returns : goal.returns
-returns g c =
-    posted_within c.args.limit None None c.new-source.result.failures c.post_over.new.source.failures
-    c.post_over.result c.post_over.ensures.awaited

@@ -1,2 +1,0 @@
-mod KeepingLemmas
-mod WalkLemmas

@@ -1,0 +1,56 @@
+// The reply to a request.
+
+ghost use Rattle.std.specs.Prelude.{◌≡◌, IfOk, OnErr};
+ghost use Rattle.editions.specs.Editions.{content_of};
+ghost use Rattle.service_desks.specs.Answering.{HasBegun, IsReply};
+ghost use Rattle.service_desks.specs.Asking.{GrantsFirst};
+
+use crate::asking::ask_each;
+use editions::Edition;
+use mirror_ledger::Till;
+use omaha_json::Request;
+use replies::{plan, render};
+use std::alloc::{AllocError, Global};
+use std::sync::Wait;
+
+// rule: Reply to a request
+/// Replies to a request from an edition, at a time in seconds since 1 January 1970 UTC, with the bytes that a till
+/// grants.
+///
+/// The till is asked for each payload that the reply offers, or would if a mirror had granted it, once and in the order
+/// of the apps. If memory runs out a first part of the asks may have been made. If the till is alone, which is if
+/// nothing else is granted on its mirrors, each payload is offered from the first mirror with room.
+pub fn reply_to<T: Till, R: Wait>(
+    rt: &R,
+    alloc: Global,
+    edition: &Edition,
+    till: &mut T,
+    moment: u64,
+    request: &Request,
+) -> Result<Vec<u8>, AllocError>
+    ensures ok { IfOk result (λ reply.
+        IsReply (record { content = content_of edition.now; mirrors = T.mirrors till.old }) request.now moment
+        (T.asks till.old) (T.asks till.new) reply.items) }
+    ensures err { OnErr result
+        (HasBegun (record { content = content_of edition.now; mirrors = T.mirrors till.old }) request.now
+        (T.asks till.old) (T.asks till.new)) }
+    ensures mirrors { T.mirrors till.new ≡ T.mirrors till.old }
+    ensures alone { T.alone till.old
+        → T.alone till.new × GrantsFirst (T.mirrors till.old) (T.asks till.old) (T.asks till.new) }
+{
+    let Ok(plan) = plan(alloc, edition, request) else {
+        return Err(AllocError);
+    };
+    let Ok(outcomes) = ask_each(rt, alloc, till, plan.choices.as_slice()) else {
+        return Err(AllocError);
+    };
+    render(
+        alloc,
+        edition,
+        request,
+        &plan,
+        &outcomes,
+        till.given(),
+        moment,
+    )
+}

@@ -1,0 +1,88 @@
+// What can reach a server.
+
+ghost use Rattle.std.specs.Prelude.{IfErr, IfOk};
+ghost use Rattle.update_client.specs.Replies.{IsPostFault};
+ghost use Rattle.update_client.specs.Walking.{IsWalkOver};
+
+use crate::LinkFault;
+use crate::client::Client;
+use crate::connecting::post_to;
+use crate::fault::Fault;
+use crate::http_link::HttpLink;
+use crate::posting::Reply;
+use crate::printed_walk::walk_app;
+use crate::walking::Walk;
+use http_client_heads::Post;
+use std::alloc::Global;
+use std::net::{Net, TcpListener, TcpStream};
+use streams::WriteWhole;
+use values::ReadError;
+
+/// How many seconds each read and each write of a connection may take.
+const SECONDS: u64 = 30;
+
+/// The path that an operator's scripts are posted to.
+const OPERATE_PATH: &str = "/operate";
+
+/// What can reach a server: a runtime with a network, or a test's stand-in for one.
+pub trait Connector {
+    ghost use Rattle.std.specs.Prelude.{ℕ, List};
+    ghost use Rattle.update_client.specs.Walks.{Post};
+    ghost use Rattle.update_client.specs.declared.posting.Reply.{Reply};
+
+    // the posts were made to the server at an address, each with the reply that came back
+    ghost replies: { Self → List ℕ → List Post → Type 0 };
+
+    // the operator's listener at an address gave that reply to that body
+    ghost operated: { Self → List ℕ → List ℕ → Reply → Type 0 };
+
+    // rule: Walk over connections
+    /// Walks a client along the offers of the server at an address, as `walk_app` does.
+    ///
+    /// The address is `HOST:PORT`, with an IPv6 address in brackets. Each post and each download has a connection
+    /// of its own, and each read and each write of it may take 30 seconds.
+    fn walk_app_at<W: WriteWhole>(
+        &self,
+        alloc: Global,
+        address: &str,
+        client: &mut Client,
+        out: &mut W,
+    ) -> Result<Walk, ReadError<Fault>>
+        ensures { IsWalkOver (replies self.now address.now) client.old client.new (W.output out.old) (W.output out.new) result };
+
+    /// Posts a body to the operator's listener at an address, and returns the reply, whatever its status.
+    ///
+    /// The address is `HOST:PORT`, as above. A reply may be as long as memory allows. Errors are those of `post_to`.
+    fn operate_at(&self, alloc: Global, address: &str, body: &[u8]) -> Result<Reply, LinkFault>
+        ensures ok { IfOk result (λ reply. operated self.now address.now body.now reply) }
+        ensures err { IfErr result IsPostFault };
+}
+
+impl<R: Net<Listener = TcpListener, Stream = TcpStream>> Connector for R {
+    ghost use Rattle.std.specs.Prelude.{⊤};
+
+    ghost replies = { λ _ _ _. ⊤ };
+
+    ghost operated = { λ _ _ _ _. ⊤ };
+
+    fn walk_app_at<W: WriteWhole>(
+        &self,
+        alloc: Global,
+        address: &str,
+        client: &mut Client,
+        out: &mut W,
+    ) -> Result<Walk, ReadError<Fault>> {
+        let mut link = HttpLink::new(alloc, self, address, SECONDS);
+        walk_app(alloc, client, &mut link, out)
+    }
+
+    fn operate_at(&self, alloc: Global, address: &str, body: &[u8]) -> Result<Reply, LinkFault> {
+        let post = Post {
+            host: address,
+            path: OPERATE_PATH,
+            kind: "text/plain; charset=utf-8",
+            body,
+        };
+        post_to(alloc, self, SECONDS, &post, u64::MAX)
+    }
+}

@@ -1,4 +1,0 @@
-mod AnswerLemmas
-mod AskLemmas
-mod OrderLemmas
-mod PackageLemmas
