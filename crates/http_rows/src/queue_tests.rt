@@ -27,7 +27,13 @@ fn send(senders: &mut [LineSender], row: &str) -> Option<()> {
 }
 
 // Whether a log of two senders with room for so many bytes each is written so, each row at once.
-fn logs(alloc: Global, bytes: usize, rows: &[&str], paper: &mut Paper, wanted: &str) -> Option<bool> {
+fn logs(
+    alloc: Global,
+    bytes: usize,
+    rows: &[&str],
+    paper: &mut Paper,
+    wanted: &str,
+) -> Option<bool> {
     let mut log = open_log(alloc, 2, bytes).ok()?;
     let mut page = Page::new(paper);
     for row in rows {
@@ -50,9 +56,13 @@ fn lines_of_two_senders_are_whole(rt: HostRuntime) {
 // rule: Note of lost lines
 #[test]
 fn lost_lines_are_counted_before_the_next_one(rt: HostRuntime) {
-    let rows = ["0 0123456789abcdef\n0 0123456789abcdef\n0 0123456789abcdef\n0 a\n", "0 b\n0 c\n"];
+    let rows = [
+        "0 0123456789abcdef\n0 0123456789abcdef\n0 0123456789abcdef\n0 a\n",
+        "0 b\n0 c\n",
+    ];
     let mut all = paper(rt.alloc(), 0, 0);
-    let wanted = "0123456789abcdef\n0123456789abcdef\nomaha: lines of the log that were lost: 2\nb\nc\n";
+    let wanted =
+        "0123456789abcdef\n0123456789abcdef\nomaha: lines of the log that were lost: 2\nb\nc\n";
     assert!(rt; logs(rt.alloc(), 46, &rows, &mut all, wanted) == Some(true));
 }
 
@@ -60,7 +70,15 @@ fn lost_lines_are_counted_before_the_next_one(rt: HostRuntime) {
 #[test]
 fn a_full_disk_joins_no_sent_lines(rt: HostRuntime) {
     let mut full = paper(rt.alloc(), 3, 1);
-    assert!(rt; logs(rt.alloc(), 64, &["0 first\n", "0 second\n"], &mut full, "fir\nsecond\n") == Some(true));
+    assert!(rt;
+        logs(
+            rt.alloc(),
+            64,
+            &["0 first\n", "0 second\n"],
+            &mut full,
+            "fir\nsecond\n"
+        ) == Some(true)
+    );
 }
 
 // Sends ten lines by each sender, and ends.
@@ -74,7 +92,11 @@ fn send_ten(senders: &mut [LineSender], signal: &Signal) {
 }
 
 // Sends them while a thread writes, and waits for that.
-fn send_beside<R: Threads + Wait + Sync>(rt: &R, alloc: Global, page: &Mutex<Page<'_, Paper>>) -> bool {
+fn send_beside<R: Threads + Wait + Sync>(
+    rt: &R,
+    alloc: Global,
+    page: &Mutex<Page<'_, Paper>>,
+) -> bool {
     let Ok(log) = open_log(alloc, 3, 64) else {
         return false;
     };

@@ -6,6 +6,7 @@ use std::alloc::{AllocError, Global};
 
 // What is kept of a slot that isn't in the list, and of the last one that is.
 const ABSENT: usize = usize::MAX;
+
 const END: usize = usize::MAX - 1;
 
 /// A list of slots, each at most once. It takes memory when it is made, and no more.

@@ -85,7 +85,13 @@ impl<R: System + Clock + Threads + Wait + AllocGlobal, W: WriteWhole> BudgetJob
 
     fn work<B: Budgets>(&mut self, budgets: &mut B) {
         if let Some(listener) = self.listener {
-            operate(self.setup, listener, &mut self.press, budgets, &mut self.lines);
+            operate(
+                self.setup,
+                listener,
+                &mut self.press,
+                budgets,
+                &mut self.lines,
+            );
         }
     }
 }
