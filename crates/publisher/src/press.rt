@@ -95,9 +95,9 @@ impl Press {
     /// Publishes a batch on the base, the number of the edition that it was made for.
     ///
     /// Returns `Stale` if another edition is published, then the error of `Edition::next`; the published edition is
-    /// then as before. A batch is published whole or not at all. The tables of the apps that it names are made in
-    /// `workers` pieces, from 1 to 16, under `gate`, as `Edition::next_with` does. Then it waits for views that still
-    /// read the edition before the published one.
+    /// then as before. A batch is published whole or not at all. The tables that it may change are made in `workers`
+    /// pieces, from 1 to 16, under `gate`, as `Edition::next_with` does. Then it waits for views that still read the
+    /// edition before the published one.
     pub fn publish<R: Threads + Wait, G: Gate + Sync>(
         &mut self,
         rt: &R,
