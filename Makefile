@@ -1,9 +1,9 @@
 # make demo          prints requests of examples/ and their replies, by the program built without a
 #                    proof; after make install it also starts the server
 # make test          the gate: the rules' marks, the words to avoid, the functions and clauses that the claims name, the
-#                    lists of crates and of the corpus, the pictures, every proof from nothing, must-fail edits, tests and the
+#                    lists of crates and of the corpus, the pictures, every proof from nothing, mutants, tests and the
 #                    program, and then the rows of tests/rows with the built program
-# make mutants CRATE..  tries the edits that the gate doesn't, of these crates or of all; the prover
+# make mutants CRATE..  tries the mutants that the gate doesn't, of these crates or of all; the prover
 #                    must reject each
 # make commands      runs the commands on the profiles of examples/, and verifies each track's
 #                    certificate; the program is built without a proof

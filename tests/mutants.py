@@ -1,12 +1,12 @@
 #!/usr/bin/env python3
-"""Tries the edits of `mutants/`, which the prover must reject: tests/mutants.py [CRATE..]
+"""Tries the wrong bodies of `mutants/`, which the prover must reject: tests/mutants.py [CRATE..]
 
-`make mutants [CRATE..]` runs it. The gate tries the edits in the crates' `must-fail/` alone: those that the table
+`make mutants [CRATE..]` runs it. The gate tries the mutants in the crates' `must-fail/` alone: those that the table
 "Wrong servers that cannot be built" names. All others are in `mutants/CRATE/`. Here they take the place of those in
 `must-fail/`, in a copy of the repository, and `rt must-fail` tries them: all of them, or those of the crates that
 are named. What an earlier check in this repository proved, in the folders `out/`, is proved once.
 
-It prints a line for each edit, and exits with 1 if one is not rejected.
+It prints a line for each mutant, and exits with 1 if one is not rejected.
 """
 
 import os

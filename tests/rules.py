@@ -6,15 +6,15 @@ A rule has one plain name, which is a heading in `docs/definitions/`. Its marks 
 - `// rule: NAME` above each function that keeps it, in a file of `src/`;
 - `// rule: NAME` above a test that shows it, or above the test's helper, in a crate whose name ends in `_rows`;
 - `# rule: NAME` above a row that shows it, in a file of `tests/rows/`;
-- `# rule: NAME` in each edit that breaks it, in the crate's `must-fail/` or in `mutants/CRATE/`.
+- `# rule: NAME` in each mutant that breaks it, in the crate's `must-fail/` or in `mutants/CRATE/`.
 
 A mark of `src/`, `specs/` or `tests/rows/` is above the item's comment and its attributes.
 
-Every rule needs exactly one definition, a function, a test and an edit, and its heading must name the definition with its
-file and crate. The rules without a test or an edit are listed below with the reason.
+Every rule needs exactly one definition, a function, a test and a mutant, and its heading must name the definition with its
+file and crate. The rules without a test or a mutant are listed below with the reason.
 
     tests/rules.py            checks the marks, and that the index is the one that they give
-    tests/rules.py NAME       prints where a rule is: its heading, definition, functions, proofs, tests and edits, with
+    tests/rules.py NAME       prints where a rule is: its heading, definition, functions, proofs, tests and mutants, with
                               their paths; NAME may be a word of the field that a line `Also: ..` below the heading has
     tests/rules.py --table    prints the table of all rules
     tests/rules.py --index    writes that table, in short, into the index `docs/definitions/README.md`
@@ -32,8 +32,8 @@ ROWS = os.path.join(TOP, "tests", "rows")
 HEADINGS = os.path.join(TOP, "docs", "definitions")
 INDEX = os.path.join(HEADINGS, "README.md")
 
-# Rules that no edit shows, and why.
-NO_EDIT = {
+# Rules that no mutant shows, and why.
+NO_MUTANT = {
     "App of a profile": "its parts are rules of their own",
     "Choice by prices": "a law's, and no code of this repository",
     "Edit of a script": "its readers are those of a table",
@@ -102,7 +102,7 @@ class Rule:
     """The items that bear the mark of a rule."""
 
     def __init__(self):
-        self.definitions, self.functions, self.tests, self.edits = [], [], [], []
+        self.definitions, self.functions, self.tests, self.mutants = [], [], [], []
 
 
 def files_below(folder, suffix):
@@ -114,7 +114,7 @@ def files_below(folder, suffix):
 
 
 def edits_of(crate):
-    """The edits of a crate: those that the gate tries, then those that `make mutants` tries."""
+    """The mutants of a crate: those that the gate tries, then those that `make mutants` tries."""
     yield from files_below(os.path.join(CRATES, crate, "must-fail"), ".edit")
     yield from files_below(os.path.join(MUTANTS, crate), ".edit")
 
@@ -167,8 +167,8 @@ def read_rules():
                 (entry.tests if crate.endswith("_rows") else entry.functions).append(Place(crate, name, path, line))
         for path in edits_of(crate):
             for rule, _, line in marks(path, None):
-                edit = os.path.basename(path).removesuffix(".edit")
-                rules.setdefault(rule, Rule()).edits.append(Place(crate, edit, path, line))
+                mutant = os.path.basename(path).removesuffix(".edit")
+                rules.setdefault(rule, Rule()).mutants.append(Place(crate, mutant, path, line))
     for path in files_below(ROWS, ".rows"):
         for rule, name, line in marks(path, ROW):
             file = os.path.relpath(path, TOP).removesuffix(".rows")
@@ -215,11 +215,11 @@ def faults_of(rules, headings):
                 yield f"{name}: its heading doesn't name {place.name} in {module_of(place)} of {place.crate}"
         if not rule.functions:
             yield f"{name}: no function"
-        if not rule.edits and name not in NO_EDIT:
-            yield f"{name}: no edit"
+        if not rule.mutants and name not in NO_MUTANT:
+            yield f"{name}: no mutant"
         if TESTS_ARE_MARKED and not rule.tests and name not in NO_TEST:
             yield f"{name}: no test"
-    for name in sorted((set(NO_EDIT) | set(NO_TEST)) - set(rules)):
+    for name in sorted((set(NO_MUTANT) | set(NO_TEST)) - set(rules)):
         yield f"{name}: excepted, and no rule"
     for path in marked_files():
         for place in misplaced_marks(path):
@@ -268,7 +268,7 @@ def table_of(rules):
             ", ".join(f"{place.path}: {place.name}" for place in rule.definitions),
             ", ".join(f"{place.crate}: {place.name}" for place in rule.functions),
             ", ".join(f"{place.crate}: {place.name}" for place in rule.tests) or "–",
-            ", ".join(edit.path for edit in rule.edits) or "–",
+            ", ".join(mutant.path for mutant in rule.mutants) or "–",
         ]
         yield "| " + " | ".join([name, *cells]) + " |"
 
@@ -328,7 +328,7 @@ def print_rule(name, rules, headings):
         ("function", rule.functions),
         ("proof", dict.fromkeys(proofs or searched)),
         ("test", rule.tests),
-        ("edit", rule.edits),
+        ("mutant", rule.mutants),
     ]
     for kind, places in kinds:
         for place in places:
@@ -365,7 +365,7 @@ def main():
     for line in wrong:
         print(f"tests/rules.py: {line}", file=sys.stderr)
     if not wrong:
-        shown = "function, test and edit" if TESTS_ARE_MARKED else "function and edit"
+        shown = "function, test and mutant" if TESTS_ARE_MARKED else "function and mutant"
         print(f"{len(rules)} rules have their heading, definition, {shown}")
     return 1 if wrong else 0
 
