@@ -17,28 +17,42 @@ use std::sync::Wait;
 use std::thread::Threads;
 
 // What a body gets. If memory ran out, nothing is to be published, and the body is sent again.
+fn send_to<R: Threads + Wait + AllocGlobal, B: Budgets>(
+    operator: &mut Operator<'_, '_, '_, R, B>,
+    body: &[u8],
+) -> Option<String>
+    ensures same_press { operator.new.press.ghost_name ≡ operator.old.press.ghost_name }
+    ensures same_budgets { operator.new.budgets.ghost_name ≡ operator.old.budgets.ghost_name }
+{
+    let alloc = operator.rt.alloc();
+    let before = operator.press.edition().number();
+    match operator.answer(body, 0) {
+        Err(Off::Memory) if operator.press.edition().number() == before => {
+            print_answer(alloc, &operator.answer(body, 0))
+        }
+        answer => print_answer(alloc, &answer),
+    }
+}
+
+// The same, of a desk over a press and budgets that may be raised.
 fn send<R: Threads + Wait + AllocGlobal, B: Budgets>(
     rt: &R,
     press: &mut Press,
-    budgets: &B,
+    budgets: &mut B,
     body: &[u8],
 ) -> Option<String>
-    requires mirrors { AreMirrors (B.given budgets.now) }
-    requires rises { B.rises budgets.now ≡ true }
+    requires mirrors { AreMirrors (B.present budgets.old) }
+    requires rises { B.rises budgets.old ≡ true }
+    ensures mirrors { AreMirrors (B.present budgets.new) }
+    ensures rises { B.rises budgets.new ≡ true }
 {
-    let before = press.edition().number();
     let mut operator = Operator {
         rt,
         press,
         budgets,
         workers: 2,
     };
-    match operator.answer(body, 0) {
-        Err(Off::Memory) if operator.press.edition().number() == before => {
-            print_answer(rt.alloc(), &operator.answer(body, 0))
-        }
-        answer => print_answer(rt.alloc(), &answer),
-    }
+    send_to(&mut operator, body)
 }
 
 // Bodies that are sent one after the other.
@@ -53,9 +67,9 @@ impl<R: Threads + Wait + AllocGlobal> BudgetJob for Sending<'_, R> {
 
     ghost raises = { λ _. true };
 
-    ghost comes_to = { λ _ _ _. ⊤ };
+    ghost comes_to = { λ _ _ _ _. ⊤ };
 
-    fn work<B: Budgets>(&mut self, budgets: &B) -> Option<Vec<String>> {
+    fn work<B: Budgets>(&mut self, budgets: &mut B) -> Option<Vec<String>> {
         let mut replies = Vec::new(self.rt.alloc());
         for body in self.bodies {
             let reply = send(self.rt, &mut self.press, budgets, body)?;

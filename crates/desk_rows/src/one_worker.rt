@@ -5,7 +5,10 @@ ghost use Rattle.mirror_ledger.specs.Named.{are_bounded, are_rising, IsNamed};
 
 use crate::lines::{few_mirrors, is_line, number_of, push_numbers};
 use fixtures::three_parts;
-use mirror_ledger::{Blanks, Book, Books, BudgetName, Budgets, Share, Shares, close, open_books};
+use mirror_ledger::{
+    Blanks, Book, Books, BudgetName, Budgets, Opened, Raisers, Share, Shares, Treasurer, close,
+    open_books,
+};
 use records::Mirror;
 use std::alloc::{AllocError, Global};
 use std::marker::Brand;
@@ -30,13 +33,13 @@ fn push_grant<A: BudgetName, B: BudgetName, C: BudgetName, D: BudgetName, R: Wai
 fn push_raise<A: BudgetName, B: BudgetName, C: BudgetName, D: BudgetName, R: Wait>(
     rt: &R,
     line: &mut String,
-    books: &Books<A, B, C, D>,
+    treasurer: &mut Treasurer<'_, A, B, C, D>,
     name: &str,
     budget: &str,
 ) -> Result<(), AllocError>
     requires { are_rising A.most B.most C.most D.most ≡ true }
 {
-    match books.raise(rt, name, number_of(budget)) {
+    match treasurer.raise(rt, name, number_of(budget)) {
         Ok(()) => line.push_str(" raised"),
         Err(error) => write!(line, " {error}"),
     }
@@ -46,15 +49,15 @@ fn push_raise<A: BudgetName, B: BudgetName, C: BudgetName, D: BudgetName, R: Wai
 fn push_ask<A: BudgetName, B: BudgetName, C: BudgetName, D: BudgetName, R: Wait>(
     rt: &R,
     line: &mut String,
-    books: &Books<A, B, C, D>,
+    treasurer: &mut Treasurer<'_, A, B, C, D>,
     shares: &mut Shares<A, B, C, D>,
     ask: &str,
 ) -> Result<(), AllocError>
     requires { are_rising A.most B.most C.most D.most ≡ true }
 {
     match ask.split_once('=') {
-        Some((name, budget)) => push_raise(rt, line, books, name, budget),
-        None => push_grant(rt, line, books, shares, number_of(ask)),
+        Some((name, budget)) => push_raise(rt, line, treasurer, name, budget),
+        None => push_grant(rt, line, treasurer.books, shares, number_of(ask)),
     }
 }
 
@@ -62,14 +65,14 @@ fn push_ask<A: BudgetName, B: BudgetName, C: BudgetName, D: BudgetName, R: Wait>
 fn push_grants<A: BudgetName, B: BudgetName, C: BudgetName, D: BudgetName, R: Wait>(
     rt: &R,
     line: &mut String,
-    books: &Books<A, B, C, D>,
+    treasurer: &mut Treasurer<'_, A, B, C, D>,
     shares: &mut Shares<A, B, C, D>,
     asks: &str,
 ) -> Result<(), AllocError>
     requires { are_rising A.most B.most C.most D.most ≡ true }
 {
     for ask in asks.split(' ') {
-        push_ask(rt, line, books, shares, ask)?;
+        push_ask(rt, line, treasurer, shares, ask)?;
     }
     Ok(())
 }
@@ -92,13 +95,14 @@ fn push_fifty<A: BudgetName, R: Wait>(
 fn push_asks<A: BudgetName, B: BudgetName, C: BudgetName, D: BudgetName, R: Wait>(
     rt: &R,
     line: &mut String,
-    books: &Books<A, B, C, D>,
+    treasurer: &mut Treasurer<'_, A, B, C, D>,
     shares: &mut Shares<A, B, C, D>,
     asks: &str,
 ) -> Result<(), AllocError>
     requires { are_rising A.most B.most C.most D.most ≡ true }
 {
-    push_grants(rt, line, books, shares, asks)?;
+    push_grants(rt, line, treasurer, shares, asks)?;
+    let books = treasurer.books;
     push_fifty(rt, line, &books.first, &mut shares.first)
 }
 
@@ -110,21 +114,41 @@ fn push_each_budget(line: &mut String, mirrors: &[Mirror]) -> Result<(), AllocEr
     Ok(())
 }
 
-// The present budgets.
-fn push_budgets<A: BudgetName, B: BudgetName, C: BudgetName, D: BudgetName, R: Wait>(
+// The mirrors with their present budgets.
+fn present_of<B: Budgets>(alloc: Global, budgets: &B) -> Result<Vec<Mirror>, AllocError> {
+    budgets.mirrors(alloc)
+}
+
+// Writes the indexes for one worker's asks, and what the first mirror says of 50 bytes more; returns the raisers, and the
+// mirrors with their present budgets.
+fn asked_over<A: BudgetName, B: BudgetName, C: BudgetName, D: BudgetName, R: Wait>(
     rt: &R,
     alloc: Global,
     line: &mut String,
     books: &Books<A, B, C, D>,
-) -> Result<(), AllocError> {
-    match books.mirrors(rt, alloc) {
-        Ok(mirrors) => push_each_budget(line, &mirrors),
-        Err(error) => Err(error),
-    }
+    raisers: Raisers<A, B, C, D>,
+    shares: &mut Shares<A, B, C, D>,
+    asks: &str,
+) -> (Raisers<A, B, C, D>, Result<Vec<Mirror>, AllocError>)
+    requires { are_rising A.most B.most C.most D.most ≡ true }
+{
+    let mut treasurer = Treasurer { books, raisers };
+    let pushed = push_asks(rt, line, &mut treasurer, shares, asks);
+    let present = present_of(alloc, &treasurer);
+    let Treasurer { raisers, .. } = treasurer;
+    (raisers, pushed.and(present))
 }
 
-// What is found of open books, at the end of two lines: the indexes for one worker's asks with what the first mirror says
-// of 50 bytes more, and the budgets; returns the totals.
+// What is found of open books.
+#[derive(Drop)]
+struct Found {
+    totals: Vec<u64>,
+    present: Vec<Mirror>,
+    closed: Vec<Mirror>,
+}
+
+// Opens books, writes what one worker's asks come to, and closes them; returns the totals, and the mirrors with their
+// budgets before the closing and after it.
 fn opened<A: BudgetName, B: BudgetName, C: BudgetName, D: BudgetName, R: Wait>(
     rt: &R,
     alloc: Global,
@@ -132,23 +156,57 @@ fn opened<A: BudgetName, B: BudgetName, C: BudgetName, D: BudgetName, R: Wait>(
     mirrors: Vec<Mirror>,
     asks: &Text,
     line: &mut String,
-    budgets: &mut String,
-) -> Result<Vec<u64>, AllocError>
+) -> Result<Found, AllocError>
     requires some { 0 < vec_len mirrors }
     requires few { vec_len mirrors ≤ 4 }
     requires bounded { are_bounded mirrors.items ≡ true }
-    requires first { IsNamed blanks.first A.name A.parts A.budget A.most 1 mirrors.items 0 }
-    requires second { IsNamed blanks.second B.name B.parts B.budget B.most 1 mirrors.items 1 }
-    requires third { IsNamed blanks.third C.name C.parts C.budget C.most 1 mirrors.items 2 }
-    requires fourth { IsNamed blanks.fourth D.name D.parts D.budget D.most 1 mirrors.items 3 }
+    requires first { IsNamed blanks.first blanks.raises.0 A.name A.parts A.budget A.most A.raising 1 mirrors.items 0 }
+    requires second { IsNamed blanks.second blanks.raises.1 B.name B.parts B.budget B.most B.raising 1 mirrors.items 1 }
+    requires third { IsNamed blanks.third blanks.raises.2 C.name C.parts C.budget C.most C.raising 1 mirrors.items 2 }
+    requires fourth { IsNamed blanks.fourth blanks.raises.3 D.name D.parts D.budget D.most D.raising 1 mirrors.items 3 }
     requires rising { are_rising A.most B.most C.most D.most ≡ true }
 {
-    let (books, shares) = open_books::<A, B, C, D, R>(rt, alloc, blanks, mirrors, 1)?;
-    let mut shares = shares;
-    let pushed = push_asks(rt, line, &books, &mut shares[0], asks.as_str());
-    let told = push_budgets(rt, alloc, budgets, &books);
-    let totals = close(rt, alloc, books, shares);
-    pushed.and(told).and(totals)
+    let Opened {
+        books,
+        mut shares,
+        raisers,
+    } = open_books::<A, B, C, D, R>(rt, alloc, blanks, mirrors, 1)?;
+    let (raisers, present) = asked_over(
+        rt,
+        alloc,
+        line,
+        &books,
+        raisers,
+        &mut shares[0],
+        asks.as_str(),
+    );
+    match (present, close(rt, alloc, books, shares, raisers)) {
+        (Ok(present), Ok((totals, closed))) => Ok(Found {
+            totals,
+            present,
+            closed,
+        }),
+        _ => Err(AllocError),
+    }
+}
+
+// The budgets of mirrors.
+fn budgets_line(alloc: Global, mirrors: &[Mirror]) -> Result<String, AllocError> {
+    let mut line = String::new(alloc);
+    push_each_budget(&mut line, mirrors)?;
+    Ok(line)
+}
+
+// The totals, the present budgets, and those after the closing, if they are others.
+fn push_found(alloc: Global, line: &mut String, found: &Found) -> Result<(), AllocError> {
+    push_numbers(line, &found.totals)?;
+    push_each_budget(line, &found.present)?;
+    let present = budgets_line(alloc, &found.present)?;
+    let closed = budgets_line(alloc, &found.closed)?;
+    if present.as_str() == closed.as_str() {
+        return Ok(());
+    }
+    line.push_str(closed.as_str())
 }
 
 // The same on one line.
@@ -164,18 +222,8 @@ fn asked_on<R: Wait>(
     requires bounded { are_bounded mirrors.items ≡ true }
 {
     let blanks = Blanks::new(1);
-    let mut budgets = String::new(alloc);
-    let totals = opened::<Brand, Brand, Brand, Brand, R>(
-        rt,
-        alloc,
-        blanks,
-        mirrors,
-        asks,
-        line,
-        &mut budgets,
-    )?;
-    push_numbers(line, &totals)?;
-    line.push_str(budgets.as_str())
+    let found = opened::<Brand, Brand, Brand, Brand, R>(rt, alloc, blanks, mirrors, asks, line)?;
+    push_found(alloc, line, &found)
 }
 
 /// What the asks of a worker come to.

@@ -48,9 +48,9 @@ impl<R: Wait> BudgetJob for Raising<'_, R> {
 
     ghost raises = { λ _. true };
 
-    ghost comes_to = { λ _ _ _. ⊤ };
+    ghost comes_to = { λ _ _ _ _. ⊤ };
 
-    fn work<B: Budgets>(&mut self, budgets: &B) -> u64 {
+    fn work<B: Budgets>(&mut self, budgets: &mut B) -> u64 {
         let mut raised: u64 = 0;
         for budget in 1..=self.to {
             if budgets.raise(self.rt, "m0", budget).is_ok() {

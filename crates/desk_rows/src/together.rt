@@ -112,9 +112,9 @@ impl<R: Clock> BudgetJob for Beside<'_, R> {
 
     ghost raises = { λ _. false };
 
-    ghost comes_to = { λ _ _ _. ⊤ };
+    ghost comes_to = { λ _ _ _ _. ⊤ };
 
-    fn work<B: Budgets>(&mut self, _budgets: &B) {
+    fn work<B: Budgets>(&mut self, _budgets: &mut B) {
         self.meeting.meet_jobs();
     }
 }
