@@ -20,11 +20,10 @@ pub choose_app-choice-requires-clause-assigned : goal.choose_app-choice-requires
 choose_app-choice-requires-clause-assigned c =
     let request = c.args.request.now in
     let within = rw c.as_slice-asks.ensures at c.loop-index-test.true in
-    let item = rw c.as_slice-asks.ensures at c.index-asks-index.is in
-    (
+    let item = rw c.as_slice-asks.ensures at c.index-asks-index.is in (
       request.session,
       IsAssigned-at (content_of c.args.edition.now) request.session request.apps c.args.clients.now c.loop-index.index c.index-asks-index.result
-      c.index-clients-index.result c.requires.assigned within item c.index-clients-index.is,
+          c.index-clients-index.result c.requires.assigned within item c.index-clients-index.is,
     )
 
 pub choose_app-choice-requires-clause-table : goal.choose_app-choice-requires-clause-table
