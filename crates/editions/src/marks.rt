@@ -131,7 +131,8 @@ pub(crate) fn marks_of(
     made: &Catalogue,
 ) -> Result<Vec<Items<bool>>, AllocError>
     requires { outcome batch.now before.now ≡ Ok made.now }
-    ensures { IfOk result (λ marks. KeepsOthers before.now made.now marks.items) }
+    ensures marks { IfOk result (λ marks. AreEach (AreMarksOf before.now batch.now made.now) (length made.now) marks.items) }
+    ensures kept { IfOk result (λ marks. KeepsOthers before.now made.now marks.items) }
 {
     catalogue_laws::other_releases();
     let mut marks = Vec::with_capacity(alloc, made.apps().len())?;

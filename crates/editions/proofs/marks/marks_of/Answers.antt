@@ -9,8 +9,14 @@ loop-index-preserved c =
     AreEach-more (AreMarksOf c.args.before.now c.args.batch.now c.args.made.now) c.loop-index.index c.loop-index.marks.items
     c.push.new.self.items c.in_ok-own.own c.loop-index.invariant own c.in_ok-push.ensures.items
 
-pub returns : goal.returns
-returns c =
+pub returns-clause-marks : goal.returns-clause-marks
+returns-clause-marks c =
+    let shown = ap length c.apps-index-end.ensures in
+    let ends : c.loop-index.index ≡ length c.args.made.now = omega arith in
+    subst (λ (n : ℕ). AreEach (AreMarksOf c.args.before.now c.args.batch.now c.args.made.now) n c.loop-index.marks.items) ends c.loop-index.invariant
+
+pub returns-clause-kept : goal.returns-clause-kept
+returns-clause-kept c =
     let shown = ap length c.apps-index-end.ensures in
     let ends : c.loop-index.index ≡ length c.args.made.now = omega arith in
     KeepsOthers-marks c.other_releases.ensures c.args.before.now c.args.made.now c.args.batch.now c.loop-index.marks.items c.requires
