@@ -1,6 +1,7 @@
 //! The access log of a server: a line for each reply, in the combined form that web servers write.
 //!
-//! `AccessLog` is a `Watch` of a server's connections. Once a reply has been written, it writes a line: the
+//! `AccessLog` is a `Watch` of a server's connections, one after the other, and `ReplyLog` one of many that are open at
+//! once, of each of which it keeps what it has `Seen`. Once a reply has been written, it writes a line: the
 //! address, the time, the first line of the message, the status, how many bytes the body of the reply had, the
 //! referrer and the program that asked. Every byte that is not printable ASCII is printed as `\x` and two digits, and
 //! so are a quote and a backslash.
@@ -15,6 +16,8 @@ mod entry;
 mod lines;
 mod log;
 mod message;
+mod seen;
 mod times;
 
-pub use crate::log::AccessLog;
+pub use crate::log::{AccessLog, ReplyLog};
+pub use crate::seen::Seen;

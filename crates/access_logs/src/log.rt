@@ -1,146 +1,135 @@
-ghost use Rattle.std.specs.Prelude.{IfOk};
-ghost use Rattle.access_logs.specs.Lines.{IsLogged, IsSomeLine};
+ghost use Rattle.access_logs.specs.Lines.{IsLogged};
 
-use crate::entry::Entry;
 use crate::lines::{next_line, put};
-use crate::message::{asker_of, first_line, replied_in};
+use crate::seen::Seen;
 use http_desks::Clock;
+use http_ports::WatchEach;
 use http_wire::Watch;
-use std::alloc::{AllocError, Global};
+use std::alloc::Global;
 use std::cell::RefCell;
 use std::net::IpAddr;
 use streams::WriteWhole;
 
-// The most bytes of a message that are kept: those of the longest head.
-const MAX_MESSAGE: usize = 16384;
-
-// The most bytes of a reply that are kept: more than a head has.
-const MAX_REPLY: usize = 1024;
-
-/// A log of a server's replies, over a writer.
+// The writer of a log, and whether it ends in a part of a line.
 #[derive(Drop)]
-pub struct AccessLog<'a, C: Clock, W: WriteWhole> {
-    alloc: Global,
-    clock: &'a C,
-    state: RefCell<State<'a, W>>,
+struct Page<'a, W: WriteWhole> {
+    out: &'a mut W,
+    is_cut: bool,
 }
 
-// The writer, and what was seen of the reply that is under way.
+impl<'a, W: WriteWhole> Page<'a, W> {
+    // rule: Lost line of the log
+    // Writes the line of the reply that is under way, if any.
+    fn print(&mut self, alloc: Global, seconds: u64, seen: &Seen)
+        ensures { IsLogged self.old.is_cut (W.output self.old.out.now) (W.output self.new.out.now) self.new.is_cut }
+    {
+        if !seen.is_replied() {
+            return;
+        }
+        let entry = seen.entry(seconds);
+        let Ok(line) = next_line(alloc, self.is_cut, &entry) else {
+            return;
+        };
+        self.is_cut = put(self.out, &line);
+    }
+}
+
+/// A log of the replies of many connections that are open at once, over a writer.
 #[derive(Drop)]
-struct State<'a, W: WriteWhole> {
-    out: &'a mut W,
-    // whether the log ends in a part of a line
-    is_cut: bool,
-    address: Option<IpAddr>,
-    message: Vec<u8>,
-    reply: Vec<u8>,
-    written: u64,
+pub struct ReplyLog<'a, C: Clock, W: WriteWhole> {
+    alloc: Global,
+    clock: &'a C,
+    page: RefCell<Page<'a, W>>,
+}
+
+impl<'a, C: Clock, W: WriteWhole> ReplyLog<'a, C, W> {
+    /// Makes a log that writes to a writer, with the times of a clock.
+    pub fn new(alloc: Global, clock: &'a C, out: &'a mut W) -> ReplyLog<'a, C, W> {
+        ReplyLog {
+            alloc,
+            clock,
+            page: RefCell::new(Page { out, is_cut: false }),
+        }
+    }
+
+    // Writes the line of the reply that was under way, if any, and forgets its message.
+    fn finish(&self, seen: &mut Seen) {
+        let seconds = self.clock.now();
+        if let Ok(mut page) = self.page.try_borrow_mut() {
+            page.print(self.alloc, seconds, seen);
+        }
+        seen.forget();
+    }
+}
+
+impl<'a, C: Clock, W: WriteWhole> WatchEach for ReplyLog<'a, C, W> {
+    type Seen = Seen;
+
+    fn opens(&self, peer: Option<IpAddr>) -> Seen {
+        Seen::new(self.alloc, peer)
+    }
+
+    fn begins(&self, seen: &mut Seen, waiting: &[u8]) {
+        self.finish(seen);
+        seen.read(waiting);
+    }
+
+    fn writes(&self, seen: &mut Seen, bytes: &[u8]) {
+        seen.write(bytes);
+    }
+
+    fn ends(&self, seen: Seen) {
+        let mut seen = seen;
+        self.finish(&mut seen);
+    }
+}
+
+/// A log of a server's replies, over a writer, whose connections come one after the other.
+#[derive(Drop)]
+pub struct AccessLog<'a, C: Clock, W: WriteWhole> {
+    log: ReplyLog<'a, C, W>,
+    seen: RefCell<Seen>,
 }
 
 impl<'a, C: Clock, W: WriteWhole> AccessLog<'a, C, W> {
     /// Makes a log that writes to a writer, with the times of a clock.
     pub fn new(alloc: Global, clock: &'a C, out: &'a mut W) -> AccessLog<'a, C, W> {
         AccessLog {
-            alloc,
-            clock,
-            state: RefCell::new(State {
-                out,
-                is_cut: false,
-                address: None,
-                message: Vec::new(alloc),
-                reply: Vec::new(alloc),
-                written: 0,
-            }),
+            log: ReplyLog::new(alloc, clock, out),
+            seen: RefCell::new(Seen::new(alloc, None)),
         }
-    }
-}
-
-// Appends the first of the bytes that there is room for.
-fn keep(kept: &mut Vec<u8>, bytes: &[u8], most: usize) {
-    let room = most.saturating_sub(kept.len());
-    let count = room.min(bytes.len());
-    let _ = kept.extend_from_slice(&bytes[..count]);
-}
-
-impl<'a, W: WriteWhole> State<'a, W> {
-    // What is written of the reply that is under way.
-    fn line(&self, alloc: Global, seconds: u64) -> Result<Vec<u8>, AllocError>
-        ensures { IfOk result (λ line. IsSomeLine self.now.is_cut line.items) }
-    {
-        let asker = asker_of(&self.message);
-        let replied = replied_in(&self.reply);
-        let entry = Entry {
-            address: self.address,
-            seconds,
-            line: first_line(&self.message),
-            status: replied.status,
-            size: self
-                .written
-                .saturating_sub(replied.head.unwrap_or(self.written)),
-            referrer: asker.referrer,
-            agent: asker.agent,
-        };
-        next_line(alloc, self.is_cut, &entry)
-    }
-
-    // rule: Lost line of the log
-    // Writes the line of the reply that is under way, if any.
-    fn print(&mut self, alloc: Global, seconds: u64)
-        ensures { IsLogged self.old.is_cut (W.output self.old.out.now) (W.output self.new.out.now) self.new.is_cut }
-    {
-        if self.written == 0 {
-            return;
-        }
-        let Ok(line) = self.line(alloc, seconds) else {
-            return;
-        };
-        self.is_cut = put(self.out, &line);
-    }
-
-    // Writes the line of the reply that was under way, if any, and forgets its message.
-    fn finish(&mut self, alloc: Global, seconds: u64)
-        ensures { IsLogged self.old.is_cut (W.output self.old.out.now) (W.output self.new.out.now) self.new.is_cut }
-    {
-        self.print(alloc, seconds);
-        self.message.clear();
-        self.reply.clear();
-        self.written = 0;
     }
 }
 
 impl<'a, C: Clock, W: WriteWhole> Watch for AccessLog<'a, C, W> {
     fn opens(&self, peer: Option<IpAddr>) {
-        if let Ok(mut state) = self.state.try_borrow_mut() {
-            state.address = peer;
+        if let Ok(mut seen) = self.seen.try_borrow_mut() {
+            seen.set_address(peer);
         }
     }
 
     fn begins(&self, waiting: &[u8]) {
-        let seconds = self.clock.now();
-        if let Ok(mut state) = self.state.try_borrow_mut() {
-            state.finish(self.alloc, seconds);
-            keep(&mut state.message, waiting, MAX_MESSAGE);
+        if let Ok(mut seen) = self.seen.try_borrow_mut() {
+            self.log.begins(&mut seen, waiting);
         }
     }
 
     fn reads(&self, bytes: &[u8]) {
-        if let Ok(mut state) = self.state.try_borrow_mut() {
-            keep(&mut state.message, bytes, MAX_MESSAGE);
+        if let Ok(mut seen) = self.seen.try_borrow_mut() {
+            seen.read(bytes);
         }
     }
 
     fn writes(&self, bytes: &[u8]) {
-        if let Ok(mut state) = self.state.try_borrow_mut() {
-            keep(&mut state.reply, bytes, MAX_REPLY);
-            state.written = state.written.saturating_add(bytes.len() as u64);
+        if let Ok(mut seen) = self.seen.try_borrow_mut() {
+            seen.write(bytes);
         }
     }
 
     fn ends(&self) {
-        let seconds = self.clock.now();
-        if let Ok(mut state) = self.state.try_borrow_mut() {
-            state.finish(self.alloc, seconds);
-            state.address = None;
+        if let Ok(mut seen) = self.seen.try_borrow_mut() {
+            self.log.finish(&mut seen);
+            seen.set_address(None);
         }
     }
 }

@@ -3,7 +3,7 @@
 //! A `Port` is one worker's side of the network: it accepts connections, each at one of its slots, and reports which of
 //! them may go on. A `Protocol` is what is said on a connection. `run` serves all connections of a port by a desk of
 //! `http_desks`, each as far as its bytes have come and its peer takes the replies: read `specs/Ports.antt`,
-//! `specs/Speech.antt` and `specs/Loops.antt`.
+//! `specs/Speech.antt` and `specs/Loops.antt`. A `WatchEach` is shown what passes on each, by a protocol that says so.
 //!
 //! It knows no socket, no HTTP and no time: a port says which connections are late, and a protocol what bytes mean.
 
@@ -16,9 +16,11 @@ mod port;
 mod protocol;
 mod serving;
 mod table;
+mod watch;
 
 pub use crate::event::{Event, Received, Sent};
 pub use crate::last::Last;
 pub use crate::looping::run;
 pub use crate::port::Port;
 pub use crate::protocol::{Next, Protocol};
+pub use crate::watch::WatchEach;

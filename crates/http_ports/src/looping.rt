@@ -71,7 +71,7 @@ fn close_slot<P: Port, E: Protocol>(
 {
     port.close(slot);
     match swap(conns, slot, None) {
-        Some(conn) => protocol.is_lost(&conn),
+        Some(conn) => protocol.end(conn),
         None => false,
     }
 }
@@ -106,7 +106,8 @@ fn serve_next<P: Port, E: Protocol, D: Desk>(
 {
     match port.wait() {
         Event::Accepted(slot) => {
-            let _ = swap(conns, slot, Some(protocol.open()));
+            let peer = port.peer(slot);
+            let _ = swap(conns, slot, Some(protocol.open(peer)));
             Some(serve_slot(port, slot, protocol, room, into, conns, desk))
         }
         Event::Ready(slot) => Some(serve_slot(port, slot, protocol, room, into, conns, desk)),

@@ -4,6 +4,7 @@ ghost use Rattle.http_ports.specs.Traffic.{Changes, HasPassed, IsOpen, Slot, mar
 ghost use Rattle.http_ports.specs.declared.last.Last.TheVariants.{Yields};
 
 use crate::event::{Event, Received, Sent};
+use std::net::IpAddr;
 
 /// One worker's side of the network: connections, each at a slot, which has one after the other.
 ///
@@ -21,6 +22,9 @@ pub trait Port {
 
     // no more connections will be accepted
     ghost is_over: { Self → Type 0 };
+
+    /// Returns the address of a slot's peer, if it has a connection and the system gives its address.
+    fn peer(&self, slot: usize) -> Option<IpAddr>;
 
     /// Returns how many connections may be open at once: the slots are those below.
     fn capacity(&self) -> usize

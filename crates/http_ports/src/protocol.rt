@@ -3,6 +3,7 @@ ghost use Rattle.http_desks.specs.Calls.{Call, Leads};
 ghost use Rattle.http_ports.specs.Speech.{IsNext, Phase, Waiting};
 
 use http_desks::Desk;
+use std::net::IpAddr;
 
 /// How a connection goes on once all that was made is sent.
 #[derive(Clone, Copy, Drop)]
@@ -35,8 +36,8 @@ pub trait Protocol {
     // with a desk of this path and type: these bytes were received and sent, and these calls of the desk are for them
     ghost so_far: { Self → List ℕ → List ℕ → Self.Conn → List ℕ → List ℕ → List Call → Type 0 };
 
-    /// Begins with a connection that was accepted.
-    fn open(&self) -> Self::Conn
+    /// Begins with a connection that was accepted, from this address if it is known.
+    fn open(&self, peer: Option<IpAddr>) -> Self::Conn
         ensures pending { pending result ≡ [] }
         ensures so_far { (path kind : List ℕ) → so_far self.now path kind result [] [] [] };
 
@@ -44,9 +45,9 @@ pub trait Protocol {
     fn pending<'c>(&self, conn: &'c Self::Conn) -> &'c [u8]
         ensures { result.now ≡ pending conn.now };
 
-    /// Whether memory ran out for the connection.
-    fn is_lost(&self, conn: &Self::Conn) -> bool
-        ensures { result ≡ is_lost conn.now };
+    /// Ends with a connection that was closed, and returns whether memory ran out for it.
+    fn end(&self, conn: Self::Conn) -> bool
+        ensures { result ≡ is_lost conn };
 
     /// Notes that so many of the pending bytes were sent.
     fn sent(&self, conn: &mut Self::Conn, count: usize)

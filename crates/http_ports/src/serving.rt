@@ -179,7 +179,7 @@ pub(crate) fn serve_out<P: Port, E: Protocol, D: Desk>(
         Step::Waits => Ok(conn),
         Step::Over => {
             port.close(slot);
-            Err(protocol.is_lost(&conn))
+            Err(protocol.end(conn))
         }
     }
 }

@@ -17,6 +17,8 @@ mod sending;
 mod talk;
 mod talks;
 mod turning;
+mod watched;
 
 pub use crate::talk::Talk;
 pub use crate::talks::Talks;
+pub use crate::watched::{Watched, WatchedTalks};

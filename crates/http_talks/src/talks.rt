@@ -16,6 +16,7 @@ use http_desks::{Clock, Desk, Packages};
 use http_ports::{Next, Protocol};
 use http_sessions::{Buffers, Foreseen, Found};
 use std::alloc::Global;
+use std::net::IpAddr;
 
 /// The sessions of a site, as what is said on connections.
 #[derive(Drop)]
@@ -129,7 +130,7 @@ impl<Z: Packages + Clock> Protocol for Talks<'_, Z> {
     ghost so_far = { λ talks path kind.
         Said (IsUse path (Z.tells talks.site.now) (Z.sizes talks.site.now) (Z.reads talks.site.now)) kind };
 
-    fn open(&self) -> Talk {
+    fn open(&self, _peer: Option<IpAddr>) -> Talk {
         Talk {
             stage: Stage::Busy,
             begun: 0,
@@ -144,7 +145,7 @@ impl<Z: Packages + Clock> Protocol for Talks<'_, Z> {
         &talk.made[talk.sent..]
     }
 
-    fn is_lost(&self, talk: &Talk) -> bool {
+    fn end(&self, talk: Talk) -> bool {
         matches!(talk.stage, Stage::Lost)
     }
 

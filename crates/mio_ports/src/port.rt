@@ -10,7 +10,7 @@ use mio::{Events, Interest, Poll, Token};
 use port_books::Book;
 use std::alloc::{AllocError, Global};
 use std::net;
-use std::net::Net;
+use std::net::{IpAddr, Net};
 use std::os::fd::AsRawFd;
 use std::sync::{Arc, Wait};
 use std::time::{Clock, Instant};
@@ -33,6 +33,8 @@ pub struct MioPort<'a, R: Wait> {
     // the slots that are to be reported, and those without a connection
     pub(crate) ready: WaitingList,
     pub(crate) free: WaitingList,
+    // the address of each slot's peer
+    pub(crate) peers: Vec<Option<IpAddr>>,
     // whether the listener may have a connection
     pub(crate) knocks: bool,
     // how many connections were accepted, of so many in all
@@ -56,6 +58,11 @@ fn all_slots(alloc: Global, slots: usize) -> Result<WaitingList, AllocError> {
     Ok(free)
 }
 
+// So many addresses, none of which is known.
+fn addresses(alloc: Global, slots: usize) -> Result<Vec<Option<IpAddr>>, AllocError> {
+    vec![in alloc; None; slots]
+}
+
 impl<'a, R: Wait + Net + Clock + AllocGlobal> MioPort<'a, R> {
     /// Makes the port of a listener that doesn't block: for up to `slots` connections at once, and `limit` in all.
     ///
@@ -77,6 +84,7 @@ impl<'a, R: Wait + Net + Clock + AllocGlobal> MioPort<'a, R> {
         let book = Book::new(alloc, slots).ok()?;
         let ready = WaitingList::new(alloc, slots).ok()?;
         let free = all_slots(alloc, slots).ok()?;
+        let peers = addresses(alloc, slots).ok()?;
         let times = Times::new(alloc, slots, limits).ok()?;
         let lingering = LingeringList::new(alloc).ok()?;
         let events = Events::with_capacity(alloc, EVENTS).ok()?;
@@ -94,6 +102,7 @@ impl<'a, R: Wait + Net + Clock + AllocGlobal> MioPort<'a, R> {
             book,
             ready,
             free,
+            peers,
             knocks: true,
             accepted: 0,
             limit,

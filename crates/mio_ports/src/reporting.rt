@@ -64,8 +64,8 @@ impl<R: Wait + Clock> MioPort<'_, R> {
         ensures book { self.new.book ≡ self.old.book }
         ensures limit { self.new.limit ≡ self.old.limit }
     {
-        let stream = match self.listener.accept() {
-            Ok((stream, _)) => stream,
+        let (stream, peer) = match self.listener.accept() {
+            Ok((stream, peer)) => (stream, peer.ip()),
             Err(error) => {
                 // one that was aborted may be followed by others
                 self.knocks = error.kind() == ErrorKind::ConnectionAborted;
@@ -73,6 +73,9 @@ impl<R: Wait + Clock> MioPort<'_, R> {
             }
         };
         stream.set_nonblocking(true).ok()?;
+        if let Some(address) = self.peers.get_mut(slot) {
+            *address = Some(peer);
+        }
         let _ = stream.set_nodelay(true);
         let mut stream = TcpStream::from_std(stream);
         let both = Interest::READABLE | Interest::WRITABLE;

@@ -6,6 +6,7 @@ use crate::passing::{read_slot, write_slot};
 use crate::port::{LISTENER, MioPort};
 use http_ports::{Event, Last, Port, Received, Sent};
 use port_books::Change;
+use std::net::IpAddr;
 use std::sync::Wait;
 use std::time::{Clock, Duration};
 
@@ -60,6 +61,10 @@ impl<R: Wait + Clock> Port for MioPort<'_, R> {
 
     // so many connections were accepted
     ghost is_over = { λ port. accepted_in port.book.moves ≡ port.limit };
+
+    fn peer(&self, slot: usize) -> Option<IpAddr> {
+        *self.peers.get(slot)?
+    }
 
     fn capacity(&self) -> usize {
         self.book.capacity()

@@ -13,6 +13,8 @@ mod download_tests;
 #[cfg(test)]
 mod lines;
 #[cfg(test)]
+mod log_tests;
+#[cfg(test)]
 mod peers;
 #[cfg(test)]
 mod rows;

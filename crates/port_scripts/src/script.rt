@@ -7,6 +7,7 @@ ghost use Rattle.port_scripts.specs.Seats.{AreDone, IsOfSlot, IsQuietAt, peers_o
 
 use crate::seat::Seat;
 use http_ports::{Event, Port, Received, Sent};
+use std::net::IpAddr;
 use traces::Trace;
 
 /// A port in memory: each slot has its peers, which connect one after the other.
@@ -124,6 +125,10 @@ impl Port for Script {
     ghost accepted = { λ port. length port.accepted };
 
     ghost is_over = { λ port. AreDone port.seats.items };
+
+    fn peer(&self, _slot: usize) -> Option<IpAddr> {
+        None
+    }
 
     fn capacity(&self) -> usize {
         self.seats.len()

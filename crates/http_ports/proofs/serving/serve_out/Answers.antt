@@ -14,4 +14,4 @@ returns-in-Over-clause-serves g c =
     ends (speech_at g.E.Protocol.pending g.E.Protocol.phase g.E.Protocol.is_lost (g.E.Protocol.so_far c.args.protocol.now) (g.D.Desk.path c.args.desk.now) (g.D.Desk.content_type c.args.desk.now)) g.D.Desk.steps
     c.args.slot (g.P.Port.slots c.args.port.now c.args.slot) (g.P.Port.slots c.advance_far.new.port)
     (g.P.Port.slots c.close.new.self) c.args.conn c.advance_far.new.conn c.args.desk.now c.advance_far.new.desk
-    c.is_lost.result c.in-Over.ensures.serves c.close.ensures.closes c.is_lost.ensures
+    c.end.result c.in-Over.ensures.serves c.close.ensures.closes c.end.ensures
