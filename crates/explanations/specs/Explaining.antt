@@ -5,6 +5,7 @@ use Rattle.std.specs.Option.{option_or}
 use Rattle.explanations.specs.declared.budgets.TheConstants.{BUDGETS}
 use Rattle.explanations.specs.declared.certificates.TheConstants.{CERTIFICATES}
 use Rattle.explanations.specs.declared.edits.TheConstants.{EDITS}
+use Rattle.explanations.specs.declared.lines.TheConstants.{LINES}
 use Rattle.explanations.specs.declared.profiles.TheConstants.{PROFILES}
 use Rattle.explanations.specs.declared.requests.TheConstants.{REQUESTS}
 use Rattle.explanations.specs.declared.walks.TheConstants.{WALKS}
@@ -23,11 +24,12 @@ entries_of table = map (λ entry. (entry.0.now, entry.1.now)) table
 -- what the code's entry says, which is in one of the tables; none if no table has one
 abbrev pub explanation_of : List ℕ → Option (List ℕ)
 explanation_of code =
-    option_or (option_or (option_or (option_or (option_or (option_or
+    option_or (option_or (option_or (option_or (option_or (option_or (option_or
     (string_in (map (λ entry. (entry.0.now, entry.1.now)) EDITS) code)
     (string_in (map (λ entry. (entry.0.now, entry.1.now)) BUDGETS) code))
     (string_in (map (λ entry. (entry.0.now, entry.1.now)) PROFILES) code))
     (string_in (map (λ entry. (entry.0.now, entry.1.now)) REQUESTS) code))
     (string_in (map (λ entry. (entry.0.now, entry.1.now)) CERTIFICATES) code))
     (string_in (map (λ entry. (entry.0.now, entry.1.now)) WALKS) code))
-    (string_in (map (λ entry. (entry.0.now, entry.1.now)) WORDS) code)
+    (string_in (map (λ entry. (entry.0.now, entry.1.now)) WORDS) code))
+    (string_in (map (λ entry. (entry.0.now, entry.1.now)) LINES) code)

@@ -43,7 +43,7 @@ Remedy: Write the version as `1.2.3.4`, with at most four numbers and no leading
 Found in: an edit of a profile or a script.
 The app has a release of that version already.
 Usual cause: The same release twice, or `1.0` and `1.0.0`, which are one version.
-Remedy: Remove one of the two, or raise its version.
+Remedy: Leave one of the two out, or raise its version.
 ",
     ),
     (
@@ -52,7 +52,7 @@ Remedy: Remove one of the two, or raise its version.
 Found in: an edit of a profile or a script.
 Another release of the app has a full package with that SHA-256.
 Usual cause: One package under two versions: a client's place is found by its hash, so it must be unique.
-Remedy: Build the package anew for the new version, or remove one of the releases.
+Remedy: Build the package anew for the new version, or leave one of the releases out; a published one stays.
 ",
     ),
     (
@@ -96,8 +96,8 @@ Remedy: Give each package a name of its own, for example with the app and the ve
         "C11 UnknownRelease
 Found in: an edit of a profile or a script.
 An edit names a version that the app has no release of.
-Usual cause: A target, a held target or a differential of a release that was removed or not added yet.
-Remedy: Add the release, or name one that is there.
+Usual cause: A misspelled version, or a target, a held target or a differential before the edit that adds the release.
+Remedy: Add the release first, or name one that is there: `omaha dump --to ADDR` lists them.
 ",
     ),
     (
@@ -106,7 +106,7 @@ Remedy: Add the release, or name one that is there.
 Found in: an edit of a profile or a script.
 The app has a differential between those two releases already.
 Usual cause: The same pair twice.
-Remedy: Remove one of the two.
+Remedy: Leave one of the two out.
 ",
     ),
     (
@@ -151,7 +151,7 @@ Remedy: Write 1000 for all clients, 50 for five in a hundred.
 Found in: an edit of a profile or a script.
 A limit of the catalogue is reached.
 Usual cause: More than 64 apps, or in one app more than 512 releases, 16384 differentials or 32 cohorts.
-Remedy: Remove what no client needs any more; a stone lets older releases go.
+Remedy: No edit removes anything: leave what no client needs out of the profile, and start the server from it.
 ",
     ),
 ];

@@ -6,6 +6,7 @@ ghost use Rattle.explanations.specs.Explaining.{entries_of, explanation_of, stri
 use crate::budgets::BUDGETS;
 use crate::certificates::CERTIFICATES;
 use crate::edits::EDITS;
+use crate::lines::LINES;
 use crate::profiles::PROFILES;
 use crate::requests::REQUESTS;
 use crate::walks::WALKS;
@@ -25,7 +26,8 @@ fn find(table: &[(&'static str, &'static str)], code: &str) -> Option<&'static s
 }
 
 // rule: Explanation of a code
-/// Explains a code, or the first word of a line, that the program prints after `omaha: `.
+/// Explains a code, or the first word of a line, that the program prints: of a failure, of a server's reply to its
+/// operator, or of a report.
 ///
 /// It has five lines: the code with its name, where it is found, the meaning, the usual cause and the remedy.
 /// It is `None` if the program prints no such code.
@@ -39,6 +41,7 @@ pub fn explain(code: &str) -> Option<&'static str>
         .or(find(&CERTIFICATES, code))
         .or(find(&WALKS, code))
         .or(find(&WORDS, code))
+        .or(find(&LINES, code))
 }
 
 // The first line of each entry.
@@ -50,7 +53,7 @@ fn push_all(lines: &mut String, table: &[(&'static str, &'static str)]) -> Resul
     Ok(())
 }
 
-/// Lists the codes and words with their names, a line each.
+/// Lists the codes and first words with their names, a line each.
 pub fn list(alloc: Global) -> Result<String, AllocError> {
     let mut lines = String::new(alloc);
     push_all(&mut lines, &EDITS)?;
@@ -60,5 +63,6 @@ pub fn list(alloc: Global) -> Result<String, AllocError> {
     push_all(&mut lines, &CERTIFICATES)?;
     push_all(&mut lines, &WALKS)?;
     push_all(&mut lines, &WORDS)?;
+    push_all(&mut lines, &LINES)?;
     Ok(lines)
 }

@@ -11,6 +11,7 @@ mod budgets;
 mod certificates;
 mod edits;
 mod explaining;
+mod lines;
 mod profiles;
 mod requests;
 mod walks;

@@ -9,4 +9,5 @@ returns c =
     let four = ap shown c.or-3.ensures ∙ first-shown c.or-2.result c.find-4.result three c.find-4.ensures in
     let five = ap shown c.or-4.ensures ∙ first-shown c.or-3.result c.find-5.result four c.find-5.ensures in
     let six = ap shown c.or-5.ensures ∙ first-shown c.or-4.result c.find-6.result five c.find-6.ensures in
-    ap shown c.or-6.ensures ∙ first-shown c.or-5.result c.find-7.result six c.find-7.ensures
+    let seven = ap shown c.or-6.ensures ∙ first-shown c.or-5.result c.find-7.result six c.find-7.ensures in
+    ap shown c.or-7.ensures ∙ first-shown c.or-6.result c.find-8.result seven c.find-8.ensures

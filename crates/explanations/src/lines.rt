@@ -1,0 +1,139 @@
+// What there is to say of the lines of a server's operator and of reports, by their first words.
+
+pub(crate) const LINES: [(&str, &str); 15] = [
+    (
+        "edition",
+        "edition N
+Found in: the reply to a script, and the output of `check`.
+The script is published as edition N. Of `check`: the profile makes the edition 1, and the line counts what it has.
+Usual cause: A script whose base was the published edition; a valid profile.
+Remedy: None is needed; keep what `omaha dump --to ADDR` prints, since a restart begins from the profile.
+",
+    ),
+    (
+        "stale",
+        "stale N
+Found in: the reply to a script.
+Edition N is published, and the script's `base` is another one; nothing is changed.
+Usual cause: Another script was published, this one was sent twice, or the server was started again and is at 1.
+Remedy: Look at `omaha dump --to ADDR`: if the script's edits aren't there, set its `base` to N and send it again.
+",
+    ),
+    (
+        "refused",
+        "refused I CODE NAME, or refused CODE NAME
+Found in: the reply to a script or a raise.
+The catalogue rejects the edit of that index, from 0, or the mirrors the raise; nothing is changed.
+Usual cause: See the code: `omaha explain CODE`.
+Remedy: Correct the edit, or the raise, and send it again with the same base.
+",
+    ),
+    (
+        "history",
+        "history full
+Found in: the reply to a script.
+The server has published 4096 editions, which is the most; nothing is changed.
+Usual cause: Thousands of scripts since the server was started.
+Remedy: Write `omaha dump --to ADDR` to a file, start the server from it, and set the script's `base` to 1.
+",
+    ),
+    (
+        "bad",
+        "bad raise
+Found in: the reply to a raise.
+The body begins with `raise ` and isn't `raise NAME BUDGET`; nothing is changed.
+Usual cause: A budget that isn't a decimal number, a leading zero, or more than one space.
+Remedy: Use `omaha raise --to ADDR NAME BUDGET`.
+",
+    ),
+    (
+        "raised",
+        "raised NAME BUDGET
+Found in: the reply to a raise.
+The mirror's budget is that many bytes, with those that were granted already.
+Usual cause: A raise of at least the present budget.
+Remedy: None is needed; write the number into the profile, or the next start has the old one.
+",
+    ),
+    (
+        "ready",
+        "ready
+Found in: the output of `serve`.
+The server listens at its addresses; the clients that connect are served.
+Usual cause: A start without a failure.
+Remedy: None is needed.
+",
+    ),
+    (
+        "step",
+        "step N KIND VERSION BYTES
+Found in: the output of `walk`.
+The offer of step N was downloaded and checked: `full` or `diff`, the version it leads to, and its bytes.
+Usual cause: A chain that leads to the target.
+Remedy: None is needed; `omaha explain` with the line after the last step says how the walk ended.
+",
+    ),
+    (
+        "done",
+        "done N steps BYTES bytes
+Found in: the output of `walk`.
+The server replied `noupdate` after N steps.
+Usual cause: A client at its target, or one from which no chain reaches the target.
+Remedy: If it isn't at its target: `omaha certify` lists the releases from which a chain reaches it.
+",
+    ),
+    (
+        "missing",
+        "missing
+Found in: a package's line of `check --packages`, and a file of `describe`.
+There is no file of that name in the folder.
+Usual cause: A package that was not copied, or a misspelled `name`.
+Remedy: Copy the package into the folder, or correct the profile.
+",
+    ),
+    (
+        "not",
+        "not a regular file
+Found in: a package's line of `check --packages`, and a file of `describe`.
+What has the name is a folder, a pipe or a link.
+Usual cause: A link to a package that is kept elsewhere.
+Remedy: Copy the file itself.
+",
+    ),
+    (
+        "size",
+        "size N
+Found in: a package's line of `check --packages`, and a file of `describe`.
+The file has N bytes, and not as many as the profile declares, or as a package may have.
+Usual cause: A copy that was cut, a package that was built anew, or an empty file.
+Remedy: Copy the package again, or write into the profile what `omaha describe FILE` prints.
+",
+    ),
+    (
+        "sha256",
+        "sha256 differs
+Found in: a package's line of `check --packages`.
+The file has the declared size and another SHA-256.
+Usual cause: A package that was built anew under its old name.
+Remedy: Copy the declared package; give a changed one a name of its own.
+",
+    ),
+    (
+        "unreadable",
+        "unreadable
+Found in: a package's line of `check --packages`, and a file of `describe`.
+The file can't be opened, or reading it failed.
+Usual cause: A missing permission.
+Remedy: Try `head FILE` as the user that the server has.
+",
+    ),
+    (
+        "lines",
+        "lines of the log that were lost: N
+Found in: standard error of `serve`.
+The log was written more slowly than replies were made, and N of its lines have no place in it; no reply waited.
+Usual cause: A full or slow disk, or a pipe of `--log -` that nobody reads.
+Remedy: Make room, log to a faster disk, or read the pipe.
+",
+    ),
+];
