@@ -10,6 +10,8 @@
 # make serving       tests the server and the walk, after make install, over the loopback
 # make cluster       tests three servers with nginx as their proxy, after make install; it needs nginx
 # make install       proves, builds and installs the program below PREFIX
+# make deb           builds a Debian package of the program, after make install, and tests it; it needs
+#                    systemd, and root or fakeroot
 # make allocations   runs the program, after make install, and the tests of single calls without
 #                    memory, which it proves and builds, with each allocation failing in turn; it
 #                    needs a C compiler
@@ -30,7 +32,7 @@ CRATES := $(wordlist 2,$(words $(MAKECMDGOALS)),$(MAKECMDGOALS))
 $(eval $(CRATES):;@:)
 endif
 
-.PHONY: demo test mutants commands serving cluster install allocations fuzz bench load instructions $(CRATES)
+.PHONY: demo test mutants commands serving cluster install deb allocations fuzz bench load instructions $(CRATES)
 
 demo:
 	@examples/demo.py
@@ -64,6 +66,10 @@ install:
 	cd crates/omaha && rt run < stdin
 	install -d $(DESTDIR)$(PREFIX)/bin
 	install -m 755 crates/omaha/out/omaha $(DESTDIR)$(PREFIX)/bin/omaha
+
+deb:
+	packaging/deb.py
+	tests/deb.py
 
 allocations:
 	for crate in profile_rows prices_rows protocol_rows server_rows desk_rows; do \

@@ -12,7 +12,6 @@ import http.client
 import os
 import pathlib
 import shutil
-import signal
 import socket
 import subprocess
 import sys
@@ -65,6 +64,11 @@ def ask(port):
     return reply.status, body
 
 
+def lines_of(ports, reply):
+    """What `publish.sh` prints if each server replies this."""
+    return "".join(f"127.0.0.1:{port}: {reply}\n" for port in ports)
+
+
 OLD, NEW = (200, '"status":"noupdate"'), (200, '"version":"3.0"')
 
 
@@ -76,11 +80,15 @@ def ask_all_the_time(port, seen, is_done):
             seen.append(str(error))
 
 
+def is_listened_on(port):
+    with socket.socket() as made:
+        return made.connect_ex(("127.0.0.1", int(port))) == 0
+
+
 def wait_for(port):
     for _ in range(200):
-        with socket.socket() as made:
-            if made.connect_ex(("127.0.0.1", int(port))) == 0:
-                return
+        if is_listened_on(port):
+            return
         time.sleep(0.05)
     sys.exit(f"cluster: nobody listens on {port}")
 
@@ -112,10 +120,10 @@ def main():
             expect("before", {ask(ports[0]) for _ in range(9)}, {OLD})
             script = EXAMPLES / "scripts" / "stage.toml"
             published = subprocess.run(["./publish.sh", script], **how)
-            expect("publish", (published.returncode, published.stdout), (0, "edition 2\n" * 3))
+            expect("publish", (published.returncode, published.stdout), (0, lines_of(ports[4:], "edition 2")))
             expect("after", {ask(ports[0]) for _ in range(9)}, {NEW})
             again = subprocess.run(["./publish.sh", script], **how)
-            expect("publish again", (again.returncode, again.stdout), (1, "stale 2\n" * 3))
+            expect("publish again", (again.returncode, again.stdout), (1, lines_of(ports[4:], "stale 2")))
             killed = subprocess.run(["pkill", "-9", "-f", f"listen 127.0.0.1:{ports[2]}"])
             expect("a server to kill", killed.returncode, 0)
             expect("with two servers", {ask(ports[0]) for _ in range(30)}, {NEW})
@@ -129,7 +137,9 @@ def main():
             print(f"{len(seen)} update checks all the time")
         finally:
             front.terminate()
-            os.killpg(servers.pid, signal.SIGTERM)
+            servers.terminate()
+            expect("the end of the servers", servers.wait(timeout=10), 143)
+            expect("servers that are left", [port for port in ports[1:] if is_listened_on(port)], [])
             front.wait()
     if failures:
         sys.exit(f"cluster: {len(failures)} differ")

@@ -3,6 +3,8 @@
 # Usage: publish.sh SCRIPT
 status=0
 for number in 1 2 3; do
-    omaha publish --to "127.0.0.1:809$number" "$1" || status=1
+    address="127.0.0.1:809$number"
+    reply=$(omaha publish --to "$address" "$1") || status=1
+    echo "$address: ${reply:-no reply}"
 done
 exit $status
