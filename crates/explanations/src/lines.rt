@@ -130,10 +130,10 @@ Remedy: Try `head FILE` as the user that the server has.
     (
         "lines",
         "lines of the log that were lost: N
-Found in: standard error of `serve`.
-The log was written more slowly than replies were made, and N of its lines have no place in it; no reply waited.
-Usual cause: A full or slow disk, or a pipe of `--log -` that nobody reads.
-Remedy: Make room, log to a faster disk, or read the pipe.
+Found in: the log of `serve`.
+The log was written more slowly than replies were made: N lines of a worker are not in it, and no reply waited.
+Usual cause: A slow disk, or a pipe of `--log -` that was not read for a while.
+Remedy: Log to a faster disk, or read the pipe all the time.
 ",
     ),
 ];

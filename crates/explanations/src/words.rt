@@ -51,8 +51,8 @@ Remedy: Start it anew, and report it.
     (
         "thread",
         "thread
-Found in: the workers of a server.
-A worker's thread could not be started; no connection was accepted.
+Found in: the start of `serve`.
+A thread of a worker or of the log could not be started; no connection was accepted.
 Usual cause: A limit of threads or of memory, as `ulimit -u`, or `TasksMax=` of a unit.
 Remedy: Raise the limit, or serve with fewer workers.
 ",

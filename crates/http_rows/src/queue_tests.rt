@@ -50,7 +50,7 @@ fn lines_of_two_senders_are_whole(rt: HostRuntime) {
     let rows = ["0 a one\n1 b one\n0 a two\n", "1 b two\n"];
     let mut all = paper(rt.alloc(), 0, 0);
     let wanted = "a one\na two\nb one\nb two\n";
-    assert!(rt; logs(rt.alloc(), 64, &rows, &mut all, wanted) == Some(true));
+    assert!(rt; logs(rt.alloc(), 12, &rows, &mut all, wanted) == Some(true));
 }
 
 // rule: Note of lost lines

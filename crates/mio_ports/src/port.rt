@@ -19,7 +19,7 @@ use std::time::{Clock, Instant};
 pub(crate) const LISTENER: usize = 1 << 40;
 
 // How many events the system reports at a time.
-const EVENTS: usize = 256;
+pub(crate) const EVENTS: usize = 256;
 
 /// A port over a listener, which other ports may share, and the sockets that it accepted.
 #[derive(Drop)]
@@ -33,16 +33,21 @@ pub struct MioPort<'a, R: Wait> {
     // the slots that are to be reported, and those without a connection
     pub(crate) ready: WaitingList,
     pub(crate) free: WaitingList,
+    // how many of those that are ready are reported before the system is asked again
+    pub(crate) turns: usize,
     // the address of each slot's peer
     pub(crate) peers: Vec<Option<IpAddr>>,
-    // whether the listener may have a connection
+    // whether the listener may have a connection, and whether the last one that was accepted failed
     pub(crate) knocks: bool,
+    pub(crate) failed: bool,
     // how many connections were accepted, of so many in all
     pub(crate) accepted: u64,
     pub(crate) limit: u64,
-    // how long connections have waited, since the start, and the first slot that isn't looked at in this second
+    // how long connections have waited, since the start
     pub(crate) times: Times,
     pub(crate) start: Instant,
+    // whether the slots are to be looked at for late connections, and the first one that isn't yet
+    pub(crate) is_due: bool,
     pub(crate) looked: usize,
     pub(crate) lingering: LingeringList,
     ghost few: { accepted ≤ limit },
@@ -64,7 +69,8 @@ fn addresses(alloc: Global, slots: usize) -> Result<Vec<Option<IpAddr>>, AllocEr
 }
 
 impl<'a, R: Wait + Net + Clock + AllocGlobal> MioPort<'a, R> {
-    /// Makes the port of a listener that doesn't block: for up to `slots` connections at once, and `limit` in all.
+    /// Makes the port of a listener that doesn't block: for up to `slots` connections at once, and `limit` in all. Without
+    /// a slot it accepts none.
     ///
     /// A connection that waits for longer than `limits` say is late. If there is no free slot for one more, that which
     /// has been idle for longest is late at once. Returns `None` if memory runs out, or the system can't watch the
@@ -102,12 +108,15 @@ impl<'a, R: Wait + Net + Clock + AllocGlobal> MioPort<'a, R> {
             book,
             ready,
             free,
+            turns: 0,
             peers,
             knocks: true,
+            failed: false,
             accepted: 0,
             limit,
             times,
             start,
+            is_due: false,
             looked: slots,
             lingering,
         })

@@ -67,8 +67,10 @@ impl<R: Wait + Clock> MioPort<'_, R> {
         let (stream, peer) = match self.listener.accept() {
             Ok((stream, peer)) => (stream, peer.ip()),
             Err(error) => {
+                let kind = error.kind();
                 // one that was aborted may be followed by others
-                self.knocks = error.kind() == ErrorKind::ConnectionAborted;
+                self.knocks = kind == ErrorKind::ConnectionAborted;
+                self.failed = kind != ErrorKind::WouldBlock;
                 return None;
             }
         };
@@ -86,7 +88,7 @@ impl<R: Wait + Clock> MioPort<'_, R> {
         watched.ok().map(|()| stream)
     }
 
-    // Reports the next slot that may be read or written.
+    // Reports the next slot that may be read or written, if its turn comes before the system is asked again.
     fn report_ready(&mut self) -> Option<Event>
         ensures reports { MayReport (vec_len self.old.book.places) result (slots_after self.old.book.moves) (slots_after self.new.book.moves) }
         ensures same { IfNone result (self.new.book ≡ self.old.book) }
@@ -94,6 +96,10 @@ impl<R: Wait + Clock> MioPort<'_, R> {
         ensures accepted { accepted_in self.new.book.moves ≡ accepted_in self.old.book.moves + accepted_of result }
         ensures limit { self.new.limit ≡ self.old.limit }
     {
+        if self.turns == 0 {
+            return None;
+        }
+        self.turns -= 1;
         let slot = self.take_ready()?;
         self.book
             .change(slot, Change::Marked(Last::Reported), false);
@@ -101,7 +107,7 @@ impl<R: Wait + Clock> MioPort<'_, R> {
     }
 
     // Whether a connection may be accepted.
-    fn may_accept(&self) -> bool
+    pub(crate) fn may_accept(&self) -> bool
         ensures { IsTrue result → self.now.accepted < self.now.limit }
     {
         self.knocks && self.accepted < self.limit
@@ -192,7 +198,7 @@ impl<R: Wait + Clock> MioPort<'_, R> {
         longest
     }
 
-    // Reports the connection that has been idle for longest, if one more could be accepted in its place.
+    // Reports the connection that has been idle for longest, if no slot is free and one more could be accepted.
     fn report_idle(&mut self) -> Option<Event>
         ensures reports { MayReport (vec_len self.old.book.places) result (slots_after self.old.book.moves) (slots_after self.new.book.moves) }
         ensures same { IfNone result (self.new.book ≡ self.old.book) }
@@ -200,7 +206,7 @@ impl<R: Wait + Clock> MioPort<'_, R> {
         ensures accepted { accepted_in self.new.book.moves ≡ accepted_in self.old.book.moves + accepted_of result }
         ensures limit { self.new.limit ≡ self.old.limit }
     {
-        if !self.may_accept() {
+        if !self.may_accept() || self.free.len() > 0 {
             return None;
         }
         let slot = self.longest_idle()?;

@@ -99,7 +99,7 @@ impl Times {
         } else {
             self.limits.message
         };
-        self.now.saturating_sub(wait.since) >= limit
+        self.now.saturating_sub(wait.since) > limit
     }
 
     /// Since when the connection of a slot has been idle, if it is.

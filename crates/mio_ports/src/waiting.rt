@@ -3,7 +3,7 @@
 ghost use Rattle.std.specs.Prelude.{◌≡◌};
 
 use crate::passing::{read_slot, write_slot};
-use crate::port::{LISTENER, MioPort};
+use crate::port::{EVENTS, LISTENER, MioPort};
 use http_ports::{Event, Last, Port, Received, Sent};
 use port_books::Change;
 use std::net::IpAddr;
@@ -11,7 +11,7 @@ use std::sync::Wait;
 use std::time::{Clock, Duration};
 
 impl<R: Wait + Clock> MioPort<'_, R> {
-    // Notes the time; once a second each connection is looked at, and the listener too.
+    // Notes the time: once a second each connection is to be looked at, and the listener too if it failed.
     fn note_time(&mut self)
         ensures book { self.new.book ≡ self.old.book }
         ensures limit { self.new.limit ≡ self.old.limit }
@@ -22,20 +22,31 @@ impl<R: Wait + Clock> MioPort<'_, R> {
         let now = passed.as_secs();
         if now != self.times.now {
             self.times.now = now;
-            self.looked = 0;
-            self.knocks = true;
+            self.is_due = true;
+            self.knocks |= self.failed;
         }
     }
 
-    // Waits for the sockets, at most a second.
+    // How many seconds the sockets are waited for: none if there is something to do without them.
+    fn pause(&self) -> u64 {
+        let accepts = self.may_accept() && self.free.len() > 0;
+        if accepts || self.ready.len() > 0 {
+            0
+        } else {
+            1
+        }
+    }
+
+    // Waits for the sockets, and gives each slot that is ready its turn.
     fn wait_for_sockets(&mut self)
         ensures book { self.new.book ≡ self.old.book }
         ensures limit { self.new.limit ≡ self.old.limit }
     {
-        let _ = self
-            .poll
-            .poll(&mut self.events, Some(Duration::from_secs(1)));
+        let pause = Duration::from_secs(self.pause());
+        let _ = self.poll.poll(&mut self.events, Some(pause));
+        let mut room = EVENTS;
         for event in self.events.iter() {
+            room = room.saturating_sub(1);
             let token = usize::from(event.token());
             if token == LISTENER {
                 self.knocks = true;
@@ -43,7 +54,13 @@ impl<R: Wait + Clock> MioPort<'_, R> {
                 self.ready.push(token);
             }
         }
+        self.turns = self.ready.len();
         self.note_time();
+        // with no room left the system may have more to report, of a connection that would be late
+        if self.is_due && room > 0 {
+            self.is_due = false;
+            self.looked = 0;
+        }
         let now = self.times.now;
         self.lingering.drop_inputs(now);
     }
@@ -110,6 +127,9 @@ impl<R: Wait + Clock> Port for MioPort<'_, R> {
         if let Some(stream) = self.book.close(slot) {
             let now = self.times.now;
             self.lingering.close(stream, now);
+        }
+        if let Some(address) = self.peers.get_mut(slot) {
+            *address = None;
         }
         self.free.push(slot);
     }

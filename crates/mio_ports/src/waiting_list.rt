@@ -16,6 +16,7 @@ pub(crate) struct WaitingList {
     after: Vec<usize>,
     first: usize,
     last: usize,
+    length: usize,
 }
 
 impl WaitingList {
@@ -26,7 +27,13 @@ impl WaitingList {
             after,
             first: END,
             last: END,
+            length: 0,
         })
+    }
+
+    /// How many slots are in the list.
+    pub(crate) fn len(&self) -> usize {
+        self.length
     }
 
     /// Puts a slot at the end, unless it is in the list.
@@ -40,6 +47,7 @@ impl WaitingList {
             None => self.first = slot,
         }
         self.last = slot;
+        self.length = self.length.saturating_add(1);
     }
 
     /// Takes the first slot, if there is one.
@@ -48,6 +56,7 @@ impl WaitingList {
         let after = self.after.get_mut(slot)?;
         self.first = *after;
         *after = ABSENT;
+        self.length = self.length.saturating_sub(1);
         if self.first == END {
             self.last = END;
         }

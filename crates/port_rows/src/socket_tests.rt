@@ -1,12 +1,13 @@
 // Clients of a listener on the loopback, whom one thread serves in two slots. A row is what a client sends and what it
-// gets; one whose message ends with `+` leaves its connection open, and is late after a second.
+// gets; one whose message ends with `+` leaves its connection open, and is late after more than a second.
 
 use crate::desk::{CLOCK, Echo, FILES};
 use crate::lines::expand;
+use access_logs::{ReplyLog, Seen};
 use http_desks::Site;
 use http_ports::run;
 use http_sessions::Buffers;
-use http_talks::{Talk, Talks};
+use http_talks::{Talk, Talks, Watched, WatchedTalks};
 use http_wire::Unwatched;
 use mio_ports::{Limits, MioPort};
 use std::alloc::Global;
@@ -122,6 +123,70 @@ fn sends_packages_side_by_side_over_sockets(rt: HostRuntime) -> Result<(), Fail>
     let listener = connect_all(&rt, &mut streams, DOWNLOADS).ok_or("no clients")?;
     assert!(rt; serve(&rt, listener, 3) == Some(0));
     let wrong = wrong_client(rt.alloc(), &mut streams, DOWNLOADS);
+    assert!(rt; wrong.is_empty(), "{wrong}");
+    Ok(())
+}
+
+// A client that sends many messages at once, and one that comes after it.
+const PIPELINE: &str = "\
+%200*GET /a HTTP/1.1~~%|%200*HTTP/1.1 404 Not Found~Content-Length: 0~~%
+GET /b HTTP/1.1~~|HTTP/1.1 404 Not Found~Content-Length: 0~~";
+
+// Serves two connections of a listener, and writes their lines.
+fn serve_logged<R: Wait + Net + Clock + AllocGlobal>(
+    rt: &R,
+    listener: TcpListener,
+    lines: &mut Vec<u8>,
+) -> Option<u64> {
+    let alloc = rt.alloc();
+    let site = Site {
+        packages: &FILES,
+        clock: &CLOCK,
+        watch: &Unwatched,
+    };
+    let log = ReplyLog::new(alloc, &CLOCK, lines);
+    let talks = WatchedTalks {
+        talks: Talks { alloc, site: &site },
+        watch: &log,
+    };
+    let mut desk = Echo { alloc };
+    let mut room = Buffers::new(alloc).ok()?;
+    let mut conns: [Option<Watched<Seen>>; 2] = [None, None];
+    let limits = Limits {
+        message: 1,
+        idle: 1,
+    };
+    let listener = Arc::new(alloc, listener).ok()?;
+    let mut port = MioPort::new(rt, listener, 2, 2, limits)?;
+    Some(run(
+        rt,
+        &mut port,
+        &talks,
+        &mut room,
+        &mut [0; 4096],
+        &mut conns,
+        &mut desk,
+    ))
+}
+
+// How many lines come before the one of the second client.
+fn lines_before_the_second(lines: &[u8]) -> usize {
+    let lines = std::str::from_utf8(lines).unwrap_or("");
+    lines
+        .lines()
+        .take_while(|line| !line.contains("/b "))
+        .count()
+}
+
+// rule: Traffic of a book
+#[test]
+fn serves_a_client_beside_one_of_many_messages(rt: HostRuntime) -> Result<(), Fail> {
+    let mut streams = Vec::new(rt.alloc());
+    let listener = connect_all(&rt, &mut streams, PIPELINE).ok_or("no clients")?;
+    let mut lines = Vec::new(rt.alloc());
+    assert!(rt; serve_logged(&rt, listener, &mut lines) == Some(0));
+    assert!(rt; lines_before_the_second(&lines) < 150);
+    let wrong = wrong_client(rt.alloc(), &mut streams, PIPELINE);
     assert!(rt; wrong.is_empty(), "{wrong}");
     Ok(())
 }
