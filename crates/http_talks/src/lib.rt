@@ -2,8 +2,9 @@
 //!
 //! `Talks` is the `Protocol` of `http_ports` whose connections are sessions of `http_sessions`: bytes come and are sent
 //! in parts of any length, and each whole message gets its reply, by the desk and the packages of a site. A connection
-//! that waits keeps the bytes of its unfinished message and no other memory. One that sends a package keeps one block of
-//! it, of 64 KiB: the next one is made once that is sent. Read `specs/Talks.antt`.
+//! that waits keeps the bytes of its unfinished message and no other memory; a `WatchedTalks` also keeps what its watch
+//! has seen. One that sends a package keeps one block of it, of 64 KiB: the next one is made once that is sent. Read
+//! `specs/Talks.antt`.
 //!
 //! It accepts no connection, and has no limit of time: its port does.
 
