@@ -19,10 +19,10 @@ use Rattle.http_desks.specs.declared.answering.Handled.TheVariants.{Answered, Cu
 use Rattle.http_desks.specs.declared.method.Method.{Method}
 use Rattle.http_desks.specs.declared.method.Method.TheVariants.{Get}
 use Rattle.values.specs.declared.declared.Declared.{Declared}
-use Rattle.http_desks.specs.Begins.{Begins, BeginsFetch, Rests, done_of}
+use Rattle.http_desks.specs.Begins.{Begins, BeginsFetch, IsAtOnce, IsEmpty, Rests, done_of}
 use Rattle.http_desks.specs.Calls.{Call, Leads, Looks}
-use Rattle.http_desks.specs.Uses.{Mismatched, Read, Broken, Fetched, IsRouted, IsUse, Use, calls_of}
-use Rattle.http_desks.specs.Replies.{Answers, Fetches, head_lines, reply_to}
+use Rattle.http_desks.specs.Uses.{Mismatched, Read, Broken, Fetch, Fetched, IsFetch, IsRouted, IsUse, Use, calls_of}
+use Rattle.http_desks.specs.Replies.{Answers, Fetches, Writes, fetch_handled, fetch_reply, head_lines, reply_to}
 
 -- the head of a reply is the lines of its parts
 pub head_bytes-lines :
@@ -103,9 +103,10 @@ pub head_alone :
     sizes told →
     true ≡ not (option_eq eqb told (Some declared.size)) →
     Appends old new (package_head declared closes ++ []) →
-    Fetches sizes reads declared closes old new (Ok Cut)
+    (fetch : Fetch) × IsFetch sizes reads declared.size fetch × IsEmpty declared.size fetch
+    × Writes (fetch_reply declared closes fetch) (fetch_handled declared.hash fetch) old new (Ok Cut)
 head_alone sizes reads declared closes told old new tells other head =
-    (Mismatched, (told, tells, other_size told declared.size other), (refl, head))
+    (Mismatched, (told, tells, other_size told declared.size other), tt, (refl, head))
 
 AppendsPart-behind :
     (old between new : Option (List ℕ)) (first text : List ℕ) →
@@ -115,6 +116,20 @@ AppendsPart-behind :
 AppendsPart-behind old between new first text whole part =
     subst (AppendsPart old new) (ap (λ (end : List ℕ). first ++ end) (append-nil text))
     (AppendsPart-then old between new first text [] whole part)
+
+-- a package without bytes was sent after its head
+pub empty_then :
+    (sizes : Option ℕ → Type 0) (reads : Reads) (declared : Declared) (closes : Bool)
+    (old new : Option (List ℕ)) (handled : Handled) →
+    declared.size ≡ 0 →
+    Fetches sizes reads declared closes old new (Ok handled) →
+    (fetch : Fetch) × IsFetch sizes reads declared.size fetch × IsEmpty declared.size fetch
+    × Writes (fetch_reply declared closes fetch) (fetch_handled declared.hash fetch) old new (Ok handled)
+empty_then sizes reads declared closes old new handled none (Mismatched, fits, writes) = (Mismatched, fits, tt, writes)
+empty_then sizes reads declared closes old new handled none (Read blocks last, fits, writes) =
+    (Read blocks last, fits, none, writes)
+empty_then sizes reads declared closes old new handled none (Broken blocks, fits, writes) =
+    (Broken blocks, fits, tt, writes)
 
 -- a package was sent after its head
 pub head_then :
@@ -157,10 +172,12 @@ module _
     -- a reply that is written
     pub done_begins :
         (IsFit : Use → Type 0) (old new : Option (List ℕ)) (result : Result Handled Failed) →
-        Answers IsFit steps kind body closes before after old new result →
+        Answers (λ used. IsFit used × IsAtOnce used) steps kind body closes before after old new result →
         Begins IsFit steps kind body closes before after old new (done_of result)
     done_begins IsFit old new (Ok handled) answers = answers
-    done_begins IsFit old new (Err failed) answers = answers
+    done_begins IsFit old new (Err failed) answers =
+        Answers-wider (λ used. IsFit used × IsAtOnce used) IsFit steps kind body closes before after old new (Err failed)
+        (λ used fits. fits.0) answers
 
     -- a package that the desk knows
     pub fetch_begins :
@@ -169,9 +186,9 @@ module _
         method ≡ Get → Leads steps before (Looks name (Some declared) ∷ []) after →
         BeginsFetch sizes reads name declared closes old new result →
         Begins (IsRouted sizes reads method name) steps kind body closes before after old new result
-    fetch_begins sizes reads method name declared old new (Ok (begun.Done handled)) get calls (fetch, fits, writes) = record {
+    fetch_begins sizes reads method name declared old new (Ok (begun.Done handled)) get calls (fetch, fits, empty, writes) = record {
       used = Fetched name declared fetch;
-      fits = (refl, get, fits);
+      fits = ((refl, get, fits), empty);
       calls = calls;
       writes = writes;
     }
@@ -197,7 +214,8 @@ module _
         Begins IsFit steps kind body closes before after old new result →
         Begins IsWide steps kind body closes before after old new result
     Begins-wider IsFit IsWide old new (Ok (begun.Done handled)) wider begins =
-        Answers-wider IsFit IsWide steps kind body closes before after old new (Ok handled) wider begins
+        Answers-wider (λ used. IsFit used × IsAtOnce used) (λ used. IsWide used × IsAtOnce used) steps kind body closes
+        before after old new (Ok handled) (λ used fits. (wider used fits.0, fits.1)) begins
     Begins-wider IsFit IsWide old new (Ok (begun.Sends name declared)) wider (fits, calls, head) =
         (wider (Fetched name.now declared (Broken [])) fits, calls, head)
     Begins-wider IsFit IsWide old new (Err failed) wider begins =

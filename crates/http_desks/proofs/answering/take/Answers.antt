@@ -12,7 +12,7 @@ returns-in_default-clause-taken g c =
     (done_begins g.D.Desk.steps (g.D.Desk.content_type c.args.desk.now) c.args.request.now.body.now
     c.args.request.now.closes c.args.desk.now c.package.new.self _ _ _ c.deny.result (record {
       used = Unknown c.args.name.now;
-      fits = refl;
+      fits = (refl, tt);
       calls = (c.package.new.self, c.in_default.ensures.steps, refl);
       writes = c.deny.ensures.sends;
     }))
@@ -34,7 +34,7 @@ returns-in_default-method g c = record {
       (done_begins g.D.Desk.steps (g.D.Desk.content_type c.args.desk.now) c.args.request.now.body.now
       c.args.request.now.closes c.args.desk.now c.package.new.self _ _ _ c.deny-in_default-method.result (record {
         used = Untaken c.args.name.now c.in-Some.declared;
-        fits = (refl, c.in_default-method.not-Get);
+        fits = ((refl, c.in_default-method.not-Get), tt);
         calls = (c.package.new.self, c.in-Some.ensures.steps, refl);
         writes = c.deny-in_default-method.ensures.sends;
       }));

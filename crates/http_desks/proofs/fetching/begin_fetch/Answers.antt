@@ -1,5 +1,5 @@
-use Rattle.std.proofs.Common.{Ok, Err, append-nil, refl, sym, ◌∙◌}
-use Rattle.http_desks.proofs.ReplyLemmas.{head_bytes-lines, head_failed, head_alone, head_then, sized_as}
+use Rattle.std.proofs.Common.{Ok, Err, append-nil, arith, refl, sym, ◌∙◌}
+use Rattle.http_desks.proofs.ReplyLemmas.{empty_then, head_bytes-lines, head_failed, head_alone, head_then, sized_as}
 use Rattle.http_desks.proofs.fetching.begin_fetch.Goals as goal
 
 pub returns-in-Err-clause-fetches : goal.returns-in-Err-clause-fetches
@@ -25,11 +25,13 @@ returns-then-declared-gt0-clause-fetches g c = (
 
 pub returns-in-Ok-send_rest-clause-fetches : goal.returns-in-Ok-send_rest-clause-fetches
 returns-in-Ok-send_rest-clause-fetches g c =
+    empty_then (g.P.Packages.sizes c.args.packages.now c.args.name.now) (g.P.Packages.reads c.args.packages.now c.args.name.now)
+    c.args.declared.now c.args.closes _ _ c.in-Ok-send_rest.handled (omega (arith, c.if-declared-gt0.false)) (
     head_then (g.P.Packages.sizes c.args.packages.now c.args.name.now) (g.P.Packages.reads c.args.packages.now c.args.name.now)
     c.args.declared.now c.args.closes _ _ _ (Ok c.in-Ok-send_rest.handled)
     (sized_as (g.P.Packages.sizes c.args.packages.now c.args.name.now) c.size-size.result c.args.declared.now.size
     c.size-size.ensures (sym c.if-ne.false ∙ c.ne.ensures))
-    (rw (head_bytes-lines, append-nil) at c.in-Ok.ensures.sends) c.in-Ok-send_rest.ensures.rests
+    (rw (head_bytes-lines, append-nil) at c.in-Ok.ensures.sends) c.in-Ok-send_rest.ensures.rests)
 
 pub returns-in-Err-send_rest-clause-fetches : goal.returns-in-Err-send_rest-clause-fetches
 returns-in-Err-send_rest-clause-fetches g c =

@@ -1,5 +1,7 @@
 use Rattle.std.proofs.Common.{◌||◌, ◌==◌, ◌∙◌, Bool, ap}
-use Rattle.http_desks.specs.Uses.{IsUse}
+use Rattle.http_desks.specs.Begins.{IsAtOnce}
+use Rattle.http_desks.specs.Uses.{IsUse, Use}
+use Rattle.http_desks.proofs.ReplyLemmas.{Answers-wider}
 use Rattle.http_talks.proofs.FoundLemmas.{done_leaves, failed_leaves, started_leaves, unstarted_leaves}
 use Rattle.http_talks.proofs.TalkLemmas.{rest_from}
 use Rattle.http_talks.proofs.replying.reply.Goals as goal
@@ -10,7 +12,11 @@ returns-in-Ok-Done-clause-leaves g c =
     g.D.Desk.steps (g.D.Desk.content_type c.args.desk.now) c.args.begun c.args.kept.now c.args.found.now c.requires.found c.requires.few
     c.args.desk.now c.begin.new.desk c.in-Ok-Done.handled c.closes_after-closes.result _ c.done_after.result
     (c.closes_after-closes.ensures.closes ∙ ap (λ (b : Bool). b || (c.args.begun == 999)) c.requires.found.closes)
-    (rw (c.in-Ok-Done.field-0-is, c.new.ensures.items) at c.in-Ok-Done.ensures.begins)
+    (Answers-wider
+    (λ (used : Use). IsUse (g.D.Desk.path c.args.desk.now) (g.Z.Clock.tells c.args.site.now) (g.Z.Packages.sizes c.args.site.now) (g.Z.Packages.reads c.args.site.now)
+    c.args.found.now.request.method c.args.found.now.request.target.now used × IsAtOnce used)
+    _ _ _ _ _ _ _ _ _ _ (λ used fits. fits.0)
+    (rw (c.in-Ok-Done.field-0-is, c.new.ensures.items) at c.in-Ok-Done.ensures.begins))
     (rw (rest_from c.args.found.now.length c.args.kept.now) at c.done_after.ensures)
 
 pub returns-in-Ok-clause-leaves : goal.returns-in-Ok-clause-leaves
