@@ -183,7 +183,7 @@ impl<P: BudgetName> Book<P> {
         ensures succeeds { IsOk result ↔ (raiser.old ≤ budget) }
         ensures raised { OnOk result (Raises self.old self.new budget) }
         ensures raiser { OnOk result (raiser.new ≡ budget) }
-        ensures lower { IfErr result (λ refusal. (refusal.now ≡ raiser.old) × (budget < refusal.now)) }
+        ensures lower { IfErr result (λ refusal. (refusal.now ≡ raiser.old) × (budget < refusal.now) × (refusal.now ≤ 2 ^ 60)) }
         ensures err { OnErr result ((self.new ≡ self.old) × (raiser.new ≡ raiser.old)) }
     {
         self.raised.audit(&mut raiser.mark);
