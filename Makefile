@@ -2,12 +2,13 @@
 #                    proof; after make install it also starts the server
 # make test          the gate: the rules' marks, the words to avoid, the functions and clauses that the claims name, the
 #                    lists of crates and of the corpus, the pictures, every proof from nothing, mutants, tests and the
-#                    program, and then the rows of tests/rows with the built program
+#                    program, and then the rows of tests/rows and a few idle connections with the built program
 # make mutants CRATE..  tries the mutants that the gate doesn't, of these crates or of all; the prover
 #                    must reject each
 # make commands      runs the commands on the profiles of examples/, and verifies each track's
 #                    certificate; the program is built without a proof
 # make serving       tests the server and the walk, after make install, over the loopback
+# make idle          tests the server before thousands of idle and slow connections, after make install; it needs wrk
 # make cluster       tests three servers with nginx as their proxy, after make install; it needs nginx
 # make install       proves, builds and installs the program below PREFIX
 # make deb           builds a Debian package of the program, after make install, and tests it; it needs
@@ -32,7 +33,7 @@ CRATES := $(wordlist 2,$(words $(MAKECMDGOALS)),$(MAKECMDGOALS))
 $(eval $(CRATES):;@:)
 endif
 
-.PHONY: demo test mutants commands serving cluster install deb allocations fuzz bench load instructions $(CRATES)
+.PHONY: demo test mutants commands serving idle cluster install deb allocations fuzz bench load instructions $(CRATES)
 
 demo:
 	@examples/demo.py
@@ -46,6 +47,7 @@ test:
 	docs/pictures/draw.py --check
 	rt ci
 	tests/rows.py
+	tests/idle.py --only few
 
 mutants:
 	tests/mutants.py $(CRATES)
@@ -56,6 +58,9 @@ commands:
 serving:
 	tests/serve.py
 	tests/walk.py
+
+idle:
+	tests/idle.py
 
 cluster:
 	tests/cluster.py

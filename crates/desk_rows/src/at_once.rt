@@ -1,7 +1,8 @@
 // The library's own server, whose two workers wait for each other and for the test.
 
 use crate::together::Meeting;
-use omaha_server::{Place, Service, System, builtin_service, serve};
+use http_ports::Port;
+use omaha_server::{Place, Service, Sockets, System, builtin_service, serve};
 use std::alloc::{AllocError, Global};
 use std::io;
 use std::sync::Wait;
@@ -22,44 +23,57 @@ fn place_of(alloc: Global) -> Result<Place, AllocError> {
         edits: None,
         log: None,
         seconds: 1,
+        idle: 1,
+        connections: 2,
     })
 }
 
 // Whether a server whose gate is a meeting ends with the total of its one mirror.
-fn is_served<R: System + Clock + Threads + Wait + Sync + AllocGlobal>(
-    rt: &R,
-    service: Service,
-    place: &Place,
-    meeting: &Meeting<'_, R>,
-) -> bool {
+fn is_served<
+    P: Port + Send + Drop,
+    S: System<P> + Sync,
+    R: Clock + Threads + Wait + Sync + AllocGlobal,
+>(rt: &R, system: &S, service: Service, place: &Place, meeting: &Meeting<'_, R>) -> bool {
     let mut out = Vec::new(rt.alloc());
-    let served = serve(rt, service, place, meeting, &mut out, &mut io::sink());
+    let served = serve(
+        rt,
+        system,
+        service,
+        place,
+        meeting,
+        &mut out,
+        &mut io::sink(),
+    );
     served.is_ok() && out.as_slice() == b"ready\nm0 0\n".as_slice()
 }
 
 // Whether it is so while the test meets the workers.
-fn meets<R: System + Clock + Threads + Wait + Sync + AllocGlobal>(
-    rt: &R,
-    service: Service,
-    place: &Place,
-) -> bool {
+fn meets<
+    P: Port + Send + Drop,
+    S: System<P> + Sync,
+    R: Clock + Threads + Wait + Sync + AllocGlobal,
+>(rt: &R, system: &S, service: Service, place: &Place) -> bool {
     let meeting = &Meeting::new(rt);
     let (is_served, ()) = join(
         rt,
-        move || is_served(rt, service, place, meeting),
+        move || is_served(rt, system, service, place, meeting),
         || meeting.meet_jobs(),
     );
     is_served && meeting.is_complete()
 }
 
-fn serves<R: System + Clock + Threads + Wait + Sync + AllocGlobal>(rt: &R) -> Option<bool> {
+fn serves<
+    P: Port + Send + Drop,
+    S: System<P> + Sync,
+    R: Clock + Threads + Wait + Sync + AllocGlobal,
+>(rt: &R, system: &S) -> Option<bool> {
     let place = place_of(rt.alloc()).ok()?;
     let service = builtin_service(rt.alloc()).ok()?;
-    Some(meets(rt, service, &place))
+    Some(meets(rt, system, service, &place))
 }
 
 // rule: Run of a server
 #[test]
 fn workers_of_a_server_begin_at_once_after_their_gate(rt: HostRuntime) {
-    assert!(rt; serves(&rt) == Some(true));
+    assert!(rt; serves(&rt, &Sockets { rt: &rt }) == Some(true));
 }

@@ -12,9 +12,14 @@ use Rattle.http_ports.specs.Steps.{ServesOut}
 use Rattle.http_ports.specs.Sums.{connections_in, sum_below}
 use Rattle.http_ports.specs.Traffic.{Changes, Elsewhere, IsOpen, Slot, Traffic, connections_of, marked, no_traffic, unused, with_ended, with_open}
 use Rattle.http_ports.specs.declared.last.Last.TheVariants.{Reported}
+use Rattle.http_ports.specs.declared.terms.Terms.{Terms}
 use Rattle.http_ports.proofs.RoundLemmas.{Leads-append, all_calls-append, calls_at-elsewhere, calls_at-here}
 use Rattle.http_ports.proofs.SlotLemmas.{IsGoing-reported, IsServed-ended, IsServed-resting, IsServed-same, IsWhole-expired, ends_with, ends_with-elsewhere, ends_with-here, has_connection, last_of_resting, no_calls}
 use Rattle.http_ports.proofs.SumLemmas.{sum_below-grows, sum_below-same}
+
+-- how many connections may be open at once
+abbrev pub capacity_of : Terms → ℕ
+capacity_of terms = terms.capacity
 
 -- one slot changes, and has as many connections as before
 connections_in-same :

@@ -16,6 +16,7 @@ mod port;
 mod protocol;
 mod serving;
 mod table;
+mod terms;
 mod watch;
 
 pub use crate::event::{Event, Received, Sent};
@@ -23,4 +24,5 @@ pub use crate::last::Last;
 pub use crate::looping::run;
 pub use crate::port::Port;
 pub use crate::protocol::{Next, Protocol};
+pub use crate::terms::Terms;
 pub use crate::watch::WatchEach;

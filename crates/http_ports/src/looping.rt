@@ -28,15 +28,16 @@ fn serve_slot<P: Port, E: Protocol, D: Desk>(
     requires live { IsOpen (P.slots port.old slot) }
     requires room { 0 < length into.old }
     requires within { slot < length conns.old }
-    requires many { length conns.old ≡ P.capacity port.old }
+    requires many { length conns.old ≡ (P.terms port.old).capacity }
     ensures works { (start : _) (lost : ℕ)
         → Works (speech_at E.pending E.phase E.is_lost (E.so_far protocol.now) (D.path desk.old) (D.content_type desk.old))
         (rest_but slot) D.steps start desk.old (P.slots port.old) (kept_at conns.old)
-        (counts_of (P.capacity port.old) (P.accepted port.old) lost)
+        (counts_of (P.terms port.old).capacity (P.accepted port.old) lost)
         → Works (speech_at E.pending E.phase E.is_lost (E.so_far protocol.now) (D.path desk.old) (D.content_type desk.old))
         all_rest D.steps start desk.new (P.slots port.new) (kept_at conns.new)
-        (counts_of (P.capacity port.new) (P.accepted port.new) (lost + one_if result)) }
-    ensures many { length conns.new ≡ P.capacity port.new }
+        (counts_of (P.terms port.new).capacity (P.accepted port.new) (lost + one_if result)) }
+    ensures many { length conns.new ≡ (P.terms port.new).capacity }
+    ensures terms { P.terms port.new ≡ P.terms port.old }
     ensures path { D.path desk.new ≡ D.path desk.old }
     ensures content_type { D.content_type desk.new ≡ D.content_type desk.old }
 {
@@ -67,7 +68,7 @@ fn close_slot<P: Port, E: Protocol>(
     ensures elsewhere { (k : ℕ) → k ≢ slot → kept_at conns.new k ≡ kept_at conns.old k }
     ensures len { length conns.new ≡ length conns.old }
     ensures accepted { P.accepted port.new ≡ P.accepted port.old }
-    ensures capacity { P.capacity port.new ≡ P.capacity port.old }
+    ensures terms { P.terms port.new ≡ P.terms port.old }
 {
     port.close(slot);
     match swap(conns, slot, None) {
@@ -88,19 +89,20 @@ fn serve_next<P: Port, E: Protocol, D: Desk>(
 ) -> Option<bool>
     requires rests { (k : ℕ) → Rests (P.slots port.old k) }
     requires room { 0 < length into.old }
-    requires many { length conns.old ≡ P.capacity port.old }
+    requires many { length conns.old ≡ (P.terms port.old).capacity }
     ensures works { (start : _) (lost : ℕ)
         → Works (speech_at E.pending E.phase E.is_lost (E.so_far protocol.now) (D.path desk.old) (D.content_type desk.old))
         all_rest D.steps start desk.old (P.slots port.old) (kept_at conns.old)
-        (counts_of (P.capacity port.old) (P.accepted port.old) lost)
+        (counts_of (P.terms port.old).capacity (P.accepted port.old) lost)
         → GoesRound result
         (λ more. Works (speech_at E.pending E.phase E.is_lost (E.so_far protocol.now) (D.path desk.old) (D.content_type desk.old))
         all_rest D.steps start desk.new (P.slots port.new) (kept_at conns.new)
-        (counts_of (P.capacity port.new) (P.accepted port.new) (lost + more)))
+        (counts_of (P.terms port.new).capacity (P.accepted port.new) (lost + more)))
         (HasServed (speech_at E.pending E.phase E.is_lost (E.so_far protocol.now) (D.path desk.old) (D.content_type desk.old))
-        D.steps start desk.new (P.slots port.new) (counts_of (P.capacity port.new) (P.accepted port.new) lost)) }
+        D.steps start desk.new (P.slots port.new) (counts_of (P.terms port.new).capacity (P.accepted port.new) lost)) }
     ensures over { IfNone result (P.is_over port.new) }
-    ensures many { length conns.new ≡ P.capacity port.new }
+    ensures many { length conns.new ≡ (P.terms port.new).capacity }
+    ensures terms { P.terms port.new ≡ P.terms port.old }
     ensures path { D.path desk.new ≡ D.path desk.old }
     ensures content_type { D.content_type desk.new ≡ D.content_type desk.old }
 {
@@ -135,12 +137,13 @@ pub fn run<P: Port, E: Protocol, D: Desk, W: Wait>(
     requires fresh { (k : ℕ) → P.slots port.old k ≡ unused }
     requires none { P.accepted port.old ≡ 0 }
     requires empty { (k : ℕ) → kept_at conns.old k ≡ None }
-    requires many { length conns.old ≡ P.capacity port.old }
+    requires many { length conns.old ≡ (P.terms port.old).capacity }
     requires room { 0 < length into.old }
     ensures served { (lost : ℕ) × (result ≡ min lost (2 ^ 64 - 1))
         × HasServed (speech_at E.pending E.phase E.is_lost (E.so_far protocol.now) (D.path desk.old) (D.content_type desk.old))
-        D.steps desk.old desk.new (P.slots port.new) (counts_of (P.capacity port.new) (P.accepted port.new) lost) }
+        D.steps desk.old desk.new (P.slots port.new) (counts_of (P.terms port.new).capacity (P.accepted port.new) lost) }
     ensures over { P.is_over port.new }
+    ensures terms { P.terms port.new ≡ P.terms port.old }
 {
     let mut lost = 0u64;
     for _ in rt.forever() {

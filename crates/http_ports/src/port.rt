@@ -2,6 +2,7 @@ ghost use Rattle.std.specs.Prelude.{◌≡◌, ◌<◌, ◌+◌, ℕ, length};
 ghost use Rattle.http_ports.specs.Ports.{Closes, IsDone, Reads, Reports, Rests, Writes, accepted_by};
 ghost use Rattle.http_ports.specs.Traffic.{Changes, HasPassed, IsOpen, Slot, marked};
 ghost use Rattle.http_ports.specs.declared.last.Last.TheVariants.{Yields};
+ghost use Rattle.http_ports.specs.declared.terms.Terms.{Terms};
 
 use crate::event::{Event, Received, Sent};
 use std::net::IpAddr;
@@ -14,8 +15,8 @@ pub trait Port {
     // what passed at each slot
     ghost slots: { Self → ℕ → Slot };
 
-    // how many connections may be open at once
-    ghost capacity: { Self → ℕ };
+    // what it serves by, which stays
+    ghost terms: { Self → Terms };
 
     // how many connections were accepted
     ghost accepted: { Self → ℕ };
@@ -28,17 +29,17 @@ pub trait Port {
 
     /// Returns how many connections may be open at once: the slots are those below.
     fn capacity(&self) -> usize
-        ensures { result ≡ capacity self.now };
+        ensures { result ≡ (terms self.now).capacity };
 
     // rule: Events of a port
     // rule: Rest of a connection
     /// Waits until something happens to a connection. Each open one waits for its peer, or is to be reported again.
     fn wait(&mut self) -> Event
         requires rests { (k : ℕ) → Rests (slots self.old k) }
-        ensures reports { Reports (capacity self.old) result (slots self.old) (slots self.new) }
+        ensures reports { Reports (terms self.old).capacity result (slots self.old) (slots self.new) }
         ensures over { IsDone result → is_over self.new }
         ensures accepted { accepted self.new ≡ accepted self.old + accepted_by result }
-        ensures capacity { capacity self.new ≡ capacity self.old };
+        ensures terms { terms self.new ≡ terms self.old };
 
     // rule: Reads of a port
     /// Reads what has come on the connection of a slot, into one cell or more.
@@ -47,7 +48,7 @@ pub trait Port {
         requires room { 0 < length into.old }
         ensures reads { Reads slot result into.new (slots self.old) (slots self.new) }
         ensures accepted { accepted self.new ≡ accepted self.old }
-        ensures capacity { capacity self.new ≡ capacity self.old };
+        ensures terms { terms self.new ≡ terms self.old };
 
     // rule: Writes of a port
     /// Writes a first part of the bytes, of which there is one or more, on the connection of a slot.
@@ -56,19 +57,19 @@ pub trait Port {
         requires some { 0 < length bytes.now }
         ensures writes { Writes slot result bytes.now (slots self.old) (slots self.new) }
         ensures accepted { accepted self.new ≡ accepted self.old }
-        ensures capacity { capacity self.new ≡ capacity self.old };
+        ensures terms { terms self.new ≡ terms self.old };
 
     /// Has the connection of a slot, on which bytes have just passed, reported again.
     fn again(&mut self, slot: usize)
         requires passed { HasPassed (slots self.old slot) }
         ensures yields { Changes slot (marked Yields) (slots self.old) (slots self.new) }
         ensures accepted { accepted self.new ≡ accepted self.old }
-        ensures capacity { capacity self.new ≡ capacity self.old };
+        ensures terms { terms self.new ≡ terms self.old };
 
     /// Ends the connection of a slot, which is free then.
     fn close(&mut self, slot: usize)
         requires live { IsOpen (slots self.old slot) }
         ensures closes { Closes slot (slots self.old) (slots self.new) }
         ensures accepted { accepted self.new ≡ accepted self.old }
-        ensures capacity { capacity self.new ≡ capacity self.old };
+        ensures terms { terms self.new ≡ terms self.old };
 }

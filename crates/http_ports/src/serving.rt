@@ -40,7 +40,7 @@ fn push<P: Port, E: Protocol, D: Desk>(
     ensures passing { IsPassing result (P.slots port.new slot) }
     ensures elsewhere { Elsewhere slot (P.slots port.old) (P.slots port.new) }
     ensures accepted { P.accepted port.new ≡ P.accepted port.old }
-    ensures capacity { P.capacity port.new ≡ P.capacity port.old }
+    ensures terms { P.terms port.new ≡ P.terms port.old }
 {
     match port.write(slot, protocol.pending(conn)) {
         Sent::Bytes(count) => {
@@ -71,7 +71,7 @@ fn pull<P: Port, E: Protocol, D: Desk>(
     ensures passing { IsPassing result (P.slots port.new slot) }
     ensures elsewhere { Elsewhere slot (P.slots port.old) (P.slots port.new) }
     ensures accepted { P.accepted port.new ≡ P.accepted port.old }
-    ensures capacity { P.capacity port.new ≡ P.capacity port.old }
+    ensures terms { P.terms port.new ≡ P.terms port.old }
 {
     match port.read(slot, into) {
         Received::Bytes(count) => {
@@ -103,7 +103,7 @@ fn advance<P: Port, E: Protocol, D: Desk>(
     ensures passing { IsPassing result (P.slots port.new slot) }
     ensures elsewhere { Elsewhere slot (P.slots port.old) (P.slots port.new) }
     ensures accepted { P.accepted port.new ≡ P.accepted port.old }
-    ensures capacity { P.capacity port.new ≡ P.capacity port.old }
+    ensures terms { P.terms port.new ≡ P.terms port.old }
     ensures path { D.path desk.new ≡ D.path desk.old }
     ensures content_type { D.content_type desk.new ≡ D.content_type desk.old }
 {
@@ -135,7 +135,7 @@ fn advance_far<P: Port, E: Protocol, D: Desk>(
     ensures passing { IsPassing result (P.slots port.new slot) }
     ensures elsewhere { Elsewhere slot (P.slots port.old) (P.slots port.new) }
     ensures accepted { P.accepted port.new ≡ P.accepted port.old }
-    ensures capacity { P.capacity port.new ≡ P.capacity port.old }
+    ensures terms { P.terms port.new ≡ P.terms port.old }
     ensures path { D.path desk.new ≡ D.path desk.old }
     ensures content_type { D.content_type desk.new ≡ D.content_type desk.old }
 {
@@ -166,7 +166,7 @@ pub(crate) fn serve_out<P: Port, E: Protocol, D: Desk>(
         D.steps (P.slots port.old slot) conn desk.old (P.slots port.new slot) result desk.new }
     ensures elsewhere { Elsewhere slot (P.slots port.old) (P.slots port.new) }
     ensures accepted { P.accepted port.new ≡ P.accepted port.old }
-    ensures capacity { P.capacity port.new ≡ P.capacity port.old }
+    ensures terms { P.terms port.new ≡ P.terms port.old }
     ensures path { D.path desk.new ≡ D.path desk.old }
     ensures content_type { D.content_type desk.new ≡ D.content_type desk.old }
 {

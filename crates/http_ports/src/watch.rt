@@ -33,3 +33,33 @@ impl WatchEach for Unwatched {
 
     fn ends(&self, _seen: ()) {}
 }
+
+/// A watch, or none.
+impl<V: WatchEach> WatchEach for Option<V> {
+    type Seen = Option<V::Seen>;
+
+    fn opens(&self, peer: Option<IpAddr>) -> Option<V::Seen> {
+        match self {
+            Some(watch) => Some(watch.opens(peer)),
+            None => None,
+        }
+    }
+
+    fn begins(&self, seen: &mut Option<V::Seen>, waiting: &[u8]) {
+        if let (Some(watch), Some(seen)) = (self, seen) {
+            watch.begins(seen, waiting);
+        }
+    }
+
+    fn writes(&self, seen: &mut Option<V::Seen>, bytes: &[u8]) {
+        if let (Some(watch), Some(seen)) = (self, seen) {
+            watch.writes(seen, bytes);
+        }
+    }
+
+    fn ends(&self, seen: Option<V::Seen>) {
+        if let (Some(watch), Some(seen)) = (self, seen) {
+            watch.ends(seen);
+        }
+    }
+}

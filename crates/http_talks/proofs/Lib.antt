@@ -1,3 +1,4 @@
+mod PartLemmas
 mod TalkLemmas
 mod TurnLemmas
 mod FoundLemmas

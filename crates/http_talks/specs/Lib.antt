@@ -1,3 +1,4 @@
+pub mod Ports
 pub mod Sends
 pub mod Talks
 pub mod Turns

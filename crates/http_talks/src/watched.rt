@@ -16,14 +16,14 @@ pub struct Watched<S: Drop> {
 
 /// The sessions of a site, each of which a watch is shown.
 #[derive(Drop)]
-pub struct WatchedTalks<'a, Z, V> {
+pub struct WatchedTalks<'a, 'w, Z, V> {
     /// The sessions.
     pub talks: Talks<'a, Z>,
     /// The watch.
-    pub watch: &'a V,
+    pub watch: &'w V,
 }
 
-impl<Z: Packages + Clock, V: WatchEach> Protocol for WatchedTalks<'_, Z, V> {
+impl<Z: Packages + Clock, V: WatchEach> Protocol for WatchedTalks<'_, '_, Z, V> {
     ghost use Rattle.http_desks.specs.Uses.{IsUse};
     ghost use Rattle.http_talks.specs.Talks.{Said, is_lost, pending, phase_of};
 

@@ -3,7 +3,7 @@
 //! `MioPort` is a `Port` of `http_ports` over a listener, which other ports may share, and the sockets that it accepted,
 //! by the system's readiness (`mio`). Its traffic is what its reads and writes said that they received and sent: the
 //! book of `port_books` keeps it. It accepts so many connections in all, holds so many at once, and reports one as late
-//! that waits for longer than its `Limits` say: read `specs/Polled.antt`.
+//! that waits for longer than its `Terms` say: read `specs/Polled.antt`.
 //!
 //! That a socket carries what was read and written, that the system reports what is ready, and how time passes is known
 //! to no contract.
@@ -19,4 +19,3 @@ mod waiting;
 mod waiting_list;
 
 pub use crate::port::MioPort;
-pub use crate::times::Limits;

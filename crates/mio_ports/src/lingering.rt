@@ -47,6 +47,11 @@ impl LingeringList {
         Ok(LingeringList { streams })
     }
 
+    /// Whether no connection lingers.
+    pub(crate) fn is_empty(&self) -> bool {
+        self.streams.is_empty()
+    }
+
     /// Announces the end of the replies, and keeps the connection for a while if its peer may still send.
     pub(crate) fn close(&mut self, stream: TcpStream, now: u64) {
         if stream.shutdown(Shutdown::Write).is_err() || !drop_input(&stream) {

@@ -2,8 +2,9 @@ ghost use Rattle.std.specs.Prelude.{◌≡◌, ◌≤◌, ℕ, [], IfSome, vec_l
 ghost use Rattle.port_books.specs.Books.{accepted_in};
 
 use crate::lingering::LingeringList;
-use crate::times::{Limits, Times};
+use crate::times::Times;
 use crate::waiting_list::WaitingList;
+use http_ports::Terms;
 use mio::net::TcpStream;
 use mio::unix::SourceFd;
 use mio::{Events, Interest, Poll, Token};
@@ -40,9 +41,9 @@ pub struct MioPort<'a, R: Wait> {
     // whether the listener may have a connection, and whether the last one that was accepted failed
     pub(crate) knocks: bool,
     pub(crate) failed: bool,
-    // how many connections were accepted, of so many in all
+    // what it serves by, and how many connections were accepted
+    pub(crate) terms: Terms,
     pub(crate) accepted: u64,
-    pub(crate) limit: u64,
     // how long connections have waited, since the start
     pub(crate) times: Times,
     pub(crate) start: Instant,
@@ -50,7 +51,8 @@ pub struct MioPort<'a, R: Wait> {
     pub(crate) is_due: bool,
     pub(crate) looked: usize,
     pub(crate) lingering: LingeringList,
-    ghost few: { accepted ≤ limit },
+    ghost few: { accepted ≤ terms.limit },
+    ghost sized: { vec_len book.places ≡ terms.capacity },
     ghost counted: { accepted ≡ accepted_in book.moves },
 }
 
@@ -69,29 +71,26 @@ fn addresses(alloc: Global, slots: usize) -> Result<Vec<Option<IpAddr>>, AllocEr
 }
 
 impl<'a, R: Wait + Net + Clock + AllocGlobal> MioPort<'a, R> {
-    /// Makes the port of a listener that doesn't block: for up to `slots` connections at once, and `limit` in all. Without
-    /// a slot it accepts none.
+    /// Makes the port of a listener that doesn't block, by these terms. Without a slot it accepts no connection.
     ///
-    /// A connection that waits for longer than `limits` say is late. If there is no free slot for one more, that which
+    /// A connection that waits for longer than the terms say is late. If there is no free slot for one more, that which
     /// has been idle for longest is late at once. Returns `None` if memory runs out, or the system can't watch the
     /// listener.
     pub fn new(
         rt: &'a R,
         listener: Arc<net::TcpListener, Global>,
-        slots: usize,
-        limit: u64,
-        limits: Limits,
+        terms: Terms,
     ) -> Option<MioPort<'a, R>>
         ensures fresh { IfSome result (λ port. port.book.moves ≡ []) }
-        ensures capacity { IfSome result (λ port. vec_len port.book.places ≡ slots) }
-        ensures limit { IfSome result (λ port. port.limit ≡ limit) }
+        ensures terms { IfSome result (λ port. port.terms ≡ terms) }
     {
         let alloc = rt.alloc();
+        let slots = terms.capacity;
         let book = Book::new(alloc, slots).ok()?;
         let ready = WaitingList::new(alloc, slots).ok()?;
         let free = all_slots(alloc, slots).ok()?;
         let peers = addresses(alloc, slots).ok()?;
-        let times = Times::new(alloc, slots, limits).ok()?;
+        let times = Times::new(alloc, slots).ok()?;
         let lingering = LingeringList::new(alloc).ok()?;
         let events = Events::with_capacity(alloc, EVENTS).ok()?;
         let poll = Poll::new(rt).ok()?;
@@ -112,8 +111,8 @@ impl<'a, R: Wait + Net + Clock + AllocGlobal> MioPort<'a, R> {
             peers,
             knocks: true,
             failed: false,
+            terms,
             accepted: 0,
-            limit,
             times,
             start,
             is_due: false,

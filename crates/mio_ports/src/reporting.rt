@@ -19,7 +19,7 @@ impl<R: Wait + Clock> MioPort<'_, R> {
         ensures book { self.new.book ≡ self.old.book }
         ensures open { IfSome result (λ slot. (slot < vec_len self.new.book.places)
             × IsSome (slot_waits (slots_after self.new.book.moves slot))) }
-        ensures limit { self.new.limit ≡ self.old.limit }
+        ensures terms { self.new.terms ≡ self.old.terms }
     {
         for _ in 0..self.book.capacity() {
             let slot = self.ready.pop()?;
@@ -35,7 +35,7 @@ impl<R: Wait + Clock> MioPort<'_, R> {
         ensures book { self.new.book ≡ self.old.book }
         ensures free { IfSome result (λ slot. (slot < vec_len self.new.book.places)
             × (slot_waits (slots_after self.new.book.moves slot) ≡ None)) }
-        ensures limit { self.new.limit ≡ self.old.limit }
+        ensures terms { self.new.terms ≡ self.old.terms }
     {
         for _ in 0..self.book.capacity() {
             let slot = self.free.pop()?;
@@ -62,7 +62,7 @@ impl<R: Wait + Clock> MioPort<'_, R> {
     // Accepts a connection, and has it watched for a slot.
     fn accept_at(&mut self, slot: usize) -> Option<TcpStream>
         ensures book { self.new.book ≡ self.old.book }
-        ensures limit { self.new.limit ≡ self.old.limit }
+        ensures terms { self.new.terms ≡ self.old.terms }
     {
         let (stream, peer) = match self.listener.accept() {
             Ok((stream, peer)) => (stream, peer.ip()),
@@ -94,7 +94,7 @@ impl<R: Wait + Clock> MioPort<'_, R> {
         ensures same { IfNone result (self.new.book ≡ self.old.book) }
         ensures capacity { vec_len self.new.book.places ≡ vec_len self.old.book.places }
         ensures accepted { accepted_in self.new.book.moves ≡ accepted_in self.old.book.moves + accepted_of result }
-        ensures limit { self.new.limit ≡ self.old.limit }
+        ensures terms { self.new.terms ≡ self.old.terms }
     {
         if self.turns == 0 {
             return None;
@@ -108,9 +108,9 @@ impl<R: Wait + Clock> MioPort<'_, R> {
 
     // Whether a connection may be accepted.
     pub(crate) fn may_accept(&self) -> bool
-        ensures { IsTrue result → self.now.accepted < self.now.limit }
+        ensures { IsTrue result → self.now.accepted < self.now.terms.limit }
     {
-        self.knocks && self.accepted < self.limit
+        self.knocks && self.accepted < self.terms.limit
     }
 
     // Accepts a connection at a free slot, if there are both.
@@ -119,17 +119,18 @@ impl<R: Wait + Clock> MioPort<'_, R> {
         ensures same { IfNone result (self.new.book ≡ self.old.book) }
         ensures capacity { vec_len self.new.book.places ≡ vec_len self.old.book.places }
         ensures accepted { accepted_in self.new.book.moves ≡ accepted_in self.old.book.moves + accepted_of result }
-        ensures limit { self.new.limit ≡ self.old.limit }
+        ensures terms { self.new.terms ≡ self.old.terms }
     {
         if !self.may_accept() {
             return None;
         }
+        let accepted = self.accepted.checked_add(1)?;
         let slot = self.take_free()?;
         match self.accept_at(slot) {
             Some(stream) => {
                 self.times.accepted(slot);
                 self.book.accept(slot, stream);
-                self.accepted += 1;
+                self.accepted = accepted;
                 Some(Event::Accepted(slot))
             }
             None => {
@@ -146,7 +147,7 @@ impl<R: Wait + Clock> MioPort<'_, R> {
         ensures reports { MayReport (vec_len self.old.book.places) (Some result) (slots_after self.old.book.moves) (slots_after self.new.book.moves) }
         ensures capacity { vec_len self.new.book.places ≡ vec_len self.old.book.places }
         ensures accepted { accepted_in self.new.book.moves ≡ accepted_in self.old.book.moves + accepted_of (Some result) }
-        ensures limit { self.new.limit ≡ self.old.limit }
+        ensures terms { self.new.terms ≡ self.old.terms }
     {
         self.book.expire(slot);
         Event::Expired(slot)
@@ -158,7 +159,7 @@ impl<R: Wait + Clock> MioPort<'_, R> {
         ensures { IsTrue result → slot_waits (slots_after self.now.book.moves slot) ≡ Some true }
     {
         match self.book.waits(slot) {
-            Some(true) => self.times.is_late(slot),
+            Some(true) => self.times.is_late(slot, &self.terms),
             _ => false,
         }
     }
@@ -169,7 +170,7 @@ impl<R: Wait + Clock> MioPort<'_, R> {
         ensures same { IfNone result (self.new.book ≡ self.old.book) }
         ensures capacity { vec_len self.new.book.places ≡ vec_len self.old.book.places }
         ensures accepted { accepted_in self.new.book.moves ≡ accepted_in self.old.book.moves + accepted_of result }
-        ensures limit { self.new.limit ≡ self.old.limit }
+        ensures terms { self.new.terms ≡ self.old.terms }
     {
         for slot in self.looked..self.book.capacity() {
             if self.is_late(slot) {
@@ -204,7 +205,7 @@ impl<R: Wait + Clock> MioPort<'_, R> {
         ensures same { IfNone result (self.new.book ≡ self.old.book) }
         ensures capacity { vec_len self.new.book.places ≡ vec_len self.old.book.places }
         ensures accepted { accepted_in self.new.book.moves ≡ accepted_in self.old.book.moves + accepted_of result }
-        ensures limit { self.new.limit ≡ self.old.limit }
+        ensures terms { self.new.terms ≡ self.old.terms }
     {
         if !self.may_accept() || self.free.len() > 0 {
             return None;
@@ -219,7 +220,7 @@ impl<R: Wait + Clock> MioPort<'_, R> {
         ensures same { IfNone result (self.new.book ≡ self.old.book) }
         ensures capacity { vec_len self.new.book.places ≡ vec_len self.old.book.places }
         ensures accepted { accepted_in self.new.book.moves ≡ accepted_in self.old.book.moves + accepted_of result }
-        ensures limit { self.new.limit ≡ self.old.limit }
+        ensures terms { self.new.terms ≡ self.old.terms }
     {
         if let Some(event) = self.report_ready() {
             return Some(event);
@@ -233,12 +234,12 @@ impl<R: Wait + Clock> MioPort<'_, R> {
         self.report_idle()
     }
 
-    // Whether so many connections were accepted, and none is open.
+    // Whether so many connections were accepted, and none is open or lingers.
     pub(crate) fn is_done(&self) -> bool
-        ensures over { IsTrue result → self.now.accepted ≡ self.now.limit }
+        ensures over { IsTrue result → self.now.accepted ≡ self.now.terms.limit }
         ensures idle { IsTrue result → (k : ℕ) → k < vec_len self.now.book.places
             → slot_waits (slots_after self.now.book.moves k) ≡ None }
     {
-        self.accepted == self.limit && self.is_idle()
+        self.accepted == self.terms.limit && self.lingering.is_empty() && self.is_idle()
     }
 }

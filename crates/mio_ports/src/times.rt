@@ -1,16 +1,7 @@
 // How long connections wait.
 
+use http_ports::Terms;
 use std::alloc::{AllocError, Global};
-
-/// How many seconds a connection may wait.
-#[derive(Clone, Copy, Drop)]
-pub struct Limits {
-    /// For a whole message, from its first byte, or from when the connection was accepted if it is the first one; and for
-    /// each part of a reply.
-    pub message: u64,
-    /// For the first byte of the next message.
-    pub idle: u64,
-}
 
 // What a connection has waited for.
 #[derive(Clone, Copy, Drop)]
@@ -25,25 +16,19 @@ struct Wait {
 #[derive(Drop)]
 pub(crate) struct Times {
     waits: Vec<Wait>,
-    /// How long each may wait.
-    limits: Limits,
     /// The present second, from the start on.
     pub(crate) now: u64,
 }
 
 impl Times {
     /// Makes the times of so many slots.
-    pub(crate) fn new(alloc: Global, slots: usize, limits: Limits) -> Result<Times, AllocError> {
+    pub(crate) fn new(alloc: Global, slots: usize) -> Result<Times, AllocError> {
         let none = Wait {
             since: 0,
             is_idle: false,
         };
         let waits = vec![in alloc; none; slots]?;
-        Ok(Times {
-            waits,
-            limits,
-            now: 0,
-        })
+        Ok(Times { waits, now: 0 })
     }
 
     /// Notes that a connection was accepted.
@@ -89,15 +74,15 @@ impl Times {
         }
     }
 
-    /// Whether the connection of a slot has waited for too long.
-    pub(crate) fn is_late(&self, slot: usize) -> bool {
+    /// Whether the connection of a slot has waited for longer than the terms say.
+    pub(crate) fn is_late(&self, slot: usize, terms: &Terms) -> bool {
         let Some(wait) = self.waits.get(slot) else {
             return false;
         };
         let limit = if wait.is_idle {
-            self.limits.idle
+            terms.idle
         } else {
-            self.limits.message
+            terms.message
         };
         self.now.saturating_sub(wait.since) > limit
     }

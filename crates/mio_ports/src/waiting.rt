@@ -14,7 +14,7 @@ impl<R: Wait + Clock> MioPort<'_, R> {
     // Notes the time: once a second each connection is to be looked at, and the listener too if it failed.
     fn note_time(&mut self)
         ensures book { self.new.book ≡ self.old.book }
-        ensures limit { self.new.limit ≡ self.old.limit }
+        ensures terms { self.new.terms ≡ self.old.terms }
     {
         let Ok(passed) = self.start.elapsed(self.rt) else {
             return;
@@ -27,22 +27,25 @@ impl<R: Wait + Clock> MioPort<'_, R> {
         }
     }
 
-    // How many seconds the sockets are waited for: none if there is something to do without them.
+    // How many milliseconds the sockets are waited for: none if there is something to do without them, and few if the
+    // port ends once no connection lingers.
     fn pause(&self) -> u64 {
         let accepts = self.may_accept() && self.free.len() > 0;
         if accepts || self.ready.len() > 0 {
             0
+        } else if self.lingering.is_empty() || self.accepted < self.terms.limit {
+            1000
         } else {
-            1
+            10
         }
     }
 
     // Waits for the sockets, and gives each slot that is ready its turn.
     fn wait_for_sockets(&mut self)
         ensures book { self.new.book ≡ self.old.book }
-        ensures limit { self.new.limit ≡ self.old.limit }
+        ensures terms { self.new.terms ≡ self.old.terms }
     {
-        let pause = Duration::from_secs(self.pause());
+        let pause = Duration::from_millis(self.pause());
         let _ = self.poll.poll(&mut self.events, Some(pause));
         let mut room = EVENTS;
         for event in self.events.iter() {
@@ -67,17 +70,17 @@ impl<R: Wait + Clock> MioPort<'_, R> {
 }
 
 impl<R: Wait + Clock> Port for MioPort<'_, R> {
-    ghost use Rattle.std.specs.Prelude.{◌≡◌, vec_len};
+    ghost use Rattle.std.specs.Prelude.{◌≡◌};
     ghost use Rattle.port_books.specs.Books.{accepted_in, slots_after};
 
     ghost slots = { λ port. slots_after port.book.moves };
 
-    ghost capacity = { λ port. vec_len port.book.places };
+    ghost terms = { λ port. port.terms };
 
     ghost accepted = { λ port. accepted_in port.book.moves };
 
     // so many connections were accepted
-    ghost is_over = { λ port. accepted_in port.book.moves ≡ port.limit };
+    ghost is_over = { λ port. accepted_in port.book.moves ≡ port.terms.limit };
 
     fn peer(&self, slot: usize) -> Option<IpAddr> {
         *self.peers.get(slot)?

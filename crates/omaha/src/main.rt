@@ -4,7 +4,7 @@
 
 #![tactic(auto)]
 
-use omaha_cli::{report_unreadable, run};
+use omaha_cli::{Sockets, report_unreadable, run};
 use std::process::ExitCode;
 use std::rt::Env;
 use std::{env, io};
@@ -20,7 +20,14 @@ fn main(rt: HostRuntime) -> ExitCode {
     let mut output = rt.stdout();
     let mut errors = rt.stderr();
     ExitCode::from(match arguments(&rt) {
-        Ok(arguments) => run(&rt, &arguments, &mut input, &mut output, &mut errors),
+        Ok(arguments) => run(
+            &rt,
+            &Sockets { rt: &rt },
+            &arguments,
+            &mut input,
+            &mut output,
+            &mut errors,
+        ),
         Err(error) => report_unreadable(&error, &mut errors),
     })
 }

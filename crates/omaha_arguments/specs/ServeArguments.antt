@@ -6,10 +6,13 @@ use Rattle.clap.specs.declared.error.kind.ErrorKind.TheVariants.{ValueValidation
 use Rattle.omaha_arguments.specs.Options.{number_in, number_of, option_named, string_in, wanted_option, workers_in}
 use Rattle.omaha_arguments.specs.declared.command.Serve.{Serve}
 
--- the command `serve`, with its nine options
+-- the command `serve`, with its twelve options
 abbrev pub serve_app : App
 serve_app =
     with_rule
+    (with_rule
+    (with_rule
+    (with_rule
     (with_rule
     (with_rule
     (with_rule
@@ -23,6 +26,9 @@ serve_app =
     (option_named (codes "sessions")))
     (option_named (codes "edits")))
     (option_named (codes "timeout")))
+    (option_named (codes "idle")))
+    (option_named (codes "connections")))
+    (option_named (codes "pinned-tables")))
     (option_named (codes "log"))
 
 -- the number of sessions that a string says, if it is a number
@@ -34,16 +40,24 @@ abbrev pub limit_in : List ℕ → List Row → Option (Option ℕ)
 limit_in name options = option_map_or limit_of (first_of name options) (Some None)
 
 -- a time limit has 1 to 86400 seconds
-abbrev pub is_timeout : ℕ → Bool
-is_timeout seconds = nat_lt 0 seconds && nat_lt seconds 86401
+abbrev pub is_limit : ℕ → Bool
+is_limit seconds = nat_lt 0 seconds && nat_lt seconds 86401
 
 -- the number, if it is a time limit
-abbrev pub timeout_of : ℕ → Option ℕ
-timeout_of seconds = if is_timeout seconds then Some seconds else None
+abbrev pub seconds_of : ℕ → Option ℕ
+seconds_of seconds = if is_limit seconds then Some seconds else None
 
--- the seconds of `--timeout`, 30 without the option
-abbrev pub timeout_in : List Row → Option ℕ
-timeout_in options = option_map_or timeout_of (number_in (codes "timeout") 30 options) None
+-- the seconds of an option, or so many without it
+abbrev pub seconds_in : List ℕ → ℕ → List Row → Option ℕ
+seconds_in name default options = option_map_or seconds_of (number_in name default options) None
+
+-- the number, if it is one of connections: 1 to 1048576
+abbrev pub connections_of : ℕ → Option ℕ
+connections_of count = if nat_lt 0 count && nat_lt count 1048577 then Some count else None
+
+-- the number of `--connections`, 16384 without the option
+abbrev pub connections_in : List Row → Option ℕ
+connections_in options = option_map_or connections_of (number_in (codes "connections") 16384 options) None
 
 -- rule: Options of the server
 -- what the options of `serve` ask for
@@ -57,7 +71,10 @@ serve_in options =
       workers = unwrap_or (workers_in options) 0;
       sessions = unwrap_or (limit_in (codes "sessions") options) None;
       edits = unwrap_or (limit_in (codes "edits") options) None;
-      timeout = unwrap_or (timeout_in options) 0;
+      timeout = unwrap_or (seconds_in (codes "timeout") 30 options) 0;
+      idle = unwrap_or (seconds_in (codes "idle") 60 options) 0;
+      connections = unwrap_or (connections_in options) 0;
+      pinned_tables = unwrap_or (number_in (codes "pinned-tables") 256 options) 0;
       log = first_of (codes "log") options;
     }
 
@@ -65,5 +82,7 @@ serve_in options =
 abbrev pub faults_of_serve : List Row → Kinds
 faults_of_serve options =
     if is_some (workers_in options) && is_some (limit_in (codes "sessions") options)
-    && is_some (limit_in (codes "edits") options) && is_some (timeout_in options)
+    && is_some (limit_in (codes "edits") options) && is_some (seconds_in (codes "timeout") 30 options)
+    && is_some (seconds_in (codes "idle") 60 options) && is_some (connections_in options)
+    && is_some (number_in (codes "pinned-tables") 256 options)
     then [] else ValueValidation ∷ []

@@ -54,8 +54,14 @@ pub struct Serve {
     pub sessions: Option<u64>,
     /// How many sessions of the operator there are, or `None` for no end.
     pub edits: Option<u64>,
-    /// How many seconds a silent client is waited for: 1 to 86400.
+    /// How many seconds a whole message may take, and each part of a reply: 1 to 86400.
     pub timeout: u64,
+    /// How many seconds a connection may wait for its next message: 1 to 86400.
+    pub idle: u64,
+    /// How many connections of clients may be open at once: 1 to 1048576.
+    pub connections: u64,
+    /// How many tables of pinned clients each worker keeps.
+    pub pinned_tables: u64,
     /// The path of the log of replies, `-` for standard error, or `None` for no log.
     pub log: Option<Text>,
 }

@@ -3,7 +3,7 @@
 ghost use Rattle.std.specs.Prelude.{◌≡◌, codes, IfOk};
 ghost use Rattle.clap.specs.Words.{FailsBy, found_of, kind_of, rows_of};
 ghost use Rattle.omaha_arguments.specs.Options.{IsMade};
-ghost use Rattle.omaha_arguments.specs.ServeArguments.{faults_of_serve, limit_in, limit_of, serve_app, serve_in, timeout_in, timeout_of};
+ghost use Rattle.omaha_arguments.specs.ServeArguments.{connections_in, connections_of, faults_of_serve, limit_in, limit_of, seconds_in, seconds_of, serve_app, serve_in};
 
 use crate::command::Serve;
 use crate::options::{
@@ -25,19 +25,28 @@ const LISTEN: &str = "The address and port to listen on, such as 127.0.0.1:8080"
 
 const OPERATOR: &str = "The operator's address, such as 127.0.0.1:8081 [default: none]";
 
-const WORKERS: &str = "How many clients are served at a time, 1 to 8 [default: 1]";
+const WORKERS: &str = "How many threads serve clients, 1 to 8 [default: 1]";
 
 const SESSIONS: &str = "How many sessions of clients to serve before it ends [default: no end]";
 
 const EDITS: &str = "How many sessions of the operator before it ends [default: no end]";
 
-const TIMEOUT: &str = "How long to wait for a silent client, 1 to 86400 [default: 30]";
+const TIMEOUT: &str =
+    "How long a message, or a part of a reply, may take, 1 to 86400 [default: 30]";
+
+const IDLE: &str = "How long a client may wait between messages, 1 to 86400 [default: 60]";
+
+const CONNECTIONS: &str = "How many clients may be connected at once [default: 16384]";
+
+const PINNED: &str = "How many tables of pinned clients each worker keeps [default: 256]";
 
 const LOG: &str = "Where to log each reply: a file, or - for standard error [default: none]";
 
 const AFTER_SERVE: &str =
     "Prints `ready` when it listens. It replies to `POST /service/update2/json` and sends the packages
-under `/p/`. Each worker is a thread that serves one connection after the other. An operator may
+under `/p/`. Each worker is a thread that serves many connections at once, and no silent or slow
+client holds up another. If as many are connected as may be, the one that has waited longest
+between two messages is closed for the next. An operator may
 `POST /operate` to the operator's address meanwhile: a script is published as the next edition,
 `raise NAME BUDGET` raises a mirror's budget, and `dump` gets the profile of what is published.
 Anybody who reaches that address may publish and raise, so keep it on the loopback. After the last
@@ -73,6 +82,9 @@ pub(crate) fn serve_command<'a>(alloc: Global) -> Making<'a>
     let command = with_option(alloc, command, "sessions", "K", SESSIONS);
     let command = with_option(alloc, command, "edits", "M", EDITS);
     let command = with_option(alloc, command, "timeout", "SECONDS", TIMEOUT);
+    let command = with_option(alloc, command, "idle", "SECONDS", IDLE);
+    let command = with_option(alloc, command, "connections", "COUNT", CONNECTIONS);
+    let command = with_option(alloc, command, "pinned-tables", "COUNT", PINNED);
     with_option(alloc, command, "log", "FILE", LOG)
 }
 
@@ -108,8 +120,8 @@ fn limit_in(matches: &ArgMatches<'_>, id: &str) -> Option<Option<u64>>
 }
 
 // A number, if it is a time limit.
-fn timeout_of(seconds: u64) -> Option<u64>
-    ensures { result ≡ timeout_of seconds }
+fn seconds_of(seconds: u64) -> Option<u64>
+    ensures { result ≡ seconds_of seconds }
 {
     if 0 < seconds && seconds < 86401 {
         Some(seconds)
@@ -118,14 +130,46 @@ fn timeout_of(seconds: u64) -> Option<u64>
     }
 }
 
-// The time limit in seconds.
-fn timeout_in(matches: &ArgMatches<'_>) -> Option<u64>
-    ensures { result ≡ timeout_in (rows_of (found_of matches.now)) }
+// The seconds of a time limit, or so many without the option.
+fn seconds_in(matches: &ArgMatches<'_>, id: &str, default: u64) -> Option<u64>
+    ensures { result ≡ seconds_in id.now default (rows_of (found_of matches.now)) }
 {
-    match number_in(matches, "timeout", 30) {
+    match number_in(matches, id, default) {
         None => None,
-        Some(seconds) => timeout_of(seconds),
+        Some(seconds) => seconds_of(seconds),
     }
+}
+
+// A number, if so many connections may be open.
+fn connections_of(count: u64) -> Option<u64>
+    ensures { result ≡ connections_of count }
+{
+    if 0 < count && count < 1048577 {
+        Some(count)
+    } else {
+        None
+    }
+}
+
+// How many connections may be open.
+fn connections_in(matches: &ArgMatches<'_>) -> Option<u64>
+    ensures { result ≡ connections_in (rows_of (found_of matches.now)) }
+{
+    match number_in(matches, "connections", 16384) {
+        None => None,
+        Some(count) => connections_of(count),
+    }
+}
+
+// The error for a bound that is none.
+fn invalid_bound(alloc: Global) -> Result<Error, AllocError>
+    ensures { IfOk result (λ error. kind_of error ≡ ErrorKind.ValueValidation) }
+{
+    let mut command = serve_command(alloc)?.bin_name("omaha serve")?;
+    command.error(
+        ErrorKind::ValueValidation,
+        "SECONDS is from 1 to 86400, a COUNT of connections from 1 to 1048576, and of tables below 2^64",
+    )
 }
 
 // rule: Options of the server
@@ -138,9 +182,16 @@ pub(crate) fn read_serve(alloc: Global, matches: &ArgMatches<'_>) -> Result<Serv
         workers_in(matches),
         limit_in(matches, "sessions"),
         limit_in(matches, "edits"),
-        timeout_in(matches),
+        seconds_in(matches, "timeout", 30),
     ) else {
         return Err(invalid_number(alloc)?);
+    };
+    let (Some(idle), Some(connections), Some(pinned_tables)) = (
+        seconds_in(matches, "idle", 60),
+        connections_in(matches),
+        number_in(matches, "pinned-tables", 256),
+    ) else {
+        return Err(invalid_bound(alloc)?);
     };
     Ok(Serve {
         profile: Text::copy_of(alloc, string_in(matches, "profile"))?,
@@ -151,6 +202,9 @@ pub(crate) fn read_serve(alloc: Global, matches: &ArgMatches<'_>) -> Result<Serv
         sessions,
         edits,
         timeout,
+        idle,
+        connections,
+        pinned_tables,
         log: optional_string(alloc, matches, "log")?,
     })
 }

@@ -3,6 +3,7 @@ use Rattle.std.specs.Prelude.{◌≡◌, ◌⊎◌, ℕ, max, min, List, Option,
 use Rattle.streams.specs.Streams.{Known}
 use Rattle.omaha_arguments.specs.declared.command.Serve.{Serve}
 use Rattle.omaha_server.specs.Edges.{Edges}
+use Rattle.omaha_server.specs.Passages.{Passages}
 use Rattle.omaha_server.specs.Serving.{IsLogged, Serves}
 use Rattle.omaha_server.specs.declared.error.ServerError.{ServerError}
 use Rattle.omaha_server.specs.declared.error.ServerError.TheVariants as server
@@ -23,18 +24,22 @@ abbrev pub IsUnbound : Option (List ℕ) → Failure → Type 0
 IsUnbound (Some address) named = (named ≡ failure.Net address) ⊎ (named ≡ failure.Memory)
 IsUnbound None named = named ≡ failure.Memory
 
--- how the command ends by the end of its server; naming the address or the folder takes memory
-abbrev pub EndsAs : Result (Unit {0}) ServerError → Serve → Result (Unit {0}) Failure → Type 0
-EndsAs (Ok done) serve result = result ≡ Ok tt
-EndsAs (Err server.Net) serve result = (result ≡ Err (failure.Net serve.listen)) ⊎ (result ≡ Err failure.Memory)
-EndsAs (Err server.Log) serve result = (named : Failure) × IsUnopened serve.log named × (result ≡ Err named)
-EndsAs (Err server.Folder) serve result = (result ≡ Err (failure.File serve.packages)) ⊎ (result ≡ Err failure.Memory)
-EndsAs (Err server.OperatorNet) serve result = (named : Failure) × IsUnbound serve.operator named × (result ≡ Err named)
-EndsAs (Err server.NoPlace) serve result = result ≡ Err failure.NoPlace
-EndsAs (Err server.Closed) serve result = result ≡ Err failure.Closed
-EndsAs (Err server.Thread) serve result = result ≡ Err failure.Thread
-EndsAs (Err server.Write) serve result = result ≡ Err failure.Write
-EndsAs (Err server.Memory) serve result = result ≡ Err failure.Memory
+-- how the command ends by the error of its server; naming the address or the folder takes memory
+abbrev pub EndsBy : ServerError → Serve → Result (Unit {0}) Failure → Type 0
+EndsBy server.Net serve result = (result ≡ Err (failure.Net serve.listen)) ⊎ (result ≡ Err failure.Memory)
+EndsBy server.Log serve result = (named : Failure) × IsUnopened serve.log named × (result ≡ Err named)
+EndsBy server.Folder serve result = (result ≡ Err (failure.File serve.packages)) ⊎ (result ≡ Err failure.Memory)
+EndsBy server.OperatorNet serve result = (named : Failure) × IsUnbound serve.operator named × (result ≡ Err named)
+EndsBy server.NoPlace serve result = result ≡ Err failure.NoPlace
+EndsBy server.Closed serve result = result ≡ Err failure.Closed
+EndsBy server.Thread serve result = result ≡ Err failure.Thread
+EndsBy server.Write serve result = result ≡ Err failure.Write
+EndsBy server.Memory serve result = result ≡ Err failure.Memory
+
+-- how it ends by the end of its server
+abbrev pub EndsAs : {A : Type 0} → Result A ServerError → Serve → Result (Unit {0}) Failure → Type 0
+EndsAs (Ok served) serve result = result ≡ Ok tt
+EndsAs (Err error) serve result = EndsBy error serve result
 
 -- the place that the arguments name: the addresses, the folder, the workers, the sessions, the log and the seconds
 pub record IsPlaceOf (serve : Serve) (place : Place) : Type 0 where
@@ -46,12 +51,14 @@ pub record IsPlaceOf (serve : Serve) (place : Place) : Type 0 where
   pub edits : place.edits ≡ serve.edits
   pub log : place.log ≡ serve.log
   pub seconds : place.seconds ≡ max serve.timeout 1
+  pub idle : place.idle ≡ max serve.idle 1
+  pub connections : place.connections ≡ serve.connections
 
 -- a service was served at that place to its end, or to an error
 pub record IsHostedAt (edges : Edges) (service : Service) (serve : Serve) (old new : Known) (result : Result (Unit {0}) Failure) : Type 0 where
   pub place : Place
   pub placed : IsPlaceOf serve place
-  pub ended : Result (Unit {0}) ServerError
+  pub ended : Result Passages ServerError
   pub serves : Serves edges place service old new ended
   pub logged : IsLogged edges place.log ended
   pub ends : EndsAs ended serve result

@@ -34,6 +34,9 @@ pub use crate::running::{Ending, Status, run};
 pub use crate::runtime::Runtime;
 pub use crate::unreadable::report_unreadable;
 pub use omaha_arguments::{Command, Comparison, Once, Publication, Question, Report, Serve, Walk};
-pub use omaha_server::{LogFile, Place, ServerError, Service, System, answer, builtin_service};
+pub use omaha_server::{
+    LogFile, Place, ServedPort, ServedPorts, ServerError, Service, Sockets, System, answer,
+    builtin_service,
+};
 pub use package_files::Folders;
 pub use update_client::Connector;

@@ -14,6 +14,7 @@ use crate::operating::{dump_on, publish_on, raise_on};
 use crate::reporting::report_on;
 use crate::serving::serve_profile;
 use crate::walking::walk_on;
+use http_ports::Port;
 use omaha_arguments::{ArgumentError, Command, read_arguments};
 use omaha_server::System;
 use package_files::Folders;
@@ -100,14 +101,23 @@ fn end_without_command<W: WriteWhole>(error: ArgumentError, writer: &mut W) -> E
 
 // Does what a command asks for.
 fn obey<
-    R: Disk + Folders + System + Clock + Connector + AllocGlobal + Threads + Sync + Wait,
+    P: Port + Send + Drop,
+    S: System<P> + Sync,
+    R: Disk + Folders + Clock + Connector + AllocGlobal + Threads + Sync + Wait,
     I: ReadWhole,
     W: WriteWhole,
     F: WriteWhole + Send,
->(rt: &R, command: &Command, reader: &mut I, writer: &mut W, errors: &mut F) -> Result<(), Failure>
+>(
+    rt: &R,
+    system: &S,
+    command: &Command,
+    reader: &mut I,
+    writer: &mut W,
+    errors: &mut F,
+) -> Result<(), Failure>
     requires { IsAskable command.now }
     ensures silent { IsSilentCommand command.now → errors.new ≡ errors.old }
-    ensures does { Does (record { files = R.file_at rt.now; storage = R.storage rt.now; edges = R.edges rt.now; replies = R.replies rt.now; operated = R.operated rt.now }) command.now
+    ensures does { Does (record { files = R.file_at rt.now; storage = R.storage rt.now; edges = S.edges system.now; replies = R.replies rt.now; operated = R.operated rt.now }) command.now
         (record { input = I.input reader.old; output = W.output writer.old })
         (record { input = I.input reader.new; output = W.output writer.new }) result }
 {
@@ -117,7 +127,7 @@ fn obey<
         Command::Compare(asked) => compare_on(rt, asked, writer),
         Command::Describe(paths) => describe_files(rt.alloc(), rt, paths.as_slice(), writer),
         Command::Explain(code) => explain_code(rt.alloc(), code, writer),
-        Command::Serve(asked) => serve_profile(rt, asked, writer, errors),
+        Command::Serve(asked) => serve_profile(rt, system, asked, writer, errors),
         Command::Walk(asked) => walk_on(rt.alloc(), rt, asked, writer),
         Command::Publish(asked) => publish_on(rt, rt.alloc(), asked, writer),
         Command::Raise(asked) => raise_on(rt, rt.alloc(), asked, writer),
@@ -127,19 +137,28 @@ fn obey<
 
 // Carries out what the arguments ask for.
 fn carry_out<
-    R: Disk + Folders + System + Clock + Connector + AllocGlobal + Threads + Sync + Wait,
+    P: Port + Send + Drop,
+    S: System<P> + Sync,
+    R: Disk + Folders + Clock + Connector + AllocGlobal + Threads + Sync + Wait,
     I: ReadWhole,
     W: WriteWhole,
     F: WriteWhole + Send,
->(rt: &R, arguments: &[String], reader: &mut I, writer: &mut W, errors: &mut F) -> Ending
+>(
+    rt: &R,
+    system: &S,
+    arguments: &[String],
+    reader: &mut I,
+    writer: &mut W,
+    errors: &mut F,
+) -> Ending
     ensures silent { IsSilentRun (map string_bytes arguments.now) → errors.new ≡ errors.old }
-    ensures ends { Ends (record { files = R.file_at rt.now; storage = R.storage rt.now; edges = R.edges rt.now; replies = R.replies rt.now; operated = R.operated rt.now }) (map string_bytes arguments.now)
+    ensures ends { Ends (record { files = R.file_at rt.now; storage = R.storage rt.now; edges = S.edges system.now; replies = R.replies rt.now; operated = R.operated rt.now }) (map string_bytes arguments.now)
         (record { input = I.input reader.old; output = W.output writer.old })
         (record { input = I.input reader.new; output = W.output writer.new }) result }
     ensures untouched { IsMistaken result → (reader.new ≡ reader.old) × (writer.new ≡ writer.old) }
 {
     match read_arguments(rt.alloc(), arguments) {
-        Ok(command) => match obey(rt, &command, reader, writer, errors) {
+        Ok(command) => match obey(rt, system, &command, reader, writer, errors) {
             Ok(()) => Ending::Replied,
             Err(failure) => Ending::Failed(failure),
         },
@@ -172,7 +191,8 @@ fn report<F: WriteWhole>(alloc: Global, ending: &Ending, errors: &mut F)
 
 // rule: Status of the program
 // rule: Edges of the program
-/// Runs the program with the arguments after its name, and returns its exit status.
+/// Runs the program with the arguments after its name, and returns its exit status. A server's ports, packages and log are
+/// those of `system`.
 ///
 /// Without arguments, or with `once` and its options, it does what `respond` does; with `check`, `certify` or
 /// `verify` what `report_on` does; with `check F --packages DIR` it compares packages with files, with `describe`
@@ -182,18 +202,20 @@ fn report<F: WriteWhole>(alloc: Global, ending: &Ending, errors: &mut F)
 /// declined; and 2 if the arguments are invalid, after `clap`'s message on `errors`. With `--log -` a server also logs
 /// its replies there.
 pub fn run<
-    R: Disk + Folders + System + Clock + Connector + AllocGlobal + Threads + Sync + Wait,
+    P: Port + Send + Drop,
+    S: System<P> + Sync,
+    R: Disk + Folders + Clock + Connector + AllocGlobal + Threads + Sync + Wait,
     I: ReadWhole,
     W: WriteWhole,
     F: WriteWhole + Send,
->(rt: &R, arguments: &[String], reader: &mut I, writer: &mut W, errors: &mut F) -> u8
-    ensures run { Runs (record { files = R.file_at rt.now; storage = R.storage rt.now; edges = R.edges rt.now; replies = R.replies rt.now; operated = R.operated rt.now }) (map string_bytes arguments.now)
+>(rt: &R, system: &S, arguments: &[String], reader: &mut I, writer: &mut W, errors: &mut F) -> u8
+    ensures run { Runs (record { files = R.file_at rt.now; storage = R.storage rt.now; edges = S.edges system.now; replies = R.replies rt.now; operated = R.operated rt.now }) (map string_bytes arguments.now)
         (record { input = I.input reader.old; output = W.output writer.old })
         (record { input = I.input reader.new; output = W.output writer.new })
         (F.output errors.old) (F.output errors.new) result }
     ensures untouched { result ≡ 2 → (reader.new ≡ reader.old) × (writer.new ≡ writer.old) }
 {
-    let ending = carry_out(rt, arguments, reader, writer, errors);
+    let ending = carry_out(rt, system, arguments, reader, writer, errors);
     report(rt.alloc(), &ending, errors);
     ending.status().code()
 }

@@ -1,6 +1,5 @@
 // What a run needs of its runtime.
 
-use omaha_server::System;
 use package_files::Folders;
 use std::sync::Wait;
 use std::thread::Threads;
@@ -12,15 +11,6 @@ use update_client::Connector;
 ///
 /// Such a caller has this bound and not those that the traits are implemented by, as `Net` and `Files`: the borrow
 /// checker follows a runtime to other threads by its own bounds.
-pub trait Runtime: Disk
-    + Folders
-    + System
-    + Clock
-    + Connector
-    + AllocGlobal
-    + Threads
-    + Sync
-    + Wait {}
+pub trait Runtime: Disk + Folders + Clock + Connector + AllocGlobal + Threads + Sync + Wait {}
 
-impl<R: Disk + Folders + System + Clock + Connector + AllocGlobal + Threads + Sync + Wait> Runtime
-    for R {}
+impl<R: Disk + Folders + Clock + Connector + AllocGlobal + Threads + Sync + Wait> Runtime for R {}

@@ -7,6 +7,7 @@ ghost use Rattle.streams.specs.Streams.{Known};
 
 use crate::failure::Failure;
 use crate::once::open_profile;
+use http_ports::Port;
 use omaha_arguments::Serve;
 use omaha_server::{Place, ServerError, Service, System, serve};
 use std::alloc::AllocError;
@@ -44,11 +45,11 @@ fn unbound(operator: &Option<Text>) -> Failure
 }
 
 // The end of the command by the end of its server.
-fn end_of(ended: Result<(), ServerError>, asked: &Serve) -> Result<(), Failure>
+fn end_of<A: Drop>(ended: Result<A, ServerError>, asked: &Serve) -> Result<(), Failure>
     ensures { EndsAs ended asked.now result }
 {
     match ended {
-        Ok(()) => Ok(()),
+        Ok(_) => Ok(()),
         Err(ServerError::Net) => Err(Failure::Net(asked.listen.clone()?)),
         Err(ServerError::OperatorNet) => Err(unbound(&asked.operator)),
         Err(ServerError::Log) => Err(unopened(&asked.log)),
@@ -84,22 +85,33 @@ fn place_of(asked: &Serve) -> Result<Place, AllocError>
         edits: asked.edits,
         log: copy_of(&asked.log)?,
         seconds: asked.timeout.max(1),
+        idle: asked.idle.max(1),
+        connections: asked.connections,
     })
 }
 
 // Serves a service.
 fn serve_made<
-    R: System + Clock + AllocGlobal + Threads + Sync + Wait,
+    P: Port + Send + Drop,
+    S: System<P> + Sync,
+    R: Clock + AllocGlobal + Threads + Sync + Wait,
     W: WriteWhole,
     F: WriteWhole + Send,
->(rt: &R, service: Service, asked: &Serve, writer: &mut W, errors: &mut F) -> Result<(), Failure>
-    ensures hosted { IsHosted (R.edges rt.now) service asked.now (W.output writer.old) (W.output writer.new) result }
+>(
+    rt: &R,
+    system: &S,
+    service: Service,
+    asked: &Serve,
+    writer: &mut W,
+    errors: &mut F,
+) -> Result<(), Failure>
+    ensures hosted { IsHosted (S.edges system.now) service asked.now (W.output writer.old) (W.output writer.new) result }
     ensures silent { IsSilent asked.now.log → errors.new ≡ errors.old }
 {
     let Ok(place) = place_of(asked) else {
         return Err(Failure::Memory);
     };
-    let ended = serve(rt, service, &place, &Free, writer, errors);
+    let ended = serve(rt, system, service, &place, &Free, writer, errors);
     end_of(ended, asked)
 }
 
@@ -111,17 +123,19 @@ fn serve_made<
 /// started; the writer may also fail after the last session. Replies are logged on
 /// `errors` if the log is `-`; otherwise it is left as it is.
 pub(crate) fn serve_profile<
-    R: Disk + System + Clock + AllocGlobal + Threads + Sync + Wait,
+    P: Port + Send + Drop,
+    S: System<P> + Sync,
+    R: Disk + Clock + AllocGlobal + Threads + Sync + Wait,
     W: WriteWhole,
     F: WriteWhole + Send,
->(rt: &R, asked: &Serve, writer: &mut W, errors: &mut F) -> Result<(), Failure>
+>(rt: &R, system: &S, asked: &Serve, writer: &mut W, errors: &mut F) -> Result<(), Failure>
     ensures silent { IsSilent asked.now.log → errors.new ≡ errors.old }
-    ensures serves { (input : Known) → ServesOn (R.file_at rt.now) (R.edges rt.now) asked.now
+    ensures serves { (input : Known) → ServesOn (R.file_at rt.now) (S.edges system.now) asked.now
         (record { input = input; output = W.output writer.old })
         (record { input = input; output = W.output writer.new }) result }
 {
     match open_profile(rt, &asked.profile, asked.workers.min(16) as usize) {
-        Ok(service) => serve_made(rt, service, asked, writer, errors),
+        Ok(service) => serve_made(rt, system, service, asked, writer, errors),
         Err(failure) => Err(failure),
     }
 }

@@ -1,23 +1,20 @@
--- The jobs of workers, one for each.
-use Rattle.std.proofs.Common.{◌≡◌, ◌∙◌, ℕ, ◌+◌, ◌<◌, All, List, [], ◌∷◌, ◌++◌, ap, arith, below_more, get_or, length, subst, sym}
+-- What ports serve by, one for each worker.
+use Rattle.std.proofs.Common.{◌≡◌, ◌∙◌, ℕ, ◌+◌, ◌<◌, List, [], ◌∷◌, ◌++◌, ap, arith, below_more, get_or, length, sym}
 use Rattle.std.proofs.Math.Seq.{get_or-append_seam}
 use Rattle.std.proofs.lemmas.List.{get_or_append_left}
-use Rattle.std.specs.declared.net.tcp.TcpListener.{TcpListener}
-use Rattle.catalogue_laws.specs.Histories.{History}
-use Rattle.publisher.specs.Sights.{Sight, fresh}
-use Rattle.omaha_server.specs.Jobs.{AreClients, IsClients}
-use Rattle.omaha_server.specs.declared.clients.Clients.{Clients}
-use Rattle.omaha_server.specs.declared.setup.Setup.{Setup}
+use Rattle.http_ports.specs.declared.terms.Terms.{Terms}
+use Rattle.omaha_server.specs.Opening.{client_terms}
+use Rattle.omaha_server.specs.declared.place.Place.{Place}
 
--- one more worker's connections
-pub AreClients-more :
-    {R W : Type 0} (setup : Setup R W) (listener : TcpListener) (history : History) (count : ℕ) (jobs : List (Clients R W)) (job : Clients R W) (sight : Sight) →
-    length jobs ≡ count → AreClients setup listener history count jobs → IsClients setup listener count sight job → sight ≡ fresh history →
-    AreClients setup listener history (count + 1) (jobs ++ job ∷ [])
-AreClients-more {R} {W} setup listener history count jobs job sight sized are is seen worker d below =
-    let here : IsClients setup listener count (fresh history) job = subst (λ (s : Sight). IsClients setup listener count s job) seen is in
-    below_more (λ i. IsClients setup listener i (fresh history) (get_or (jobs ++ job ∷ []) i d)) count
-    (λ i low. subst (IsClients setup listener i (fresh history)) (sym (get_or_append_left jobs (job ∷ []) d i (omega (arith, low, sized)))) (are i d low))
-    (subst (IsClients setup listener count (fresh history))
-    (sym (ap (λ (n : ℕ). get_or (jobs ++ job ∷ []) n d) (sym sized) ∙ get_or-append_seam jobs job [] d)) here)
+-- one more worker's
+pub client_terms-more :
+    (place : Place) (capacity count : ℕ) (terms : List Terms) → length terms ≡ count →
+    ((worker : ℕ) (d : Terms) → worker < count → get_or terms worker d ≡ client_terms place capacity worker) →
+    (worker : ℕ) (d : Terms) → worker < count + 1 →
+    get_or (terms ++ client_terms place capacity count ∷ []) worker d ≡ client_terms place capacity worker
+client_terms-more place capacity count terms sized are worker d below =
+    below_more (λ i. get_or (terms ++ client_terms place capacity count ∷ []) i d ≡ client_terms place capacity i) count
+    (λ i low. get_or_append_left terms (client_terms place capacity count ∷ []) d i (omega (arith, low, sized)) ∙ are i d low)
+    (ap (λ (n : ℕ). get_or (terms ++ client_terms place capacity count ∷ []) n d) (sym sized)
+    ∙ get_or-append_seam terms (client_terms place capacity count) [] d)
     worker (omega (arith, below))

@@ -1,130 +1,189 @@
 -- What the workers of a server and its operator came to, once all began.
 use Rattle.std.proofs.Common.{◌≡◌, ◌∙◌, ℕ, zero, suc, ◌<◌, ◌&&◌, All, Bool, List, [], ◌∷◌, Option, Some, None, Result, Ok, Err, IfOk, inl, inr, refl, ap, arith, get_or, length, map, nat_eq, not, option_map, subst, sym}
-use Rattle.std.specs.Prelude.{IsOk, IsSome}
 use Rattle.std.specs.Io.KnownBytes.{Appends}
 use Rattle.std.specs.List.{AllZip}
 use Rattle.std.specs.Option.{is_some}
-use Rattle.std.proofs.lemmas.Bool.{false≢true}
 use Rattle.std.proofs.lemmas.List.{length-map}
 use Rattle.std.proofs.lemmas.Slice.Zip.{AllZip-long}
-use Rattle.std.specs.declared.net.tcp.TcpListener.{TcpListener}
 use Rattle.catalogue_laws.specs.Histories.{History}
+use Rattle.http_ports.specs.Traffic.{Slot}
+use Rattle.http_ports.specs.declared.terms.Terms.{Terms}
+use Rattle.http_talks.specs.Ports.{Passage}
 use Rattle.mirror_ledger.specs.Asks.{Ask}
 use Rattle.mirror_ledger.specs.Tills.{AreTotalsOf, HasEnded, HaveWorked, WorksAs}
 use Rattle.mirror_ledger.specs.declared.running.Ran.{Ran}
-use Rattle.publisher.specs.Sights.{Sight, fresh}
+use Rattle.publisher.specs.Sights.{fresh}
 use Rattle.records.specs.declared.mirror.Mirror.{Mirror}
 use Rattle.omaha_server.specs.Edges.{Edges}
-use Rattle.omaha_server.specs.Jobs.{AreClients, IsClients}
+use Rattle.omaha_server.specs.Jobs.{IsClients, IsManned}
+use Rattle.omaha_server.specs.Opening.{AreClientTerms, IsOperatorsPort, client_terms}
+use Rattle.omaha_server.specs.OperatorPorts.{has_operator, terms_left}
+use Rattle.omaha_server.specs.Passages.{Passages, passage_of, passages_of}
+use Rattle.omaha_server.specs.Places.{ArePorts}
 use Rattle.omaha_server.specs.Runs.{HasServed, HaveRun, PrintsLines}
-use Rattle.omaha_server.specs.Serving.{AreServed, AreTotals, IsOperated, IsReady, PrintsTotals, Serves, ServesToEnd, is_single, portion_at}
+use Rattle.omaha_server.specs.Serving.{AreServed, AreTotals, IsOperated, IsReady, PrintsTotals, Serves, ServesToEnd, is_single}
 use Rattle.omaha_server.specs.Totals.{names_of, totals_string}
 use Rattle.omaha_server.specs.declared.clients.Clients.{Clients}
 use Rattle.omaha_server.specs.declared.error.ServerError.{ServerError}
 use Rattle.omaha_server.specs.declared.error.ServerError.TheVariants as server
+use Rattle.omaha_server.specs.declared.opening.Ports.{Ports}
+use Rattle.omaha_server.specs.declared.operating.Operating.{Operating}
 use Rattle.omaha_server.specs.declared.place.Place.{Place}
+use Rattle.omaha_server.specs.declared.ports.ServedPort.{ServedPort}
+use Rattle.omaha_server.specs.declared.ports.ServedPorts.{ServedPorts}
+use Rattle.omaha_server.specs.declared.running.Ended.{Ended}
 use Rattle.omaha_server.specs.declared.service.Service.{Service}
 use Rattle.omaha_server.specs.declared.setup.Setup.{Setup}
 use Rattle.streams.specs.Streams.{Known}
 use Rattle.streams.specs.Writing.{Breaks}
 
-module _ {R W : Type 0} (edges_of : R → Edges) (setup : Setup R W) (listener : TcpListener) (mirrors : List Mirror) (history : History) where
-  -- the operator's sessions led from the mirrors with their budgets to those after them
-  abbrev LedTo : Option TcpListener → List Mirror → List Mirror → Type 0
-  LedTo operator before after =
-      (left : History)
-      × IsOperated (edges_of setup.rt.now) setup.place.now operator (record { mirrors = before; history = history }) (record { mirrors = after; history = left })
+-- an item of a list that was mapped
+get_or-mapped :
+    {A B : Type 0} (f : A → B) (items : List A) (index : ℕ) (a : A) (b : B) → index < length items →
+    get_or (map f items) index b ≡ f (get_or items index a)
+get_or-mapped f [] index a b below = absurd (omega (arith, below))
+get_or-mapped f (item ∷ items) zero a b below = refl
+get_or-mapped f (item ∷ items) (suc index) a b below = get_or-mapped f items index a b (omega (arith, below))
 
+-- each job came to its end
+ended-at :
+    {J E : Type 0} (comes : J → List Ask → E → Type 0) (jobs : List J) (worked : List (List Ask × Result E J)) (ends : List E)
+    (worker : ℕ) (j : J) (a : List Ask) (e : E) →
+    AllZip (λ job its. WorksAs comes job its.0 its.1) jobs worked →
+    map (λ (its : List Ask × Result E J). its.1) worked ≡ map Ok ends → worker < length jobs →
+    comes (get_or jobs worker j) (get_or (map (λ (its : List Ask × Result E J). its.0) worked) worker a) (get_or ends worker e)
+ended-at comes [] worked ends worker j a e works same below = absurd (omega (arith, below))
+ended-at comes (job ∷ jobs) [] ends worker j a e works same below = absurd works
+ended-at comes (job ∷ jobs) (its ∷ worked) [] worker j a e works same below = cc same
+ended-at {J} {E} comes (job ∷ jobs) (its ∷ worked) (end ∷ ends) zero j a e works same below =
+    let is : its.1 ≡ Ok end = cc same in subst (λ (r : Result E J). WorksAs comes job its.0 r) is works.0
+ended-at comes (job ∷ jobs) (its ∷ worked) (end ∷ ends) (suc worker) j a e works same below =
+    ended-at comes jobs worked ends worker j a e works.1 (cc same) (omega (arith, below))
+
+module _ {S R P W : Type 0} (edges_of : S → Edges) (terms_of : P → Terms) (slots_of : P → ℕ → Slot) (accepted_of : P → ℕ)
+    (setup : Setup S R W) (mirrors : List Mirror) where
   -- what a worker's job comes to
-  abbrev comes : Bool → Clients R W → List Ask → Unit {0} → Type 0
-  comes single clients asks end =
-      AreServed (edges_of clients.setup.now.rt.now) clients.setup.now.place.now clients.listener.now clients.sessions single mirrors clients.view asks
+  abbrev comes : Bool → Clients S R P W → List Ask → ServedPort P → Type 0
+  comes single clients asks served =
+      AreServed (edges_of clients.setup.now.system.now) clients.setup.now.place.now (terms_of clients.port) single mirrors
+      clients.view asks (passage_of terms_of slots_of accepted_of served)
 
   -- it is said of the setup
-  at-setup : (single : Bool) (worker : ℕ) (clients : Clients R W) (asks : List Ask) → IsClients setup listener worker (fresh history) clients →
-      comes single clients asks tt →
-      AreServed (edges_of setup.rt.now) setup.place.now listener (portion_at setup.place.now.sessions setup.place.now.workers worker) single mirrors (fresh history) asks
-  at-setup single worker clients asks is served =
-      subst (λ (s : Sight). AreServed (edges_of setup.rt.now) setup.place.now listener (portion_at setup.place.now.sessions setup.place.now.workers worker) single mirrors s asks) is.by
-      (subst (λ (n : Option ℕ). AreServed (edges_of setup.rt.now) setup.place.now listener n single mirrors clients.view asks) is.many
-      (subst (λ (l : TcpListener). AreServed (edges_of setup.rt.now) setup.place.now l clients.sessions single mirrors clients.view asks) is.from
-      (subst (λ (s : Setup R W). AreServed (edges_of s.rt.now) s.place.now clients.listener.now clients.sessions single mirrors clients.view asks) is.with served)))
+  at-setup : (single : Bool) (history : History) (terms : Terms) (clients : Clients S R P W) (asks : List Ask) (served : ServedPort P) →
+      IsClients setup (fresh history) clients → terms_of clients.port ≡ terms → comes single clients asks served →
+      AreServed (edges_of setup.system.now) setup.place.now terms single mirrors (fresh history) asks (passage_of terms_of slots_of accepted_of served)
+  at-setup single history terms clients asks served is by came =
+      subst (λ t. AreServed (edges_of setup.system.now) setup.place.now t single mirrors (fresh history) asks (passage_of terms_of slots_of accepted_of served)) by
+      (subst (λ s. AreServed (edges_of setup.system.now) setup.place.now (terms_of clients.port) single mirrors s asks (passage_of terms_of slots_of accepted_of served)) is.by
+      (subst (λ (s : Setup S R W). AreServed (edges_of s.system.now) s.place.now (terms_of clients.port) single mirrors clients.view asks (passage_of terms_of slots_of accepted_of served)) is.with came))
 
-  -- a job that began came to its end
-  one-began : (single : Bool) (job : Clients R W) (asks : List Ask) (end : Result (Unit {0}) (Clients R W)) →
-      WorksAs (comes single) job asks end → IsOk end → comes single job asks tt
-  one-began single job asks (Ok end) works ok = works
-  one-began single job asks (Err back) works ok = absurd (false≢true ok)
+  -- what the operator's job comes to
+  abbrev led : Operating S R P W → List Mirror → List Mirror → Option (ServedPort P) → Type 0
+  led own before after served =
+      (history : History)
+      × IsOperated (edges_of own.setup.now.system.now) own.setup.now.place.now (terms_left terms_of own.port)
+      (record { mirrors = before; history = own.press }) (record { mirrors = after; history = history })
+      (option_map (passage_of terms_of slots_of accepted_of) served)
 
-  all-began : (single : Bool) (jobs : List (Clients R W)) (worked : List (List Ask × Result (Unit {0}) (Clients R W))) (worker : ℕ) (e : Clients R W) (d : List Ask) →
-      AllZip (λ job its. WorksAs (comes single) job its.0 its.1) jobs worked →
-      All IsOk (map (λ (its : List Ask × Result (Unit {0}) (Clients R W)). its.1) worked) → worker < length jobs →
-      comes single (get_or jobs worker e) (get_or (map (λ (its : List Ask × Result (Unit {0}) (Clients R W)). its.0) worked) worker d) tt
-  all-began single [] worked worker e d works ok below = absurd (omega (arith, below))
-  all-began single (job ∷ jobs) [] worker e d works ok below = absurd works
-  all-began single (job ∷ jobs) (its ∷ worked) zero e d works ok below = one-began single job its.0 its.1 works.0 (ok 0 its.1 (omega arith))
-  all-began single (job ∷ jobs) (its ∷ worked) (suc worker) e d works ok below =
-      all-began single jobs worked worker e d works.1 (λ k x low. ok (suc k) x (omega (arith, low))) (omega (arith, below))
+  -- as many jobs came to their end
+  as_many :
+      {A E J : Type 0} (worked : List (A × Result E J)) (ends : List E) → map (λ (its : A × Result E J). its.1) worked ≡ map Ok ends →
+      length ends ≡ length worked
+  as_many {A} {E} {J} worked ends same =
+      sym (length-map ends Ok) ∙ ap length (sym same) ∙ length-map worked (λ (its : A × Result E J). its.1)
 
-  all-served : (single : Bool) (jobs : List (Clients R W)) (asks : List (List Ask)) (ends : List (Result (Unit {0}) (Clients R W))) (worker : ℕ) (d : List Ask) →
-      AreClients setup listener history (length jobs) jobs → HaveWorked (comes single) jobs asks ends → All IsOk ends → worker < length jobs →
-      AreServed (edges_of setup.rt.now) setup.place.now listener (portion_at setup.place.now.sessions setup.place.now.workers worker) single mirrors (fresh history) (get_or asks worker d)
-  all-served single [] asks ends worker d are worked ok below = absurd (omega (arith, below))
-  all-served single (job ∷ jobs) asks ends worker d are worked ok below =
-      let done = all-began single (job ∷ jobs) worked.worked worker job d worked.each (subst (All IsOk) worked.ended ok) below in
-      at-setup single worker (get_or (job ∷ jobs) worker job) (get_or asks worker d) (are worker job below)
-      (subst (λ (list : List (List Ask)). comes single (get_or (job ∷ jobs) worker job) (get_or list worker d) tt) (sym worked.asked) done)
+  -- what a worker's job came to
+  served-at :
+      (jobs : List (Clients S R P W)) (asks : List (List Ask)) (results : List (Result (ServedPort P) (Clients S R P W))) (ends : List (ServedPort P))
+      (single : Bool) (history : History) (terms : Terms) (worker : ℕ) (a : List Ask) (p : Passage)
+      (worked : HaveWorked (comes single) jobs asks results) →
+      map (λ (its : List Ask × Result (ServedPort P) (Clients S R P W)). its.1) worked.worked ≡ map Ok ends →
+      worker < length jobs → length ends ≡ length jobs → All (IsClients setup (fresh history)) jobs →
+      ((d : Terms) → get_or (map terms_of (map (λ (job : Clients S R P W). job.port) jobs)) worker d ≡ terms) →
+      AreServed (edges_of setup.system.now) setup.place.now terms single mirrors (fresh history) (get_or asks worker a)
+      (get_or (map (passage_of terms_of slots_of accepted_of) ends) worker p)
+  served-at [] asks results ends single history terms worker a p worked same below long each by = absurd (omega (arith, below))
+  served-at (job ∷ jobs) asks results [] single history terms worker a p worked same below long each by = cc long
+  served-at (job ∷ jobs) asks results (end ∷ ends) single history terms worker a p worked same below long each by =
+      let here = get_or (job ∷ jobs) worker job in
+      let came = ended-at (comes single) (job ∷ jobs) worked.worked (end ∷ ends) worker job a end worked.each same below in
+      let told = at-setup single history terms here (get_or (map (λ its. its.0) worked.worked) worker a) (get_or (end ∷ ends) worker end)
+      (each worker job below)
+      (sym (ap terms_of (get_or-mapped (λ (c : Clients S R P W). c.port) (job ∷ jobs) worker job job.port below))
+      ∙ sym (get_or-mapped terms_of (map (λ (c : Clients S R P W). c.port) (job ∷ jobs)) worker job.port terms
+      (omega (arith, below, length-map (job ∷ jobs) (λ (c : Clients S R P W). c.port)))) ∙ by terms) came in
+      subst (λ (q : Passage). AreServed (edges_of setup.system.now) setup.place.now terms single mirrors (fresh history) (get_or asks worker a) q)
+      (sym (get_or-mapped (passage_of terms_of slots_of accepted_of) (end ∷ ends) worker end p (omega (arith, below, long))))
+      (subst (λ (list : List (List Ask)). AreServed (edges_of setup.system.now) setup.place.now terms single mirrors (fresh history) (get_or list worker a)
+      (passage_of terms_of slots_of accepted_of (get_or (end ∷ ends) worker end))) (sym worked.asked) told)
 
-  -- the totals of a server whose workers all began, and its operator's job
   pub AreTotals-run :
-      {O F X : Type 0} (operator found : Option TcpListener) (raises : Bool) (jobs : List (Clients R W))
-      (count : ℕ) (ran : Result (Ran (Clients R W) O (Unit {0}) F) X) (totals : List ℕ) →
-      found ≡ operator → raises ≡ is_some operator → length jobs ≡ setup.place.now.workers → count ≡ setup.place.now.workers →
-      AreClients setup listener history setup.place.now.workers jobs →
-      IfOk ran (λ done. (asks : List (List Ask)) × HaveWorked (comes (not raises && nat_eq count 1)) jobs asks done.ends.items × AreTotalsOf done.mirrors.items asks done.totals.items) →
-      IfOk ran (λ done. HasEnded (λ before after (end : F). LedTo found before after) mirrors done.mirrors.items done.own) → HaveRun ran totals →
-      AreTotals (edges_of setup.rt.now) setup.place.now listener operator (record { edition = history; mirrors = mirrors }) totals
-  AreTotals-run operator found raises jobs count (Err error) totals is same many counted are works own run = absurd run
-  AreTotals-run {O} {F} operator found raises jobs count (Ok done) totals is same many counted are works own run =
+      {X : Type 0} (jobs : List (Clients S R P W)) (own : Operating S R P W) (single : Bool)
+      (ran : Result (Ran (Clients S R P W) (Operating S R P W) (ServedPort P) (Option (ServedPort P))) X) (ended : Ended (ServedPort P) (Option (ServedPort P))) →
+      IsManned terms_of setup jobs own → is_single (is_some setup.place.now.operator) setup.place.now.workers ≡ single →
+      IfOk ran (λ done. (asks : List (List Ask)) × HaveWorked (comes single) jobs asks done.ends.items × AreTotalsOf done.mirrors.items asks done.totals.items) →
+      IfOk ran (λ done. HasEnded (λ before after. led own before after) mirrors done.mirrors.items done.own) →
+      HaveRun ran ended →
+      AreTotals (edges_of setup.system.now) setup.place.now (record { edition = own.press; mirrors = mirrors })
+      (passages_of terms_of slots_of accepted_of (record { clients = ended.clients; operator = ended.own })) ended.totals.items
+  AreTotals-run jobs own single (Err error) ended manned alone works operated run = absurd run
+  AreTotals-run jobs own single (Ok done) ended manned alone works operated (ends, ended_own, totals) =
       let (asks, worked, sums) = works in
-      let here = subst (λ (n : ℕ). AreClients setup listener history n jobs) (sym many) are in
-      let (left, operated) = led done.mirrors.items done.own run.1 own in
+      let same : map (λ (its : List Ask × Result (ServedPort P) (Clients S R P W)). its.1) worked.worked ≡ map Ok ended.clients.items = sym worked.ended ∙ ends in
+      let long : length worked.worked ≡ length jobs = AllZip-long (λ job its. WorksAs (comes single) job its.0 its.1) jobs worked.worked worked.each in
+      let (left, there) = subst (λ (o : Option (Option (ServedPort P))). HasEnded (λ before after. led own before after) mirrors done.mirrors.items o) ended_own operated in
       record {
         asks = asks;
-        many = ap length worked.asked ∙ length-map worked.worked (λ its. its.0) ∙ AllZip-long (λ job its. WorksAs (comes (not raises && nat_eq count 1)) job its.0 its.1) jobs worked.worked worked.each ∙ many;
-        served = λ worker d below.
-            subst (λ (n : ℕ). AreServed (edges_of setup.rt.now) setup.place.now listener (portion_at setup.place.now.sessions setup.place.now.workers worker) (is_single operator n) mirrors (fresh history) (get_or asks worker d)) counted
-            (subst (λ (r : Bool). AreServed (edges_of setup.rt.now) setup.place.now listener (portion_at setup.place.now.sessions setup.place.now.workers worker) (not r && nat_eq count 1) mirrors (fresh history) (get_or asks worker d)) same
-            (all-served (not raises && nat_eq count 1) jobs asks done.ends.items worker d here worked run.2 (omega (arith, below, many))));
+        many = ap length worked.asked ∙ length-map worked.worked (λ its. its.0) ∙ long ∙ manned.many;
+        ports = length-map ended.clients.items (passage_of terms_of slots_of accepted_of)
+            ∙ as_many worked.worked ended.clients.items same ∙ long ∙ manned.many;
+        capacity = manned.capacity;
+        served = λ worker a p below.
+            subst (λ (s : Bool). AreServed (edges_of setup.system.now) setup.place.now (client_terms setup.place.now manned.capacity worker) s mirrors (fresh own.press)
+            (get_or asks worker a) (get_or (map (passage_of terms_of slots_of accepted_of) ended.clients.items) worker p)) (sym alone)
+            (served-at jobs asks done.ends.items ended.clients.items single own.press (client_terms setup.place.now manned.capacity worker) worker a p worked same
+            (omega (arith, below, manned.many)) (as_many worked.worked ended.clients.items same ∙ long) manned.each
+            (λ d. manned.ports worker d below));
+        operator = terms_left terms_of own.port;
+        port = manned.port;
         left = record { mirrors = done.mirrors.items; history = left };
-        operated = operated;
-        summed = subst (AreTotalsOf done.mirrors.items asks) (sym run.0) sums;
+        operated = subst (λ (s : Setup S R W). IsOperated (edges_of s.system.now) s.place.now (terms_left terms_of own.port)
+            (record { mirrors = mirrors; history = own.press }) (record { mirrors = done.mirrors.items; history = left })
+            (option_map (passage_of terms_of slots_of accepted_of) ended.own)) manned.with there;
+        summed = subst (AreTotalsOf done.mirrors.items asks) totals sums;
       }
-    where
-      led : (after : List Mirror) (end : Option F) → IsSome end → HasEnded (λ before now (end : F). LedTo found before now) mirrors after end → LedTo operator mirrors after
-      led after (Some end) some holds = subst (λ (o : Option TcpListener). LedTo o mirrors after) is holds
-      led after None some holds = absurd (false≢true some)
 
--- there is a listener as long as it is only looked at
-pub is_some-map : {A B : Type 0} (f : A → B) (option : Option A) (mapped : Option B) → option_map f option ≡ mapped → is_some option ≡ is_some mapped
-is_some-map f (Some value) mapped same = ap is_some same
-is_some-map f None mapped same = ap is_some same
+-- there is a port for the operator if there is an operator
+is_operated : {P : Type 0} (place : Place) (terms_of : P → Terms) (port : Option P) →
+    IsOperatorsPort place (option_map terms_of port) → is_some place.operator ≡ is_some port
+is_operated place terms_of None is = is
+is_operated place terms_of (Some port) is = is.0
 
--- what follows for each value follows for the one that is there
-pub IfOk-map : {A E : Type 0} {P Q : A → Type 0} → ((value : A) → P value → Q value) → (result : Result A E) → IfOk result P → IfOk result Q
-IfOk-map step (Ok value) holds = step value holds
-IfOk-map step (Err error) holds = tt
+-- jobs over new ports are those of a setup
+pub IsManned-over :
+    {S R P W : Type 0} (terms_of : P → Terms) (slots_of : P → ℕ → Slot) (accepted_of : P → ℕ) (IsOver : P → Type 0)
+    (setup : Setup S R W) (ports : Ports P) (jobs : List (Clients S R P W)) (own : Operating S R P W) →
+    ArePorts terms_of slots_of accepted_of IsOver setup.place.now ports →
+    map (λ (job : Clients S R P W). job.port) jobs ≡ ports.clients.items → All (IsClients setup (fresh own.press)) jobs →
+    own.setup.now ≡ setup → has_operator own.port ≡ is_some ports.operator →
+    terms_left terms_of own.port ≡ option_map terms_of ports.operator → IsManned terms_of setup jobs own
+IsManned-over {S} {R} {P} {W} terms_of slots_of accepted_of IsOver setup ports jobs own are same each with operates terms = record {
+  many = sym (length-map jobs (λ (job : Clients S R P W). job.port)) ∙ ap length same ∙ are.many;
+  capacity = are.capacity;
+  ports = subst (λ (list : List P). AreClientTerms setup.place.now are.capacity (map terms_of list)) (sym same) are.terms;
+  each = each;
+  with = with;
+  operates = operates ∙ sym (is_operated setup.place.now terms_of ports.operator are.port);
+  port = subst (IsOperatorsPort setup.place.now) (sym terms) are.port;
+}
 
-module _ (edges : Edges) (place : Place) (service : Service) (old between : Known) (totals : List ℕ) (folder : edges.folders place.packages)
-    (served : HasServed edges place service old between totals) where
-  to-end : (new : Known) (result : Result (Unit {0}) ServerError) → PrintsTotals service.mirrors totals between new result →
+module _ (edges : Edges) (place : Place) (service : Service) (old between : Known) (passages : Passages) (totals : List ℕ)
+    (served : HasServed edges place service old between passages totals) where
+  to-end : (new : Known) (result : Result Passages ServerError) → PrintsTotals service.mirrors totals passages between new result →
       ServesToEnd edges place service old new result
   to-end new result printed = record {
-    folder = folder;
-    listener = served.listener;
-    bound = served.bound;
-    operator = served.operator;
-    operated = served.operated;
+    opened = served.opened;
+    passages = passages;
     totals = totals;
     served = served.served;
     between = between;
@@ -132,26 +191,23 @@ module _ (edges : Edges) (place : Place) (service : Service) (old between : Know
     printed = printed;
   }
 
-  -- a server that was served prints its totals, or ends without memory after `ready`
-  pub Serves-printed : (names : List (List ℕ)) (new : Known) (result : Result (Unit {0}) ServerError) → names ≡ names_of service.mirrors →
-      PrintsLines names totals between new result → Serves edges place service old new result
-  Serves-printed names new (Ok tt) named printed =
-      inl (to-end new (Ok tt) (subst (λ (these : List (List ℕ)). Appends between.bytes new.bytes (totals_string these totals)) named printed))
-  Serves-printed names new (Err server.Write) named printed =
+  -- a server that was served prints its totals
+  pub Serves-printed : (names : List (List ℕ)) (new : Known) → names ≡ names_of service.mirrors →
+      Appends between.bytes new.bytes (totals_string names totals) → Serves edges place service old new (Ok passages)
+  Serves-printed names new named printed =
+      inl (to-end new (Ok passages) (refl, subst (λ (these : List (List ℕ)). Appends between.bytes new.bytes (totals_string these totals)) named printed))
+
+  -- or it ends with a first part of them, or without memory after `ready`
+  pub Serves-unprinted : (names : List (List ℕ)) (new : Known) (error : ServerError) → names ≡ names_of service.mirrors →
+      PrintsLines names totals between new (Err error) → Serves edges place service old new (Err error)
+  Serves-unprinted names new server.Write named printed =
       inl (to-end new (Err server.Write) (refl, subst (λ (these : List (List ℕ)). Breaks between new (totals_string these totals)) named printed))
-  Serves-printed names new (Err server.Memory) named same =
-      inr (
-        server.Memory,
-        refl,
-        inr (
-          record { folder = folder; listener = served.listener; bound = served.bound; operator = served.operator; operated = served.operated },
-          subst (IsReady old) (sym same) served.ready,
-        ),
-      )
-  Serves-printed names new (Err server.Net) named never = absurd never
-  Serves-printed names new (Err server.OperatorNet) named never = absurd never
-  Serves-printed names new (Err server.Log) named never = absurd never
-  Serves-printed names new (Err server.Folder) named never = absurd never
-  Serves-printed names new (Err server.NoPlace) named never = absurd never
-  Serves-printed names new (Err server.Closed) named never = absurd never
-  Serves-printed names new (Err server.Thread) named never = absurd never
+  Serves-unprinted names new server.Memory named same =
+      inr (server.Memory, refl, inr (served.opened, subst (IsReady old) (sym same) served.ready))
+  Serves-unprinted names new server.Net named never = absurd never
+  Serves-unprinted names new server.OperatorNet named never = absurd never
+  Serves-unprinted names new server.Log named never = absurd never
+  Serves-unprinted names new server.Folder named never = absurd never
+  Serves-unprinted names new server.NoPlace named never = absurd never
+  Serves-unprinted names new server.Closed named never = absurd never
+  Serves-unprinted names new server.Thread named never = absurd never

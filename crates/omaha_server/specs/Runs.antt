@@ -1,30 +1,29 @@
 -- What a server's workers came to, up to its totals.
-use Rattle.std.specs.Prelude.{◌≡◌, ⊤, ℕ, All, IsOk, IsSome, List, Option, Result, Ok, Err}
-use Rattle.std.specs.declared.net.tcp.TcpListener.{TcpListener}
+use Rattle.std.specs.Prelude.{◌≡◌, ⊤, ℕ, List, Option, Some, Result, Ok, Err, map}
 use Rattle.mirror_ledger.specs.declared.running.Ran.{Ran}
 use Rattle.std.specs.Io.KnownBytes.{Appends}
 use Rattle.streams.specs.Streams.{Known}
 use Rattle.streams.specs.Writing.{Breaks}
 use Rattle.omaha_server.specs.Edges.{Edges}
-use Rattle.omaha_server.specs.Serving.{AreTotals, IsListening, IsReady}
+use Rattle.omaha_server.specs.Passages.{Passages}
+use Rattle.omaha_server.specs.Serving.{AreTotals, IsOpen, IsReady}
 use Rattle.omaha_server.specs.Totals.{totals_string}
 use Rattle.omaha_server.specs.declared.error.ServerError.{ServerError}
 use Rattle.omaha_server.specs.declared.error.ServerError.TheVariants as server
 use Rattle.omaha_server.specs.declared.place.Place.{Place}
+use Rattle.omaha_server.specs.declared.running.Ended.{Ended}
 use Rattle.omaha_server.specs.declared.service.Service.{Service}
 
--- all jobs began, and these are the totals
-abbrev pub HaveRun : {J O E F X : Type 0} → Result (Ran J O E F) X → List ℕ → Type 0
-HaveRun (Ok ran) totals = (totals ≡ ran.totals.items) × IsSome ran.own × All IsOk ran.ends.items
-HaveRun (Err error) totals = ⊥
+-- all jobs began and came to these ends, and these are the totals
+abbrev pub HaveRun : {J O E F X : Type 0} → Result (Ran J O E F) X → Ended E F → Type 0
+HaveRun (Ok ran) ended =
+    (ran.ends.items ≡ map Ok ended.clients.items) × (ran.own ≡ Some ended.own) × (ran.totals.items ≡ ended.totals.items)
+HaveRun (Err error) ended = ⊥
 
 -- listeners were bound, `ready` was printed and nothing else, and the service was served with these totals
-pub record HasServed (edges : Edges) (place : Place) (service : Service) (old new : Known) (totals : List ℕ) : Type 0 where
-  pub listener : TcpListener
-  pub bound : edges.listens place.address listener
-  pub operator : Option TcpListener
-  pub operated : IsListening edges place.operator operator
-  pub served : AreTotals edges place listener operator service totals
+pub record HasServed (edges : Edges) (place : Place) (service : Service) (old new : Known) (passages : Passages) (totals : List ℕ) : Type 0 where
+  pub opened : IsOpen edges place
+  pub served : AreTotals edges place service passages totals
   pub ready : IsReady old new
 
 -- the lines of the totals were printed, whole or in part; or nothing, as memory ran out

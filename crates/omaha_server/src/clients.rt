@@ -1,20 +1,22 @@
-// The connections of clients, of which each worker serves its portion.
+// The connections of clients, of which each worker serves its port's.
 
-ghost use Rattle.std.specs.Prelude.{◌≡◌, ◌<◌, All, IfOk, length};
+ghost use Rattle.std.specs.Prelude.{◌≡◌, ◌<◌, ◌∷◌, ◌++◌, All, IfOk, length, map};
 ghost use Rattle.catalogue_laws.specs.Histories.{History};
 ghost use Rattle.publisher.specs.Sights.{fresh};
-ghost use Rattle.omaha_server.specs.Jobs.{AreClients, IsClients};
-ghost use Rattle.omaha_server.specs.Serving.{portion_at};
+ghost use Rattle.omaha_server.specs.Jobs.{IsClients};
+ghost use Rattle.omaha_server.specs.Opening.{AreClientTerms, IsNew, client_terms, clients_listener, portion_at};
 
+use crate::new_port::NewPort;
 use crate::place::Place;
-use crate::setup::Setup;
+use crate::ports::ServedPort;
+use crate::setup::{Setup, serve_new};
 use crate::system::System;
+use http_ports::{Port, Terms};
 use log_queues::LineSender;
 use mirror_ledger::{Till, TillJob};
 use publisher::View;
 use service_desks::Worker;
 use std::alloc::{AllocError, Global};
-use std::net::TcpListener;
 use std::sync::Wait;
 use std::time::Clock;
 use streams::WriteWhole;
@@ -22,13 +24,11 @@ use worker_threads::portion_of;
 
 /// The connections that a worker serves, as the job of its thread.
 #[derive(Drop)]
-pub(crate) struct Clients<'a, 'b, R, W: WriteWhole> {
+pub(crate) struct Clients<'s, 'a, 'b, S, R, P: Port, W: WriteWhole> {
     /// What they are served with.
-    pub(crate) setup: &'a Setup<'a, 'b, R, W>,
-    /// What accepts them.
-    pub(crate) listener: &'a TcpListener,
-    /// How many there are, or `None` for no end.
-    pub(crate) sessions: Option<u64>,
+    pub(crate) setup: &'s Setup<'a, 'b, S, R, W>,
+    /// Where they come from.
+    pub(crate) port: NewPort<P>,
     /// The worker's view of the published editions.
     pub(crate) view: View,
     /// The worker's end of the log, if there is one.
@@ -36,27 +36,28 @@ pub(crate) struct Clients<'a, 'b, R, W: WriteWhole> {
 }
 
 // rule: Sessions of a server
-impl<R: System + Clock + Wait + AllocGlobal, W: WriteWhole> TillJob for Clients<'_, '_, R, W> {
+impl<S: System<P>, R: Clock + Wait + AllocGlobal, P: Port + Send + Drop, W: WriteWhole> TillJob
+    for Clients<'_, '_, '_, S, R, P, W> {
+    ghost use Rattle.omaha_server.specs.Passages.{passage_of};
     ghost use Rattle.omaha_server.specs.Serving.{AreServed};
 
-    type End = ();
+    type End = ServedPort<P>;
 
-    ghost comes_to = { λ single mirrors clients asks _. AreServed (R.edges clients.setup.now.rt.now) clients.setup.now.place.now clients.listener.now
-        clients.sessions single mirrors clients.view asks };
+    ghost comes_to = { λ single mirrors clients asks served. AreServed (S.edges clients.setup.now.system.now) clients.setup.now.place.now
+        (P.terms clients.port) single mirrors clients.view asks (passage_of P.terms P.slots P.accepted served) };
 
-    fn work<T: Till + Drop>(self, till: T) -> (T, ()) {
+    fn work<T: Till + Drop>(self, till: T) -> (T, ServedPort<P>) {
         let Clients {
             setup,
-            listener,
-            sessions,
+            port,
             view,
             lines,
         } = self;
         let mut lines = lines;
         let mut desk = Worker::new(setup.rt, view, till);
-        setup.serve(listener, &mut desk, sessions, &mut lines);
+        let served = serve_new(setup, port, &mut desk, &mut lines);
         let (_view, till) = desk.into_parts();
-        (till, ())
+        (till, served)
     }
 }
 
@@ -72,46 +73,80 @@ fn portion_at(place: &Place, worker: usize) -> Option<u64>
     }
 }
 
-// The connections of a worker.
-fn clients_of<'a, 'b, R, W: WriteWhole>(
-    setup: &'a Setup<'a, 'b, R, W>,
-    listener: &'a TcpListener,
-    worker: usize,
-    view: View,
-    lines: Option<LineSender>,
-) -> Clients<'a, 'b, R, W>
-    requires { worker < setup.now.place.now.workers }
-    ensures { IsClients setup.now listener.now worker view result }
+// What a worker's port serves by, with so many connections at once.
+fn terms_of(place: &Place, capacity: usize, worker: usize) -> Terms
+    requires { worker < place.now.workers }
+    ensures { result ≡ client_terms place.now capacity worker }
 {
-    Clients {
-        setup,
-        listener,
-        sessions: portion_at(setup.place, worker),
-        view,
-        lines,
+    Terms {
+        listener: 0,
+        capacity,
+        limit: portion_at(place, worker).unwrap_or(u64::MAX),
+        message: place.seconds,
+        idle: place.idle,
     }
 }
 
-/// The connections of each worker, which has one of the views, and one of the log's senders if there are some.
-pub(crate) fn all_clients<'a, 'b, R, W: WriteWhole>(
+/// What the workers' ports serve by, with so many connections at once each.
+pub(crate) fn all_terms(
     alloc: Global,
-    setup: &'a Setup<'a, 'b, R, W>,
-    listener: &'a TcpListener,
+    place: &Place,
+    capacity: usize,
+) -> Result<Vec<Terms>, AllocError>
+    ensures many { IfOk result (λ terms. length terms.items ≡ place.now.workers) }
+    ensures terms { IfOk result (λ terms. AreClientTerms place.now capacity terms.items) }
+    ensures listener { IfOk result (λ terms. All (λ t. t.listener ≡ clients_listener) terms.items) }
+{
+    let mut terms = Vec::new(alloc);
+    for worker in 0..place.workers {
+        terms.push(terms_of(place, capacity, worker))?;
+    }
+    Ok(terms)
+}
+
+// The connections of a worker.
+fn clients_of<'s, 'a, 'b, S, R, P: Port + Drop, W: WriteWhole>(
+    alloc: Global,
+    setup: &'s Setup<'a, 'b, S, R, W>,
+    port: P,
+    view: View,
+    lines: Option<LineSender>,
+) -> Result<Clients<'s, 'a, 'b, S, R, P, W>, AllocError>
+    requires { IsNew P.terms P.slots P.accepted P.is_over port }
+    ensures clients { IfOk result (IsClients setup.now view) }
+    ensures port { IfOk result (λ clients. clients.port ≡ port) }
+{
+    let port = NewPort::of(alloc, port)?;
+    Ok(Clients {
+        setup,
+        port,
+        view,
+        lines,
+    })
+}
+
+/// The connections of each worker, which has one of the ports, one of the views, and one of the log's senders if there are
+/// some.
+pub(crate) fn all_clients<'s, 'a, 'b, S, R, P: Port + Drop, W: WriteWhole>(
+    alloc: Global,
+    setup: &'s Setup<'a, 'b, S, R, W>,
+    ports: Vec<P>,
     views: Vec<View>,
     senders: Vec<LineSender>,
-) -> Result<Vec<Clients<'a, 'b, R, W>>, AllocError>
-    requires { length views.items ≡ setup.now.place.now.workers }
-    ensures many { IfOk result (λ jobs. length jobs.items ≡ setup.now.place.now.workers) }
+) -> Result<Vec<Clients<'s, 'a, 'b, S, R, P, W>>, AllocError>
+    requires many { length views.items ≡ length ports.items }
+    requires new { All (IsNew P.terms P.slots P.accepted P.is_over) ports.items }
+    ensures ports { IfOk result (λ jobs. map (λ job. job.port) jobs.items ≡ ports.items) }
     ensures jobs { IfOk result (λ jobs. (history : History) → All (λ sight. sight ≡ fresh history) views.items
-        → AreClients setup.now listener.now history setup.now.place.now.workers jobs.items) }
+        → All (IsClients setup.now (fresh history)) jobs.items) }
 {
     let (mut views, mut senders) = (views, senders);
     let mut jobs = Vec::new(alloc);
-    for worker in 0..setup.place.workers {
+    for port in ports {
         let Some(view) = views.pop() else {
             unreachable!()
         };
-        let clients = clients_of(setup, listener, worker, view, senders.pop());
+        let clients = clients_of(alloc, setup, port, view, senders.pop())?;
         let Ok(()) = jobs.push(clients) else {
             return Err(AllocError);
         };

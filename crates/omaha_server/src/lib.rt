@@ -6,9 +6,10 @@
 //! read `specs/Answering.antt`.
 //!
 //! `serve` publishes the edition, opens books of the mirrors' budgets, listens, and lets workers begin together, each of
-//! which serves connections one after the other, beside the operator's; it prints each mirror's total at the end. Read
-//! `specs/Serving.antt`. If a log is asked for, `access_logs` writes a line for each reply. What it asks of the system
-//! is a `System`, whose relations name addresses, seconds, folders and logs: read `specs/Edges.antt`.
+//! which serves the connections of a port, beside the operator's; it prints each mirror's total at the end, and gives the
+//! ports back, so that its caller knows what passed on them. Read `specs/Serving.antt`. If a log is asked for,
+//! `access_logs` writes a line for each reply. What it asks of the system is a `System`, whose relations name addresses,
+//! folders and logs: read `specs/Edges.antt`. `Sockets` is the real one.
 //!
 //! It knows no command line.
 
@@ -20,11 +21,16 @@ mod clients;
 mod error;
 mod logging;
 mod mirrors;
+mod new_port;
+mod opening;
 mod operating;
 mod place;
+mod ports;
+mod running;
 mod service;
 mod serving;
 mod setup;
+mod sockets;
 mod system;
 mod totals;
 
@@ -32,6 +38,8 @@ pub use crate::answering::answer;
 pub use crate::error::ServerError;
 pub use crate::mirrors::Mirrors;
 pub use crate::place::Place;
+pub use crate::ports::{ServedPort, ServedPorts};
 pub use crate::service::{Service, builtin_service, make_service};
 pub use crate::serving::serve;
-pub use crate::system::{LogFile, System};
+pub use crate::sockets::{LogFile, Sockets};
+pub use crate::system::{OpenError, System};

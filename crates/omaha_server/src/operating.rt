@@ -1,62 +1,116 @@
 // The connections of the operator.
 
-ghost use Rattle.std.specs.Prelude.{◌≡◌, true};
+ghost use Rattle.std.specs.Prelude.{◌≡◌, IfSome, true};
 ghost use Rattle.profile_toml.specs.Laws.{AreMirrors};
+ghost use Rattle.omaha_server.specs.Opening.{operator_terms};
+ghost use Rattle.omaha_server.specs.Passages.{passage_of};
 ghost use Rattle.omaha_server.specs.Serving.{AreOperated};
 
-use crate::setup::Setup;
+use crate::new_port::NewPort;
+use crate::place::Place;
+use crate::ports::ServedPort;
+use crate::setup::{Setup, serve_new};
 use crate::system::System;
+use http_ports::{Port, Terms};
 use log_queues::LineSender;
 use mirror_ledger::{BudgetJob, Budgets};
 use publisher::Press;
 use service_desks::Operator;
-use std::net::TcpListener;
 use std::sync::Wait;
 use std::thread::Threads;
 use std::time::Clock;
 use streams::WriteWhole;
 
+// How many connections of the operator may be open at once.
+const CONNECTIONS: usize = 32;
+
+/// What the operator's port serves by.
+pub(crate) fn operator_terms(place: &Place) -> Terms
+    ensures { result ≡ operator_terms place.now }
+{
+    Terms {
+        listener: 1,
+        capacity: CONNECTIONS,
+        limit: place.edits.unwrap_or(u64::MAX),
+        message: place.seconds,
+        idle: place.idle,
+    }
+}
+
+/// The operator's port.
+#[derive(Drop)]
+pub(crate) enum OperatorPort<P: Port> {
+    /// There is no operator.
+    Missing,
+    /// It isn't served yet.
+    New(NewPort<P>),
+    /// It is being served, or was.
+    Served,
+}
+
 /// The connections of the operator, as the job of the server's own thread. It is not `Drop`, since a press isn't.
-pub(crate) struct Operating<'a, 'b, R: Threads + Wait + AllocGlobal, W: WriteWhole> {
+pub(crate) struct Operating<
+    's,
+    'a,
+    'b,
+    S,
+    R: Threads + Wait + AllocGlobal,
+    P: Port,
+    W: WriteWhole,
+> {
     /// What they are served with.
-    pub(crate) setup: &'a Setup<'a, 'b, R, W>,
-    /// What accepts them, if there is an operator.
-    pub(crate) listener: Option<&'a TcpListener>,
+    pub(crate) setup: &'s Setup<'a, 'b, S, R, W>,
+    /// Where they come from.
+    pub(crate) port: OperatorPort<P>,
     /// The press of what is served.
     pub(crate) press: Press,
     /// The operator's end of the log, if there is one.
     pub(crate) lines: Option<LineSender>,
 }
 
-// Serves the connections of a listener by the operator's desk.
-fn serve_desk<R: System + Clock + Threads + Wait + AllocGlobal, W: WriteWhole, B: Budgets>(
-    setup: &Setup<'_, '_, R, W>,
-    listener: &TcpListener,
+// Serves a port by the operator's desk.
+fn serve_desk<
+    S: System<P>,
+    R: Clock + Threads + Wait + AllocGlobal,
+    P: Port + Drop,
+    W: WriteWhole,
+    B: Budgets,
+>(
+    setup: &Setup<'_, '_, S, R, W>,
+    port: NewPort<P>,
     desk: &mut Operator<'_, '_, '_, R, B>,
     lines: &mut Option<LineSender>,
-)
+) -> ServedPort<P>
     ensures same_press { desk.new.press.ghost_name ≡ desk.old.press.ghost_name }
     ensures same_budgets { desk.new.budgets.ghost_name ≡ desk.old.budgets.ghost_name }
-    ensures operated { AreOperated (R.edges setup.now.rt.now) setup.now.place.now listener.now
+    ensures operated { AreOperated (S.edges setup.now.system.now) setup.now.place.now (P.terms port)
         (record { mirrors = B.present desk.old.budgets.now; history = desk.old.press.now })
-        (record { mirrors = B.present desk.new.budgets.now; history = desk.new.press.now }) }
+        (record { mirrors = B.present desk.new.budgets.now; history = desk.new.press.now })
+        (passage_of P.terms P.slots P.accepted result) }
 {
-    setup.serve(listener, desk, setup.place.edits, lines);
+    serve_new(setup, port, desk, lines)
 }
 
 // The same, over a press and budgets that may be raised.
-fn operate<R: System + Clock + Threads + Wait + AllocGlobal, W: WriteWhole, B: Budgets>(
-    setup: &Setup<'_, '_, R, W>,
-    listener: &TcpListener,
+fn operate<
+    S: System<P>,
+    R: Clock + Threads + Wait + AllocGlobal,
+    P: Port + Drop,
+    W: WriteWhole,
+    B: Budgets,
+>(
+    setup: &Setup<'_, '_, S, R, W>,
+    port: NewPort<P>,
     press: &mut Press,
     budgets: &mut B,
     lines: &mut Option<LineSender>,
-)
+) -> ServedPort<P>
     requires listed { AreMirrors (B.present budgets.old) }
     requires rising { B.rises budgets.old ≡ true }
-    ensures operated { AreOperated (R.edges setup.now.rt.now) setup.now.place.now listener.now
+    ensures operated { AreOperated (S.edges setup.now.system.now) setup.now.place.now (P.terms port)
         (record { mirrors = B.present budgets.old; history = press.old })
-        (record { mirrors = B.present budgets.new; history = press.new }) }
+        (record { mirrors = B.present budgets.new; history = press.new })
+        (passage_of P.terms P.slots P.accepted result) }
 {
     let mut desk = Operator {
         rt: setup.rt,
@@ -64,34 +118,39 @@ fn operate<R: System + Clock + Threads + Wait + AllocGlobal, W: WriteWhole, B: B
         budgets,
         workers: setup.place.workers,
     };
-    serve_desk(setup, listener, &mut desk, lines);
+    serve_desk(setup, port, &mut desk, lines)
 }
 
 // rule: Sessions of an operator
-impl<R: System + Clock + Threads + Wait + AllocGlobal, W: WriteWhole> BudgetJob
-    for Operating<'_, '_, R, W> {
+impl<
+    S: System<P>,
+    R: Clock + Threads + Wait + AllocGlobal,
+    P: Port + Send + Drop,
+    W: WriteWhole,
+> BudgetJob for Operating<'_, '_, '_, S, R, P, W> {
     ghost use Rattle.std.specs.Prelude.{option_map};
-    ghost use Rattle.std.specs.Option.{is_some};
     ghost use Rattle.catalogue_laws.specs.Histories.{History};
+    ghost use Rattle.omaha_server.specs.OperatorPorts.{has_operator, terms_left};
+    ghost use Rattle.omaha_server.specs.Passages.{passage_of};
     ghost use Rattle.omaha_server.specs.Serving.{IsOperated};
 
-    type End = ();
+    type End = Option<ServedPort<P>>;
 
-    ghost raises = { λ own. is_some own.listener };
+    ghost raises = { λ own. has_operator own.port };
 
-    ghost comes_to = { λ before after old _. (history : History)
-        × IsOperated (R.edges old.setup.now.rt.now) old.setup.now.place.now (option_map (λ l. l.now) old.listener)
-        (record { mirrors = before; history = old.press }) (record { mirrors = after; history = history }) };
+    ghost comes_to = { λ before after old served. (history : History)
+        × IsOperated (S.edges old.setup.now.system.now) old.setup.now.place.now (terms_left P.terms old.port)
+        (record { mirrors = before; history = old.press }) (record { mirrors = after; history = history })
+        (option_map (passage_of P.terms P.slots P.accepted) served) };
 
-    fn work<B: Budgets>(&mut self, budgets: &mut B) {
-        if let Some(listener) = self.listener {
-            operate(
-                self.setup,
-                listener,
-                &mut self.press,
-                budgets,
-                &mut self.lines,
-            );
+    fn work<B: Budgets>(&mut self, budgets: &mut B) -> Option<ServedPort<P>> {
+        match &self.port {
+            OperatorPort::New(_) => {}
+            _ => return None,
         }
+        let OperatorPort::New(port) = std::mem::replace(&mut self.port, OperatorPort::Served) else {
+            return None;
+        };
+        Some(operate(self.setup, port, &mut self.press, budgets, &mut self.lines))
     }
 }

@@ -21,8 +21,12 @@ pub struct Place {
     pub edits: Option<u64>,
     /// The path of the log of replies, `-` for the standard error, or `None` for no log.
     pub log: Option<Text>,
-    /// How many seconds each read and each write of a connection may take, at least one.
+    /// How many seconds a whole message may take, and each part of a reply; at least one.
     pub seconds: u64,
-    ghost limited: { 0 < seconds },
+    /// How many seconds a connection may wait for its next message, at least one.
+    pub idle: u64,
+    /// How many connections of clients may be open at once, if the system allows as many.
+    pub connections: u64,
+    ghost limited: { (0 < seconds) × (0 < idle) },
     ghost manned: { (1 ≤ workers) × (workers ≤ 8) },
 }

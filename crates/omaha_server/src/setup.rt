@@ -1,78 +1,105 @@
-// What the connections of a server are served with.
+// What the ports of a server are served with.
 
-ghost use Rattle.omaha_server.specs.Serving.{VisitsAt};
+ghost use Rattle.std.specs.Prelude.{◌≡◌};
+ghost use Rattle.omaha_server.specs.Passages.{passage_of};
+ghost use Rattle.omaha_server.specs.Serving.{IsServedPort};
 
+use crate::new_port::NewPort;
 use crate::place::Place;
+use crate::ports::ServedPort;
 use crate::system::System;
-use access_logs::AccessLog;
-use http_desks::Desk;
+use access_logs::ReplyLog;
+use http_desks::{Clock, Desk};
 use http_devices::SystemClock;
-use http_wire::{Unwatched, Watch};
+use http_ports::Port;
 use log_queues::{LineSender, Page};
-use std::net::TcpListener;
 use std::sync::Mutex;
-use std::time::Clock;
+use std::time;
 use streams::WriteWhole;
 
-/// What the connections of a server are served with: the system, the place, and what replies are logged to, if anything.
+/// What the ports of a server are served with.
 #[derive(Drop)]
-pub(crate) struct Setup<'a, 'b, R, W: WriteWhole> {
-    /// The system, which also waits for locks.
+pub(crate) struct Setup<'a, 'b, S, R, W: WriteWhole> {
+    /// What opens ports, and has packages and logs.
+    pub(crate) system: &'a S,
+    /// What starts threads, waits for locks, tells the time and has the memory of replies.
     pub(crate) rt: &'a R,
     /// The place.
     pub(crate) place: &'a Place,
-    /// What the lines of the log are written to.
+    /// What the lines of the log are written to, if replies are logged.
     pub(crate) log: Option<&'a Mutex<Page<'b, W>>>,
 }
 
-// Serves connections of a listener at a place by a desk, and shows them to a watch.
-fn serve_at<R: System, D: Desk, V: Watch>(
-    rt: &R,
-    place: &Place,
-    listener: &TcpListener,
-    desk: &mut D,
-    watch: &V,
-    limit: Option<u64>,
-)
-    ensures { VisitsAt (R.edges rt.now) place.now listener.now limit D.path D.content_type D.steps desk.old desk.new }
-{
-    let folder = place.packages.as_str();
-    let seconds = place.seconds;
-    rt.serve_folder(folder, listener, seconds, desk, watch, limit);
+// The clock of a log that there isn't.
+struct NoClock;
+
+impl Clock for NoClock {
+    ghost use Rattle.std.specs.Prelude.{⊤};
+
+    ghost tells = { λ _ _. ⊤ };
+
+    fn now(&self) -> u64 {
+        0
+    }
 }
 
-// Serves connections of a listener at a place by a desk, and sends a line for each reply.
-fn serve_logged<R: System + Clock + AllocGlobal, D: Desk>(
+// Serves a port by a desk, and shows each connection to a log, if there is one.
+fn serve_seen<P: Port + Drop, S: System<P>, C: Clock, D: Desk>(
+    system: &S,
+    place: &Place,
+    port: NewPort<P>,
+    desk: &mut D,
+    log: &Option<ReplyLog<'_, C, LineSender>>,
+) -> ServedPort<P>
+    ensures { IsServedPort (S.edges system.now) place.now (D.path desk.old) (D.content_type desk.old) D.steps
+        desk.old desk.new (P.terms port) (passage_of P.terms P.slots P.accepted result) }
+{
+    let (port, stand) = port.into_parts();
+    let mut port = port;
+    let folder = place.packages.as_str();
+    let lost = system.serve_port(folder, &mut port, stand, desk, log);
+    ServedPort { port, lost }
+}
+
+// Serves a port by a desk, and sends a line for each reply.
+fn serve_logged<P: Port + Drop, S: System<P>, R: time::Clock + AllocGlobal, D: Desk>(
+    system: &S,
     rt: &R,
     place: &Place,
-    listener: &TcpListener,
+    port: NewPort<P>,
     desk: &mut D,
-    limit: Option<u64>,
     lines: &mut LineSender,
-)
-    ensures { VisitsAt (R.edges rt.now) place.now listener.now limit D.path D.content_type D.steps desk.old desk.new }
+) -> ServedPort<P>
+    ensures { IsServedPort (S.edges system.now) place.now (D.path desk.old) (D.content_type desk.old) D.steps
+        desk.old desk.new (P.terms port) (passage_of P.terms P.slots P.accepted result) }
 {
     let clock = SystemClock::new(rt);
-    let watch = AccessLog::new(rt.alloc(), &clock, lines);
-    serve_at(rt, place, listener, desk, &watch, limit);
+    let log = Some(ReplyLog::new(rt.alloc(), &clock, lines));
+    serve_seen(system, place, port, desk, &log)
 }
 
-impl<'a, 'b, R: System + Clock + AllocGlobal, W: WriteWhole> Setup<'a, 'b, R, W> {
-    /// Serves connections of a listener by a desk, one after the other, until there were so many, and sends a line for each
-    /// reply, if they are logged.
-    pub(crate) fn serve<D: Desk>(
-        &self,
-        listener: &TcpListener,
-        desk: &mut D,
-        limit: Option<u64>,
-        lines: &mut Option<LineSender>,
-    )
-        ensures { VisitsAt (R.edges self.now.rt.now) self.now.place.now listener.now limit D.path D.content_type D.steps desk.old desk.new }
-    {
-        let (rt, place) = (self.rt, self.place);
-        match lines {
-            None => serve_at(rt, place, listener, desk, &Unwatched, limit),
-            Some(lines) => serve_logged(rt, place, listener, desk, limit, lines),
+/// Serves a port by a desk, and sends a line for each reply, if they are logged.
+pub(crate) fn serve_new<
+    P: Port + Drop,
+    S: System<P>,
+    R: time::Clock + AllocGlobal,
+    W: WriteWhole,
+    D: Desk,
+>(
+    setup: &Setup<'_, '_, S, R, W>,
+    port: NewPort<P>,
+    desk: &mut D,
+    lines: &mut Option<LineSender>,
+) -> ServedPort<P>
+    ensures { IsServedPort (S.edges setup.now.system.now) setup.now.place.now (D.path desk.old) (D.content_type desk.old) D.steps
+        desk.old desk.new (P.terms port) (passage_of P.terms P.slots P.accepted result) }
+{
+    let (system, rt, place) = (setup.system, setup.rt, setup.place);
+    match lines {
+        Some(lines) => serve_logged(system, rt, place, port, desk, lines),
+        None => {
+            let none = None::<ReplyLog<'static, NoClock, LineSender>>;
+            serve_seen(system, place, port, desk, &none)
         }
     }
 }

@@ -1,15 +1,17 @@
 // Clients of a listener on the loopback, whom one thread serves in two slots. A row is what a client sends and what it
 // gets; one whose message ends with `+` leaves its connection open, and is late after more than a second.
 
+ghost use Rattle.std.specs.Prelude.{◌≡◌};
+
 use crate::desk::{CLOCK, Echo, FILES};
 use crate::lines::expand;
 use access_logs::{ReplyLog, Seen};
 use http_desks::Site;
-use http_ports::run;
+use http_ports::{Terms, run};
 use http_sessions::Buffers;
 use http_talks::{Talk, Talks, Watched, WatchedTalks};
 use http_wire::Unwatched;
-use mio_ports::{Limits, MioPort};
+use mio_ports::MioPort;
 use std::alloc::Global;
 use std::io::{Read, Write};
 use std::net::{Net, Shutdown, TcpListener, TcpStream};
@@ -53,6 +55,19 @@ fn connect_all(rt: &HostRuntime, streams: &mut Vec<TcpStream>, rows: &str) -> Op
     Some(listener)
 }
 
+// Two slots for so many connections, each of which may wait for a second.
+fn terms_of(limit: u64) -> Terms
+    ensures { result.capacity ≡ 2 }
+{
+    Terms {
+        listener: 0,
+        capacity: 2,
+        limit,
+        message: 1,
+        idle: 1,
+    }
+}
+
 // Serves so many connections of a listener; for how many memory ran out.
 fn serve<R: Wait + Net + Clock + AllocGlobal>(
     rt: &R,
@@ -69,12 +84,8 @@ fn serve<R: Wait + Net + Clock + AllocGlobal>(
     let mut desk = Echo { alloc };
     let mut room = Buffers::new(alloc).ok()?;
     let mut conns: [Option<Talk>; 2] = [None, None];
-    let limits = Limits {
-        message: 1,
-        idle: 1,
-    };
     let listener = Arc::new(alloc, listener).ok()?;
-    let mut port = MioPort::new(rt, listener, 2, limit, limits)?;
+    let mut port = MioPort::new(rt, listener, terms_of(limit))?;
     Some(run(
         rt,
         &mut port,
@@ -152,12 +163,8 @@ fn serve_logged<R: Wait + Net + Clock + AllocGlobal>(
     let mut desk = Echo { alloc };
     let mut room = Buffers::new(alloc).ok()?;
     let mut conns: [Option<Watched<Seen>>; 2] = [None, None];
-    let limits = Limits {
-        message: 1,
-        idle: 1,
-    };
     let listener = Arc::new(alloc, listener).ok()?;
-    let mut port = MioPort::new(rt, listener, 2, 2, limits)?;
+    let mut port = MioPort::new(rt, listener, terms_of(2))?;
     Some(run(
         rt,
         &mut port,

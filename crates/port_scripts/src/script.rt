@@ -6,7 +6,7 @@ ghost use Rattle.http_ports.specs.Traffic.{unused};
 ghost use Rattle.port_scripts.specs.Seats.{AreDone, IsOfSlot, IsQuietAt, peers_of, slots_of};
 
 use crate::seat::Seat;
-use http_ports::{Event, Port, Received, Sent};
+use http_ports::{Event, Port, Received, Sent, Terms};
 use std::net::IpAddr;
 use traces::Trace;
 
@@ -24,6 +24,9 @@ pub struct Script {
     pub next: usize,
     /// An entry for each connection that was accepted.
     pub accepted: Trace<()>,
+    /// What it serves by: a place for each slot, and as many connections as there are peers.
+    pub terms: Terms,
+    ghost sized: { vec_len seats ≡ terms.capacity },
 }
 
 impl Script {
@@ -35,14 +38,24 @@ impl Script {
         ensures len { vec_len result.seats ≡ vec_len seats }
     {
         let mut seats = seats;
+        let mut limit = 0u64;
         for slot in 0..seats.len() {
             seats[slot].rewind();
+            limit = limit.saturating_add(seats[slot].peers.len() as u64);
         }
+        let terms = Terms {
+            listener: 0,
+            capacity: seats.len(),
+            limit,
+            message: 0,
+            idle: 0,
+        };
         Script {
             seats,
             turns,
             next: 0,
             accepted: Trace::new(),
+            terms,
         }
     }
 
@@ -56,6 +69,7 @@ impl Script {
         ensures same { IfNone result (self.new.seats.items ≡ self.old.seats.items) }
         ensures len { vec_len self.new.seats ≡ vec_len self.old.seats }
         ensures accepted { self.new.accepted ≡ self.old.accepted }
+        ensures terms { self.new.terms ≡ self.old.terms }
     {
         for slot in from..to {
             if let Some(event) = self.seats[slot].report(slot, patient) {
@@ -73,6 +87,7 @@ impl Script {
         ensures same { IfNone result (self.new.seats.items ≡ self.old.seats.items) }
         ensures len { vec_len self.new.seats ≡ vec_len self.old.seats }
         ensures accepted { self.new.accepted ≡ self.old.accepted }
+        ensures terms { self.new.terms ≡ self.old.terms }
     {
         for _ in 0..self.turns.len() {
             let Some(slot) = self.turns.pop() else {
@@ -98,6 +113,7 @@ impl Script {
         ensures same { IfNone result (self.new.seats.items ≡ self.old.seats.items) }
         ensures len { vec_len self.new.seats ≡ vec_len self.old.seats }
         ensures accepted { self.new.accepted ≡ self.old.accepted }
+        ensures terms { self.new.terms ≡ self.old.terms }
     {
         if let Some(event) = self.next_turn() {
             return Some(event);
@@ -115,12 +131,12 @@ impl Script {
 }
 
 impl Port for Script {
-    ghost use Rattle.std.specs.Prelude.{length, vec_len};
+    ghost use Rattle.std.specs.Prelude.{length};
     ghost use Rattle.port_scripts.specs.Seats.{AreDone, slots_of};
 
     ghost slots = { λ port. slots_of port.seats.items };
 
-    ghost capacity = { λ port. vec_len port.seats };
+    ghost terms = { λ port. port.terms };
 
     ghost accepted = { λ port. length port.accepted };
 

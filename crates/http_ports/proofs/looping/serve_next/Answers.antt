@@ -3,7 +3,7 @@ use Rattle.std.specs.Prelude.{IfSome}
 use Rattle.http_ports.specs.Loops.{all_rest, counts_of, kept_at, rest_but}
 use Rattle.http_ports.specs.Speech.{speech_at}
 use Rattle.http_ports.specs.Traffic.{Slot, no_traffic}
-use Rattle.http_ports.proofs.WorkLemmas.{Works-accepted, Works-counted, Works-done, Works-expired, Works-kept, Works-reported}
+use Rattle.http_ports.proofs.WorkLemmas.{capacity_of, Works-accepted, Works-counted, Works-done, Works-expired, Works-kept, Works-reported}
 use Rattle.http_ports.proofs.looping.serve_next.Goals as goal
 
 pub serve_slot-requires-clause-live : goal.serve_slot-requires-clause-live
@@ -16,12 +16,12 @@ returns-in-Accepted-clause-works g c = λ start lost works.
     (Works-counted (speech_at g.E.Protocol.pending g.E.Protocol.phase g.E.Protocol.is_lost (g.E.Protocol.so_far c.args.protocol.now)
     (g.D.Desk.path c.args.desk.now) (g.D.Desk.content_type c.args.desk.now)) g.D.Desk.steps
     start (rest_but c.in-Accepted.slot) c.args.desk.now (g.P.Port.slots c.wait.new.self) (kept_at c.swap.new.items)
-    (g.P.Port.capacity c.args.port.now) (g.P.Port.capacity c.wait.new.self) (g.P.Port.accepted c.wait.new.self) _ lost _
-    c.in-Accepted.ensures.capacity refl refl
+    (g.P.Port.terms c.args.port.now).capacity (g.P.Port.terms c.wait.new.self).capacity (g.P.Port.accepted c.wait.new.self) _ lost _
+    (ap capacity_of c.in-Accepted.ensures.terms) refl refl
     (Works-accepted (speech_at g.E.Protocol.pending g.E.Protocol.phase g.E.Protocol.is_lost (g.E.Protocol.so_far c.args.protocol.now)
     (g.D.Desk.path c.args.desk.now) (g.D.Desk.content_type c.args.desk.now)) g.D.Desk.steps
     start c.in-Accepted.slot c.args.desk.now (g.P.Port.slots c.args.port.now) (g.P.Port.slots c.wait.new.self)
-    (kept_at c.args.conns.now) (kept_at c.swap.new.items) c.open.result (g.P.Port.capacity c.args.port.now) (g.P.Port.accepted c.args.port.now) (g.P.Port.accepted c.wait.new.self) lost
+    (kept_at c.args.conns.now) (kept_at c.swap.new.items) c.open.result (g.P.Port.terms c.args.port.now).capacity (g.P.Port.accepted c.args.port.now) (g.P.Port.accepted c.wait.new.self) lost
     works within c.in-Accepted.ensures.accepted free opened elsewhere c.swap.ensures.put c.swap.ensures.elsewhere
     (c.open.ensures.so_far _ _)))
 
@@ -32,12 +32,12 @@ returns-in-Ready-clause-works g c = λ start lost works.
     (Works-counted (speech_at g.E.Protocol.pending g.E.Protocol.phase g.E.Protocol.is_lost (g.E.Protocol.so_far c.args.protocol.now)
     (g.D.Desk.path c.args.desk.now) (g.D.Desk.content_type c.args.desk.now)) g.D.Desk.steps
     start (rest_but c.in-Ready.slot) c.args.desk.now (g.P.Port.slots c.wait.new.self) (kept_at c.args.conns.now)
-    (g.P.Port.capacity c.args.port.now) (g.P.Port.capacity c.wait.new.self) (g.P.Port.accepted c.args.port.now) (g.P.Port.accepted c.wait.new.self) lost _
-    c.in-Ready.ensures.capacity (c.in-Ready.ensures.accepted ∙ omega arith) refl
+    (g.P.Port.terms c.args.port.now).capacity (g.P.Port.terms c.wait.new.self).capacity (g.P.Port.accepted c.args.port.now) (g.P.Port.accepted c.wait.new.self) lost _
+    (ap capacity_of c.in-Ready.ensures.terms) (c.in-Ready.ensures.accepted ∙ omega arith) refl
     (Works-reported (speech_at g.E.Protocol.pending g.E.Protocol.phase g.E.Protocol.is_lost (g.E.Protocol.so_far c.args.protocol.now)
     (g.D.Desk.path c.args.desk.now) (g.D.Desk.content_type c.args.desk.now)) g.D.Desk.steps
     start c.in-Ready.slot c.args.desk.now (g.P.Port.slots c.args.port.now) (g.P.Port.slots c.wait.new.self)
-    (kept_at c.args.conns.now) (counts_of (g.P.Port.capacity c.args.port.now) (g.P.Port.accepted c.args.port.now) lost) works live changes))
+    (kept_at c.args.conns.now) (counts_of (g.P.Port.terms c.args.port.now).capacity (g.P.Port.accepted c.args.port.now) lost) works live changes))
 
 pub returns-in-Expired-clause-works : goal.returns-in-Expired-clause-works
 returns-in-Expired-clause-works g c = λ start lost works.
@@ -46,18 +46,18 @@ returns-in-Expired-clause-works g c = λ start lost works.
     Works-kept (speech_at g.E.Protocol.pending g.E.Protocol.phase g.E.Protocol.is_lost (g.E.Protocol.so_far c.args.protocol.now)
     (g.D.Desk.path c.args.desk.now) (g.D.Desk.content_type c.args.desk.now)) g.D.Desk.steps
     start all_rest c.in-Expired.slot c.args.desk.now (g.P.Port.slots c.args.port.now) (kept_at c.args.conns.now)
-    (counts_of (g.P.Port.capacity c.args.port.now) (g.P.Port.accepted c.args.port.now) lost) works (traffic, live) in
+    (counts_of (g.P.Port.terms c.args.port.now).capacity (g.P.Port.accepted c.args.port.now) lost) works (traffic, live) in
     Works-counted (speech_at g.E.Protocol.pending g.E.Protocol.phase g.E.Protocol.is_lost (g.E.Protocol.so_far c.args.protocol.now)
     (g.D.Desk.path c.args.desk.now) (g.D.Desk.content_type c.args.desk.now)) g.D.Desk.steps
     start all_rest c.args.desk.now (g.P.Port.slots c.close_slot.new.port) (kept_at c.close_slot.new.conns)
-    (g.P.Port.capacity c.args.port.now) (g.P.Port.capacity c.close_slot.new.port) (g.P.Port.accepted c.args.port.now) (g.P.Port.accepted c.close_slot.new.port) _ _
-    (c.close_slot.ensures.capacity ∙ c.in-Expired.ensures.capacity)
+    (g.P.Port.terms c.args.port.now).capacity (g.P.Port.terms c.close_slot.new.port).capacity (g.P.Port.accepted c.args.port.now) (g.P.Port.accepted c.close_slot.new.port) _ _
+    (ap capacity_of (c.close_slot.ensures.terms ∙ c.in-Expired.ensures.terms))
     (c.close_slot.ensures.accepted ∙ c.in-Expired.ensures.accepted ∙ omega arith) refl
     (Works-expired (speech_at g.E.Protocol.pending g.E.Protocol.phase g.E.Protocol.is_lost (g.E.Protocol.so_far c.args.protocol.now)
     (g.D.Desk.path c.args.desk.now) (g.D.Desk.content_type c.args.desk.now)) g.D.Desk.steps
     start c.in-Expired.slot c.args.desk.now (g.P.Port.slots c.args.port.now) (g.P.Port.slots c.wait.new.self)
     (g.P.Port.slots c.close_slot.new.port) (kept_at c.args.conns.now) (kept_at c.close_slot.new.conns) traffic conn
-    c.close_slot.result (g.P.Port.capacity c.args.port.now) (g.P.Port.accepted c.args.port.now) lost works within kept live waiting changes c.close_slot.ensures.closes
+    c.close_slot.result (g.P.Port.terms c.args.port.now).capacity (g.P.Port.accepted c.args.port.now) lost works within kept live waiting changes c.close_slot.ensures.closes
     (subst (λ kept_one. IfSome kept_one (λ some. c.close_slot.result ≡ g.E.Protocol.is_lost some)) kept c.close_slot.ensures.lost)
     c.close_slot.ensures.free c.close_slot.ensures.elsewhere)
 
@@ -67,10 +67,10 @@ returns-in-Done-clause-works g c = λ start lost works.
     Works-done (speech_at g.E.Protocol.pending g.E.Protocol.phase g.E.Protocol.is_lost (g.E.Protocol.so_far c.args.protocol.now)
     (g.D.Desk.path c.args.desk.now) (g.D.Desk.content_type c.args.desk.now)) g.D.Desk.steps
     start c.args.desk.now (g.P.Port.slots c.args.port.now) (g.P.Port.slots c.wait.new.self) (kept_at c.args.conns.now)
-    (counts_of (g.P.Port.capacity c.wait.new.self) (g.P.Port.accepted c.wait.new.self) lost)
+    (counts_of (g.P.Port.terms c.wait.new.self).capacity (g.P.Port.accepted c.wait.new.self) lost)
     (Works-counted (speech_at g.E.Protocol.pending g.E.Protocol.phase g.E.Protocol.is_lost (g.E.Protocol.so_far c.args.protocol.now)
     (g.D.Desk.path c.args.desk.now) (g.D.Desk.content_type c.args.desk.now)) g.D.Desk.steps
-    start all_rest c.args.desk.now (g.P.Port.slots c.args.port.now) (kept_at c.args.conns.now) (g.P.Port.capacity c.args.port.now)
-    (g.P.Port.capacity c.wait.new.self) (g.P.Port.accepted c.args.port.now) (g.P.Port.accepted c.wait.new.self) lost lost
-    c.in-Done.ensures.capacity (c.in-Done.ensures.accepted ∙ omega arith) refl works)
+    start all_rest c.args.desk.now (g.P.Port.slots c.args.port.now) (kept_at c.args.conns.now) (g.P.Port.terms c.args.port.now).capacity
+    (g.P.Port.terms c.wait.new.self).capacity (g.P.Port.accepted c.args.port.now) (g.P.Port.accepted c.wait.new.self) lost lost
+    (ap capacity_of c.in-Done.ensures.terms) (c.in-Done.ensures.accepted ∙ omega arith) refl works)
     free same

@@ -1,7 +1,7 @@
-use Rattle.std.proofs.Common.{◌∙◌, refl, sym, arith}
+use Rattle.std.proofs.Common.{◌∙◌, refl, sym, ap, arith}
 use Rattle.http_ports.specs.Loops.{all_rest, kept_at}
 use Rattle.http_ports.specs.Speech.{speech_at}
-use Rattle.http_ports.proofs.WorkLemmas.{Works-counted, Works-ended, Works-resting}
+use Rattle.http_ports.proofs.WorkLemmas.{capacity_of, Works-counted, Works-ended, Works-resting}
 use Rattle.http_ports.proofs.looping.serve_slot.Goals as goal
 
 pub returns-in-Ok-clause-works : goal.returns-in-Ok-clause-works
@@ -9,8 +9,8 @@ returns-in-Ok-clause-works g c = λ start lost works.
     Works-counted (speech_at g.E.Protocol.pending g.E.Protocol.phase g.E.Protocol.is_lost (g.E.Protocol.so_far c.args.protocol.now)
     (g.D.Desk.path c.args.desk.now) (g.D.Desk.content_type c.args.desk.now)) g.D.Desk.steps
     start all_rest c.serve_out.new.desk (g.P.Port.slots c.serve_out.new.port) (kept_at c.swap-in-Ok.new.items)
-    (g.P.Port.capacity c.args.port.now) (g.P.Port.capacity c.serve_out.new.port) (g.P.Port.accepted c.args.port.now)
-    (g.P.Port.accepted c.serve_out.new.port) lost _ c.serve_out.ensures.capacity c.serve_out.ensures.accepted (omega arith)
+    (g.P.Port.terms c.args.port.now).capacity (g.P.Port.terms c.serve_out.new.port).capacity (g.P.Port.accepted c.args.port.now)
+    (g.P.Port.accepted c.serve_out.new.port) lost _ (ap capacity_of c.serve_out.ensures.terms) c.serve_out.ensures.accepted (omega arith)
     (Works-resting (speech_at g.E.Protocol.pending g.E.Protocol.phase g.E.Protocol.is_lost (g.E.Protocol.so_far c.args.protocol.now)
     (g.D.Desk.path c.args.desk.now) (g.D.Desk.content_type c.args.desk.now)) g.D.Desk.steps
     start c.args.slot c.args.desk.now c.serve_out.new.desk (g.P.Port.slots c.args.port.now) (g.P.Port.slots c.serve_out.new.port)
@@ -23,11 +23,11 @@ returns-in-Err-clause-works g c = λ start lost works.
     Works-counted (speech_at g.E.Protocol.pending g.E.Protocol.phase g.E.Protocol.is_lost (g.E.Protocol.so_far c.args.protocol.now)
     (g.D.Desk.path c.args.desk.now) (g.D.Desk.content_type c.args.desk.now)) g.D.Desk.steps
     start all_rest c.serve_out.new.desk (g.P.Port.slots c.serve_out.new.port) (kept_at c.swap.new.items)
-    (g.P.Port.capacity c.args.port.now) (g.P.Port.capacity c.serve_out.new.port) (g.P.Port.accepted c.args.port.now)
-    (g.P.Port.accepted c.serve_out.new.port) _ _ c.serve_out.ensures.capacity c.serve_out.ensures.accepted refl
+    (g.P.Port.terms c.args.port.now).capacity (g.P.Port.terms c.serve_out.new.port).capacity (g.P.Port.accepted c.args.port.now)
+    (g.P.Port.accepted c.serve_out.new.port) _ _ (ap capacity_of c.serve_out.ensures.terms) c.serve_out.ensures.accepted refl
     (Works-ended (speech_at g.E.Protocol.pending g.E.Protocol.phase g.E.Protocol.is_lost (g.E.Protocol.so_far c.args.protocol.now)
     (g.D.Desk.path c.args.desk.now) (g.D.Desk.content_type c.args.desk.now)) g.D.Desk.steps
     start c.args.slot c.args.desk.now c.serve_out.new.desk (g.P.Port.slots c.args.port.now) (g.P.Port.slots c.serve_out.new.port)
-    (kept_at c.args.conns.now) (kept_at c.swap.new.items) c.in-Some.conn c.in-Err.lost (g.P.Port.capacity c.args.port.now) (g.P.Port.accepted c.args.port.now) lost works
+    (kept_at c.args.conns.now) (kept_at c.swap.new.items) c.in-Some.conn c.in-Err.lost (g.P.Port.terms c.args.port.now).capacity (g.P.Port.accepted c.args.port.now) lost works
     (omega (arith, c.requires.within, c.requires.many)) (sym c.swap.ensures.took ∙ c.in-Some.is) c.in-Err.ensures.serves
     c.in-Err.ensures.elsewhere c.swap.ensures.put c.swap.ensures.elsewhere)

@@ -15,6 +15,6 @@ invariant-loop g l =
     × IsOpen (g.P.Port.slots l.port l.slot)
     × Elsewhere l.slot (g.P.Port.slots l.initial.port) (g.P.Port.slots l.port)
     × (g.P.Port.accepted l.port ≡ g.P.Port.accepted l.initial.port)
-    × (g.P.Port.capacity l.port ≡ g.P.Port.capacity l.initial.port)
+    × (g.P.Port.terms l.port ≡ g.P.Port.terms l.initial.port)
     × (g.D.Desk.path l.desk ≡ g.D.Desk.path l.initial.desk)
     × (g.D.Desk.content_type l.desk ≡ g.D.Desk.content_type l.initial.desk)

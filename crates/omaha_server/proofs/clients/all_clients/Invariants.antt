@@ -1,13 +1,19 @@
--- There are the connections of each worker so far, and views for the others.
-use Rattle.std.proofs.Common.{◌≡◌, ◌+◌, All, length}
+-- There are the connections of each port so far, and views for the others.
+use Rattle.std.proofs.Common.{◌≡◌, ◌++◌, All, length, map}
+use Rattle.std.specs.Vec.Iter.{into_iter_items, into_iter_len}
 use Rattle.catalogue_laws.specs.Histories.{History}
 use Rattle.publisher.specs.Sights.{fresh}
-use Rattle.omaha_server.specs.Jobs.{AreClients}
+use Rattle.omaha_server.specs.Jobs.{IsClients}
+use Rattle.omaha_server.specs.Opening.{IsNew}
 use Rattle.omaha_server.proofs.clients.all_clients.Given as goal
 
-abbrev pub invariant-loop-worker : goal.invariant-loop-worker
-invariant-loop-worker g l =
-    (length l.jobs.items ≡ l.worker)
-    × (length l.views.items + l.worker ≡ l.setup.place.now.workers)
-    × ((history : History) → All (λ sight. sight ≡ fresh history) l.fn.views.items
-    → All (λ sight. sight ≡ fresh history) l.views.items × AreClients l.setup l.listener history l.worker l.jobs.items)
+abbrev pub invariant-loop-port : goal.invariant-loop-port
+invariant-loop-port g l = record {
+  rest : l.yielded ++ into_iter_items l.port-iterator ≡ into_iter_items l.initial.port-iterator;
+  count : into_iter_len l.port-iterator ≡ length (into_iter_items l.port-iterator);
+  left : length l.views.items ≡ length (into_iter_items l.port-iterator);
+  new : All (IsNew g.P.Port.terms g.P.Port.slots g.P.Port.accepted g.P.Port.is_over) (into_iter_items l.port-iterator);
+  ports : map (λ job. job.port) l.jobs.items ≡ l.yielded;
+  jobs : (history : History) → All (λ sight. sight ≡ fresh history) l.fn.views.items
+      → All (λ sight. sight ≡ fresh history) l.views.items × All (IsClients l.setup (fresh history)) l.jobs.items;
+}

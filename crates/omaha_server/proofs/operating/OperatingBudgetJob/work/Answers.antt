@@ -1,29 +1,41 @@
-use Rattle.std.proofs.Common.{◌≡◌, Option, Some, None, option_map, refl, subst, sym}
-use Rattle.std.specs.declared.net.tcp.TcpListener.{TcpListener}
-use Rattle.service_desks.specs.Operators.{State}
-use Rattle.omaha_server.specs.Edges.{Edges}
+use Rattle.std.proofs.Common.{◌≡◌, ◌∙◌, Option, Some, None, refl, subst, sym}
+use Rattle.http_ports.specs.declared.terms.Terms.{Terms}
+use Rattle.omaha_server.specs.OperatorPorts.{terms_left}
+use Rattle.omaha_server.specs.Passages.{passage_of}
 use Rattle.omaha_server.specs.Serving.{IsOperated}
-use Rattle.omaha_server.specs.declared.place.Place.{Place}
+use Rattle.omaha_server.specs.declared.operating.OperatorPort.{OperatorPort}
+use Rattle.omaha_server.specs.declared.operating.OperatorPort.TheVariants as variant
 use Rattle.omaha_server.proofs.operating.OperatingBudgetJob.work.Goals as goal
 
-pub returns-in-Some-clause-comes : goal.returns-in-Some-clause-comes
-returns-in-Some-clause-comes g c =
-    let edges = g.R.System.edges c.args.self.now.setup.now.rt.now in
+-- no port is left to serve, if it isn't a new one
+none_left : {P : Type 0} (terms_of : P → Terms) (port : OperatorPort P) → ((new : P) → port ≡ variant.New new → ⊥) → terms_left terms_of port ≡ None
+none_left terms_of variant.Missing never = refl
+none_left terms_of (variant.New new) never = absurd (never new refl)
+none_left terms_of variant.Served never = refl
+
+pub returns-in_default : goal.returns-in_default
+returns-in_default g c =
+    let edges = g.S.System.edges c.args.self.now.setup.now.system.now in
+    let place = c.args.self.now.setup.now.place.now in
+    record {
+      raises = refl;
+      comes = (
+        c.args.self.now.press,
+        subst (λ (terms : Option Terms). IsOperated edges place terms
+            (record { mirrors = g.B.Budgets.present c.args.budgets.now; history = c.args.self.now.press })
+            (record { mirrors = g.B.Budgets.present c.args.budgets.now; history = c.args.self.now.press }) None)
+            (sym (none_left g.P.Port.terms c.args.self.now.port c.in_default.not-New)) refl,
+      );
+    }
+
+pub returns-clause-comes : goal.returns-clause-comes
+returns-clause-comes g c =
+    let edges = g.S.System.edges c.args.self.now.setup.now.system.now in
     let place = c.args.self.now.setup.now.place.now in (
       c.operate.new.press,
-      subst (λ listener. IsOperated edges place (option_map (λ l. l.now) listener)
+      subst (λ (port : OperatorPort g.row.P.Denot). IsOperated edges place (terms_left g.P.Port.terms port)
           (record { mirrors = g.B.Budgets.present c.args.budgets.now; history = c.args.self.now.press })
-          (record { mirrors = g.B.Budgets.present c.operate.new.budgets; history = c.operate.new.press })) (sym c.in-Some.is)
-          c.operate.ensures.operated,
+          (record { mirrors = g.B.Budgets.present c.operate.new.budgets; history = c.operate.new.press })
+          (Some (passage_of g.P.Port.terms g.P.Port.slots g.P.Port.accepted c.operate.result)))
+          (sym c.in-New-replace.is ∙ c.replace.ensures.value) c.operate.ensures.operated,
     )
-
-pub returns-in_default-clause-comes : goal.returns-in_default-clause-comes
-returns-in_default-clause-comes g c =
-    let edges = g.R.System.edges c.args.self.now.setup.now.rt.now in
-    let place = c.args.self.now.setup.now.place.now in
-    (c.args.self.now.press, unchanged edges place (λ l. l.now) c.args.self.now.listener _ c.in_default.not-Some)
-  where
-    unchanged : {A : Type 0} (edges : Edges) (place : Place) (of : A → TcpListener) (listener : Option A) (state : State) →
-        ((there : A) → listener ≡ Some there → ⊥) → IsOperated edges place (option_map of listener) state state
-    unchanged edges place of None state never = refl
-    unchanged edges place of (Some there) state never = absurd (never there refl)

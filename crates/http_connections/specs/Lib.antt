@@ -1,2 +1,0 @@
-pub mod Connections
-pub mod Opening

@@ -1,0 +1,49 @@
+// A port before it is served.
+
+ghost use Rattle.std.specs.Prelude.{◌≡◌, IfOk};
+ghost use Rattle.omaha_server.specs.Opening.{IsNew};
+
+use access_logs::Seen;
+use http_ports::Port;
+use http_talks::Stand;
+use std::alloc::{AllocError, Global};
+use std::marker::Model;
+
+/// A new port, and room for its connections; contracts see the port.
+#[derive(Drop)]
+pub(crate) struct NewPort<P: Port> {
+    port: P,
+    stand: Stand<Option<Seen>>,
+}
+
+impl<P: Port> Model for NewPort<P> {
+    ghost use Rattle.std.specs.Prelude.{◌≡◌};
+    ghost use Rattle.omaha_server.specs.Opening.{IsNew};
+
+    ghost Value = { P };
+
+    ghost view = { λ new. new.port };
+
+    ghost invariant = { λ new. IsNew P.terms P.slots P.accepted P.is_over new.port × (new.stand ≡ (P.terms new.port).capacity) };
+}
+
+impl<P: Port + Drop> NewPort<P> {
+    /// Makes room for the connections of a new port.
+    pub(crate) fn of(alloc: Global, port: P) -> Result<NewPort<P>, AllocError>
+        requires { IsNew P.terms P.slots P.accepted P.is_over port }
+        ensures { IfOk result (λ made. made ≡ port) }
+    {
+        let stand = Stand::new(alloc, port.capacity())?;
+        Ok(NewPort { port, stand })
+    }
+
+    /// Gives the port, and the room.
+    pub(crate) fn into_parts(self) -> (P, Stand<Option<Seen>>)
+        ensures port { result.0 ≡ self }
+        ensures new { IsNew P.terms P.slots P.accepted P.is_over result.0 }
+        ensures room { result.1 ≡ (P.terms self).capacity }
+    {
+        let NewPort { port, stand } = self;
+        (port, stand)
+    }
+}
