@@ -1,5 +1,5 @@
 -- The reply to a message, by the parts that were written.
-use Rattle.std.proofs.Common.{◌≡◌, ◌≢◌, ℕ, Bool, true, false, not, eqb, List, [], ◌∷◌, ◌++◌, append-nil, length, Option, None, Some, Result, Ok, Err, inl, inr, refl, sym, subst, ap, ◌∙◌, cond, arith}
+use Rattle.std.proofs.Common.{◌≡◌, ◌≢◌, ◌<◌, ℕ, Bool, true, false, not, eqb, List, [], ◌∷◌, ◌++◌, append-nil, length, Option, None, Some, Result, Ok, Err, inl, inr, refl, sym, subst, ap, ◌∙◌, cond, arith}
 use Rattle.std.proofs.lemmas.Bool.{eqb-true, eq-eqb}
 use Rattle.std.specs.Prelude.{codes}
 use Rattle.std.specs.Option.{option_eq}
@@ -192,14 +192,14 @@ module _
       calls = calls;
       writes = writes;
     }
-    fetch_begins sizes reads method name declared old new (Ok (begun.Sends path told)) get calls (same, known, sized, head) =
-        subst (λ (n : List ℕ). IsRouted sizes reads method name (Fetched n told (Broken []))
+    fetch_begins sizes reads method name declared old new (Ok (begun.Sends path told)) get calls (same, known, some, sized, head) =
+        subst (λ (n : List ℕ). IsRouted sizes reads method name (Fetched n told (Broken [])) × (0 < told.size)
         × Leads steps before (calls_of body (Fetched n told (Broken []))) after
         × Appends old new (reply_to kind closes (Fetched n told (Broken [])))) (sym same)
-        (subst (λ (d : Declared). IsRouted sizes reads method name (Fetched name d (Broken []))
+        (subst (λ (d : Declared). IsRouted sizes reads method name (Fetched name d (Broken [])) × (0 < d.size)
         × Leads steps before (calls_of body (Fetched name d (Broken []))) after
         × Appends old new (reply_to kind closes (Fetched name d (Broken [])))) (sym known)
-        ((refl, get, (sized, omega arith, tt)), calls, head))
+        ((refl, get, (sized, omega arith, tt)), some, calls, head))
     fetch_begins sizes reads method name declared old new (Err failed) get calls (fetch, fits, writes) = record {
       used = Fetched name declared fetch;
       fits = (refl, get, fits);
@@ -216,8 +216,8 @@ module _
     Begins-wider IsFit IsWide old new (Ok (begun.Done handled)) wider begins =
         Answers-wider (λ used. IsFit used × IsAtOnce used) (λ used. IsWide used × IsAtOnce used) steps kind body closes
         before after old new (Ok handled) (λ used fits. (wider used fits.0, fits.1)) begins
-    Begins-wider IsFit IsWide old new (Ok (begun.Sends name declared)) wider (fits, calls, head) =
-        (wider (Fetched name.now declared (Broken [])) fits, calls, head)
+    Begins-wider IsFit IsWide old new (Ok (begun.Sends name declared)) wider (fits, some, calls, head) =
+        (wider (Fetched name.now declared (Broken [])) fits, some, calls, head)
     Begins-wider IsFit IsWide old new (Err failed) wider begins =
         Answers-wider IsFit IsWide steps kind body closes before after old new (Err failed) wider begins
 

@@ -2,6 +2,8 @@ ghost use Rattle.std.specs.Prelude.{◌≡◌, ◌⊎◌, ◌++◌, ◌<◌, ◌
 ghost use Rattle.http_desks.specs.Calls.{Call, Leads};
 ghost use Rattle.http_desks.specs.Uses.{IsUse};
 ghost use Rattle.http_ports.specs.Speech.{IsNext, Waiting};
+ghost use Rattle.http_sessions.specs.Readings.{IsForeseen};
+ghost use Rattle.http_sessions.specs.declared.foreseeing.Foreseen.TheVariants as foreseen;
 ghost use Rattle.http_talks.specs.Turns.{GoesOn, IsApplied};
 ghost use Rattle.http_talks.specs.Talks.{IsSending, Said, is_lost, pending, phase_of};
 ghost use Rattle.http_talks.specs.declared.talk.Stage.TheVariants as stage;
@@ -90,7 +92,7 @@ fn apply(alloc: Global, talk: &mut Talk, after: After)
 }
 
 // rule: Session over a port
-// Turns the session once over what is kept.
+// Turns the session once over what is kept, which no message begins with.
 fn turn<D: Desk, Z: Packages + Clock>(
     alloc: Global,
     site: &Z,
@@ -100,6 +102,7 @@ fn turn<D: Desk, Z: Packages + Clock>(
 )
     requires busy { talk.old.stage ≡ stage.Busy }
     requires sent { pending talk.old ≡ [] }
+    requires rejected { IsForeseen talk.old.kept.items foreseen.Turn }
     ensures goes_on { GoesOn (IsUse (D.path desk.old) (Z.tells site.now) (Z.sizes site.now) (Z.reads site.now))
         D.steps (D.content_type desk.old) talk.old desk.old talk.new desk.new }
     ensures path { D.path desk.new ≡ D.path desk.old }

@@ -1,7 +1,10 @@
-use crate::client::{connect, is_sent, serve_some};
-use crate::server::listen;
+// Connections over the loopback, which are served over a port.
+
+use crate::client::{connect, is_sent};
+use crate::port_server::{listen_for_ports, serve_some};
 use std::alloc::Global;
 use std::net::{TcpListener, TcpStream};
+use std::sync::Arc;
 use std::test::Fail;
 
 // A row is what a client sends, and what it gets.
@@ -17,18 +20,18 @@ POST /ask HTTP/1.1~Content-Le+|
 |";
 
 // Whether the client of a row gets what the row says.
-fn is_replied(rt: &HostRuntime, listener: &TcpListener, row: &str) -> Option<bool> {
+fn is_replied(rt: &HostRuntime, listener: &Arc<TcpListener, Global>, row: &str) -> Option<bool> {
     let (message, wanted) = row.split_once('|')?;
     let mut stream = connect(rt, listener, message).ok()?;
-    let _ = serve_some(rt, listener, 1);
+    serve_some(rt, listener, 1)?;
     is_sent(rt.alloc(), &mut stream, wanted)
 }
 
 #[test]
 fn replies_over_the_loopback(rt: HostRuntime) -> Result<(), Fail> {
-    let (listener, _) = listen(&rt).ok_or("no listener")?;
+    let listener = listen_for_ports(&rt).ok_or("no listener")?;
     for row in ROWS.lines() {
-        assert!(rt; is_replied(&rt, listener, row) == Some(true), "{row}");
+        assert!(rt; is_replied(&rt, &listener, row) == Some(true), "{row}");
     }
     Ok(())
 }
@@ -68,35 +71,13 @@ fn count_replied(alloc: Global, streams: &mut [TcpStream], rows: &str) -> Option
 }
 
 // rule: Calls of a desk
-// rule: Connections of a listener
 #[test]
 fn serves_one_connection_after_the_other(rt: HostRuntime) -> Result<(), Fail> {
-    let (listener, _) = listen(&rt).ok_or("no listener")?;
+    let listener = listen_for_ports(&rt).ok_or("no listener")?;
     let mut streams = Vec::new(rt.alloc());
-    assert!(rt; connect_all(&rt, listener, &mut streams, CLIENTS).is_some());
-    assert!(rt; serve_some(&rt, listener, 3) == 2);
-    assert!(rt; serve_some(&rt, listener, 1) == 1);
+    assert!(rt; connect_all(&rt, &listener, &mut streams, CLIENTS).is_some());
+    assert!(rt; serve_some(&rt, &listener, 3) == Some(2));
+    assert!(rt; serve_some(&rt, &listener, 1) == Some(1));
     assert!(rt; count_replied(rt.alloc(), &mut streams, CLIENTS) == Some(4));
-    Ok(())
-}
-
-// How often a server of two connections is asked that accepts one.
-fn ask_once(rt: &HostRuntime, listener: &TcpListener) -> Option<u8> {
-    let message = "POST /ask HTTP/1.1~Content-Length: 0~~";
-    let wanted = "HTTP/1.1 200 OK~Content-Type: text/plain~Content-Length: 1~~a";
-    let mut stream = connect(rt, listener, message).ok()?;
-    let asked = serve_some(rt, listener, 2);
-    match is_sent(rt.alloc(), &mut stream, wanted) {
-        Some(true) => Some(asked),
-        _ => None,
-    }
-}
-
-#[test]
-fn a_connection_that_is_not_accepted_counts(rt: HostRuntime) -> Result<(), Fail> {
-    let (listener, _) = listen(&rt).ok_or("no listener")?;
-    listener.set_nonblocking(true)?;
-    assert!(rt; serve_some(&rt, listener, 2) == 0);
-    assert!(rt; ask_once(&rt, listener) == Some(1));
     Ok(())
 }

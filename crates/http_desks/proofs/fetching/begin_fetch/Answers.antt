@@ -18,6 +18,7 @@ pub returns-then-declared-gt0-clause-fetches : goal.returns-then-declared-gt0-cl
 returns-then-declared-gt0-clause-fetches g c = (
   refl,
   refl,
+  c.if-declared-gt0.true,
   sized_as (g.P.Packages.sizes c.args.packages.now c.args.name.now) c.size-size.result c.args.declared.now.size
       c.size-size.ensures (sym c.if-ne.false ∙ c.ne.ensures),
   rw head_bytes-lines at c.in-Ok.ensures.sends,

@@ -21,7 +21,7 @@ returns-in-Ok-Done-clause-leaves g c =
 
 pub returns-in-Ok-clause-leaves : goal.returns-in-Ok-clause-leaves
 returns-in-Ok-clause-leaves g c =
-    let (fits, calls, head) = rw (c.in-Ok-Sends.field-0-is, c.new.ensures.items) at c.in-Ok-Sends.ensures.begins in
+    let (fits, some, calls, head) = rw (c.in-Ok-Sends.field-0-is, c.new.ensures.items) at c.in-Ok-Sends.ensures.begins in
     started_leaves (IsUse (g.D.Desk.path c.args.desk.now) (g.Z.Clock.tells c.args.site.now) (g.Z.Packages.sizes c.args.site.now) (g.Z.Packages.reads c.args.site.now))
     g.D.Desk.steps (g.D.Desk.content_type c.args.desk.now) c.args.begun c.args.kept.now c.args.found.now c.requires.found c.requires.few
     c.args.desk.now c.begin.new.desk c.in-Ok-Sends.name.now c.in-Ok-Sends.declared c.closes_after-closes.result c.in-Ok.sending _ c.started_after.result
@@ -30,7 +30,7 @@ returns-in-Ok-clause-leaves g c =
 
 pub returns-in-Ok-Sends-clause-leaves : goal.returns-in-Ok-Sends-clause-leaves
 returns-in-Ok-Sends-clause-leaves g c =
-    let (fits, calls, head) = rw (c.in-Ok-Sends.field-0-is, c.new.ensures.items) at c.in-Ok-Sends.ensures.begins in
+    let (fits, some, calls, head) = rw (c.in-Ok-Sends.field-0-is, c.new.ensures.items) at c.in-Ok-Sends.ensures.begins in
     unstarted_leaves (IsUse (g.D.Desk.path c.args.desk.now) (g.Z.Clock.tells c.args.site.now) (g.Z.Packages.sizes c.args.site.now) (g.Z.Packages.reads c.args.site.now))
     g.D.Desk.steps (g.D.Desk.content_type c.args.desk.now) c.args.begun c.args.kept.now c.args.found.now c.requires.found c.requires.few
     c.args.desk.now c.begin.new.desk c.in-Ok-Sends.name.now c.in-Ok-Sends.declared c.closes_after-closes.result _
