@@ -94,38 +94,30 @@ first_bytes bytes front is = ap (λ (n : ℕ). take n bytes) is ∙ take_min 163
 -- no head begins so
 pub never_begun :
     (bytes : List ℕ) (front : ℕ) → front ≡ min 16384 (length bytes) → NeverHasRequest (take front bytes) →
-    (why : Status) × IsRejected why bytes
-never_begun bytes front is never =
-    (status.BadRequest, inl (refl, subst NeverHasRequest (first_bytes bytes front is) never))
+    IsRejected status.BadRequest bytes
+never_begun bytes front is never = inl (refl, subst NeverHasRequest (first_bytes bytes front is) never)
 
 -- as many bytes as a head may have, and no whole one
 pub too_long :
     (bytes : List ℕ) (front : ℕ) → front ≡ min 16384 (length bytes) → 16384 ≤ length bytes →
-    HasNoRequest (take front bytes) → MayBecomeRequest (take front bytes) →
-    (why : Status) × IsRejected why bytes
+    HasNoRequest (take front bytes) → MayBecomeRequest (take front bytes) → IsRejected status.FieldsTooLarge bytes
 too_long bytes front is long none may =
-    let same = first_bytes bytes front is in (
-      status.FieldsTooLarge,
-      inr (inl (refl, record {
-        full = length-take-le 16384 bytes long;
-        none = subst HasNoRequest same none;
-        unfinished = subst MayBecomeRequest same may;
-      })),
-    )
+    let same = first_bytes bytes front is in
+    inr (inl (refl, record {
+      full = length-take-le 16384 bytes long;
+      none = subst HasNoRequest same none;
+      unfinished = subst MayBecomeRequest same may;
+    }))
 
 -- a whole head among the first bytes, which rejects its message
 pub head_rejects :
     (bytes : List ℕ) (front : ℕ) (places : List HeaderSpan) (spans : RequestSpans) (head : RequestHead) (why : Status) →
-    IsRequestAt (take front bytes) places spans head →
-    length (print_request head) ≤ 16384 →
-    IsPlanOf head (Err why) →
-    (why : Status) × IsRejected why bytes
-head_rejects bytes front places spans head why at short rejects = (
-  why,
-  inr (inr (
-    head,
-    drop spans.len (take front bytes) ++ drop front bytes,
-    ((at.reads.0, head_first bytes front places spans head at), short),
-    rejects,
-  )),
-)
+    IsRequestAt (take front bytes) places spans head → length (print_request head) ≤ 16384 → IsPlanOf head (Err why) →
+    IsRejected why bytes
+head_rejects bytes front places spans head why at short rejects =
+    inr (inr (
+      head,
+      drop spans.len (take front bytes) ++ drop front bytes,
+      ((at.reads.0, head_first bytes front places spans head at), short),
+      rejects,
+    ))

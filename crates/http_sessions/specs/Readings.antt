@@ -59,12 +59,12 @@ pub record IsFound (bytes : List ℕ) (found : Found) : Type 0 where
 
 -- rule: Part of a message
 -- what the bytes are before a message is read: less than a message, and still less with more bytes up to a length; or
--- a whole message and others; or they can't begin a message
+-- a whole message and others; or they can't begin a message, and get a reply of this status
 abbrev pub IsForeseen : List ℕ → Foreseen → Type 0
 IsForeseen bytes (foreseen.Part need) =
     IsPart bytes × ((more : List ℕ) → length (bytes ++ more) < need → IsPart (bytes ++ more))
 IsForeseen bytes (foreseen.Whole found) = IsFound bytes found
-IsForeseen bytes foreseen.Turn = (why : Status) × IsRejected why bytes
+IsForeseen bytes (foreseen.Rejected why) = IsRejected why bytes
 
 -- what the bytes are, of which some wait; the target and the body are at the front of these cells
 abbrev pub Finds : Option (List ℕ) → List ℕ → List ℕ → List ℕ → List ℕ → Result Message Failed → Type 0

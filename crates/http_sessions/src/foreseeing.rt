@@ -6,9 +6,10 @@ ghost use Rattle.http_sessions.specs.Readings.{IsForeseen};
 use crate::buffers::Buffers;
 use crate::message::examine;
 use http_desks::Request;
+use http_heads::Status;
 use http_wire::MAX_HEAD;
 use httparse::spans::{HeaderSpan, parse_request};
-use httparse::{Error, Status};
+use httparse::{Error, Status as Parsed};
 
 /// A whole message at the front of a connection's bytes.
 #[derive(Clone, Copy, Drop)]
@@ -26,8 +27,8 @@ pub enum Foreseen<'b> {
     Part(usize),
     /// A whole message is at their front.
     Whole(Found<'b>),
-    /// Bytes that no message begins with, which a turn of a session rejects.
-    Turn,
+    /// Bytes that no message begins with, which get a reply of this status.
+    Rejected(Status),
 }
 
 // rule: Part of a message
@@ -38,11 +39,11 @@ fn foresee_in<'b>(bytes: &'b [u8], fields: &mut [HeaderSpan]) -> Foreseen<'b>
 {
     let front = &bytes[..bytes.len().min(MAX_HEAD)];
     let spans = match parse_request(front, fields) {
-        Ok(Status::Complete(spans)) => spans,
-        Ok(Status::Partial) if bytes.len() < MAX_HEAD => return Foreseen::Part(0),
-        Ok(Status::Partial) => return Foreseen::Turn,
+        Ok(Parsed::Complete(spans)) => spans,
+        Ok(Parsed::Partial) if bytes.len() < MAX_HEAD => return Foreseen::Part(0),
+        Ok(Parsed::Partial) => return Foreseen::Rejected(Status::FieldsTooLarge),
         Err(Error::TooManyHeaders) => unreachable!(),
-        Err(_) => return Foreseen::Turn,
+        Err(_) => return Foreseen::Rejected(Status::BadRequest),
     };
     match examine(front, fields, &spans) {
         Ok(plan) if bytes.len() - spans.len < plan.size => Foreseen::Part(spans.len + plan.size),
@@ -55,7 +56,7 @@ fn foresee_in<'b>(bytes: &'b [u8], fields: &mut [HeaderSpan]) -> Foreseen<'b>
             },
             length: spans.len + plan.size,
         }),
-        Err(_) => Foreseen::Turn,
+        Err(status) => Foreseen::Rejected(status),
     }
 }
 
