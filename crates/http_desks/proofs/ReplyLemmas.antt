@@ -21,8 +21,8 @@ use Rattle.http_desks.specs.declared.method.Method.TheVariants.{Get}
 use Rattle.values.specs.declared.declared.Declared.{Declared}
 use Rattle.http_desks.specs.Begins.{Begins, BeginsFetch, IsAtOnce, Rests, SendsHead, done_of}
 use Rattle.http_desks.specs.Calls.{Call, Leads, Looks}
-use Rattle.http_desks.specs.Uses.{Mismatched, Read, Broken, Fetch, Fetched, IsFetch, IsRouted, IsUse, Use, calls_of}
-use Rattle.http_desks.specs.Replies.{Answers, Fetches, Writes, fetch_handled, fetch_reply, head_lines, reply_to}
+use Rattle.http_desks.specs.Uses.{Mismatched, Read, Broken, Fetched, IsRouted, IsUse, Use, calls_of}
+use Rattle.http_desks.specs.Replies.{Answers, Fetches, head_lines, reply_to}
 
 -- the head of a reply is the lines of its parts
 pub head_bytes-lines :

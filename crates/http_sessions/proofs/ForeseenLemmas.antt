@@ -103,11 +103,14 @@ pub too_long :
     HasNoRequest (take front bytes) → MayBecomeRequest (take front bytes) → IsRejected status.FieldsTooLarge bytes
 too_long bytes front is long none may =
     let same = first_bytes bytes front is in
-    inr (inl (refl, record {
-      full = length-take-le 16384 bytes long;
-      none = subst HasNoRequest same none;
-      unfinished = subst MayBecomeRequest same may;
-    }))
+    inr (inl (
+      refl,
+      record {
+        full = length-take-le 16384 bytes long;
+        none = subst HasNoRequest same none;
+        unfinished = subst MayBecomeRequest same may;
+      },
+    ))
 
 -- a whole head among the first bytes, which rejects its message
 pub head_rejects :

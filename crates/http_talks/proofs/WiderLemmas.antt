@@ -1,8 +1,8 @@
 -- A part of a session in which no block is sent is one of any uses that fit.
-use Rattle.std.proofs.Common.{◌≡◌, ◌++◌, ◌<◌, ℕ, Bool, true, false, List, [], ◌∷◌, append-nil, length, Option, None, Some, inl, inr, refl, sym, subst, ap, ◌∙◌, ◌⊎◌, arith}
+use Rattle.std.proofs.Common.{◌≡◌, ◌<◌, ℕ, Bool, true, false, List, [], ◌∷◌, append-nil, inl, inr, refl, sym, subst, ap, ◌∙◌, ◌⊎◌, arith}
 use Rattle.std.specs.List.{AllByRecursion}
 use Rattle.http_desks.specs.declared.method.Method.{Method}
-use Rattle.http_desks.specs.Calls.{Call, Leads}
+use Rattle.http_desks.specs.Calls.{Call}
 use Rattle.http_desks.specs.Uses.{Use}
 use Rattle.http_sessions.specs.Messages.{Exchange, IsExchange, IsOpen}
 use Rattle.http_sessions.specs.Readings.{IsPart}
@@ -11,7 +11,6 @@ use Rattle.http_talks.specs.Leaves.{AtOnce, EndsAnyhow, IsApplied, Leaves, Makes
 use Rattle.http_talks.specs.Talks.{is_lost, pending}
 use Rattle.http_talks.specs.declared.outcome.After.{After}
 use Rattle.http_talks.specs.declared.outcome.After.TheVariants as after
-use Rattle.http_talks.specs.declared.talk.Stage.{Stage}
 use Rattle.http_talks.specs.declared.talk.Stage.TheVariants as stage
 use Rattle.http_talks.specs.declared.talk.Talk.{Talk}
 
@@ -125,17 +124,20 @@ module _ (IsFit : Method → List ℕ → Use → Type 0) where
       {D : Type 0} (steps : D → Call → D → Type 0) (kind : List ℕ) (start : ℕ) (few : start < 1000) (kept made : List ℕ) (desk : D) →
       IsPart kept → made ≡ [] →
       (left : List ℕ) × Makes (AtOnce IsFit) steps kind start EndsAnyhow true kept left made desk desk
-  part_at_once steps kind start few kept made desk part none = ([], record {
-    given = kept;
-    exchanges = [];
-    stop = Waits;
-    rest = kept;
-    consumed = sym (append-nil kept);
-    cut = refl;
-    each = tt;
-    few = omega (arith, few);
-    stops = part;
-    written = none;
-    calls = refl;
-    ends = tt;
-  })
+  part_at_once steps kind start few kept made desk part none = (
+    [],
+    record {
+      given = kept;
+      exchanges = [];
+      stop = Waits;
+      rest = kept;
+      consumed = sym (append-nil kept);
+      cut = refl;
+      each = tt;
+      few = omega (arith, few);
+      stops = part;
+      written = none;
+      calls = refl;
+      ends = tt;
+    },
+  )

@@ -1,11 +1,10 @@
 -- What is written after a part of a line, in parts.
-use Rattle.std.proofs.Common.{◌≡◌, ◌∙◌, ◌<◌, ◌++◌, ℕ, suc, Bool, List, [], ◌∷◌, append_assoc, length, take, Option, None, Some, sym, subst, ap, arith}
-use Rattle.std.proofs.lemmas.List.{take-append-le}
+use Rattle.std.proofs.Common.{◌≡◌, ◌∙◌, ◌++◌, ℕ, suc, Bool, true, List, append_assoc, take, Option, None, Some, OnErr, Result, Ok, Err, sym, subst, ap, arith}
 use Rattle.std.specs.Prelude.{codes}
 use Rattle.std.specs.Io.KnownBytes.{Appends}
 use Rattle.streams.specs.Streams.{Known}
 use Rattle.streams.specs.Writing.{Breaks}
-use Rattle.log_queues.specs.Queues.{IsAppended, IsPut, end_of}
+use Rattle.log_queues.specs.Queues.{end_of}
 
 -- bytes that were written after others
 pub Appends-after :
@@ -16,18 +15,6 @@ Appends-after (Some xs) None new first second one two = absurd one
 Appends-after (Some xs) (Some ys) None first second one two = absurd two
 Appends-after (Some xs) (Some ys) (Some zs) first second one two =
     two ∙ ap (λ (front : List ℕ). front ++ second) one ∙ append_assoc xs first second
-
--- the writer failed before the line feed
-pub Breaks-first :
-    (old new : Known) (lines : List ℕ) → Breaks old new (codes "\n") → Breaks old new (codes "\n" ++ lines)
-Breaks-first old new lines ((count, few, part), failed) = (
-  (
-    count,
-    omega (arith, few),
-    subst (Appends old.bytes new.bytes) (sym (take-append-le count (codes "\n") lines (omega (arith, few)))) part,
-  ),
-  failed,
-)
 
 -- the writer failed after the line feed
 pub Breaks-after :
@@ -42,9 +29,11 @@ Breaks-after old between new lines head ((count, few, part), failed) = (
   failed,
 )
 
--- bytes that aren't none
-pub appended_some :
-    (bytes : List ℕ) (old new : Known) (was_cut is_cut : Bool) → 0 < length bytes →
-    IsPut (end_of was_cut ++ bytes) old new is_cut → IsAppended bytes old new was_cut is_cut
-appended_some [] old new was_cut is_cut some put = absurd (omega (arith, some))
-appended_some (byte ∷ bytes) old new was_cut is_cut some put = put
+-- what is written after the line feed
+pub OnErr-after :
+    {A E : Type 0} (result : Result A E) (was_cut : Bool) (old between new : Known) (lines : List ℕ) → was_cut ≡ true →
+    Appends old.bytes between.bytes (codes "\n") → OnErr result (Breaks between new lines) →
+    OnErr result (Breaks old new (end_of was_cut ++ lines))
+OnErr-after (Ok a) was_cut old between new lines is head breaks = tt
+OnErr-after (Err e) was_cut old between new lines is head breaks =
+    subst (λ (b : Bool). Breaks old new (end_of b ++ lines)) (sym is) (Breaks-after old between new lines head breaks)

@@ -1,4 +1,4 @@
-use Rattle.std.proofs.Common.{◌≡◌, ◌+◌, ◌-◌, ◌<◌, ◌≤◌, ◌++◌, ℕ, List, [], append-nil, drop, length, length-take, take, min, refl, subst, ap, arith, rules}
+use Rattle.std.proofs.Common.{◌≡◌, ◌+◌, ◌-◌, ◌<◌, ◌≤◌, ◌++◌, ℕ, List, [], append-nil, drop, length, length-take, take, refl, subst, ap, arith, rules}
 use Rattle.httparse.specs.Grammar.{print_request}
 use Rattle.http_wire.proofs.HeadLemmas.{never_exceeds}
 use Rattle.http_sessions.specs.Readings.{IsPart}
