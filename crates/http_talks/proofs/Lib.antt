@@ -1,5 +1,7 @@
 mod PartLemmas
 mod TalkLemmas
-mod TurnLemmas
+mod LeavesLemmas
 mod FoundLemmas
+mod RejectLemmas
+mod WiderLemmas
 mod SendLemmas

@@ -1,4 +1,4 @@
+pub mod Leaves
 pub mod Ports
 pub mod Sends
 pub mod Talks
-pub mod Turns

@@ -11,7 +11,6 @@
 
 #![tactic(auto)]
 
-mod after;
 mod devices;
 mod outcome;
 mod replying;
@@ -19,7 +18,6 @@ mod sending;
 mod stand;
 mod talk;
 mod talks;
-mod turning;
 mod watched;
 
 pub use crate::stand::{Stand, serve_port};
