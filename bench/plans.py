@@ -177,8 +177,8 @@ PROOFS = (
 use Rattle.par_tables.specs.Caches.{AreOwnTables}
 use Rattle.plan_times.proofs.planned.Given as goal
 
-abbrev pub invariant-loop-_turn : goal.invariant-loop-_turn
-invariant-loop-_turn l = AreOwnTables (content_of l.edition) l.kept.tables
+abbrev pub invariant-loop-turn : goal.invariant-loop-turn
+invariant-loop-turn l = AreOwnTables (content_of l.edition) l.kept.tables
 """,
     ),
 )
