@@ -284,8 +284,11 @@ def crates_below(name, lines):
     return found
 
 
-def build(folder, name, below, line, source):
-    """The program of a name, of a line of `crates.txt` and a source, built over copies of the crates that some need."""
+def build(folder, name, below, line, source, proofs=()):
+    """The program of a name, of a line of `crates.txt` and a source, built over copies of the crates that some need.
+
+    The pairs of `proofs` are paths below its folder `proofs` and what is in those files.
+    """
     program = folder / f"crates/{name}/out/{name}"
     if not program.exists():
         text = (TOP / "crates.txt").read_text()
@@ -301,6 +304,9 @@ def build(folder, name, below, line, source):
         (folder / f"crates/{name}/specs").mkdir(parents=True, exist_ok=True)
         (folder / f"crates/{name}/specs/Lib.antt").write_text("")
         (folder / f"crates/{name}/src/main.rt").write_text(source)
+        for path, proof in proofs:
+            (folder / f"crates/{name}/proofs/{path}").parent.mkdir(parents=True, exist_ok=True)
+            (folder / f"crates/{name}/proofs/{path}").write_text(proof)
         subprocess.run(["rt", "run", "--jobs", "1"], cwd=folder / f"crates/{name}", input=b"", check=True)
     return program
 

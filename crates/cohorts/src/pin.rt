@@ -6,7 +6,7 @@ ghost use Rattle.cohorts.specs.Pins.{before, matches, pin_of};
 use version::Version;
 
 /// Which versions a client's app may be brought to, by the prefix that its administrator set.
-#[derive(Clone, Copy, Debug, PartialEq, Eq)]
+#[derive(Clone, Copy, Debug, PartialEq, Eq, Hash)]
 pub enum Pin {
     /// Any version.
     Any,

@@ -16,7 +16,7 @@ use omaha_json::AppAsk;
 use version::Version;
 
 /// Which of a cohort's two targets a client is meant to have.
-#[derive(Clone, Copy, Debug, PartialEq, Eq)]
+#[derive(Clone, Copy, Debug, PartialEq, Eq, Hash)]
 pub enum Lane {
     /// The target, for the buckets below the cohort's share.
     Target,

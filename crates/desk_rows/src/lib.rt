@@ -34,6 +34,8 @@ mod operator_tests;
 #[cfg(test)]
 mod out_of_memory_tests;
 #[cfg(test)]
+mod pinned_tests;
+#[cfg(test)]
 mod raising;
 #[cfg(test)]
 mod together;

@@ -1,10 +1,12 @@
 mod BuiltLemmas
+mod CacheLemmas
 mod CountLemmas
 mod FindLemmas
 mod JoinLemmas
 mod KeptLemmas
 mod KeyLemmas
 mod ListingLemmas
+mod MakingLemmas
 mod OneLemmas
 mod OwnLemmas
 mod PieceLemmas

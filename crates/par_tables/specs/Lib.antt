@@ -1,3 +1,4 @@
+pub mod Caches
 pub mod Marks
 pub mod Pieces
 pub mod Places

@@ -5,7 +5,8 @@ ghost use Rattle.par_tables.specs.Marks.{AreTablesFor};
 ghost use Rattle.par_tables.specs.Pieces.{bound_of, piece_of, HasTarget};
 ghost use Rattle.par_tables.specs.Tables.{Adds, AreTables};
 
-use crate::piece::{piece_tables, tables_of};
+use crate::cache::tables_of;
+use crate::piece::piece_tables;
 use crate::tracks::{tracks, tracks_for};
 use catalogue::Catalogue;
 use payload_graph::TrackKey;

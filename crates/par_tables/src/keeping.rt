@@ -54,8 +54,8 @@ fn source_of<'a>(
     }
 }
 
-// Adds a copy of the table of a track.
-fn push_copy(
+/// Adds a copy of the table of a track.
+pub(crate) fn push_copy(
     tables: &mut Vec<Certified>,
     catalogue: &Catalogue,
     key: &TrackKey,

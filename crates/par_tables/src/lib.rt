@@ -14,17 +14,19 @@
 #![tactic(auto)]
 
 mod building;
+mod cache;
 mod keeping;
 mod keys;
 pub mod laws;
 mod listing;
+mod making;
 mod piece;
 mod places;
 mod tracks;
 
 pub use crate::building::{build, build_for, tables_for};
+pub use crate::cache::{TableCache, tables_of};
 pub use crate::keeping::merged;
 pub use crate::listing::{TrackTables, tables};
-pub use crate::piece::tables_of;
 pub use crate::tracks::has_target;
 pub use worker_threads::{Free, Gate};

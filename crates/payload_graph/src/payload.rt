@@ -12,7 +12,7 @@ pub enum Payload {
 }
 
 /// Names the clients of an app that are offered the same payloads.
-#[derive(Clone, Copy, Debug, PartialEq, Eq)]
+#[derive(Clone, Copy, Debug, PartialEq, Eq, Hash)]
 pub struct TrackKey {
     /// The index of the app, in the order of addition.
     pub app: usize,

@@ -3,6 +3,7 @@
 ghost use Rattle.std.specs.Prelude.{◌≡◌, ◌≢◌, ◌+◌, [], All, Contains, false, true, IfOk, MatchOption, OnOk, length};
 ghost use Rattle.std.specs.List.{AllZip};
 ghost use Rattle.cohorts.specs.Offers.{is_any};
+ghost use Rattle.par_tables.specs.Caches.{AreOwnTables};
 ghost use Rattle.par_tables.specs.Places.{HasOtherKey};
 ghost use Rattle.replies.specs.Clients.{IsAssigned};
 ghost use Rattle.replies.specs.Pinned.{AddsKey, ArePinnedKeys, key_in, key_pinned};
@@ -13,7 +14,7 @@ use crate::client::Assignment;
 use catalogue::Catalogue;
 use cohorts::Pin;
 use omaha_json::{AppAsk, Request};
-use par_tables::{has_target, tables_of};
+use par_tables::{TableCache, has_target};
 use payload_graph::TrackKey;
 use price_cert::Certified;
 use std::alloc::{AllocError, Global};
@@ -116,18 +117,21 @@ fn pinned_keys(
 }
 
 // rule: Tables of a plan
-/// Makes the tables of the tracks of pinned clients that want an update, each of them once.
+/// Finds or makes the tables of the tracks of pinned clients that want an update, each of them once.
 pub(crate) fn pinned_tables(
     alloc: Global,
     catalogue: &Catalogue,
     request: &Request,
     clients: &[Option<Assignment>],
+    kept: &mut TableCache,
 ) -> Result<Vec<Certified>, AllocError>
-    requires { AllZip (IsAssigned catalogue.now request.now.session) request.now.apps clients.now }
-    ensures { IfOk result (λ tables. ArePinnedTables catalogue.now request.now.session request.now.apps tables.items) }
+    requires assigned { AllZip (IsAssigned catalogue.now request.now.session) request.now.apps clients.now }
+    requires kept { AreOwnTables catalogue.now kept.old.tables }
+    ensures tables { IfOk result (λ tables. ArePinnedTables catalogue.now request.now.session request.now.apps tables.items) }
+    ensures kept { AreOwnTables catalogue.now kept.new.tables }
 {
     let keys = pinned_keys(alloc, catalogue, request, clients)?;
-    let tables = tables_of(alloc, catalogue, keys.as_slice())?;
+    let tables = kept.tables_of(alloc, catalogue, keys.as_slice())?;
     Ok(tables)
 }
 

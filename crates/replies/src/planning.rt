@@ -7,6 +7,7 @@ ghost use Rattle.cohorts.specs.Offers.{is_any};
 ghost use Rattle.payload_graph.specs.Chains.{bytes_of};
 ghost use Rattle.payload_graph.specs.Places.{IsWithin};
 ghost use Rattle.payload_graph.specs.Net.{net_among};
+ghost use Rattle.par_tables.specs.Caches.{AreOwnTables};
 ghost use Rattle.price_cert.specs.Tables.{Certificate};
 ghost use Rattle.editions.specs.Editions.{content_of, IsTrackKey};
 ghost use Rattle.replies.specs.Clients.{IsAssigned, IsClient};
@@ -20,6 +21,7 @@ use crate::pinned::{find_pinned, is_any, pinned_tables};
 use catalogue::{App, Catalogue};
 use editions::Edition;
 use omaha_json::{AppAsk, Request};
+use par_tables::TableCache;
 use payload_graph::{Payload, Place, TrackKey, place_of};
 use price_cert::Certified;
 use quotes::{Quote, quote_from};
@@ -152,9 +154,27 @@ fn choose_each(
 pub fn plan(alloc: Global, edition: &Edition, request: &Request) -> Result<Plan, AllocError>
     ensures { IfOk result (λ plan. IsPlanOf (content_of edition.now) request.now plan) }
 {
+    let mut none = TableCache::new(0);
+    plan_with(alloc, edition, request, &mut none)
+}
+
+// rule: Cached tables
+/// Makes the plan that `plan` makes, with the tables of pinned clients' tracks that are kept of the same edition.
+///
+/// Of a track that has a table there none is made. A table that is made is kept, unless memory runs out for that.
+pub fn plan_with(
+    alloc: Global,
+    edition: &Edition,
+    request: &Request,
+    kept: &mut TableCache,
+) -> Result<Plan, AllocError>
+    requires { AreOwnTables (content_of edition.now) kept.old.tables }
+    ensures plan { IfOk result (λ plan. IsPlanOf (content_of edition.now) request.now plan) }
+    ensures kept { AreOwnTables (content_of edition.now) kept.new.tables }
+{
     let catalogue = edition.catalogue();
     let clients = assign_each(alloc, catalogue, request)?;
-    let tables = pinned_tables(alloc, catalogue, request, &clients)?;
+    let tables = pinned_tables(alloc, catalogue, request, &clients, kept)?;
     let choices = choose_each(alloc, edition, &tables, request, &clients)?;
     Ok(Plan {
         clients: Items::new(clients),

@@ -1,5 +1,6 @@
 mod AnswerLemmas
 mod AskLemmas
+mod KeptLemmas
 mod MirrorLemmas
 mod OrderLemmas
 mod PackageLemmas

@@ -1,6 +1,7 @@
 pub mod Answering
 pub mod Asking
 pub mod Entries
+pub mod Kept
 pub mod Lines
 pub mod Operators
 pub mod Raises

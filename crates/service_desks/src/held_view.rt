@@ -4,6 +4,7 @@ ghost use Rattle.std.specs.Prelude.{◌≡◌, MatchResult, Ok, Err};
 ghost use Rattle.service_desks.specs.Workers.{Finds, Replies};
 ghost use Rattle.service_desks.specs.Asking.{GrantsFirst};
 
+use crate::kept_tables::KeptTables;
 use crate::replying::{find_by, reply_by};
 use http_desks::{Declared, Off};
 use mirror_ledger::Till;
@@ -14,10 +15,13 @@ use std::marker::Model;
 use std::sync::Wait;
 
 /// A view that enters an edition for each call, which contracts see as the view.
+///
+/// With it are tables of pinned clients' tracks, of the edition that it has entered last for a request.
 #[derive(Drop)]
 pub struct HeldView {
     // Empty only within a method.
     view: Option<View>,
+    kept: KeptTables,
 }
 
 impl Model for HeldView {
@@ -27,24 +31,37 @@ impl Model for HeldView {
 
     ghost Value = { Sight };
 
+    ghost use Rattle.service_desks.specs.Kept.{AreKept};
+
     ghost view = { λ held. option_map_or (λ view. view) held.view (fresh []) };
 
-    ghost invariant = { λ held. IsSome held.view };
+    ghost invariant = { λ held.
+        IsSome held.view × AreKept (option_map_or (λ view. view) held.view (fresh [])) held.kept };
 }
 
 impl HeldView {
-    /// Holds a view.
+    /// Holds a view, and keeps no tables.
     pub fn new(view: View) -> HeldView
         ensures { result ≡ view }
     {
-        HeldView { view: Some(view) }
+        HeldView::with_tables(view, 0)
+    }
+
+    /// Holds a view, and keeps so many tables of pinned clients' tracks at most. It takes no memory.
+    pub fn with_tables(view: View, capacity: usize) -> HeldView
+        ensures { result ≡ view }
+    {
+        HeldView {
+            view: Some(view),
+            kept: KeptTables::new(capacity),
+        }
     }
 
     /// Gives the view.
     pub fn into_view(self) -> View
         ensures { result ≡ self }
     {
-        let HeldView { view } = self;
+        let HeldView { view, kept: _ } = self;
         match view {
             Some(view) => view,
             None => unreachable!(),
@@ -72,7 +89,7 @@ impl HeldView {
         let Some(view) = self.view.take() else {
             unreachable!()
         };
-        let (reply, view) = reply_by(rt, alloc, view, till, moment, request);
+        let (reply, view) = reply_by(rt, alloc, view, &mut self.kept, till, moment, request);
         self.view = Some(view);
         reply
     }

@@ -16,6 +16,7 @@ mod answering;
 mod asking;
 mod dumps;
 mod held_view;
+mod kept_tables;
 mod lines;
 mod operator;
 mod packages;

@@ -1,9 +1,11 @@
 // What a view does for one call: it enters an edition, and leaves it again.
 
 ghost use Rattle.std.specs.Prelude.{◌≡◌, MatchResult, Ok, Err};
+ghost use Rattle.service_desks.specs.Kept.{AreKept};
 ghost use Rattle.service_desks.specs.Workers.{Finds, Replies};
 ghost use Rattle.service_desks.specs.Asking.{GrantsFirst};
 
+use crate::kept_tables::KeptTables;
 use crate::packages::find_package;
 use crate::update_checks::reply_to;
 use http_desks::{Declared, Off};
@@ -20,10 +22,12 @@ pub(crate) fn reply_by<T: Till, R: Wait>(
     rt: &R,
     alloc: Global,
     view: View,
+    kept: &mut KeptTables,
     till: &mut T,
     moment: u64,
     request: &Request,
 ) -> (Result<Vec<u8>, Off>, View)
+    requires { AreKept view kept.old }
     ensures replies { MatchResult result.0
         (λ text. Replies (T.mirrors till.old) (record { sight = view; asks = T.asks till.old }) request.now moment
         (Ok text.items) (record { sight = result.1; asks = T.asks till.new }))
@@ -32,6 +36,7 @@ pub(crate) fn reply_by<T: Till, R: Wait>(
     ensures mirrors { T.mirrors till.new ≡ T.mirrors till.old }
     ensures alone { T.alone till.old
         → T.alone till.new × GrantsFirst (T.mirrors till.old) (T.asks till.old) (T.asks till.new) }
+    ensures kept { AreKept result.1 kept.new }
 {
     let entered = match view.enter() {
         Ok(entered) => entered,
@@ -39,7 +44,8 @@ pub(crate) fn reply_by<T: Till, R: Wait>(
     };
     let edition = entered.edition();
     let _catalogue = edition.catalogue();
-    match reply_to(rt, alloc, edition, till, moment, request) {
+    kept.turn_to(edition);
+    match reply_to(rt, alloc, edition, &mut kept.tables, till, moment, request) {
         Ok(text) => (Ok(text), entered.leave()),
         Err(_) => (Err(Off::Memory), entered.leave()),
     }

@@ -2,6 +2,7 @@
 
 ghost use Rattle.std.specs.Prelude.{◌≡◌, IfOk, OnErr};
 ghost use Rattle.editions.specs.Editions.{content_of};
+ghost use Rattle.par_tables.specs.Caches.{AreOwnTables};
 ghost use Rattle.service_desks.specs.Answering.{HasBegun, IsReply};
 ghost use Rattle.service_desks.specs.Asking.{GrantsFirst};
 
@@ -9,7 +10,8 @@ use crate::asking::ask_each;
 use editions::Edition;
 use mirror_ledger::Till;
 use omaha_json::Request;
-use replies::{plan, render};
+use par_tables::TableCache;
+use replies::{plan_with, render};
 use std::alloc::{AllocError, Global};
 use std::sync::Wait;
 
@@ -19,15 +21,18 @@ use std::sync::Wait;
 ///
 /// The till is asked for each payload that the reply offers, or would if a mirror had granted it, once and in the order
 /// of the apps. If memory runs out a first part of the asks may have been made. If the till is alone, which is if
-/// nothing else is granted on its mirrors, each payload is offered from the first mirror with room.
+/// nothing else is granted on its mirrors, each payload is offered from the first mirror with room. The tables of
+/// pinned clients' tracks that are kept are of the same edition; the reply is the same without them.
 pub fn reply_to<T: Till, R: Wait>(
     rt: &R,
     alloc: Global,
     edition: &Edition,
+    kept: &mut TableCache,
     till: &mut T,
     moment: u64,
     request: &Request,
 ) -> Result<Vec<u8>, AllocError>
+    requires { AreOwnTables (content_of edition.now) kept.old.tables }
     ensures ok { IfOk result (λ reply.
         IsReply (record { content = content_of edition.now; mirrors = T.mirrors till.old }) request.now moment
         (T.asks till.old) (T.asks till.new) reply.items) }
@@ -37,8 +42,9 @@ pub fn reply_to<T: Till, R: Wait>(
     ensures mirrors { T.mirrors till.new ≡ T.mirrors till.old }
     ensures alone { T.alone till.old
         → T.alone till.new × GrantsFirst (T.mirrors till.old) (T.asks till.old) (T.asks till.new) }
+    ensures kept { AreOwnTables (content_of edition.now) kept.new.tables }
 {
-    let Ok(plan) = plan(alloc, edition, request) else {
+    let Ok(plan) = plan_with(alloc, edition, request, kept) else {
         return Err(AllocError);
     };
     let Ok(outcomes) = ask_each(rt, alloc, till, plan.choices.as_slice()) else {

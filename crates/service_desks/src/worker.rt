@@ -25,12 +25,24 @@ pub struct Worker<'a, R: Wait + AllocGlobal, T: Till> {
 }
 
 impl<'a, R: Wait + AllocGlobal, T: Till> Worker<'a, R, T> {
-    /// Makes a worker of a view and a till.
+    /// Makes a worker of a view and a till, which keeps no tables.
     pub fn new(rt: &'a R, view: View, till: T) -> Worker<'a, R, T>
         ensures view { result.view ≡ view }
         ensures till { result.till ≡ till }
     {
-        let view = HeldView::new(view);
+        Worker::with_tables(rt, view, till, 0)
+    }
+
+    // rule: Tables that a worker keeps
+    /// Makes a worker of a view and a till, which keeps so many tables of pinned clients' tracks at most.
+    ///
+    /// Its replies are those of a worker that keeps none. A table takes some 24 bytes for each release of its app.
+    /// Making the worker takes no memory. If memory runs out for keeping a table, it is not kept.
+    pub fn with_tables(rt: &'a R, view: View, till: T, tables: usize) -> Worker<'a, R, T>
+        ensures view { result.view ≡ view }
+        ensures till { result.till ≡ till }
+    {
+        let view = HeldView::with_tables(view, tables);
         Worker { rt, view, till }
     }
 
