@@ -54,9 +54,13 @@ impl<S: System<P>, R: Clock + Wait + AllocGlobal, P: Port + Send + Drop, W: Writ
             lines,
         } = self;
         let mut lines = lines;
-        let mut desk = Worker::new(setup.rt, view, till);
+        let tables = setup.place.pinned_tables as usize;
+        let mut desk = Worker::with_tables(setup.rt, view, till, tables);
         let served = serve_new(setup, port, &mut desk, &mut lines);
         let (_view, till) = desk.into_parts();
+        if let Some(lines) = lines {
+            let _ = lines.finish();
+        }
         (till, served)
     }
 }

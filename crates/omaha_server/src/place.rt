@@ -27,6 +27,8 @@ pub struct Place {
     pub idle: u64,
     /// How many connections of clients may be open at once, if the system allows as many.
     pub connections: u64,
+    /// How many tables of pinned clients' tracks each worker keeps.
+    pub pinned_tables: u64,
     ghost limited: { (0 < seconds) × (0 < idle) },
     ghost manned: { (1 ≤ workers) × (workers ≤ 8) },
 }

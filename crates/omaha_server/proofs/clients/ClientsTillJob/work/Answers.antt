@@ -12,11 +12,11 @@ returns g c = λ single alone none.
     let passage = passage_of g.P.Port.terms g.P.Port.slots g.P.Port.accepted c.serve_new-served.result in
     let mirrors = g.T.Till.mirrors in
     let asks = g.T.Till.asks in
-    let till = c.new-desk.ensures.till in
+    let till = c.with_tables-desk.ensures.till in
     let served =
     AreServed-along (λ d. mirrors d.till) (λ d. d.view) (λ d. asks d.till) (λ d. g.T.Till.alone d.till) _ edges place terms single passage
-    c.new-desk.result c.serve_new-served.new.desk (λ old call new stepped. (stepped.0, stepped.1, stepped.2))
+    c.with_tables-desk.result c.serve_new-served.new.desk (λ old call new stepped. (stepped.0, stepped.1, stepped.2))
     (λ is. subst g.T.Till.alone (sym till) (alone is)) (ap asks till ∙ none) c.serve_new-served.ensures in
     subst (λ t. AreServed edges place terms single (mirrors t) c.args.self.view (asks c.into_parts-view.result.1) passage) till
-    (subst (λ s. AreServed edges place terms single (mirrors c.new-desk.result.till) s (asks c.into_parts-view.result.1) passage) c.new-desk.ensures.view
-    (subst (λ t. AreServed edges place terms single (mirrors c.new-desk.result.till) c.new-desk.result.view (asks t) passage) (sym c.into_parts-view.ensures.till) served))
+    (subst (λ s. AreServed edges place terms single (mirrors c.with_tables-desk.result.till) s (asks c.into_parts-view.result.1) passage) c.with_tables-desk.ensures.view
+    (subst (λ t. AreServed edges place terms single (mirrors c.with_tables-desk.result.till) c.with_tables-desk.result.view (asks t) passage) (sym c.into_parts-view.ensures.till) served))
