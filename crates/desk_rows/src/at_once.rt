@@ -25,6 +25,7 @@ fn place_of(alloc: Global) -> Result<Place, AllocError> {
         seconds: 1,
         idle: 1,
         connections: 2,
+        pinned_tables: 0,
     })
 }
 

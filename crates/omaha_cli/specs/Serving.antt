@@ -53,6 +53,7 @@ pub record IsPlaceOf (serve : Serve) (place : Place) : Type 0 where
   pub seconds : place.seconds ≡ max serve.timeout 1
   pub idle : place.idle ≡ max serve.idle 1
   pub connections : place.connections ≡ serve.connections
+  pub pinned_tables : place.pinned_tables ≡ serve.pinned_tables
 
 -- a service was served at that place to its end, or to an error
 pub record IsHostedAt (edges : Edges) (service : Service) (serve : Serve) (old new : Known) (result : Result (Unit {0}) Failure) : Type 0 where

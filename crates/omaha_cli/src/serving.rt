@@ -87,6 +87,7 @@ fn place_of(asked: &Serve) -> Result<Place, AllocError>
         seconds: asked.timeout.max(1),
         idle: asked.idle.max(1),
         connections: asked.connections,
+        pinned_tables: asked.pinned_tables,
     })
 }
 

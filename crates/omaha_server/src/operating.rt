@@ -151,6 +151,10 @@ impl<
         let OperatorPort::New(port) = std::mem::replace(&mut self.port, OperatorPort::Served) else {
             return None;
         };
-        Some(operate(self.setup, port, &mut self.press, budgets, &mut self.lines))
+        let served = operate(self.setup, port, &mut self.press, budgets, &mut self.lines);
+        if let Some(lines) = self.lines.take() {
+            let _ = lines.finish();
+        }
+        Some(served)
     }
 }
