@@ -1,13 +1,15 @@
 -- Bytes that are less than a message, and more after them.
-use Rattle.std.proofs.Common.{◌≡◌, ◌∙◌, ◌+◌, ◌-◌, ◌<◌, ◌≤◌, ◌++◌, ℕ, List, append_assoc, length, length-append, length-drop, length-take, take, drop, Ok, sym, subst, ap, arith}
-use Rattle.std.proofs.lemmas.List.{length-take-le, take-append-drop}
-use Rattle.httparse.specs.Grammar.{RequestHead, print_request}
+use Rattle.std.proofs.Common.{◌≡◌, ◌∙◌, ◌+◌, ◌-◌, ◌<◌, ◌≤◌, ◌++◌, ℕ, List, append_assoc, length, length-append, length-drop, length-take, min, take, drop, Ok, Err, inl, inr, refl, sym, subst, ap, arith}
+use Rattle.std.proofs.lemmas.List.{length-take-le, take-append-drop, take_min}
+use Rattle.httparse.specs.Grammar.{HasNoRequest, MayBecomeRequest, NeverHasRequest, RequestHead, print_request}
 use Rattle.httparse.specs.Spans.{IsRequestAt, span_bytes}
 use Rattle.httparse.specs.declared.spans.HeaderSpan.{HeaderSpan}
 use Rattle.httparse.specs.declared.spans.RequestSpans.{RequestSpans}
+use Rattle.http_heads.specs.declared.status.Status.{Status}
+use Rattle.http_heads.specs.declared.status.Status.TheVariants as status
 use Rattle.http_sessions.specs.declared.foreseeing.Found.{Found}
 use Rattle.http_sessions.specs.declared.message.Plan.{Plan}
-use Rattle.http_sessions.specs.Readings.{IsFound, IsPart, IsPlanOf}
+use Rattle.http_sessions.specs.Readings.{IsFound, IsPart, IsPlanOf, IsRejected}
 use Rattle.http_sessions.proofs.ReadingLemmas.{part_of_body}
 use Rattle.http_sessions.proofs.StopLemmas.{split_same}
 
@@ -36,6 +38,15 @@ part_with_more bytes front places spans head plan at short within planned more l
     ) in
     subst (λ (l : List ℕ). IsPart l) all (part_of_body first others places spans head plan at short planned after)
 
+-- a whole head among the first bytes, and all that is after it
+head_first :
+    (bytes : List ℕ) (front : ℕ) (places : List HeaderSpan) (spans : RequestSpans) (head : RequestHead) →
+    IsRequestAt (take front bytes) places spans head →
+    bytes ≡ print_request head ++ (drop spans.len (take front bytes) ++ drop front bytes)
+head_first bytes front places spans head at =
+    sym (take-append-drop front bytes) ∙ ap (λ (l : List ℕ). l ++ drop front bytes) at.reads.1
+    ∙ append_assoc (print_request head) (drop spans.len (take front bytes)) (drop front bytes)
+
 -- a whole head among the first bytes, and its body
 pub whole_found :
     (bytes : List ℕ) (front : ℕ) (places : List HeaderSpan) (spans : RequestSpans) (head : RequestHead) (plan : Plan) (found : Found) →
@@ -54,9 +65,7 @@ whole_found bytes front places spans head plan found at short within planned roo
     let first = take front bytes in
     let behind = drop spans.len first ++ drop front bytes in
     let (framed, named, asked) = planned in
-    let all : bytes ≡ print_request head ++ behind =
-    sym (take-append-drop front bytes) ∙ ap (λ (l : List ℕ). l ++ drop front bytes) at.reads.1
-    ∙ append_assoc (print_request head) (drop spans.len first) (drop front bytes) in
+    let all = head_first bytes front places spans head at in
     let few : length (take spans.len bytes) ≡ length (print_request head) =
     length-take-le spans.len bytes (omega (arith, within, length-take front bytes)) ∙ at.len in
     let (heads, rest) = split_same (take spans.len bytes) (drop spans.len bytes) (print_request head) behind few
@@ -77,3 +86,41 @@ whole_found bytes front places spans head plan found at short within planned roo
           ∙ sym (append_assoc (print_request head) found.request.body.now (drop plan.size (drop spans.len bytes)));
       long = omega (arith, long, size, at.len, length-append (print_request head) found.request.body.now);
     }
+
+-- the bytes that a head may have
+first_bytes : (bytes : List ℕ) (front : ℕ) → front ≡ min 16384 (length bytes) → take front bytes ≡ take 16384 bytes
+first_bytes bytes front is = ap (λ (n : ℕ). take n bytes) is ∙ take_min 16384 bytes
+
+-- no head begins so
+pub never_begun :
+    (bytes : List ℕ) (front : ℕ) → front ≡ min 16384 (length bytes) → NeverHasRequest (take front bytes) →
+    IsRejected status.BadRequest bytes
+never_begun bytes front is never = inl (refl, subst NeverHasRequest (first_bytes bytes front is) never)
+
+-- as many bytes as a head may have, and no whole one
+pub too_long :
+    (bytes : List ℕ) (front : ℕ) → front ≡ min 16384 (length bytes) → 16384 ≤ length bytes →
+    HasNoRequest (take front bytes) → MayBecomeRequest (take front bytes) → IsRejected status.FieldsTooLarge bytes
+too_long bytes front is long none may =
+    let same = first_bytes bytes front is in
+    inr (inl (
+      refl,
+      record {
+        full = length-take-le 16384 bytes long;
+        none = subst HasNoRequest same none;
+        unfinished = subst MayBecomeRequest same may;
+      },
+    ))
+
+-- a whole head among the first bytes, which rejects its message
+pub head_rejects :
+    (bytes : List ℕ) (front : ℕ) (places : List HeaderSpan) (spans : RequestSpans) (head : RequestHead) (why : Status) →
+    IsRequestAt (take front bytes) places spans head → length (print_request head) ≤ 16384 → IsPlanOf head (Err why) →
+    IsRejected why bytes
+head_rejects bytes front places spans head why at short rejects =
+    inr (inr (
+      head,
+      drop spans.len (take front bytes) ++ drop front bytes,
+      ((at.reads.0, head_first bytes front places spans head at), short),
+      rejects,
+    ))

@@ -1,5 +1,5 @@
 -- What reading one message finds at the front of a connection's bytes; this project's profile.
-use Rattle.std.specs.Prelude.{◌≡◌, ◌⊎◌, ◌≤◌, ◌<◌, ⊤, ℕ, List, ◌++◌, length, take, Option, Result, Ok, Err}
+use Rattle.std.specs.Prelude.{◌≡◌, ◌⊎◌, ◌≤◌, ◌<◌, ℕ, List, ◌++◌, length, take, Option, Result, Ok, Err}
 use Rattle.std.specs.Io.KnownBytes.{Consumes, IsAtEnd}
 use Rattle.httparse.specs.Grammar.{IsRequestHead, NeverHasRequest, RequestHead, print_request}
 use Rattle.http_heads.specs.declared.status.Status.{Status}
@@ -59,12 +59,12 @@ pub record IsFound (bytes : List ℕ) (found : Found) : Type 0 where
 
 -- rule: Part of a message
 -- what the bytes are before a message is read: less than a message, and still less with more bytes up to a length; or
--- a whole message and others
+-- a whole message and others; or they can't begin a message, and get a reply of this status
 abbrev pub IsForeseen : List ℕ → Foreseen → Type 0
 IsForeseen bytes (foreseen.Part need) =
     IsPart bytes × ((more : List ℕ) → length (bytes ++ more) < need → IsPart (bytes ++ more))
 IsForeseen bytes (foreseen.Whole found) = IsFound bytes found
-IsForeseen bytes foreseen.Turn = ⊤
+IsForeseen bytes (foreseen.Rejected why) = IsRejected why bytes
 
 -- what the bytes are, of which some wait; the target and the body are at the front of these cells
 abbrev pub Finds : Option (List ℕ) → List ℕ → List ℕ → List ℕ → List ℕ → Result Message Failed → Type 0

@@ -1,14 +1,15 @@
 // What a connection's bytes are, before a message is read from them.
 
-ghost use Rattle.std.specs.Prelude.{◌≡◌};
+ghost use Rattle.std.specs.Prelude.{◌≡◌, length};
 ghost use Rattle.http_sessions.specs.Readings.{IsForeseen};
 
 use crate::buffers::Buffers;
 use crate::message::examine;
 use http_desks::Request;
+use http_heads::Status;
 use http_wire::MAX_HEAD;
-use httparse::Status;
 use httparse::spans::{HeaderSpan, parse_request};
+use httparse::{Error, Status as Parsed};
 
 /// A whole message at the front of a connection's bytes.
 #[derive(Clone, Copy, Drop)]
@@ -26,20 +27,23 @@ pub enum Foreseen<'b> {
     Part(usize),
     /// A whole message is at their front.
     Whole(Found<'b>),
-    /// Perhaps bytes that no message begins with.
-    Turn,
+    /// Bytes that no message begins with, which get a reply of this status.
+    Rejected(Status),
 }
 
 // rule: Part of a message
 // Looks what the bytes are, with room for the fields of a head.
 fn foresee_in<'b>(bytes: &'b [u8], fields: &mut [HeaderSpan]) -> Foreseen<'b>
+    requires { length fields.old ≡ 5461 }
     ensures { IsForeseen bytes.now result }
 {
     let front = &bytes[..bytes.len().min(MAX_HEAD)];
     let spans = match parse_request(front, fields) {
-        Ok(Status::Complete(spans)) => spans,
-        Ok(Status::Partial) if bytes.len() < MAX_HEAD => return Foreseen::Part(0),
-        _ => return Foreseen::Turn,
+        Ok(Parsed::Complete(spans)) => spans,
+        Ok(Parsed::Partial) if bytes.len() < MAX_HEAD => return Foreseen::Part(0),
+        Ok(Parsed::Partial) => return Foreseen::Rejected(Status::FieldsTooLarge),
+        Err(Error::TooManyHeaders) => unreachable!(),
+        Err(_) => return Foreseen::Rejected(Status::BadRequest),
     };
     match examine(front, fields, &spans) {
         Ok(plan) if bytes.len() - spans.len < plan.size => Foreseen::Part(spans.len + plan.size),
@@ -52,12 +56,13 @@ fn foresee_in<'b>(bytes: &'b [u8], fields: &mut [HeaderSpan]) -> Foreseen<'b>
             },
             length: spans.len + plan.size,
         }),
-        Err(_) => Foreseen::Turn,
+        Err(status) => Foreseen::Rejected(status),
     }
 }
 
 impl Buffers {
-    /// Looks what the bytes of a connection are, without copying them.
+    /// Looks what the bytes of a connection are, without copying them: less than a message, a whole one and others, or
+    /// bytes that are rejected.
     pub fn foresee<'b>(&mut self, bytes: &'b [u8]) -> Foreseen<'b>
         ensures { IsForeseen bytes.now result }
     {

@@ -16,7 +16,6 @@ mod ends;
 mod foreseeing;
 pub mod laws;
 mod message;
-mod resting;
 mod serving;
 mod session;
 mod turning;

@@ -15,7 +15,7 @@ use Rattle.http_sessions.specs.Readings.{IsFound}
 use Rattle.http_sessions.specs.Sessions.{Writes}
 use Rattle.http_sessions.specs.Stops.{Last, More, Stop, end_after, stop_bytes}
 use Rattle.http_talks.specs.Talks.{IsSent}
-use Rattle.http_talks.specs.Turns.{EndsLost, EndsOpen, EndsOver, EndsSending, IsDone, IsNew, IsStarted, Leaves, Makes}
+use Rattle.http_talks.specs.Leaves.{EndsLost, EndsOpen, EndsOver, EndsSending, IsDone, IsNew, IsStarted, Leaves, Makes}
 use Rattle.http_talks.specs.declared.outcome.After.{After}
 use Rattle.http_talks.specs.declared.outcome.After.TheVariants as after
 use Rattle.http_talks.specs.declared.talk.Sending.{Sending}
@@ -109,7 +109,6 @@ module _
         (Some []) (Some made) (Ok handled) →
         IsDone start handled closes (drop found.length kept) made left →
         Leaves IsFit steps kind start kept before behind left
-    done_leaves handled closes made after.Part same answers done = absurd done
     done_leaves handled closes made (after.Open opened) same answers (answered, stays, begun, kept_is, made_is) =
         let (came, sent) = answers.writes in
         let on : closing (start == 999) is.head ≡ false = sym same ∙ stays in (
@@ -151,7 +150,6 @@ module _
         IsNew name declared closes sending →
         IsStarted start sending (drop found.length kept) made left →
         Leaves IsFit steps kind start kept before behind left
-    started_leaves name declared closes sending made after.Part same fit calls head new done = absurd done
     started_leaves name declared closes sending made (after.Open opened) same fit calls head new done = absurd done
     started_leaves name declared closes sending made (after.Sends started) same fit calls head new (is_sending, count, kept_is, made_is) =
         let used = Fetched name declared (Broken []) in

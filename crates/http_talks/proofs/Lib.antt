@@ -1,4 +1,5 @@
 mod TalkLemmas
-mod TurnLemmas
+mod LeavesLemmas
 mod FoundLemmas
+mod RejectLemmas
 mod SendLemmas

@@ -21,7 +21,7 @@ use Rattle.http_talks.specs.declared.talk.Stage.{Stage}
 use Rattle.http_talks.specs.declared.talk.Stage.TheVariants as stage
 use Rattle.http_talks.specs.declared.talk.Talk.{Talk}
 use Rattle.http_talks.proofs.TalkLemmas.{all_replies}
-use Rattle.http_talks.proofs.TurnLemmas.{all_append}
+use Rattle.http_talks.proofs.LeavesLemmas.{all_append}
 use Rattle.values.specs.declared.declared.Declared.{Declared}
 
 joined_more : (blocks : List (List ℕ)) (block : List ℕ) → joined_blocks (blocks ++ block ∷ []) ≡ joined_blocks blocks ++ block

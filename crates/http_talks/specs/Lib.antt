@@ -1,3 +1,3 @@
+pub mod Leaves
 pub mod Sends
 pub mod Talks
-pub mod Turns

@@ -10,13 +10,11 @@ use Rattle.http_sessions.specs.declared.ends.End.{End}
 use Rattle.http_sessions.specs.Messages.{Exchange, IsOpen, closing, exchange_bytes, exchange_calls, open_reply}
 use Rattle.http_sessions.specs.Readings.{IsPart}
 use Rattle.http_sessions.specs.Stops.{Ends, Last, More, Stop, StopsAt, Waits, begun, stop_bytes, stop_calls}
-use Rattle.http_sessions.specs.Sessions.{Serves, TurnEnds, wrote}
 use Rattle.http_ports.specs.Speech.{Busy, Over, Phase, Waiting}
 use Rattle.http_talks.specs.declared.talk.Sending.{Sending}
 use Rattle.http_talks.specs.declared.talk.Stage.{Stage}
 use Rattle.http_talks.specs.declared.talk.Stage.TheVariants as stage
 use Rattle.http_talks.specs.declared.talk.Talk.{Talk}
-use Rattle.http_talks.specs.declared.turning.Turned.{Turned}
 
 -- what was made and is not yet sent
 abbrev pub pending : Talk → List ℕ
@@ -45,13 +43,6 @@ IsSending stage.Part = ⊥
 IsSending (stage.Sends sending) = ⊤
 IsSending stage.Over = ⊥
 IsSending stage.Lost = ⊥
-
--- what a turn of the session over these bytes came to
-abbrev pub HasTurned :
-    {D : Type 0} → (Method → List ℕ → Use → Type 0) → (D → Call → D → Type 0) → List ℕ → ℕ → List ℕ → D → D → Turned → Type 0
-HasTurned IsFit steps kind start kept before behind turned =
-    Serves IsFit steps kind start (TurnEnds (Some turned.left.now) start turned.result) (wrote turned.result) []
-    (Some kept) (Some turned.left.now) (Some []) (Some turned.made.items) before behind
 
 -- with more bytes after them, but fewer than so many in all, they are still less than a message
 abbrev pub StaysPart : List ℕ → ℕ → Type 0

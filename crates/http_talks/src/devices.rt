@@ -1,29 +1,10 @@
-// What a turn of a session reads from and writes to: bytes that came, and replies that are sent later.
+// What replies are written to, which are sent later.
 
-ghost use Rattle.std.specs.Prelude.{◌≡◌, ◌+◌, ◌<◌, ◌≤◌, Some, length, IfOk, is_ok, if◌then◌else◌};
-ghost use Rattle.std.specs.Io.KnownBytes.{ReadConsumes, WriteAppends};
+ghost use Rattle.std.specs.Prelude.{◌≡◌, ◌+◌, ◌≤◌, Some, length, IfOk, is_ok, if◌then◌else◌};
+ghost use Rattle.std.specs.Io.KnownBytes.{WriteAppends};
 
-use http_wire::{Failed, Sink, Source};
+use http_wire::{Failed, Sink};
 use traces::Trace;
-
-// Bytes that came.
-#[derive(Drop)]
-pub(crate) struct Came<'a> {
-    pub(crate) left: &'a [u8],
-}
-
-impl Source for Came<'_> {
-    ghost remaining = { λ came. Some came.left.now };
-
-    ghost failures = { λ _. 0 };
-
-    fn read(&mut self, into: &mut [u8]) -> Result<usize, Failed> {
-        let count = self.left.len().min(into.len());
-        into[..count].copy_from_slice(&self.left[..count]);
-        self.left = &self.left[count..];
-        Ok(count)
-    }
-}
 
 // Replies that are made. A write fails only if memory runs out.
 #[derive(Drop)]

@@ -10,14 +10,12 @@
 
 #![tactic(auto)]
 
-mod after;
 mod devices;
 mod outcome;
 mod replying;
 mod sending;
 mod talk;
 mod talks;
-mod turning;
 mod watched;
 
 pub use crate::talk::Talk;

@@ -1,4 +1,4 @@
-// What a turn or a reply leaves of a connection.
+// What a reply leaves of a connection.
 
 ghost use Rattle.std.specs.Prelude.{◌<◌};
 
@@ -26,8 +26,6 @@ pub(crate) struct Started {
 // What is left.
 #[derive(Drop)]
 pub(crate) enum After {
-    // The bytes are less than a message.
-    Part,
     // The session goes on.
     Open(Opened),
     // A package is sent.

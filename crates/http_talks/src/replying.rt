@@ -1,14 +1,17 @@
-// The reply to a whole message of a connection.
+// The reply to a whole message of a connection, or to bytes that no message begins with.
 
 ghost use Rattle.std.specs.Prelude.{◌≡◌, ◌<◌, ◌==◌, ◌||◌, false, IfOk};
 ghost use Rattle.http_desks.specs.Uses.{IsUse};
 ghost use Rattle.http_sessions.specs.Readings.{IsFound};
-ghost use Rattle.http_talks.specs.Turns.{IsDone, IsNew, IsStarted, Leaves};
+ghost use Rattle.http_talks.specs.Leaves.{IsDone, IsNew, IsRejection, IsStarted, Leaves};
 
 use crate::devices::Made;
 use crate::outcome::{After, Opened, Started};
 use crate::talk::Sending;
-use http_desks::{Begun, Clock, Declared, Desk, Handled, Packages, Request, Transfer, begin};
+use http_desks::{
+    Begun, Clock, Declared, Desk, Handled, Packages, Request, Transfer, begin, send_empty,
+};
+use http_heads::Status;
 use http_sessions::{Buffers, Found, MAX_MESSAGES};
 use std::alloc::{AllocError, Global};
 use traces::Trace;
@@ -117,6 +120,21 @@ pub(crate) fn reply<D: Desk, Z: Packages + Clock>(
             Ok(sending) => started_after(alloc, begun, sending, left, sink.bytes),
             Err(_) => After::Lost,
         },
+        Err(_) => After::Lost,
+    }
+}
+
+// rule: Rejection of a message
+// Makes the reply that rejects what is kept.
+pub(crate) fn reject(alloc: Global, room: &mut Buffers, status: Status) -> After
+    ensures { IsRejection status result }
+{
+    let mut sink = Made {
+        bytes: Vec::new(alloc),
+        failures: Trace::new(),
+    };
+    match send_empty(&mut sink, room.block(), status, None, true) {
+        Ok(()) => After::Over(sink.bytes),
         Err(_) => After::Lost,
     }
 }

@@ -2,19 +2,17 @@ ghost use Rattle.std.specs.Prelude.{◌≡◌, ◌⊎◌, ◌++◌, ◌<◌, ◌
 ghost use Rattle.http_desks.specs.Calls.{Call, Leads};
 ghost use Rattle.http_desks.specs.Uses.{IsUse};
 ghost use Rattle.http_ports.specs.Speech.{IsNext, Waiting};
-ghost use Rattle.http_talks.specs.Turns.{GoesOn, IsApplied};
+ghost use Rattle.http_talks.specs.Leaves.{GoesOn, IsApplied};
 ghost use Rattle.http_talks.specs.Talks.{IsSending, Said, is_lost, pending, phase_of};
 ghost use Rattle.http_talks.specs.declared.talk.Stage.TheVariants as stage;
 
-use crate::after::after_turn;
 use crate::outcome::After;
-use crate::replying::reply;
+use crate::replying::{reject, reply};
 use crate::sending::send_on;
 use crate::talk::{Stage, Talk};
-use crate::turning::turn_over;
 use http_desks::{Clock, Desk, Packages};
 use http_ports::{Next, Protocol};
-use http_sessions::{Buffers, Foreseen, Found};
+use http_sessions::{Buffers, Foreseen};
 use std::alloc::Global;
 use std::net::IpAddr;
 
@@ -46,15 +44,11 @@ fn next_of(talk: &mut Talk) -> Next
     }
 }
 
-// Takes over what a turn leaves.
+// Takes over what a reply leaves.
 fn apply(alloc: Global, talk: &mut Talk, after: After)
     ensures { IsApplied talk.old after talk.new }
 {
     match after {
-        After::Part => {
-            talk.stage = Stage::Part;
-            talk.need = 0;
-        }
         After::Lost => talk.stage = Stage::Lost,
         After::Over(made) => {
             *talk = Talk {
@@ -87,30 +81,6 @@ fn apply(alloc: Global, talk: &mut Talk, after: After)
             };
         }
     }
-}
-
-// rule: Session over a port
-// Turns the session once over what is kept.
-fn turn<D: Desk, Z: Packages + Clock>(
-    alloc: Global,
-    site: &Z,
-    room: &mut Buffers,
-    talk: &mut Talk,
-    desk: &mut D,
-)
-    requires busy { talk.old.stage ≡ stage.Busy }
-    requires sent { pending talk.old ≡ [] }
-    ensures goes_on { GoesOn (IsUse (D.path desk.old) (Z.tells site.now) (Z.sizes site.now) (Z.reads site.now))
-        D.steps (D.content_type desk.old) talk.old desk.old talk.new desk.new }
-    ensures path { D.path desk.new ≡ D.path desk.old }
-    ensures content_type { D.content_type desk.new ≡ D.content_type desk.old }
-{
-    let Some(turned) = turn_over(alloc, room, site, talk.begun, &talk.kept, desk) else {
-        talk.stage = Stage::Lost;
-        return;
-    };
-    let after = after_turn(alloc, talk.begun, turned);
-    apply(alloc, talk, after);
 }
 
 impl<Z: Packages + Clock> Protocol for Talks<'_, Z> {
@@ -200,8 +170,9 @@ impl<Z: Packages + Clock> Protocol for Talks<'_, Z> {
                     apply(self.alloc, talk, after);
                     next_of(talk)
                 }
-                Foreseen::Turn => {
-                    turn(self.alloc, self.site, room, talk, desk);
+                Foreseen::Rejected(status) => {
+                    let after = reject(self.alloc, room, status);
+                    apply(self.alloc, talk, after);
                     next_of(talk)
                 }
             },

@@ -1,4 +1,4 @@
 mod BytesLemmas
 pub mod KnownLemmas
 mod ReplyLemmas
-mod HeadLemmas
+pub mod HeadLemmas

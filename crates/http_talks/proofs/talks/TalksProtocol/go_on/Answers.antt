@@ -4,7 +4,8 @@ use Rattle.http_desks.specs.Uses.{IsUse}
 use Rattle.http_talks.specs.Talks.{Said}
 use Rattle.http_talks.specs.declared.talk.Talk.{Talk}
 use Rattle.http_talks.proofs.TalkLemmas.{Said-lost, Said-part}
-use Rattle.http_talks.proofs.TurnLemmas.{left_on}
+use Rattle.http_talks.proofs.LeavesLemmas.{left_on}
+use Rattle.http_talks.proofs.RejectLemmas.{rejection_leaves}
 use Rattle.http_talks.proofs.talks.TalksProtocol.go_on.Goals as goal
 
 pub returns-in-Part-clause-calls : goal.returns-in-Part-clause-calls
@@ -49,19 +50,23 @@ returns-in-Part-foresee-clause-calls g c =
           (g.D.Desk.content_type c.args.desk.now) c.args.talk.now received sent calls) (sym (append-nil made)) said),
     )
 
-pub returns-in-Turn-clause-calls : goal.returns-in-Turn-clause-calls
-returns-in-Turn-clause-calls g c =
-    let (calls, leads, goes_on) = c.turn.ensures.goes_on in (
+pub returns-in-Rejected-clause-calls : goal.returns-in-Rejected-clause-calls
+returns-in-Rejected-clause-calls g c =
+    let IsFit = IsUse (g.D.Desk.path c.args.desk.now) (g.Z.Clock.tells c.args.self.now.site.now)
+    (g.Z.Packages.sizes c.args.self.now.site.now) (g.Z.Packages.reads c.args.self.now.site.now) in
+    let kind = g.D.Desk.content_type c.args.desk.now in
+    let talk = c.args.talk.now in
+    let (calls, leads, goes_on) =
+    left_on IsFit kind g.D.Desk.steps talk c.apply-in-Rejected.new.talk c.args.desk.now c.args.desk.now c.reject-after.result
+    c.in-Busy.is c.requires
+    (rejection_leaves IsFit kind talk.kept.items g.D.Desk.steps talk.begun talk.few c.args.desk.now c.in-Rejected.status c.reject-after.result
+    (rw c.deref.ensures.value at c.in-Rejected.ensures) c.reject-after.ensures) c.apply-in-Rejected.ensures in (
       calls,
       leads,
       λ received sent made said.
-          elim c.next_of-in-Turn.ensures.left [
-            | inl same ↦ subst (λ (talk : Talk). Said (IsUse (g.D.Desk.path c.args.desk.now) (g.Z.Clock.tells c.args.self.now.site.now)
-                (g.Z.Packages.sizes c.args.self.now.site.now) (g.Z.Packages.reads c.args.self.now.site.now))
-                (g.D.Desk.content_type c.args.desk.now) talk received sent (made ++ calls)) (sym same) (goes_on received sent made said)
-            | inr (is, none) ↦ Said-lost (IsUse (g.D.Desk.path c.args.desk.now) (g.Z.Clock.tells c.args.self.now.site.now)
-                (g.Z.Packages.sizes c.args.self.now.site.now) (g.Z.Packages.reads c.args.self.now.site.now))
-                (g.D.Desk.content_type c.args.desk.now) c.turn.new.talk c.next_of-in-Turn.new.talk received sent (made ++ calls) is none
+          elim c.next_of-in-Rejected.ensures.left [
+            | inl same ↦ subst (λ (talk : Talk). Said IsFit kind talk received sent (made ++ calls)) (sym same) (goes_on received sent made said)
+            | inr (is, none) ↦ Said-lost IsFit kind c.apply-in-Rejected.new.talk c.next_of-in-Rejected.new.talk received sent (made ++ calls) is none
                 (goes_on received sent made said)
           ],
     )

@@ -1,18 +1,18 @@
--- What a turn of a session, or a reply, leaves of a connection; this project's profile.
-use Rattle.std.specs.Prelude.{◌≡◌, ◌≢◌, ⊤, ◌+◌, ◌==◌, ℕ, Bool, true, false, List, [], ◌++◌, Some, Ok}
+-- What a reply leaves of a connection; this project's profile.
+use Rattle.std.specs.Prelude.{◌≡◌, ⊤, ◌+◌, ◌==◌, ℕ, Bool, true, false, List, [], ◌++◌, None, Some}
+use Rattle.http_heads.specs.declared.status.Status.{Status}
+use Rattle.http_wire.specs.Sending.{AppendsPart}
 use Rattle.http_desks.specs.declared.method.Method.{Method}
 use Rattle.http_desks.specs.Calls.{Call, Leads}
+use Rattle.http_desks.specs.Replies.{empty_reply}
 use Rattle.http_desks.specs.Transfers.{IsAt as HasMade, package_size}
 use Rattle.http_desks.specs.Uses.{Use}
 use Rattle.http_desks.specs.declared.answering.Handled.{Handled}
 use Rattle.http_desks.specs.declared.answering.Handled.TheVariants.{Answered}
 use Rattle.values.specs.declared.declared.Declared.{Declared}
 use Rattle.http_sessions.specs.declared.ends.End.{End}
-use Rattle.http_sessions.specs.declared.ends.Served.{Served}
-use Rattle.http_sessions.specs.declared.session.Session.{Session}
-use Rattle.http_sessions.specs.declared.session.Turn.TheVariants.{Ended, Open}
-use Rattle.http_sessions.specs.Stops.{Ends, More, Stop, Waits, begun, end_after}
-use Rattle.http_sessions.specs.Sessions.{Serves, replies, waiting}
+use Rattle.http_sessions.specs.Stops.{Ends, More, Stop, begun, end_after}
+use Rattle.http_sessions.specs.Sessions.{Serves}
 use Rattle.http_talks.specs.Talks.{Said, SendsFor, pending}
 use Rattle.http_talks.specs.declared.outcome.After.{After}
 use Rattle.http_talks.specs.declared.outcome.After.TheVariants as after
@@ -21,30 +21,6 @@ use Rattle.http_talks.specs.declared.outcome.Started.{Started}
 use Rattle.http_talks.specs.declared.talk.Sending.{Sending}
 use Rattle.http_talks.specs.declared.talk.Stage.TheVariants as stage
 use Rattle.http_talks.specs.declared.talk.Talk.{Talk}
-use Rattle.http_talks.specs.declared.turning.Turned.{Turned}
-
--- the session goes on so
-abbrev pub IsOpened : Session → List ℕ → List ℕ → Opened → Type 0
-IsOpened next left made opened =
-    (opened.begun ≡ replies next) × (opened.kept.items ≡ waiting next ++ left) × (opened.made.items ≡ made)
-
--- it goes on, or memory ran out
-abbrev pub IsOpenAfter : Session → List ℕ → List ℕ → After → Type 0
-IsOpenAfter next left made after.Part = ⊥
-IsOpenAfter next left made (after.Open opened) = IsOpened next left made opened
-IsOpenAfter next left made (after.Sends started) = ⊥
-IsOpenAfter next left made (after.Over bytes) = ⊥
-IsOpenAfter next left made after.Lost = ⊤
-
--- what a turn leaves
-abbrev pub IsAfter : ℕ → Turned → After → Type 0
-IsAfter start turned after.Part = (served : Served) × (turned.result ≡ Ok (Ended served)) × (served.requests ≡ start)
-IsAfter start turned (after.Open opened) =
-    (next : Session) × (turned.result ≡ Ok (Open next)) × IsOpened next turned.left.now turned.made.items opened
-IsAfter start turned (after.Sends started) = ⊥
-IsAfter start turned (after.Over made) =
-    (served : Served) × (turned.result ≡ Ok (Ended served)) × (served.requests ≢ start) × (made.items ≡ turned.made.items)
-IsAfter start turned after.Lost = ⊤
 
 -- a package of this name, of which no block was made
 pub record IsNew (name : List ℕ) (declared : Declared) (closes : Bool) (sending : Sending) : Type 0 where
@@ -56,7 +32,6 @@ pub record IsNew (name : List ℕ) (declared : Declared) (closes : Bool) (sendin
 
 -- what a reply leaves that was written, after so many others
 abbrev pub IsDone : ℕ → Handled → Bool → List ℕ → List ℕ → After → Type 0
-IsDone start handled closes left made after.Part = ⊥
 IsDone start handled closes left made (after.Open opened) =
     (handled ≡ Answered) × (closes ≡ false) × (opened.begun ≡ start + 1) × (opened.kept.items ≡ left)
     × (opened.made.items ≡ made)
@@ -67,7 +42,6 @@ IsDone start handled closes left made after.Lost = ⊤
 
 -- what the head of a package leaves, after so many other replies
 abbrev pub IsStarted : ℕ → Sending → List ℕ → List ℕ → After → Type 0
-IsStarted start sending left made after.Part = ⊥
 IsStarted start sending left made (after.Open opened) = ⊥
 IsStarted start sending left made (after.Sends started) =
     (started.sending ≡ sending) × (sending.closes ≡ false → started.begun ≡ start + 1) × (started.kept.items ≡ left)
@@ -82,11 +56,7 @@ abbrev pub Makes :
 Makes IsFit steps kind start IsEnd whole kept left made before behind =
     Serves IsFit steps kind start IsEnd whole [] (Some kept) (Some left) (Some []) (Some made) before behind
 
--- how it ends: with less than a message, and all is kept
-abbrev pub EndsPart : List ℕ → ℕ → Stop → List ℕ → Type 0
-EndsPart kept count stop rest = (count ≡ 0) × (stop ≡ Waits) × (rest ≡ kept)
-
--- with a message after which the session goes on
+-- how it ends: with a message after which the session goes on
 abbrev pub EndsOpen : ℕ → List ℕ → Opened → ℕ → Stop → List ℕ → Type 0
 EndsOpen start left opened count stop rest =
     (count ≡ 1) × (stop ≡ More) × (opened.kept.items ≡ rest ++ left) × (opened.begun ≡ start + 1)
@@ -106,11 +76,16 @@ EndsOver start left count stop rest =
 abbrev pub EndsLost : ℕ → Stop → List ℕ → Type 0
 EndsLost count stop rest = ⊤
 
+-- what the reply leaves that rejects a message; if memory ran out, a first part of it was made
+abbrev pub IsRejection : Status → After → Type 0
+IsRejection why (after.Open opened) = ⊥
+IsRejection why (after.Sends started) = ⊥
+IsRejection why (after.Over made) = made.items ≡ empty_reply why None true
+IsRejection why after.Lost = (made : List ℕ) × AppendsPart (Some []) (Some made) (empty_reply why None true)
+
 -- what a part of a session leaves
 abbrev pub Leaves :
     {D : Type 0} → (Method → List ℕ → Use → Type 0) → (D → Call → D → Type 0) → List ℕ → ℕ → List ℕ → D → D → After → Type 0
-Leaves IsFit steps kind start kept before behind after.Part =
-    (made : List ℕ) × Makes IsFit steps kind start (EndsPart kept) true kept [] made before behind
 Leaves IsFit steps kind start kept before behind (after.Open opened) =
     (left : List ℕ) × Makes IsFit steps kind start (EndsOpen start left opened) true kept left opened.made.items before behind
 Leaves IsFit steps kind start kept before behind (after.Sends started) =
@@ -122,9 +97,6 @@ Leaves IsFit steps kind start kept before behind after.Lost =
 
 -- the connection then
 abbrev pub IsApplied : Talk → After → Talk → Type 0
-IsApplied old after.Part new =
-    (new.stage ≡ stage.Part) × (new.begun ≡ old.begun) × (new.kept.items ≡ old.kept.items) × (new.need ≡ 0)
-    × (pending new ≡ pending old)
 IsApplied old (after.Open opened) new =
     (new.stage ≡ stage.Busy) × (new.begun ≡ opened.begun) × (new.kept.items ≡ opened.kept.items)
     × (pending new ≡ opened.made.items)
