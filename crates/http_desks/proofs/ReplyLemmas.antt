@@ -1,5 +1,5 @@
 -- The reply to a message, by the parts that were written.
-use Rattle.std.proofs.Common.{◌≡◌, ◌≢◌, ℕ, Bool, true, false, not, eqb, List, [], ◌∷◌, ◌++◌, append-nil, length, Option, None, Some, Result, Ok, Err, inl, inr, refl, sym, subst, ap, ◌∙◌, cond, arith}
+use Rattle.std.proofs.Common.{◌≡◌, ◌≢◌, ◌<◌, ◌≤◌, ℕ, Bool, true, false, not, eqb, List, [], ◌∷◌, ◌++◌, append-nil, length, Option, None, Some, Result, Ok, Err, inl, inr, refl, sym, subst, ap, ◌∙◌, cond, arith}
 use Rattle.std.proofs.lemmas.Bool.{eqb-true, eq-eqb}
 use Rattle.std.specs.Prelude.{codes}
 use Rattle.std.specs.Option.{option_eq}
@@ -8,7 +8,7 @@ use Rattle.http_heads.specs.Replies.{head_bytes}
 use Rattle.http_heads.specs.declared.reply.ReplyHead.{ReplyHead}
 use Rattle.http_heads.specs.declared.status.Status.{Status}
 use Rattle.http_heads.specs.declared.status.Status.TheVariants as status
-use Rattle.http_desks.specs.Downloads.{Reads, download, joined_blocks}
+use Rattle.http_desks.specs.Downloads.{Reads, download, full_blocks, joined_blocks}
 use Rattle.http_wire.specs.Sending.{AppendsPart}
 use Rattle.values.specs.declared.failed.Failed.{Failed}
 use Rattle.http_wire.proofs.KnownLemmas.{Appends-then, AppendsPart-then}
@@ -19,10 +19,10 @@ use Rattle.http_desks.specs.declared.answering.Handled.TheVariants.{Answered, Cu
 use Rattle.http_desks.specs.declared.method.Method.{Method}
 use Rattle.http_desks.specs.declared.method.Method.TheVariants.{Get}
 use Rattle.values.specs.declared.declared.Declared.{Declared}
-use Rattle.http_desks.specs.Begins.{Begins, BeginsFetch, IsAtOnce, IsEmpty, Rests, done_of}
+use Rattle.http_desks.specs.Begins.{Begins, BeginsFetch, IsAtOnce, Rests, SendsHead, done_of}
 use Rattle.http_desks.specs.Calls.{Call, Leads, Looks}
-use Rattle.http_desks.specs.Uses.{Mismatched, Read, Broken, Fetch, Fetched, IsFetch, IsRouted, IsUse, Use, calls_of}
-use Rattle.http_desks.specs.Replies.{Answers, Fetches, Writes, fetch_handled, fetch_reply, head_lines, reply_to}
+use Rattle.http_desks.specs.Uses.{Mismatched, Read, Broken, Fetched, IsRouted, IsUse, Use, calls_of}
+use Rattle.http_desks.specs.Replies.{Answers, Fetches, head_lines, reply_to}
 
 -- the head of a reply is the lines of its parts
 pub head_bytes-lines :
@@ -80,11 +80,11 @@ failed_by :
     b ≡ not (option_eq eqb told (Some declared.size)) →
     sizes told →
     AppendsPart old new (package_head declared closes ++ []) →
-    Fetches sizes reads declared closes old new (Err failed)
+    SendsHead sizes reads declared closes old new (Err failed)
 failed_by true sizes reads declared closes told old new failed e tells part =
-    (Mismatched, (told, tells, other_size told declared.size e), part)
+    (Mismatched, (told, tells, other_size told declared.size e), tt, part)
 failed_by false sizes reads declared closes told old new failed e tells part =
-    (Broken [], (subst sizes (same_size told declared.size e) tells, omega arith, tt), part)
+    (Broken [], (subst sizes (same_size told declared.size e) tells, omega arith, tt), refl, part)
 
 -- the head was written in part: the file has the declared size, or another
 pub head_failed :
@@ -92,7 +92,7 @@ pub head_failed :
     (old new : Option (List ℕ)) (failed : Failed) →
     sizes told →
     AppendsPart old new (package_head declared closes ++ []) →
-    Fetches sizes reads declared closes old new (Err failed)
+    SendsHead sizes reads declared closes old new (Err failed)
 head_failed sizes reads declared closes told old new failed tells part =
     failed_by (not (option_eq eqb told (Some declared.size))) sizes reads declared closes told old new failed refl tells part
 
@@ -103,8 +103,7 @@ pub head_alone :
     sizes told →
     true ≡ not (option_eq eqb told (Some declared.size)) →
     Appends old new (package_head declared closes ++ []) →
-    (fetch : Fetch) × IsFetch sizes reads declared.size fetch × IsEmpty declared.size fetch
-    × Writes (fetch_reply declared closes fetch) (fetch_handled declared.hash fetch) old new (Ok Cut)
+    SendsHead sizes reads declared closes old new (Ok Cut)
 head_alone sizes reads declared closes told old new tells other head =
     (Mismatched, (told, tells, other_size told declared.size other), tt, (refl, head))
 
@@ -117,19 +116,23 @@ AppendsPart-behind old between new first text whole part =
     subst (AppendsPart old new) (ap (λ (end : List ℕ). first ++ end) (append-nil text))
     (AppendsPart-then old between new first text [] whole part)
 
+no_block : (blocks : List (List ℕ)) → length blocks ≤ 0 → blocks ≡ []
+no_block [] none = refl
+no_block (block ∷ blocks) none = absurd (omega (arith, none))
+
 -- a package without bytes was sent after its head
 pub empty_then :
     (sizes : Option ℕ → Type 0) (reads : Reads) (declared : Declared) (closes : Bool)
-    (old new : Option (List ℕ)) (handled : Handled) →
+    (old new : Option (List ℕ)) (result : Result Handled Failed) →
     declared.size ≡ 0 →
-    Fetches sizes reads declared closes old new (Ok handled) →
-    (fetch : Fetch) × IsFetch sizes reads declared.size fetch × IsEmpty declared.size fetch
-    × Writes (fetch_reply declared closes fetch) (fetch_handled declared.hash fetch) old new (Ok handled)
-empty_then sizes reads declared closes old new handled none (Mismatched, fits, writes) = (Mismatched, fits, tt, writes)
-empty_then sizes reads declared closes old new handled none (Read blocks last, fits, writes) =
+    Fetches sizes reads declared closes old new result →
+    SendsHead sizes reads declared closes old new result
+empty_then sizes reads declared closes old new result none (Mismatched, fits, writes) = (Mismatched, fits, tt, writes)
+empty_then sizes reads declared closes old new result none (Read blocks last, fits, writes) =
     (Read blocks last, fits, none, writes)
-empty_then sizes reads declared closes old new handled none (Broken blocks, fits, writes) =
-    (Broken blocks, fits, tt, writes)
+empty_then sizes reads declared closes old new result none (Broken blocks, (sized, few, read), writes) =
+    let short : length blocks ≤ 0 = subst (λ (n : ℕ). length blocks ≤ full_blocks n) none few in
+    (Broken blocks, (sized, few, read), no_block blocks short, writes)
 
 -- a package was sent after its head
 pub head_then :
@@ -175,9 +178,7 @@ module _
         Answers (λ used. IsFit used × IsAtOnce used) steps kind body closes before after old new result →
         Begins IsFit steps kind body closes before after old new (done_of result)
     done_begins IsFit old new (Ok handled) answers = answers
-    done_begins IsFit old new (Err failed) answers =
-        Answers-wider (λ used. IsFit used × IsAtOnce used) IsFit steps kind body closes before after old new (Err failed)
-        (λ used fits. fits.0) answers
+    done_begins IsFit old new (Err failed) answers = answers
 
     -- a package that the desk knows
     pub fetch_begins :
@@ -192,17 +193,17 @@ module _
       calls = calls;
       writes = writes;
     }
-    fetch_begins sizes reads method name declared old new (Ok (begun.Sends path told)) get calls (same, known, sized, head) =
-        subst (λ (n : List ℕ). IsRouted sizes reads method name (Fetched n told (Broken []))
+    fetch_begins sizes reads method name declared old new (Ok (begun.Sends path told)) get calls (same, known, some, sized, head) =
+        subst (λ (n : List ℕ). IsRouted sizes reads method name (Fetched n told (Broken [])) × (0 < told.size)
         × Leads steps before (calls_of body (Fetched n told (Broken []))) after
         × Appends old new (reply_to kind closes (Fetched n told (Broken [])))) (sym same)
-        (subst (λ (d : Declared). IsRouted sizes reads method name (Fetched name d (Broken []))
+        (subst (λ (d : Declared). IsRouted sizes reads method name (Fetched name d (Broken [])) × (0 < d.size)
         × Leads steps before (calls_of body (Fetched name d (Broken []))) after
         × Appends old new (reply_to kind closes (Fetched name d (Broken [])))) (sym known)
-        ((refl, get, (sized, omega arith, tt)), calls, head))
-    fetch_begins sizes reads method name declared old new (Err failed) get calls (fetch, fits, writes) = record {
+        ((refl, get, (sized, omega arith, tt)), some, calls, head))
+    fetch_begins sizes reads method name declared old new (Err failed) get calls (fetch, fits, empty, writes) = record {
       used = Fetched name declared fetch;
-      fits = (refl, get, fits);
+      fits = ((refl, get, fits), empty);
       calls = calls;
       writes = writes;
     }
@@ -216,10 +217,11 @@ module _
     Begins-wider IsFit IsWide old new (Ok (begun.Done handled)) wider begins =
         Answers-wider (λ used. IsFit used × IsAtOnce used) (λ used. IsWide used × IsAtOnce used) steps kind body closes
         before after old new (Ok handled) (λ used fits. (wider used fits.0, fits.1)) begins
-    Begins-wider IsFit IsWide old new (Ok (begun.Sends name declared)) wider (fits, calls, head) =
-        (wider (Fetched name.now declared (Broken [])) fits, calls, head)
+    Begins-wider IsFit IsWide old new (Ok (begun.Sends name declared)) wider (fits, some, calls, head) =
+        (wider (Fetched name.now declared (Broken [])) fits, some, calls, head)
     Begins-wider IsFit IsWide old new (Err failed) wider begins =
-        Answers-wider IsFit IsWide steps kind body closes before after old new (Err failed) wider begins
+        Answers-wider (λ used. IsFit used × IsAtOnce used) (λ used. IsWide used × IsAtOnce used) steps kind body closes
+        before after old new (Err failed) (λ used fits. (wider used fits.0, fits.1)) begins
 
     -- the package after its head
     pub rest_answers :

@@ -15,7 +15,7 @@ use Rattle.http_sessions.specs.Readings.{IsFound}
 use Rattle.http_sessions.specs.Sessions.{Writes}
 use Rattle.http_sessions.specs.Stops.{Last, More, Stop, end_after, stop_bytes}
 use Rattle.http_talks.specs.Talks.{IsSent}
-use Rattle.http_talks.specs.Leaves.{EndsLost, EndsOpen, EndsOver, EndsSending, IsDone, IsNew, IsStarted, Leaves, Makes}
+use Rattle.http_talks.specs.Leaves.{EndsAnyhow, EndsOpen, EndsOver, EndsSending, IsDone, IsNew, IsStarted, Leaves, Makes}
 use Rattle.http_talks.specs.declared.outcome.After.{After}
 use Rattle.http_talks.specs.declared.outcome.After.TheVariants as after
 use Rattle.http_talks.specs.declared.talk.Sending.{Sending}
@@ -136,7 +136,7 @@ module _
           drop found.length kept,
           made,
           true,
-          made_last answers.used true made EndsLost answers.fits
+          made_last answers.used true made EndsAnyhow answers.fits
               (sent ∙ ap (λ (b : Bool). reply_to kind b answers.used) same) answers.calls tt,
         )
 
@@ -178,7 +178,7 @@ module _
       drop found.length kept,
       made,
       true,
-      made_last (Fetched name declared (Broken [])) true made EndsLost fit
+      made_last (Fetched name declared (Broken [])) true made EndsAnyhow fit
           (head ∙ ap (λ (b : Bool). reply_to kind b (Fetched name declared (Broken []))) same) calls tt,
     )
 
@@ -193,7 +193,7 @@ module _
       drop found.length kept,
       made,
       true,
-      made_last (Fetched name declared (Broken [])) true made EndsLost fit
+      made_last (Fetched name declared (Broken [])) true made EndsAnyhow fit
           (head ∙ ap (λ (b : Bool). reply_to kind b (Fetched name declared (Broken []))) same) calls tt,
     )
 
@@ -207,7 +207,7 @@ module _
       drop found.length kept,
       made,
       false,
-      made_last answers.used false made EndsLost answers.fits
+      made_last answers.used false made EndsAnyhow answers.fits
           (subst (λ (b : Bool). Writes false (Some []) (Some made) [] (reply_to kind b answers.used)) same answers.writes)
           answers.calls tt,
     )

@@ -2,4 +2,5 @@ mod TalkLemmas
 mod LeavesLemmas
 mod FoundLemmas
 mod RejectLemmas
+mod WiderLemmas
 mod SendLemmas

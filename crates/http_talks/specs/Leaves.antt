@@ -3,6 +3,7 @@ use Rattle.std.specs.Prelude.{◌≡◌, ⊤, ◌+◌, ◌==◌, ℕ, Bool, true
 use Rattle.http_heads.specs.declared.status.Status.{Status}
 use Rattle.http_wire.specs.Sending.{AppendsPart}
 use Rattle.http_desks.specs.declared.method.Method.{Method}
+use Rattle.http_desks.specs.Begins.{IsAtOnce}
 use Rattle.http_desks.specs.Calls.{Call, Leads}
 use Rattle.http_desks.specs.Replies.{empty_reply}
 use Rattle.http_desks.specs.Transfers.{IsAt as HasMade, package_size}
@@ -13,7 +14,7 @@ use Rattle.values.specs.declared.declared.Declared.{Declared}
 use Rattle.http_sessions.specs.declared.ends.End.{End}
 use Rattle.http_sessions.specs.Stops.{Ends, More, Stop, begun, end_after}
 use Rattle.http_sessions.specs.Sessions.{Serves}
-use Rattle.http_talks.specs.Talks.{Said, SendsFor, pending}
+use Rattle.http_talks.specs.Talks.{Said, SendsFor, is_lost, pending}
 use Rattle.http_talks.specs.declared.outcome.After.{After}
 use Rattle.http_talks.specs.declared.outcome.After.TheVariants as after
 use Rattle.http_talks.specs.declared.outcome.Opened.{Opened}
@@ -72,9 +73,9 @@ abbrev pub EndsOver : ℕ → List ℕ → ℕ → Stop → List ℕ → Type 0
 EndsOver start left count stop rest =
     (count ≡ 0) × ((how : End) × Ends (start == 999) (Some left) stop rest how) × (begun stop ≡ 1)
 
--- anyhow, since memory ran out
-abbrev pub EndsLost : ℕ → Stop → List ℕ → Type 0
-EndsLost count stop rest = ⊤
+-- anyhow
+abbrev pub EndsAnyhow : ℕ → Stop → List ℕ → Type 0
+EndsAnyhow count stop rest = ⊤
 
 -- what the reply leaves that rejects a message; if memory ran out, a first part of it was made
 abbrev pub IsRejection : Status → After → Type 0
@@ -93,7 +94,11 @@ Leaves IsFit steps kind start kept before behind (after.Sends started) =
 Leaves IsFit steps kind start kept before behind (after.Over made) =
     (left : List ℕ) × Makes IsFit steps kind start (EndsOver start left) true kept left made.items before behind
 Leaves IsFit steps kind start kept before behind after.Lost =
-    (left : List ℕ) × (made : List ℕ) × (whole : Bool) × Makes IsFit steps kind start EndsLost whole kept left made before behind
+    (left : List ℕ) × (made : List ℕ) × (whole : Bool) × Makes IsFit steps kind start EndsAnyhow whole kept left made before behind
+
+-- the use fits, and no block is sent of a package with bytes
+abbrev pub AtOnce : (Method → List ℕ → Use → Type 0) → Method → List ℕ → Use → Type 0
+AtOnce IsFit method target used = IsFit method target used × IsAtOnce used
 
 -- the connection then
 abbrev pub IsApplied : Talk → After → Talk → Type 0
@@ -113,3 +118,10 @@ GoesOn IsFit steps kind old before new behind =
     (calls : List Call) × Leads steps before calls behind
     × ((received sent : List ℕ) (made : List Call) →
     Said IsFit kind old received sent made → Said IsFit kind new received sent (made ++ calls))
+
+-- what a step of a busy connection made, unless memory ran out: a part of the session, without a block of a package
+abbrev pub MakesAtOnce :
+    {D : Type 0} → (Method → List ℕ → Use → Type 0) → (D → Call → D → Type 0) → List ℕ → Talk → D → Talk → D → Type 0
+MakesAtOnce IsFit steps kind old before new behind =
+    old.stage ≡ stage.Busy → is_lost new.stage ≡ false → (left : List ℕ)
+    × Makes (AtOnce IsFit) steps kind old.begun EndsAnyhow true old.kept.items left (pending new) before behind

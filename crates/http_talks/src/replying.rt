@@ -3,7 +3,7 @@
 ghost use Rattle.std.specs.Prelude.{◌≡◌, ◌<◌, ◌==◌, ◌||◌, false, IfOk};
 ghost use Rattle.http_desks.specs.Uses.{IsUse};
 ghost use Rattle.http_sessions.specs.Readings.{IsFound};
-ghost use Rattle.http_talks.specs.Leaves.{IsDone, IsNew, IsRejection, IsStarted, Leaves};
+ghost use Rattle.http_talks.specs.Leaves.{AtOnce, IsDone, IsNew, IsRejection, IsStarted, Leaves};
 
 use crate::devices::Made;
 use crate::outcome::{After, Opened, Started};
@@ -99,7 +99,7 @@ pub(crate) fn reply<D: Desk, Z: Packages + Clock>(
 ) -> After
     requires few { begun < 1000 }
     requires found { IsFound kept.now found.now }
-    ensures leaves { Leaves (IsUse (D.path desk.old) (Z.tells site.now) (Z.sizes site.now) (Z.reads site.now))
+    ensures leaves { Leaves (AtOnce (IsUse (D.path desk.old) (Z.tells site.now) (Z.sizes site.now) (Z.reads site.now)))
         D.steps (D.content_type desk.old) begun kept.now desk.old desk.new result }
     ensures path { D.path desk.new ≡ D.path desk.old }
     ensures content_type { D.content_type desk.new ≡ D.content_type desk.old }

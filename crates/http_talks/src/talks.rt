@@ -2,7 +2,7 @@ ghost use Rattle.std.specs.Prelude.{◌≡◌, ◌⊎◌, ◌++◌, ◌<◌, ◌
 ghost use Rattle.http_desks.specs.Calls.{Call, Leads};
 ghost use Rattle.http_desks.specs.Uses.{IsUse};
 ghost use Rattle.http_ports.specs.Speech.{IsNext, Waiting};
-ghost use Rattle.http_talks.specs.Leaves.{GoesOn, IsApplied};
+ghost use Rattle.http_talks.specs.Leaves.{GoesOn, IsApplied, MakesAtOnce};
 ghost use Rattle.http_talks.specs.Talks.{IsSending, Said, is_lost, pending, phase_of};
 ghost use Rattle.http_talks.specs.declared.talk.Stage.TheVariants as stage;
 
@@ -142,6 +142,8 @@ impl<Z: Packages + Clock> Protocol for Talks<'_, Z> {
         requires { pending talk.old ≡ [] }
         ensures next { IsNext result (pending talk.new) (phase_of talk.new.stage) }
         ensures calls { GoesOn (IsUse (D.path desk.old) (Z.tells self.now.site.now) (Z.sizes self.now.site.now) (Z.reads self.now.site.now))
+            D.steps (D.content_type desk.old) talk.old desk.old talk.new desk.new }
+        ensures at_once { MakesAtOnce (IsUse (D.path desk.old) (Z.tells self.now.site.now) (Z.sizes self.now.site.now) (Z.reads self.now.site.now))
             D.steps (D.content_type desk.old) talk.old desk.old talk.new desk.new }
         ensures block { IsSending talk.old.stage → length (pending talk.new) ≤ 65536 }
         ensures path { D.path desk.new ≡ D.path desk.old }

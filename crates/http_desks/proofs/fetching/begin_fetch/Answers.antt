@@ -18,6 +18,7 @@ pub returns-then-declared-gt0-clause-fetches : goal.returns-then-declared-gt0-cl
 returns-then-declared-gt0-clause-fetches g c = (
   refl,
   refl,
+  c.if-declared-gt0.true,
   sized_as (g.P.Packages.sizes c.args.packages.now c.args.name.now) c.size-size.result c.args.declared.now.size
       c.size-size.ensures (sym c.if-ne.false ∙ c.ne.ensures),
   rw head_bytes-lines at c.in-Ok.ensures.sends,
@@ -26,7 +27,7 @@ returns-then-declared-gt0-clause-fetches g c = (
 pub returns-in-Ok-send_rest-clause-fetches : goal.returns-in-Ok-send_rest-clause-fetches
 returns-in-Ok-send_rest-clause-fetches g c =
     empty_then (g.P.Packages.sizes c.args.packages.now c.args.name.now) (g.P.Packages.reads c.args.packages.now c.args.name.now)
-    c.args.declared.now c.args.closes _ _ c.in-Ok-send_rest.handled (omega (arith, c.if-declared-gt0.false)) (
+    c.args.declared.now c.args.closes _ _ (Ok c.in-Ok-send_rest.handled) (omega (arith, c.if-declared-gt0.false)) (
     head_then (g.P.Packages.sizes c.args.packages.now c.args.name.now) (g.P.Packages.reads c.args.packages.now c.args.name.now)
     c.args.declared.now c.args.closes _ _ _ (Ok c.in-Ok-send_rest.handled)
     (sized_as (g.P.Packages.sizes c.args.packages.now c.args.name.now) c.size-size.result c.args.declared.now.size
@@ -35,8 +36,10 @@ returns-in-Ok-send_rest-clause-fetches g c =
 
 pub returns-in-Err-send_rest-clause-fetches : goal.returns-in-Err-send_rest-clause-fetches
 returns-in-Err-send_rest-clause-fetches g c =
+    empty_then (g.P.Packages.sizes c.args.packages.now c.args.name.now) (g.P.Packages.reads c.args.packages.now c.args.name.now)
+    c.args.declared.now c.args.closes _ _ (Err c.in-Err-send_rest.error) (omega (arith, c.if-declared-gt0.false)) (
     head_then (g.P.Packages.sizes c.args.packages.now c.args.name.now) (g.P.Packages.reads c.args.packages.now c.args.name.now)
     c.args.declared.now c.args.closes _ _ _ (Err c.in-Err-send_rest.error)
     (sized_as (g.P.Packages.sizes c.args.packages.now c.args.name.now) c.size-size.result c.args.declared.now.size
     c.size-size.ensures (sym c.if-ne.false ∙ c.ne.ensures))
-    (rw (head_bytes-lines, append-nil) at c.in-Ok.ensures.sends) c.in-Err-send_rest.ensures.rests
+    (rw (head_bytes-lines, append-nil) at c.in-Ok.ensures.sends) c.in-Err-send_rest.ensures.rests)

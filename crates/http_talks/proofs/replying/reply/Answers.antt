@@ -1,45 +1,40 @@
-use Rattle.std.proofs.Common.{◌||◌, ◌==◌, ◌∙◌, Bool, ap}
-use Rattle.http_desks.specs.Begins.{IsAtOnce}
-use Rattle.http_desks.specs.Uses.{IsUse, Use}
-use Rattle.http_desks.proofs.ReplyLemmas.{Answers-wider}
+use Rattle.std.proofs.Common.{◌||◌, ◌==◌, ◌∙◌, Bool, ap, refl}
+use Rattle.http_desks.specs.Uses.{IsUse}
+use Rattle.http_talks.specs.Leaves.{AtOnce}
 use Rattle.http_talks.proofs.FoundLemmas.{done_leaves, failed_leaves, started_leaves, unstarted_leaves}
 use Rattle.http_talks.proofs.TalkLemmas.{rest_from}
 use Rattle.http_talks.proofs.replying.reply.Goals as goal
 
 pub returns-in-Ok-Done-clause-leaves : goal.returns-in-Ok-Done-clause-leaves
 returns-in-Ok-Done-clause-leaves g c =
-    done_leaves (IsUse (g.D.Desk.path c.args.desk.now) (g.Z.Clock.tells c.args.site.now) (g.Z.Packages.sizes c.args.site.now) (g.Z.Packages.reads c.args.site.now))
+    done_leaves (AtOnce (IsUse (g.D.Desk.path c.args.desk.now) (g.Z.Clock.tells c.args.site.now) (g.Z.Packages.sizes c.args.site.now) (g.Z.Packages.reads c.args.site.now)))
     g.D.Desk.steps (g.D.Desk.content_type c.args.desk.now) c.args.begun c.args.kept.now c.args.found.now c.requires.found c.requires.few
     c.args.desk.now c.begin.new.desk c.in-Ok-Done.handled c.closes_after-closes.result _ c.done_after.result
     (c.closes_after-closes.ensures.closes ∙ ap (λ (b : Bool). b || (c.args.begun == 999)) c.requires.found.closes)
-    (Answers-wider
-    (λ (used : Use). IsUse (g.D.Desk.path c.args.desk.now) (g.Z.Clock.tells c.args.site.now) (g.Z.Packages.sizes c.args.site.now) (g.Z.Packages.reads c.args.site.now)
-    c.args.found.now.request.method c.args.found.now.request.target.now used × IsAtOnce used)
-    _ _ _ _ _ _ _ _ _ _ (λ used fits. fits.0)
-    (rw (c.in-Ok-Done.field-0-is, c.new.ensures.items) at c.in-Ok-Done.ensures.begins))
+    (rw (c.in-Ok-Done.field-0-is, c.new.ensures.items) at c.in-Ok-Done.ensures.begins)
     (rw (rest_from c.args.found.now.length c.args.kept.now) at c.done_after.ensures)
 
 pub returns-in-Ok-clause-leaves : goal.returns-in-Ok-clause-leaves
 returns-in-Ok-clause-leaves g c =
-    let (fits, calls, head) = rw (c.in-Ok-Sends.field-0-is, c.new.ensures.items) at c.in-Ok-Sends.ensures.begins in
-    started_leaves (IsUse (g.D.Desk.path c.args.desk.now) (g.Z.Clock.tells c.args.site.now) (g.Z.Packages.sizes c.args.site.now) (g.Z.Packages.reads c.args.site.now))
+    let (fits, some, calls, head) = rw (c.in-Ok-Sends.field-0-is, c.new.ensures.items) at c.in-Ok-Sends.ensures.begins in
+    started_leaves (AtOnce (IsUse (g.D.Desk.path c.args.desk.now) (g.Z.Clock.tells c.args.site.now) (g.Z.Packages.sizes c.args.site.now) (g.Z.Packages.reads c.args.site.now)))
     g.D.Desk.steps (g.D.Desk.content_type c.args.desk.now) c.args.begun c.args.kept.now c.args.found.now c.requires.found c.requires.few
     c.args.desk.now c.begin.new.desk c.in-Ok-Sends.name.now c.in-Ok-Sends.declared c.closes_after-closes.result c.in-Ok.sending _ c.started_after.result
     (c.closes_after-closes.ensures.closes ∙ ap (λ (b : Bool). b || (c.args.begun == 999)) c.requires.found.closes)
-    fits calls head c.in-Ok.ensures (rw (rest_from c.args.found.now.length c.args.kept.now) at c.started_after.ensures)
+    (fits, refl) calls head c.in-Ok.ensures (rw (rest_from c.args.found.now.length c.args.kept.now) at c.started_after.ensures)
 
 pub returns-in-Ok-Sends-clause-leaves : goal.returns-in-Ok-Sends-clause-leaves
 returns-in-Ok-Sends-clause-leaves g c =
-    let (fits, calls, head) = rw (c.in-Ok-Sends.field-0-is, c.new.ensures.items) at c.in-Ok-Sends.ensures.begins in
-    unstarted_leaves (IsUse (g.D.Desk.path c.args.desk.now) (g.Z.Clock.tells c.args.site.now) (g.Z.Packages.sizes c.args.site.now) (g.Z.Packages.reads c.args.site.now))
+    let (fits, some, calls, head) = rw (c.in-Ok-Sends.field-0-is, c.new.ensures.items) at c.in-Ok-Sends.ensures.begins in
+    unstarted_leaves (AtOnce (IsUse (g.D.Desk.path c.args.desk.now) (g.Z.Clock.tells c.args.site.now) (g.Z.Packages.sizes c.args.site.now) (g.Z.Packages.reads c.args.site.now)))
     g.D.Desk.steps (g.D.Desk.content_type c.args.desk.now) c.args.begun c.args.kept.now c.args.found.now c.requires.found c.requires.few
     c.args.desk.now c.begin.new.desk c.in-Ok-Sends.name.now c.in-Ok-Sends.declared c.closes_after-closes.result _
     (c.closes_after-closes.ensures.closes ∙ ap (λ (b : Bool). b || (c.args.begun == 999)) c.requires.found.closes)
-    fits calls head
+    (fits, refl) calls head
 
 pub returns-clause-leaves : goal.returns-clause-leaves
 returns-clause-leaves g c =
-    failed_leaves (IsUse (g.D.Desk.path c.args.desk.now) (g.Z.Clock.tells c.args.site.now) (g.Z.Packages.sizes c.args.site.now) (g.Z.Packages.reads c.args.site.now))
+    failed_leaves (AtOnce (IsUse (g.D.Desk.path c.args.desk.now) (g.Z.Clock.tells c.args.site.now) (g.Z.Packages.sizes c.args.site.now) (g.Z.Packages.reads c.args.site.now)))
     g.D.Desk.steps (g.D.Desk.content_type c.args.desk.now) c.args.begun c.args.kept.now c.args.found.now c.requires.found c.requires.few
     c.args.desk.now c.begin.new.desk c.closes_after-closes.result _ _
     (c.closes_after-closes.ensures.closes ∙ ap (λ (b : Bool). b || (c.args.begun == 999)) c.requires.found.closes)
