@@ -3,6 +3,7 @@
 use crate::writers::Paper;
 use log_queues::{LineSender, Page, Signal, open_log, start_writer};
 use std::alloc::Global;
+use std::io::Write;
 use std::sync::{Mutex, Wait};
 use std::thread;
 use std::thread::Threads;
@@ -79,6 +80,50 @@ fn a_full_disk_joins_no_sent_lines(rt: HostRuntime) {
             "fir\nsecond\n"
         ) == Some(true)
     );
+}
+
+// Sends the lines of a row by two senders with room for so many bytes each, and ends them; whether the log is written so.
+fn ends(alloc: Global, bytes: usize, row: &str, paper: &mut Paper, wanted: &str) -> Option<bool> {
+    let mut log = open_log(alloc, 2, bytes).ok()?;
+    send(&mut log.senders, row)?;
+    for sender in log.senders {
+        sender.finish();
+    }
+    let mut writer = log.writer;
+    writer.write_now(&mut Page::new(paper));
+    Some(paper.bytes.as_slice() == wanted.as_bytes())
+}
+
+// rule: Note of lost lines
+#[test]
+fn lines_that_are_lost_last_are_counted_at_the_end(rt: HostRuntime) {
+    let row = "0 0123456789abcdef\n1 short\n0 0123456789abcdef\n0 a\n1 b\n";
+    let mut all = paper(rt.alloc(), 0, 0);
+    let wanted = "0123456789abcdef\nomaha: lines of the log that were lost: 2\nshort\nb\n";
+    assert!(rt; ends(rt.alloc(), 17, row, &mut all, wanted) == Some(true));
+}
+
+// Writes two lines to a sender with room for one; how many bytes it takes of each.
+fn write_both(sender: &mut LineSender) -> Option<(usize, usize)> {
+    let first = sender.write(b"first\n").ok()?;
+    let second = sender.write(b"second\n").ok()?;
+    sender.flush().ok()?;
+    Some((first, second))
+}
+
+// Whether a sender takes both, and loses the second.
+fn takes_lines(alloc: Global, paper: &mut Paper) -> Option<bool> {
+    let mut log = open_log(alloc, 1, 8).ok()?;
+    let taken = write_both(log.senders.get_mut(0)?)?;
+    log.writer.write_now(&mut Page::new(paper));
+    Some(taken == (6, 7) && paper.bytes.as_slice() == b"first\n".as_slice())
+}
+
+// rule: Line that is sent
+#[test]
+fn a_sender_is_a_writer_that_never_fails(rt: HostRuntime) {
+    let mut all = paper(rt.alloc(), 0, 0);
+    assert!(rt; takes_lines(rt.alloc(), &mut all) == Some(true));
 }
 
 // Sends ten lines by each sender, and ends.

@@ -1,10 +1,11 @@
 -- The lines that are sent to a log's writer, and what it writes; this project's profile.
-use Rattle.std.specs.Prelude.{◌≡◌, ◌+◌, ◌-◌, ◌^◌, ℕ, zero, suc, Bool, false, List, [], ◌++◌, codes, decimal, min}
+use Rattle.std.specs.Prelude.{◌≡◌, ◌+◌, ◌-◌, ◌^◌, ℕ, zero, suc, Bool, true, false, List, [], ◌∷◌, ◌++◌, codes, decimal, min}
 use Rattle.std.specs.Io.KnownBytes.{Appends}
 use Rattle.streams.specs.Streams.{Known}
+use Rattle.streams.specs.Writing.{Breaks}
 
 -- what a sender has sent so far, how many lines it has lost since the last one that it sent, and how much room it knows
--- of in its ring
+-- of in its ring, without the room that it keeps for its last note
 pub record Sending : Type 0 where
   pub sent : List ℕ
   pub lost : ℕ
@@ -33,9 +34,23 @@ Sends old new line = (new.sent ≡ old.sent ++ note_of old.lost ++ line) × (new
 abbrev pub Loses : Sending → Sending → Type 0
 Loses old new = (new.sent ≡ old.sent) × (new.lost ≡ min (old.lost + 1) (2 ^ 64 - 1))
 
+-- what ends a part of a line
+abbrev pub end_of : Bool → List ℕ
+end_of true = codes "\n"
+end_of false = []
+
+-- the bytes were written whole; or the writer failed within them, and the log may end in a part of a line
+abbrev pub IsPut : List ℕ → Known → Known → Bool → Type 0
+IsPut bytes old new false = Appends old.bytes new.bytes bytes
+IsPut bytes old new true = Breaks old new bytes
+
+-- bytes were written to a log, after a line feed if it ended in a part of a line; no bytes leave it as it was
+abbrev pub IsAppended : List ℕ → Known → Known → Bool → Bool → Type 0
+IsAppended [] old new was_cut is_cut = (new ≡ old) × (is_cut ≡ was_cut)
+IsAppended (byte ∷ bytes) old new was_cut is_cut = IsPut (end_of was_cut ++ byte ∷ bytes) old new is_cut
+
 -- rule: Written log
--- what was received in the meantime was written; whole, if the log ended in no part of a line before and after
+-- what was received in the meantime was written, and nothing else
 abbrev pub HasWritten : List ℕ → List ℕ → Known → Known → Bool → Bool → Type 0
 HasWritten before after old new was_cut is_cut =
-    (bytes : List ℕ) × (after ≡ before ++ bytes)
-    × (was_cut ≡ false → is_cut ≡ false → Appends old.bytes new.bytes bytes)
+    (bytes : List ℕ) × (after ≡ before ++ bytes) × IsAppended bytes old new was_cut is_cut

@@ -2,8 +2,8 @@
 //!
 //! `open_log` makes a `Log`: a `LineSender` for each of several threads, and a `LogWriter` for one more. A sender waits for
 //! nobody: a line goes into its ring of bytes whole, or is counted as lost, and the next line that goes is preceded by one
-//! that says how many were lost. The writer writes to a `Page` what has come from all senders, and sleeps until the
-//! `Signal` that they share wakes it. Read `specs/Queues.antt`.
+//! that says how many were lost. A sender that is finished sends that one alone. The writer writes to a `Page` what has
+//! come from all senders, and sleeps until the `Signal` that they share wakes it. Read `specs/Queues.antt`.
 //!
 //! It doesn't know what a line says, and promises no order between the lines of two senders.
 
@@ -16,6 +16,6 @@ mod signal;
 mod writer;
 
 pub use crate::page::Page;
-pub use crate::sender::LineSender;
+pub use crate::sender::{EndedSender, LineSender};
 pub use crate::signal::Signal;
 pub use crate::writer::{Log, LogWriter, open_log, start_writer};

@@ -1,5 +1,7 @@
-ghost use Rattle.std.specs.Prelude.{◌≡◌, false, OnOk};
+ghost use Rattle.std.specs.Prelude.{◌≡◌, ◌++◌, OnErr, OnOk};
 ghost use Rattle.std.specs.Io.KnownBytes.{Appends};
+ghost use Rattle.streams.specs.Writing.{Breaks};
+ghost use Rattle.log_queues.specs.Queues.{IsPut, end_of};
 
 use std::io;
 use streams::WriteWhole;
@@ -22,8 +24,10 @@ impl<W: WriteWhole> Page<'_, W> {
     // Writes lines, after a line feed if the log ends in a part of one.
     fn put(&mut self, lines: &[u8]) -> io::Result<()>
         ensures cut { self.new.is_cut ≡ self.old.is_cut }
-        ensures written { OnOk result (self.old.is_cut ≡ false
-            → Appends (W.output self.old.out.now).bytes (W.output self.new.out.now).bytes lines.now) }
+        ensures ok { OnOk result
+            (Appends (W.output self.old.out.now).bytes (W.output self.new.out.now).bytes (end_of self.old.is_cut ++ lines.now)) }
+        ensures err { OnErr result
+            (Breaks (W.output self.old.out.now) (W.output self.new.out.now) (end_of self.old.is_cut ++ lines.now)) }
     {
         if !self.is_cut {
             return self.out.write_whole(lines);
@@ -34,8 +38,8 @@ impl<W: WriteWhole> Page<'_, W> {
 
     /// Writes lines. What can't be written is lost; then the log may end in a part of a line, which the next lines end.
     pub(crate) fn append(&mut self, lines: &[u8])
-        ensures { self.old.is_cut ≡ false → self.new.is_cut ≡ false
-            → Appends (W.output self.old.out.now).bytes (W.output self.new.out.now).bytes lines.now }
+        ensures { IsPut (end_of self.old.is_cut ++ lines.now) (W.output self.old.out.now) (W.output self.new.out.now)
+            self.new.is_cut }
     {
         self.is_cut = self.put(lines).is_err();
     }

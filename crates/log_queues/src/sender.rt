@@ -1,7 +1,8 @@
-ghost use Rattle.std.specs.Prelude.{◌≡◌, ◌⊎◌, ◌++◌, ◌≤◌, IsTrue, IsFalse, length};
+ghost use Rattle.std.specs.Prelude.{◌≡◌, ◌⊎◌, ◌++◌, ◌≤◌, IsOk, IsTrue, IsFalse, Ok, length};
+ghost use Rattle.rtrb.specs.Ring.{known_free};
 ghost use Rattle.log_queues.specs.Queues.{Loses, Sends, note_of};
 
-use crate::notes::after_note;
+use crate::notes::{MAX_NOTE, after_note, lost_note};
 use crate::signal::Signal;
 use rtrb::Producer;
 use std::alloc::Global;
@@ -10,7 +11,7 @@ use std::io::Write;
 use std::marker::Model;
 use std::sync::Arc;
 
-/// One thread's end of a log. It takes no lock and waits for nobody.
+/// One thread's end of a log. It takes no lock and waits for nobody. `finish` ends it.
 #[derive(Drop)]
 pub struct LineSender {
     pub(crate) alloc: Global,
@@ -18,27 +19,51 @@ pub struct LineSender {
     // how many lines were lost since the last one that went
     pub(crate) lost: u64,
     pub(crate) signal: Arc<Signal, Global>,
+    // room for the last note
+    ghost room: { 61 ≤ known_free ring },
 }
 
 impl Model for LineSender {
+    ghost use Rattle.std.specs.Prelude.{◌-◌};
     ghost use Rattle.rtrb.specs.Ring.{known_free, sent};
     ghost use Rattle.log_queues.specs.Queues.{Sending};
 
     ghost Value = { Sending };
 
-    ghost view = { λ sender. record { sent = sent sender.ring; lost = sender.lost; free = known_free sender.ring } };
+    ghost view = { λ sender. record { sent = sent sender.ring; lost = sender.lost; free = known_free sender.ring - 61 } };
+
+    ghost invariant = { λ _. Unit {0} };
+}
+
+/// A sender that has ended: what it has sent is all that comes from it.
+#[derive(Drop)]
+pub struct EndedSender {
+    ring: Producer<u8>,
+}
+
+impl Model for EndedSender {
+    ghost use Rattle.std.specs.Prelude.{ℕ, List};
+    ghost use Rattle.rtrb.specs.Ring.{sent};
+
+    ghost Value = { List ℕ };
+
+    ghost view = { λ ended. sent ended.ring };
 
     ghost invariant = { λ _. Unit {0} };
 }
 
 impl LineSender {
-    // Puts bytes into the ring, all or none; whether there was room.
+    // Puts bytes into the ring, all or none, and keeps room for the last note; whether there was room.
     fn push(&mut self, bytes: &[u8]) -> bool
         ensures ok { IsTrue result → self.new.sent ≡ self.old.sent ++ bytes.now }
         ensures full { IsFalse result → self.new.sent ≡ self.old.sent }
         ensures fits { length bytes.now ≤ self.old.free → IsTrue result }
         ensures lost { self.new.lost ≡ self.old.lost }
     {
+        let room = self.ring.slots();
+        if room - MAX_NOTE < bytes.len() {
+            return false;
+        }
         self.ring.push_entire_slice(bytes).is_ok()
     }
 
@@ -73,6 +98,22 @@ impl LineSender {
             self.lost = self.lost.saturating_add(1);
         }
     }
+
+    // rule: Note of lost lines
+    /// Ends a sender. If lines were lost after the last one that went, it sends one more line, which says how many.
+    ///
+    /// There is always room for that line. Senders are finished before the log's signal ends.
+    pub fn finish(self) -> EndedSender
+        ensures { result ≡ self.sent ++ note_of self.lost }
+    {
+        let mut ring = self.ring;
+        if self.lost > 0 {
+            let note = lost_note(self.lost);
+            let _ = ring.push_entire_slice(note.as_slice());
+            self.signal.wake();
+        }
+        EndedSender { ring }
+    }
 }
 
 impl Write for LineSender {
@@ -81,12 +122,19 @@ impl Write for LineSender {
     // what was lost is not written
     ghost contents = { λ _. None };
 
-    fn write(&mut self, bytes: &[u8]) -> io::Result<usize> {
+    /// Sends a line as `send` does, and takes all of its bytes.
+    fn write(&mut self, bytes: &[u8]) -> io::Result<usize>
+        ensures taken { result ≡ Ok (length bytes.now) }
+        ensures sends { Sends self.old self.new bytes.now ⊎ Loses self.old self.new }
+    {
         self.send(bytes);
         Ok(bytes.len())
     }
 
-    fn flush(&mut self) -> io::Result<()> {
+    fn flush(&mut self) -> io::Result<()>
+        ensures ok { IsOk result }
+        ensures kept { self.new ≡ self.old }
+    {
         Ok(())
     }
 }

@@ -1,9 +1,10 @@
 // The one thread that writes a log.
 
-ghost use Rattle.std.specs.Prelude.{◌≡◌, All, IfOk, IfSome, length};
+ghost use Rattle.std.specs.Prelude.{◌≡◌, ◌+◌, All, IfOk, length};
 ghost use Rattle.rtrb.specs.Ring.{received};
 ghost use Rattle.log_queues.specs.Queues.{HasWritten, opened};
 
+use crate::notes::MAX_NOTE;
 use crate::page::Page;
 use crate::sender::LineSender;
 use crate::signal::Signal;
@@ -108,6 +109,13 @@ fn room_of(alloc: Global, bytes: usize) -> Result<Vec<u8>, AllocError> {
     vec![in alloc; 0; bytes]
 }
 
+// So many bytes and a note.
+fn with_note(bytes: usize) -> Result<usize, AllocError>
+    ensures { IfOk result (λ all. all ≡ bytes + 61) }
+{
+    bytes.checked_add(MAX_NOTE).ok_or(AllocError)
+}
+
 // A sender and its end of the ring.
 fn open_ring(
     alloc: Global,
@@ -116,7 +124,7 @@ fn open_ring(
 ) -> Result<(LineSender, Consumer<u8>), AllocError>
     ensures { IfOk result (λ made. made.0 ≡ opened bytes) }
 {
-    let (ring, end) = RingBuffer::new(alloc, bytes)?;
+    let (ring, end) = RingBuffer::new(alloc, with_note(bytes)?)?;
     let signal = Arc::try_clone(signal)?;
     let sender = LineSender {
         alloc,
@@ -147,7 +155,7 @@ fn open_rings(
     Ok((senders, rings))
 }
 
-/// Opens a log of so many senders, each with room for `bytes`.
+/// Opens a log of so many senders, each with room for `bytes` and a note.
 pub fn open_log(alloc: Global, count: usize, bytes: usize) -> Result<Log, AllocError>
     ensures many { IfOk result (λ log. length log.senders.items ≡ count) }
     ensures fresh { IfOk result (λ log. All (λ sender. sender ≡ opened bytes) log.senders.items) }
@@ -156,7 +164,7 @@ pub fn open_log(alloc: Global, count: usize, bytes: usize) -> Result<Log, AllocE
     let (senders, rings) = open_rings(alloc, count, bytes, &signal)?;
     let writer = LogWriter {
         rings,
-        room: room_of(alloc, bytes)?,
+        room: room_of(alloc, with_note(bytes)?)?,
         signal: Arc::try_clone(&signal)?,
     };
     Ok(Log {
