@@ -1,10 +1,5 @@
-// A listener on the loopback with its clients, and the server of so many connections.
+// Clients of a listener on the loopback.
 
-use crate::counter::Counter;
-use http_connections::serve_listener;
-use http_memory::{FixedClock, Shelf};
-use http_sessions::Site;
-use http_wire::Unwatched;
 use std::alloc::Global;
 use std::io;
 use std::io::{Read, Write};
@@ -62,25 +57,4 @@ pub(crate) fn is_sent(alloc: Global, stream: &mut TcpStream, wanted: &str) -> Op
     let mut bytes = Vec::new(alloc);
     stream.read_to_end(&mut bytes).ok()?;
     Some(bytes.as_slice() == wanted)
-}
-
-// No package, and a clock that has stopped.
-const EMPTY: Shelf<'static> = Shelf { files: &[] };
-
-const STOPPED: FixedClock = FixedClock { seconds: 0 };
-
-/// Serves so many connections, with a limit of one second for each read and write, and returns how often the
-/// desk was asked.
-pub(crate) fn serve_some(rt: &HostRuntime, listener: &TcpListener, limit: u64) -> u8 {
-    let site = Site {
-        packages: &EMPTY,
-        clock: &STOPPED,
-        watch: &Unwatched,
-    };
-    let mut desk = Counter {
-        alloc: rt.alloc(),
-        asked: 0,
-    };
-    serve_listener(rt, listener, 1, &mut desk, &site, Some(limit));
-    desk.asked
 }

@@ -1,5 +1,7 @@
-use crate::client::{connect, is_sent, serve_some};
-use crate::server::listen;
+// Connections over the loopback, which are served over a port.
+
+use crate::client::{connect, is_sent};
+use crate::port_server::{listen_for_ports, serve_some};
 use std::alloc::Global;
 use std::net::{TcpListener, TcpStream};
 use std::test::Fail;
@@ -16,19 +18,28 @@ POST /ask HTTP/1.1~Content-Le|
 POST /ask HTTP/1.1~Content-Le+|
 |";
 
+// Connects the client of a row.
+fn connect_row(rt: &HostRuntime, listener: &TcpListener, row: &str) -> Option<TcpStream> {
+    let (message, _) = row.split_once('|')?;
+    connect(rt, listener, message).ok()
+}
+
 // Whether the client of a row gets what the row says.
-fn is_replied(rt: &HostRuntime, listener: &TcpListener, row: &str) -> Option<bool> {
-    let (message, wanted) = row.split_once('|')?;
-    let mut stream = connect(rt, listener, message).ok()?;
-    let _ = serve_some(rt, listener, 1);
-    is_sent(rt.alloc(), &mut stream, wanted)
+fn is_replied(alloc: Global, stream: &mut TcpStream, row: &str) -> Option<bool> {
+    let (_, wanted) = row.split_once('|')?;
+    is_sent(alloc, stream, wanted)
 }
 
 #[test]
 fn replies_over_the_loopback(rt: HostRuntime) -> Result<(), Fail> {
-    let (listener, _) = listen(&rt).ok_or("no listener")?;
+    let listener = listen_for_ports(&rt).ok_or("no listener")?;
     for row in ROWS.lines() {
-        assert!(rt; is_replied(&rt, listener, row) == Some(true), "{row}");
+        let mut stream = connect_row(&rt, &listener, row).ok_or("no client")?;
+        assert!(rt; serve_some(&rt, &listener, 1).is_some());
+        assert!(rt;
+            is_replied(rt.alloc(), &mut stream, row) == Some(true),
+            "{row}"
+        );
     }
     Ok(())
 }
@@ -49,54 +60,30 @@ fn connect_all(
     rows: &str,
 ) -> Option<()> {
     for row in rows.lines() {
-        let (message, _) = row.split_once('|')?;
-        streams.push(connect(rt, listener, message).ok()?).ok()?;
+        streams.push(connect_row(rt, listener, row)?).ok()?;
     }
     Some(())
 }
 
 // How many clients get what their rows say.
-fn count_replied(alloc: Global, streams: &mut [TcpStream], rows: &str) -> Option<usize> {
+fn count_replied(alloc: Global, streams: &mut [TcpStream], rows: &str) -> usize {
     let mut count: usize = 0;
     for (stream, row) in streams.iter_mut().zip(rows.lines()) {
-        let (_, wanted) = row.split_once('|')?;
-        if is_sent(alloc, stream, wanted) == Some(true) {
+        if is_replied(alloc, stream, row) == Some(true) {
             count = count.saturating_add(1);
         }
     }
-    Some(count)
+    count
 }
 
 // rule: Calls of a desk
-// rule: Connections of a listener
 #[test]
 fn serves_one_connection_after_the_other(rt: HostRuntime) -> Result<(), Fail> {
-    let (listener, _) = listen(&rt).ok_or("no listener")?;
+    let listener = listen_for_ports(&rt).ok_or("no listener")?;
     let mut streams = Vec::new(rt.alloc());
-    assert!(rt; connect_all(&rt, listener, &mut streams, CLIENTS).is_some());
-    assert!(rt; serve_some(&rt, listener, 3) == 2);
-    assert!(rt; serve_some(&rt, listener, 1) == 1);
-    assert!(rt; count_replied(rt.alloc(), &mut streams, CLIENTS) == Some(4));
-    Ok(())
-}
-
-// How often a server of two connections is asked that accepts one.
-fn ask_once(rt: &HostRuntime, listener: &TcpListener) -> Option<u8> {
-    let message = "POST /ask HTTP/1.1~Content-Length: 0~~";
-    let wanted = "HTTP/1.1 200 OK~Content-Type: text/plain~Content-Length: 1~~a";
-    let mut stream = connect(rt, listener, message).ok()?;
-    let asked = serve_some(rt, listener, 2);
-    match is_sent(rt.alloc(), &mut stream, wanted) {
-        Some(true) => Some(asked),
-        _ => None,
-    }
-}
-
-#[test]
-fn a_connection_that_is_not_accepted_counts(rt: HostRuntime) -> Result<(), Fail> {
-    let (listener, _) = listen(&rt).ok_or("no listener")?;
-    listener.set_nonblocking(true)?;
-    assert!(rt; serve_some(&rt, listener, 2) == 0);
-    assert!(rt; ask_once(&rt, listener) == Some(1));
+    assert!(rt; connect_all(&rt, &listener, &mut streams, CLIENTS).is_some());
+    assert!(rt; serve_some(&rt, &listener, 3) == Some(2));
+    assert!(rt; serve_some(&rt, &listener, 1) == Some(1));
+    assert!(rt; count_replied(rt.alloc(), &mut streams, CLIENTS) == 4);
     Ok(())
 }

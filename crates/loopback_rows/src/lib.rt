@@ -1,6 +1,6 @@
 //! Rows of connections over the loopback, of posts and downloads by a client, and of a client whose devices fail.
 //!
-//! It has tests alone, so that `http_connections` and `update_client` are proved once.
+//! It has tests alone, so that `mio_ports` and `update_client` are proved once.
 
 #![tactic(auto)]
 
@@ -15,6 +15,6 @@ mod exchange_tests;
 #[cfg(test)]
 mod failing_client_tests;
 #[cfg(test)]
-mod opening_tests;
+mod port_server;
 #[cfg(test)]
 mod server;

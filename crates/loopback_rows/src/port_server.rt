@@ -1,0 +1,76 @@
+// A server of so many connections, one after the other, over a port with one slot.
+
+use crate::counter::Counter;
+use http_desks::Site;
+use http_memory::{FixedClock, Shelf};
+use http_ports::run;
+use http_sessions::Buffers;
+use http_talks::{Talk, Talks};
+use http_wire::Unwatched;
+use mio_ports::{Limits, MioPort};
+use std::alloc::Global;
+use std::net::{Net, TcpListener};
+use std::sync::{Arc, Wait};
+use std::time::Clock;
+
+// No package, and a clock that has stopped.
+const EMPTY: Shelf<'static> = Shelf { files: &[] };
+
+const STOPPED: FixedClock = FixedClock { seconds: 0 };
+
+/// A listener on the loopback for ports.
+pub(crate) fn listen_for_ports(rt: &HostRuntime) -> Option<Arc<TcpListener, Global>> {
+    let listener = TcpListener::bind(rt, "127.0.0.1:0").ok()?;
+    listener.set_nonblocking(true).ok()?;
+    Arc::new(rt.alloc(), listener).ok()
+}
+
+// Serves the connections of a port, and returns for how many memory ran out.
+fn serve_port<R: Wait + Net + Clock + AllocGlobal>(
+    rt: &R,
+    listener: Arc<TcpListener, Global>,
+    limit: u64,
+    desk: &mut Counter,
+) -> Option<u64> {
+    let alloc = rt.alloc();
+    let site = Site {
+        packages: &EMPTY,
+        clock: &STOPPED,
+        watch: &Unwatched,
+    };
+    let talks = Talks { alloc, site: &site };
+    let mut room = Buffers::new(alloc).ok()?;
+    let mut conns: [Option<Talk>; 1] = [None];
+    let limits = Limits {
+        message: 1,
+        idle: 1,
+    };
+    let mut port = MioPort::new(rt, listener, 1, limit, limits)?;
+    Some(run(
+        rt,
+        &mut port,
+        &talks,
+        &mut room,
+        &mut [0; 4096],
+        &mut conns,
+        desk,
+    ))
+}
+
+/// Serves so many connections of a listener, each of which may be silent for a second, and returns how often the desk was
+/// asked.
+pub(crate) fn serve_some<R: Wait + Net + Clock + AllocGlobal>(
+    rt: &R,
+    listener: &Arc<TcpListener, Global>,
+    limit: u64,
+) -> Option<u8> {
+    let mut desk = Counter {
+        alloc: rt.alloc(),
+        asked: 0,
+    };
+    let listener = Arc::try_clone(listener).ok()?;
+    match serve_port(rt, listener, limit, &mut desk) {
+        Some(0) => Some(desk.asked),
+        _ => None,
+    }
+}
