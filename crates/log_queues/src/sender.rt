@@ -1,4 +1,4 @@
-ghost use Rattle.std.specs.Prelude.{◌≡◌, ◌⊎◌, ◌++◌, ◌≤◌, IsTrue, IsFalse, Ok, length};
+ghost use Rattle.std.specs.Prelude.{◌≡◌, ◌⊎◌, ◌++◌, ◌≤◌, IsOk, IsTrue, IsFalse, Ok, length};
 ghost use Rattle.rtrb.specs.Ring.{known_free};
 ghost use Rattle.log_queues.specs.Queues.{Loses, Sends, note_of};
 
@@ -100,9 +100,9 @@ impl LineSender {
     }
 
     // rule: Note of lost lines
-    /// Ends a sender, which sends one more line if others were lost after the last one that went: how many they were.
+    /// Ends a sender. If lines were lost after the last one that went, it sends one more line, which says how many.
     ///
-    /// There is room for that line, so it isn't lost. The log's signal ends after each sender.
+    /// There is always room for that line. Senders are finished before the log's signal ends.
     pub fn finish(self) -> EndedSender
         ensures { result ≡ self.sent ++ note_of self.lost }
     {
@@ -132,6 +132,7 @@ impl Write for LineSender {
     }
 
     fn flush(&mut self) -> io::Result<()>
+        ensures ok { IsOk result }
         ensures kept { self.new ≡ self.old }
     {
         Ok(())
