@@ -45,6 +45,4 @@ mod shelf;
 #[cfg(test)]
 mod tracks;
 #[cfg(test)]
-mod two_publishers;
-#[cfg(test)]
 mod view_tests;
