@@ -1,8 +1,8 @@
 //! Worked rows of payloads: what is permitted on the tracks of small catalogues, their graphs, tables of
-//! prices, and certificates, also with wrong lines.
+//! prices, certificates, also with wrong lines, and the files of packages.
 //!
-//! It has tests alone, so that the crates of payloads and prices are proved once. Catalogues are made of scripts,
-//! and payloads are words.
+//! It has tests alone, so that the crates of payloads and prices and `package_files` are proved once. Catalogues are
+//! made of scripts, and payloads are words.
 
 #![tactic(auto)]
 
@@ -10,6 +10,14 @@
 mod asks;
 #[cfg(test)]
 mod certificates;
+#[cfg(test)]
+mod descriptions;
+#[cfg(test)]
+mod file_tests;
+#[cfg(test)]
+mod findings;
+#[cfg(test)]
+mod folder_tests;
 #[cfg(test)]
 mod graphs;
 #[cfg(test)]
@@ -20,6 +28,8 @@ mod out_of_memory_tests;
 mod outcomes;
 #[cfg(test)]
 mod places;
+#[cfg(test)]
+mod shelf;
 #[cfg(test)]
 mod tables;
 #[cfg(test)]

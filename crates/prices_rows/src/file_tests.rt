@@ -1,8 +1,27 @@
-use crate::batches::small;
-use crate::rows::{Kind, check_rows, is_line};
+use crate::descriptions::print_description;
+use crate::findings::print_findings;
+use crate::shelf::RowFolder;
+use fixtures::{is_line, two_parts};
 use package_files::{Finding, Mismatch};
 use std::alloc::Global;
 use values::Text;
+
+// What is found in the files of a row.
+fn print_found(alloc: Global, files: &'static str) -> Option<String> {
+    print_findings(alloc, &RowFolder::new(alloc, files)?)
+}
+
+// Whether what is found is what a row wants.
+fn is_found(alloc: Global, row: &'static str) -> bool {
+    let (files, wanted) = two_parts(row, " = ");
+    is_line(print_found(alloc, files), wanted)
+}
+
+// Whether what is described of a name is what a row wants.
+fn is_described(alloc: Global, row: &'static str) -> bool {
+    let (name, wanted) = two_parts(row, " = ");
+    is_line(print_description(alloc, name), wanted)
+}
 
 // A row is the files that there are, and what is found.
 const ROWS: &str = "\
@@ -21,7 +40,9 @@ a-1.bin=a10 a-2.bin=memory = memory";
 // rule: Findings of a catalogue
 #[test]
 fn finds_the_files_that_differ(rt: HostRuntime) {
-    check_rows(&rt, Kind::Findings, small(rt.alloc()), ROWS);
+    for row in ROWS.lines() {
+        assert!(rt; is_found(rt.alloc(), row), "{row}");
+    }
 }
 
 // A row is a name, and what is described of its file, `~` being the end of a line.
@@ -33,7 +54,9 @@ a-3.bin = name = \"a-3.bin\"~size = 65537~sha256 = \"008ffc88d3c96a9f307524eb361
 // rule: Hash of a file
 #[test]
 fn describes_a_file_as_a_profile_does(rt: HostRuntime) {
-    check_rows(&rt, Kind::Description, small(rt.alloc()), DESCRIPTIONS);
+    for row in DESCRIPTIONS.lines() {
+        assert!(rt; is_described(rt.alloc(), row), "{row}");
+    }
 }
 
 // A row is a name, and why its file isn't described.
@@ -54,7 +77,9 @@ inner/a-1.bin = no package name
 
 #[test]
 fn describes_no_other_file(rt: HostRuntime) {
-    check_rows(&rt, Kind::Description, small(rt.alloc()), FAILURES);
+    for row in FAILURES.lines() {
+        assert!(rt; is_described(rt.alloc(), row), "{row}");
+    }
 }
 
 // The finding of a file that is missing.

@@ -1,7 +1,6 @@
-use crate::catalogue_of_rows::print_findings;
 use crate::descriptions::print_described;
-use crate::rows::is_line;
-use fixtures::{make_folder, write_file};
+use crate::findings::print_findings;
+use fixtures::{is_line, make_folder, write_file};
 use http_devices::Folder;
 use std::{fs, io};
 
@@ -35,7 +34,7 @@ fn is_found(rt: &HostRuntime, path: &str) -> bool {
 
 // Whether it is so with a new folder.
 fn is_compared(rt: &HostRuntime) -> Option<bool> {
-    let path = make_folder(rt, "server_rows")?;
+    let path = make_folder(rt, "prices_rows")?;
     let is_right = fill(rt, path.as_str()).is_ok() && is_found(rt, path.as_str());
     fs::remove_dir_all(rt, path.as_str()).ok()?;
     Some(is_right)
