@@ -1,8 +1,8 @@
 //! Worked rows of what a server decides: clients with their tracks, requests with their replies, histories of
 //! batches, and what is published of them.
 //!
-//! It has tests alone, so that `cohorts`, `editions`, `publisher` and `replies` are proved once. A row is a line; that of
-//! a reply has the reply, a bar, and what is asked.
+//! It has tests alone, so that `cohorts`, `editions`, `publisher` and `replies` are proved once. A row is a line; that
+//! of a reply has the reply, a bar, and what is asked.
 
 #![tactic(auto)]
 
