@@ -1,5 +1,5 @@
-//! Worked rows of what a server's workers do: messages and sessions with their replies, what a worker's desk replies, and
-//! the gate of a server's workers.
+//! Worked rows of what a server's workers do: messages and sessions with their replies, what a worker's desk replies,
+//! and the gate of a server's workers.
 //!
 //! It has tests alone, so that `service_desks` and `omaha_server` are proved once.
 
