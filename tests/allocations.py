@@ -29,7 +29,9 @@ from fuzzing.server import Connection, Wrong
 TOP = pathlib.Path(__file__).resolve().parent.parent
 EXAMPLES = TOP / "examples"
 # the crates that have tests without memory
-CRATES = ["profile_rows", "prices_rows", "protocol_rows", "server_rows", "desk_rows"]
+CRATES = [
+    "profile_rows", "prices_rows", "tables_rows", "protocol_rows", "server_rows", "shared_rows", "desk_rows"
+]
 LIMIT = 20
 SHOWN = 5
 

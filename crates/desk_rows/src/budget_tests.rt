@@ -1,7 +1,6 @@
-use crate::lines::is_line;
 use crate::messages::message_of;
 use crate::opened::serve_sent;
-use fixtures::{counts_in, three_parts};
+use fixtures::{counts_in, is_line, three_parts};
 use http_memory::Connection;
 use std::alloc::Global;
 use std::str;

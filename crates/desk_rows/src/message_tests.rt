@@ -1,7 +1,6 @@
-use crate::lines::is_line;
 use crate::messages::{message_of, message_with};
 use crate::opened::serve_sent;
-use fixtures::{three_parts, two_parts};
+use fixtures::{is_line, three_parts, two_parts};
 use http_memory::Connection;
 use std::alloc::{AllocError, Global};
 use std::str;

@@ -1,8 +1,7 @@
 // A connection that is served by the till of one worker.
 
 use crate::counting::{Counting, Granted};
-use crate::lines::{few_mirrors, push_numbers};
-use fixtures::{CHAINED, open_profile, publish_edits};
+use fixtures::{CHAINED, few_mirrors, open_profile, publish_edits, push_numbers};
 use http_memory::{Connection, Content, File, FixedClock, Input, Shelf};
 use http_sessions::{End, Fault, Served, serve};
 use mirror_ledger::{Till, Work, work_with_tills};

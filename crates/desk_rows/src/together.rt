@@ -2,8 +2,7 @@
 
 ghost use Rattle.std.specs.Prelude.{◌≡◌, ⊤, IfOk, false, vec_len};
 
-use crate::desk::named_mirrors;
-use crate::lines::has_bounds;
+use fixtures::{has_bounds, named_mirrors};
 use mirror_ledger::{BudgetJob, Budgets, Ran, Till, TillJob, run_with_tills};
 use par_tables::Gate;
 use std::alloc::{AllocError, Global};
@@ -145,10 +144,10 @@ fn run_jobs<R: Threads + Wait + Clock + Sync>(
     meeting: &Meeting<'_, R>,
 ) -> Option<bool> {
     let mirrors = named_mirrors(alloc, "0")?;
-    let jobs = two_jobs(meeting, alloc).ok()?;
     if !has_bounds(&mirrors) {
         return None;
     }
+    let jobs = two_jobs(meeting, alloc).ok()?;
     match run_with_tills(rt, alloc, mirrors, meeting, jobs, &mut Beside { meeting }) {
         Ok(ran) => Some(are_done(&ran)),
         Err(_) => None,

@@ -1,9 +1,8 @@
 // The desk of a worker, over a till in memory.
 
 use crate::answers::print_answer;
-use crate::lines::is_line;
 use crate::message_tests::BUSY;
-use fixtures::{CHAINED, PlainTill, mirrors_of, open_profile, publish_edits, request_of};
+use fixtures::{CHAINED, PlainTill, is_line, mirrors_of, open_profile, publish_edits, request_of};
 use http_desks::Desk;
 use publisher::{Press, View};
 use service_desks::Worker;

@@ -11,7 +11,7 @@ use crate::protocol::{Next, Protocol};
 use http_desks::Desk;
 
 // How many steps a connection makes before others have their turn.
-const STEPS: usize = 64;
+const STEPS: usize = 4;
 
 // What a step comes to.
 #[derive(Clone, Copy, Drop)]

@@ -27,20 +27,19 @@ const OPERATOR: &str = "The operator's address, such as 127.0.0.1:8081 [default:
 
 const WORKERS: &str = "How many threads serve clients, 1 to 8 [default: 1]";
 
-const SESSIONS: &str = "How many sessions of clients to serve before it ends [default: no end]";
+const SESSIONS: &str = "How many sessions of clients before it ends [default: no end]";
 
 const EDITS: &str = "How many sessions of the operator before it ends [default: no end]";
 
-const TIMEOUT: &str =
-    "How long a message, or a part of a reply, may take, 1 to 86400 [default: 30]";
+const TIMEOUT: &str = "Seconds for a message, or part of a reply, 1 to 86400 [default: 30]";
 
-const IDLE: &str = "How long a client may wait between messages, 1 to 86400 [default: 60]";
+const IDLE: &str = "Seconds between two messages of a client, 1 to 86400 [default: 60]";
 
 const CONNECTIONS: &str = "How many clients may be connected at once [default: 16384]";
 
 const PINNED: &str = "How many tables of pinned clients each worker keeps [default: 256]";
 
-const LOG: &str = "Where to log each reply: a file, or - for standard error [default: none]";
+const LOG: &str = "Where to log replies: a file, or - for standard error [default: none]";
 
 const AFTER_SERVE: &str =
     "Prints `ready` when it listens. It replies to `POST /service/update2/json` and sends the packages

@@ -6,18 +6,35 @@ ghost use Rattle.payload_graph.specs.Net.{net_among};
 ghost use Rattle.payload_graph.specs.Places.{IsWithin};
 ghost use Rattle.records.specs.Lookups.{releases_at};
 
-use crate::edits::{catalogue_of, graph_of, keep, key_of};
 use crate::outcomes::{push_key, push_outcome, push_written};
-use crate::rule::push_ruled;
-use crate::words::{are, fields, push_from, push_into, push_quote, push_table};
 use catalogue::Catalogue;
 use cohorts::Pin;
+use fixtures::{
+    catalogue_of_script, fields, graph_of, keep, key_of, push_from, push_into, push_ruled,
+    push_table,
+};
 use par_tables::{TrackTables, tables};
-use payload_graph::{Differentials, Graph, Place, TrackKey};
-use quotes::quote_from;
+use payload_graph::{Differentials, Graph, Payload, Place, TrackKey};
+use quotes::{Quote, quote_from};
 use solver::solve;
 use std::alloc::{AllocError, Global};
 use version::Version;
+
+// Puts a quote at the end: `d0 750` is the differential of the index 0, with the sum.
+fn push_quote(words: &mut String, quote: Quote) -> Result<(), AllocError> {
+    match quote {
+        Quote::Here => words.push_str("here"),
+        Quote::NoChain => words.push_str("no chain"),
+        Quote::Next {
+            payload: Payload::Full(release),
+            sum,
+        } => write!(words, "f{release} {sum}"),
+        Quote::Next {
+            payload: Payload::Differ(index),
+            sum,
+        } => write!(words, "d{index} {sum}"),
+    }
+}
 
 // The place that a word names: a release by its index, or a version outside of all.
 fn place_of_word(catalogue: &Catalogue, app: usize, word: &str) -> Option<Place>
@@ -171,10 +188,18 @@ pub(crate) fn words_of(
     keep(alloc, words)
 }
 
+// Whether words are the wanted ones, of which `..` leaves some out.
+fn are(words: &str, wanted: &str) -> bool {
+    match wanted.split_once("..") {
+        Some((start, end)) => words.starts_with(start) && words.ends_with(end),
+        None => words == wanted,
+    }
+}
+
 /// Whether the reply to a row is the wanted one.
 pub(crate) fn replies(alloc: Global, script: &str, row: &str) -> Option<bool> {
     let [key, edits, asked, more, wanted] = fields(row);
-    let catalogue = catalogue_of(alloc, script, edits)?;
+    let catalogue = catalogue_of_script(alloc, script, edits)?;
     let words = words_of(alloc, catalogue, key, asked, more)?;
     Some(are(words.as_str(), wanted))
 }
@@ -197,7 +222,7 @@ pub(crate) fn agree(
     key: &str,
     asked: [&str; 2],
 ) -> Option<bool> {
-    let catalogue = catalogue_of(alloc, script, edits)?;
+    let catalogue = catalogue_of_script(alloc, script, edits)?;
     let first = words_of(alloc, catalogue, key, asked[0], "")?;
     let second = words_of(alloc, catalogue, key, asked[1], "")?;
     Some(first.as_str() == second.as_str())

@@ -1,7 +1,7 @@
 // Certificates of three tracks, worked by hand, and that of the largest catalogue.
 
 use crate::asks::wrong_row;
-use crate::edits::{DEMO, keep, largest};
+use fixtures::{DEMO, keep, largest};
 use std::alloc::{AllocError, Global};
 use std::test::Fail;
 

@@ -1,7 +1,7 @@
 // Graphs of tracks, worked by hand and against the rule.
 
 use crate::asks::{agree, wrong_row};
-use crate::edits::DEMO;
+use fixtures::DEMO;
 use std::alloc::Global;
 
 // Stones that are withdrawn, closed, at both ends, and none; one flag of a downgrade, and both; pins.

@@ -1,9 +1,8 @@
 //! Worked rows of payloads: what is permitted on the tracks of small catalogues, their graphs, tables of
-//! prices, also by several threads and kept by editions, certificates, also with wrong lines, and plans of clients
-//! with pins.
+//! prices, certificates, also with wrong lines, and the files of packages.
 //!
-//! It has tests alone, so that the crates of payloads and prices are proved once. Catalogues are made of scripts,
-//! and payloads are words.
+//! It has tests alone, so that the crates of payloads and prices and `package_files` are proved once. Catalogues are
+//! made of scripts, and payloads are words.
 
 #![tactic(auto)]
 
@@ -12,13 +11,15 @@ mod asks;
 #[cfg(test)]
 mod certificates;
 #[cfg(test)]
-mod chances;
+mod descriptions;
 #[cfg(test)]
-mod edits;
+mod file_tests;
+#[cfg(test)]
+mod findings;
+#[cfg(test)]
+mod folder_tests;
 #[cfg(test)]
 mod graphs;
-#[cfg(test)]
-mod kept;
 #[cfg(test)]
 mod offers;
 #[cfg(test)]
@@ -26,16 +27,10 @@ mod out_of_memory_tests;
 #[cfg(test)]
 mod outcomes;
 #[cfg(test)]
-mod parallel;
-#[cfg(test)]
 mod places;
 #[cfg(test)]
-mod plans;
-#[cfg(test)]
-mod rule;
+mod shelf;
 #[cfg(test)]
 mod tables;
-#[cfg(test)]
-mod words;
 #[cfg(test)]
 mod wrong_lines;

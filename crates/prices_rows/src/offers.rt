@@ -1,7 +1,7 @@
 // First payloads and tables of tracks, by key.
 
 use crate::asks::wrong_row;
-use crate::edits::DEMO;
+use fixtures::DEMO;
 
 // What is asked is a release or a version outside of all; what the clients there are offered is a full package by its
 // release or a differential by its index, with the sum.

@@ -1,47 +1,17 @@
 // What certificates are to the graphs of tracks.
 
-ghost use Rattle.std.specs.Prelude.{◌≡◌, length, Some};
+ghost use Rattle.std.specs.Prelude.{◌≡◌, Some};
 ghost use Rattle.payload_graph.specs.Net.{net_among};
 ghost use Rattle.cohorts.specs.declared.pin.Pin.TheVariants as pin;
 
 use crate::certificates::certificate_of;
-use crate::edits::keep;
 use catalogue::Catalogue;
 use cohorts::Lane;
+use fixtures::{find_wrong, keep, push_wrong};
 use payload_graph::{Graph, TrackKey};
-use price_cert::{Prices, Rule, Wrong, check};
 use price_certificates::{Fault, read_key, read_prices, write_prices};
 use std::alloc::{AllocError, Global};
-use std::mem::forget;
 use values::ReadError;
-
-/// The first wrong row of a table, and the rule that it breaks.
-pub(crate) fn find_wrong(graph: &Graph, prices: Prices) -> Option<Wrong>
-    requires key { prices.key ≡ graph.now.key }
-    requires sized { length prices.rows ≡ length graph.now.doors }
-{
-    match check(graph, prices) {
-        Ok(certified) => {
-            forget(certified);
-            None
-        }
-        Err((wrong, prices)) => {
-            forget(prices);
-            Some(wrong)
-        }
-    }
-}
-
-/// Puts a wrong row at the end, with the rule that it breaks.
-pub(crate) fn push_wrong(words: &mut String, wrong: Wrong) -> Result<(), AllocError> {
-    let rule = match wrong.rule {
-        Rule::C1 => "C1",
-        Rule::C2 => "C2",
-        Rule::C3 => "C3",
-        Rule::C4 => "C4",
-    };
-    write!(words, "wrong {} {rule}", wrong.row)
-}
 
 fn push_fault(words: &mut String, fault: Fault) -> Result<(), AllocError> {
     match fault {

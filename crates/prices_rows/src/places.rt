@@ -2,10 +2,9 @@
 
 ghost use Rattle.std.specs.Prelude.{◌<◌, length};
 
-use crate::edits::catalogue_of;
-use crate::words::fields;
 use catalogue::Catalogue;
 use cohorts::{Lane, Pin};
+use fixtures::{catalogue_of_script, fields};
 use payload_graph::{Payload, Place, TrackKey, permits, place_of};
 use std::alloc::Global;
 
@@ -50,7 +49,7 @@ fn are_permitted(catalogue: &Catalogue, key: &TrackKey, place: &Place, letters: 
 // Whether the client of a row is where the row says, and has the full packages of the row.
 fn is_placed(alloc: Global, row: &str) -> Option<bool> {
     let [fp, version, down, side, letters] = fields(row);
-    let catalogue = catalogue_of(alloc, RELEASES, "")?;
+    let catalogue = catalogue_of_script(alloc, RELEASES, "")?;
     let app = catalogue.app("demo")?;
     let place = place_of(catalogue, app, fp, version);
     let key = TrackKey {

@@ -1,8 +1,7 @@
 // Tables of prices, worked by hand, and against a plain slow program.
 
 use crate::asks::{agree, wrong_row};
-use crate::chances::{key_of_seed, script_of};
-use crate::edits::{DEMO, TIED, largest};
+use fixtures::{DEMO, TIED, key_of_seed, largest, script_of};
 use std::alloc::Global;
 use std::test::Fail;
 

@@ -2,7 +2,7 @@
 
 use crate::asks::{replies, wrong_row};
 use crate::certificates::STABLE;
-use crate::edits::{DEMO, TIED};
+use fixtures::{DEMO, TIED};
 use price_certificates::Fault;
 use std::alloc::Global;
 

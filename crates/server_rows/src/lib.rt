@@ -1,8 +1,8 @@
 //! Worked rows of what a server decides: clients with their tracks, requests with their replies, histories of
-//! batches, what is published of them, and files of packages.
+//! batches, and what is published of them.
 //!
-//! It has tests alone, so that `cohorts`, `editions`, `publisher`, `replies` and `package_files` are proved once. A row
-//! is a line; that of a reply has the reply, a bar, and what is asked.
+//! It has tests alone, so that `cohorts`, `editions`, `publisher` and `replies` are proved once. A row is a line; that
+//! of a reply has the reply, a bar, and what is asked.
 
 #![tactic(auto)]
 
@@ -13,19 +13,11 @@ mod batches;
 #[cfg(test)]
 mod bodies;
 #[cfg(test)]
-mod catalogue_of_rows;
-#[cfg(test)]
 mod chains;
 #[cfg(test)]
 mod cohort_texts;
 #[cfg(test)]
 mod crossing;
-#[cfg(test)]
-mod descriptions;
-#[cfg(test)]
-mod folder_tests;
-#[cfg(test)]
-mod memory_tests;
 #[cfg(test)]
 mod offers;
 #[cfg(test)]
@@ -41,10 +33,6 @@ mod publishing;
 #[cfg(test)]
 mod rows;
 #[cfg(test)]
-mod shelf;
-#[cfg(test)]
 mod tracks;
-#[cfg(test)]
-mod two_publishers;
 #[cfg(test)]
 mod view_tests;

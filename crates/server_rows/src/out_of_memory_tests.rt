@@ -9,8 +9,8 @@ use crate::plans::print_plan;
 use crate::press_tests::open_one;
 use cohorts::CohortText;
 use editions::{Edition, NextError};
-use fixtures::{CHAINED, edition_of, edition_of_batches, next_of, open_profile, publish_edits};
-use publisher::{Press, PublishError, View, open_edition};
+use fixtures::{CHAINED, edition_of, next_of, open_batches, open_profile, publish_edits};
+use publisher::{Press, PublishError, View};
 use std::alloc::Global;
 use std::sync::Wait;
 use std::thread::Threads;
@@ -72,8 +72,7 @@ fn open_without_memory(rt: HostRuntime) {
 }
 
 fn opens_edition<R: Wait>(rt: &R, alloc: Global) -> Option<bool> {
-    let edition = edition_of_batches(alloc, 1).ok()?;
-    are_opened(rt, open_edition(rt, alloc, edition, 2))
+    are_opened(rt, open_batches(rt, alloc, 1, 2))
 }
 
 // rule: Opening

@@ -61,8 +61,8 @@ fn is_full(alloc: Global, edition: &Edition) -> bool {
 // Whether the edition of so many batches has that number, and is full or not.
 fn is_number(alloc: Global, count: u32, full: bool) -> bool {
     match edition_of_batches(alloc, count) {
-        Ok(edition) => edition.number() == u64::from(count) && is_full(alloc, &edition) == full,
-        Err(_) => false,
+        Some(edition) => edition.number() == u64::from(count) && is_full(alloc, edition) == full,
+        None => false,
     }
 }
 

@@ -1,11 +1,8 @@
 // Rows: what is found, a bar, and what it is found of; or what it is found of, ` = `, and what is found.
 
 use crate::asking::{print_day, print_reply};
-use crate::catalogue_of_rows::print_findings;
-use crate::descriptions::print_description;
 use crate::pins::print_allowed;
 use crate::plans::{client_at, pinned_at, print_cohort, print_plan, print_tables, print_track};
-use crate::shelf::RowFolder;
 use editions::Edition;
 use fixtures::two_parts;
 use std::alloc::Global;
@@ -34,10 +31,6 @@ pub(crate) enum Kind {
     Cohort,
     /// The versions that a prefix allows.
     Pin,
-    /// The findings in files.
-    Findings,
-    /// The description of a file.
-    Description,
 }
 
 fn find(alloc: Global, kind: Kind, edition: &Edition, asked: &'static str) -> Option<String> {
@@ -52,8 +45,6 @@ fn find(alloc: Global, kind: Kind, edition: &Edition, asked: &'static str) -> Op
         Kind::Track => print_track(alloc, edition.catalogue(), asked),
         Kind::Cohort => print_cohort(alloc, asked),
         Kind::Pin => print_allowed(alloc, asked),
-        Kind::Findings => print_findings(alloc, &RowFolder::new(alloc, asked)?),
-        Kind::Description => print_description(alloc, asked),
     }
 }
 
