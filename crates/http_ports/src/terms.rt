@@ -1,7 +1,7 @@
 /// What a port serves by, from its start to its end.
 #[derive(Clone, Copy, Drop)]
 pub struct Terms {
-    /// The number of its listener, by which who opened the port tells its listeners apart.
+    /// The number of its listener, as whoever opened the port counts its listeners.
     pub listener: u64,
     /// How many connections may be open at once.
     pub capacity: usize,

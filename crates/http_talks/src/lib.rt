@@ -4,23 +4,23 @@
 //! in parts of any length, and each whole message gets its reply, by the desk and the packages of a site. A connection
 //! that waits keeps the bytes of its unfinished message and no other memory; a `WatchedTalks` also keeps what its watch
 //! has seen. One that sends a package keeps one block of it, of 64 KiB: the next one is made once that is sent. Read
-//! `specs/Talks.antt`. `serve_port` serves all connections of a port so, with a `Stand` to keep them in: read
+//! `specs/Talks.antt`. `serve_port` serves all connections of a port so, with a `Connections` to keep them in: read
 //! `specs/Ports.antt`.
 //!
 //! It accepts no connection, and has no limit of time: its port does.
 
 #![tactic(auto)]
 
+mod connections;
 mod devices;
 mod outcome;
 mod replying;
 mod sending;
-mod stand;
 mod talk;
 mod talks;
 mod watched;
 
-pub use crate::stand::{Stand, serve_port};
+pub use crate::connections::{Connections, serve_port};
 pub use crate::talk::Talk;
 pub use crate::talks::Talks;
 pub use crate::watched::{Watched, WatchedTalks};

@@ -5,7 +5,7 @@ ghost use Rattle.omaha_server.specs.Opening.{IsNew};
 
 use access_logs::Seen;
 use http_ports::Port;
-use http_talks::Stand;
+use http_talks::Connections;
 use std::alloc::{AllocError, Global};
 use std::marker::Model;
 
@@ -13,7 +13,7 @@ use std::marker::Model;
 #[derive(Drop)]
 pub(crate) struct NewPort<P: Port> {
     port: P,
-    stand: Stand<Option<Seen>>,
+    room: Connections<Option<Seen>>,
 }
 
 impl<P: Port> Model for NewPort<P> {
@@ -24,7 +24,7 @@ impl<P: Port> Model for NewPort<P> {
 
     ghost view = { λ new. new.port };
 
-    ghost invariant = { λ new. IsNew P.terms P.slots P.accepted P.is_over new.port × (new.stand ≡ (P.terms new.port).capacity) };
+    ghost invariant = { λ new. IsNew P.terms P.slots P.accepted P.is_over new.port × (new.room ≡ (P.terms new.port).capacity) };
 }
 
 impl<P: Port + Drop> NewPort<P> {
@@ -33,17 +33,17 @@ impl<P: Port + Drop> NewPort<P> {
         requires { IsNew P.terms P.slots P.accepted P.is_over port }
         ensures { IfOk result (λ made. made ≡ port) }
     {
-        let stand = Stand::new(alloc, port.capacity())?;
-        Ok(NewPort { port, stand })
+        let room = Connections::new(alloc, port.capacity())?;
+        Ok(NewPort { port, room })
     }
 
     /// Gives the port, and the room.
-    pub(crate) fn into_parts(self) -> (P, Stand<Option<Seen>>)
+    pub(crate) fn into_parts(self) -> (P, Connections<Option<Seen>>)
         ensures port { result.0 ≡ self }
         ensures new { IsNew P.terms P.slots P.accepted P.is_over result.0 }
         ensures room { result.1 ≡ (P.terms self).capacity }
     {
-        let NewPort { port, stand } = self;
-        (port, stand)
+        let NewPort { port, room } = self;
+        (port, room)
     }
 }

@@ -22,7 +22,7 @@ use streams::WriteWhole;
 pub(crate) struct Setup<'a, 'b, S, R, W: WriteWhole> {
     /// What opens ports, and has packages and logs.
     pub(crate) system: &'a S,
-    /// What starts threads, waits for locks, tells the time and has the memory of replies.
+    /// What starts threads, waits for locks, gives the time and has the memory of replies.
     pub(crate) rt: &'a R,
     /// The place.
     pub(crate) place: &'a Place,
@@ -54,10 +54,10 @@ fn serve_seen<P: Port + Drop, S: System<P>, C: Clock, D: Desk>(
     ensures { IsServedPort (S.edges system.now) place.now (D.path desk.old) (D.content_type desk.old) D.steps
         desk.old desk.new (P.terms port) (passage_of P.terms P.slots P.accepted result) }
 {
-    let (port, stand) = port.into_parts();
+    let (port, room) = port.into_parts();
     let mut port = port;
     let folder = place.packages.as_str();
-    let lost = system.serve_port(folder, &mut port, stand, desk, log);
+    let lost = system.serve_port(folder, &mut port, room, desk, log);
     ServedPort { port, lost }
 }
 

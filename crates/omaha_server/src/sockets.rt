@@ -11,7 +11,7 @@ use crate::system::{OpenError, System};
 use http_desks::{Desk, Site};
 use http_devices::{Folder, SystemClock};
 use http_ports::{Port, Terms, WatchEach};
-use http_talks::{Stand, serve_port};
+use http_talks::{Connections, serve_port};
 use http_wire::Unwatched;
 use mio_ports::MioPort;
 use std::alloc::Global;
@@ -112,13 +112,13 @@ fn serve_files<'f, R: Clock + Files + Wait + AllocGlobal, P: Port, D: Desk, V: W
     rt: &'f R,
     folder: &'f str,
     port: &mut P,
-    stand: Stand<V::Seen>,
+    room: Connections<V::Seen>,
     desk: &mut D,
     watch: &V,
 ) -> u64
     requires fresh { (k : ℕ) → P.slots port.old k ≡ unused }
     requires none { P.accepted port.old ≡ 0 }
-    requires many { stand ≡ (P.terms port.old).capacity }
+    requires many { room ≡ (P.terms port.old).capacity }
     ensures served { HasTalked (IsUse (D.path desk.old) IsTime has_size has_bytes) (D.content_type desk.old) D.steps desk.old desk.new
         (record { terms = P.terms port.new; slots = P.slots port.new; accepted = P.accepted port.new; lost = result }) }
     ensures over { P.is_over port.new }
@@ -131,7 +131,7 @@ fn serve_files<'f, R: Clock + Files + Wait + AllocGlobal, P: Port, D: Desk, V: W
         clock: &SystemClock::new(rt),
         watch: &Unwatched,
     };
-    serve_port(rt, port, &site, watch, stand, desk)
+    serve_port(rt, port, &site, watch, room, desk)
 }
 
 impl<
@@ -192,10 +192,10 @@ where
         &self,
         folder: &str,
         port: &mut MioPort<'a, R>,
-        stand: Stand<V::Seen>,
+        room: Connections<V::Seen>,
         desk: &mut D,
         watch: &V,
     ) -> u64 {
-        serve_files(self.rt, folder, port, stand, desk, watch)
+        serve_files(self.rt, folder, port, room, desk, watch)
     }
 }

@@ -9,7 +9,7 @@ ghost use Rattle.omaha_server.specs.Opening.{IsNew};
 
 use http_desks::Desk;
 use http_ports::{Port, Terms, WatchEach};
-use http_talks::Stand;
+use http_talks::Connections;
 use std::alloc::AllocError;
 use std::fs::File;
 use std::io;
@@ -29,7 +29,7 @@ impl From<AllocError> for OpenError {
     }
 }
 
-/// What a server asks of the system, which has its ports: sockets, or a test's stand-in for them.
+/// What a server asks of the system, which has its ports: sockets, or a test's room-in for them.
 pub trait System<P: Port> {
     ghost use Rattle.omaha_server.specs.Edges.{Edges};
 
@@ -64,13 +64,13 @@ pub trait System<P: Port> {
         &self,
         folder: &str,
         port: &mut P,
-        stand: Stand<V::Seen>,
+        room: Connections<V::Seen>,
         desk: &mut D,
         watch: &V,
     ) -> u64
         requires fresh { (k : ℕ) → P.slots port.old k ≡ unused }
         requires none { P.accepted port.old ≡ 0 }
-        requires many { stand ≡ (P.terms port.old).capacity }
+        requires many { room ≡ (P.terms port.old).capacity }
         ensures served { HasTalked (IsUse (D.path desk.old) IsTime ((edges self.now).sizes folder.now) ((edges self.now).reads folder.now))
             (D.content_type desk.old) D.steps desk.old desk.new
             (record { terms = P.terms port.new; slots = P.slots port.new; accepted = P.accepted port.new; lost = result }) }

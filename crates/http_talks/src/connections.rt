@@ -20,21 +20,21 @@ const READ: usize = 16384;
 
 /// Room for the connections of a port, of which a watch keeps something; contracts see for how many.
 #[derive(Drop)]
-pub struct Stand<S: Drop> {
+pub struct Connections<S: Drop> {
     room: Buffers,
     into: Vec<u8>,
     conns: Vec<Option<Watched<S>>>,
 }
 
-impl<S: Drop> Model for Stand<S> {
+impl<S: Drop> Model for Connections<S> {
     ghost use Rattle.std.specs.Prelude.{◌≡◌, ◌<◌, ℕ, None, vec_len};
     ghost use Rattle.http_ports.specs.Loops.{kept_at};
 
     ghost Value = { ℕ };
 
-    ghost view = { λ stand. vec_len stand.conns };
+    ghost view = { λ connections. vec_len connections.conns };
 
-    ghost invariant = { λ stand. (0 < vec_len stand.into) × ((k : ℕ) → kept_at stand.conns.items k ≡ None) };
+    ghost invariant = { λ connections. (0 < vec_len connections.into) × ((k : ℕ) → kept_at connections.conns.items k ≡ None) };
 }
 
 // Places without a connection.
@@ -49,21 +49,21 @@ fn free_places<S: Drop>(alloc: Global, count: usize) -> Result<Vec<Option<Watche
     Ok(conns)
 }
 
-impl<S: Drop> Stand<S> {
+impl<S: Drop> Connections<S> {
     /// Makes room for so many connections at once.
-    pub fn new(alloc: Global, capacity: usize) -> Result<Stand<S>, AllocError>
-        ensures capacity { IfOk result (λ stand. stand ≡ capacity) }
+    pub fn new(alloc: Global, capacity: usize) -> Result<Connections<S>, AllocError>
+        ensures capacity { IfOk result (λ connections. connections ≡ capacity) }
     {
         let room = Buffers::new(alloc)?;
         let into = vec![in alloc; 0; READ]?;
         let conns = free_places(alloc, capacity)?;
-        Ok(Stand { room, into, conns })
+        Ok(Connections { room, into, conns })
     }
 }
 
 // rule: Sessions of a port
-/// Serves the connections of a port by a site's sessions, each as it becomes ready, and shows each to a watch, until none will be accepted any more, and returns
-/// for how many memory ran out, up to 2^64 - 1.
+/// Serves the connections of a port by a site's sessions, each as it becomes ready, until none will be accepted any more,
+/// and returns for how many memory ran out, up to 2^64 - 1. The watch is shown each.
 ///
 /// The port is a new one, and there is room for as many connections as it may hold. Serving takes memory for what a
 /// connection waits to have whole and for its replies, and for nothing else.
@@ -72,19 +72,19 @@ pub fn serve_port<P: Port, Z: Packages + Clock, V: WatchEach, D: Desk, R: Wait +
     port: &mut P,
     site: &Z,
     watch: &V,
-    stand: Stand<V::Seen>,
+    connections: Connections<V::Seen>,
     desk: &mut D,
 ) -> u64
     requires fresh { (k : ℕ) → P.slots port.old k ≡ unused }
     requires none { P.accepted port.old ≡ 0 }
-    requires many { stand ≡ (P.terms port.old).capacity }
+    requires many { connections ≡ (P.terms port.old).capacity }
     ensures served { HasTalked (IsUse (D.path desk.old) (Z.tells site.now) (Z.sizes site.now)
         (Z.reads site.now)) (D.content_type desk.old) D.steps desk.old desk.new
         (record { terms = P.terms port.new; slots = P.slots port.new; accepted = P.accepted port.new; lost = result }) }
     ensures over { P.is_over port.new }
     ensures terms { P.terms port.new ≡ P.terms port.old }
 {
-    let Stand { room, into, conns } = stand;
+    let Connections { room, into, conns } = connections;
     let (mut room, mut into, mut conns) = (room, into, conns);
     let alloc = rt.alloc();
     let talks = WatchedTalks {

@@ -1,6 +1,6 @@
 use Rattle.std.proofs.Common.{arith}
 use Rattle.http_talks.proofs.PartLemmas.{kept_at-push}
-use Rattle.http_talks.proofs.stand.free_places.Goals as goal
+use Rattle.http_talks.proofs.connections.free_places.Goals as goal
 
 pub loop-preserved : goal.loop-preserved
 loop-preserved g c =

@@ -2,7 +2,7 @@ use Rattle.http_ports.specs.Loops.{counts_of}
 use Rattle.http_desks.specs.Uses.{IsUse}
 use Rattle.http_talks.specs.Ports.{talk_speech}
 use Rattle.http_talks.proofs.PartLemmas.{HasServed-part}
-use Rattle.http_talks.proofs.stand.serve_port.Goals as goal
+use Rattle.http_talks.proofs.connections.serve_port.Goals as goal
 
 pub returns-clause-served : goal.returns-clause-served
 returns-clause-served g c =
