@@ -3,11 +3,10 @@
 use crate::counter::Counter;
 use http_desks::Site;
 use http_memory::{FixedClock, Shelf};
-use http_ports::run;
-use http_sessions::Buffers;
-use http_talks::{Talk, Talks};
+use http_ports::Terms;
+use http_talks::{Connections, serve_port};
 use http_wire::Unwatched;
-use mio_ports::{Limits, MioPort};
+use mio_ports::MioPort;
 use std::alloc::Global;
 use std::net::{Net, TcpListener};
 use std::sync::{Arc, Wait};
@@ -25,36 +24,28 @@ pub(crate) fn listen_for_ports(rt: &HostRuntime) -> Option<Arc<TcpListener, Glob
     Arc::new(rt.alloc(), listener).ok()
 }
 
-// Serves the connections of a port, and returns for how many memory ran out.
-fn serve_port<R: Wait + Net + Clock + AllocGlobal>(
+// Serves so many connections of a listener, and returns for how many memory ran out.
+fn serve_limited<R: Wait + Net + Clock + AllocGlobal>(
     rt: &R,
     listener: Arc<TcpListener, Global>,
     limit: u64,
     desk: &mut Counter,
 ) -> Option<u64> {
-    let alloc = rt.alloc();
+    let terms = Terms {
+        listener: 0,
+        capacity: 1,
+        limit,
+        message: 1,
+        idle: 1,
+    };
+    let mut port = MioPort::new(rt, listener, terms)?;
+    let room = Connections::new(rt.alloc(), 1).ok()?;
     let site = Site {
         packages: &EMPTY,
         clock: &STOPPED,
         watch: &Unwatched,
     };
-    let talks = Talks { alloc, site: &site };
-    let mut room = Buffers::new(alloc).ok()?;
-    let mut conns: [Option<Talk>; 1] = [None];
-    let limits = Limits {
-        message: 1,
-        idle: 1,
-    };
-    let mut port = MioPort::new(rt, listener, 1, limit, limits)?;
-    Some(run(
-        rt,
-        &mut port,
-        &talks,
-        &mut room,
-        &mut [0; 4096],
-        &mut conns,
-        desk,
-    ))
+    Some(serve_port(rt, &mut port, &site, &Unwatched, room, desk))
 }
 
 /// Serves so many connections of a listener, each of which may be silent for a second, and returns how often the desk was
@@ -69,7 +60,7 @@ pub(crate) fn serve_some<R: Wait + Net + Clock + AllocGlobal>(
         asked: 0,
     };
     let listener = Arc::try_clone(listener).ok()?;
-    match serve_port(rt, listener, limit, &mut desk) {
+    match serve_limited(rt, listener, limit, &mut desk) {
         Some(0) => Some(desk.asked),
         _ => None,
     }
