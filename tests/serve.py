@@ -368,7 +368,7 @@ def looks_for_its_folder(program):
 def says_that_it_may_open_too_few_files(program):
     with tempfile.TemporaryDirectory() as folder:
         pathlib.Path(folder, "profile.toml").write_text(PROFILE)
-        for files, status in [(5, 1), (6, 0)]:
+        for files, status in [(6, 1), (7, 0)]:
             words = serve_words(folder)
             output, errors, ended = run(program, folder, *words, files=files)
             expect(f"status with {files} files", ended, status)

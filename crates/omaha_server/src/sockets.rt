@@ -61,16 +61,21 @@ fn file_limit<R: Disk + AllocGlobal>(rt: &R) -> Option<u64> {
     text.lines().find_map(limit_in)
 }
 
-// Binds an address. A connection and a package take a file each: without room for two more nobody would be served.
+// Binds an address.
 fn bind<R: Net<Listener = TcpListener, Stream = TcpStream>>(
     rt: &R,
     address: &str,
 ) -> io::Result<TcpListener> {
     let listener = TcpListener::bind(rt, address)?;
-    let _connection = listener.try_clone()?;
-    let _package = listener.try_clone()?;
     listener.set_nonblocking(true)?;
     Ok(listener)
+}
+
+// Whether two more files may be opened: a connection and a package take one each, and without them nobody would be served.
+fn has_room(listener: &TcpListener) -> bool {
+    let connection = listener.try_clone();
+    let package = listener.try_clone();
+    connection.is_ok() && package.is_ok()
 }
 
 // Opens a port of a listener.
@@ -84,7 +89,8 @@ fn open_one<'a, R: Net + Clock + Wait + AllocGlobal>(
 {
     match MioPort::new(rt, listener.clone()?, terms) {
         Some(port) => Ok(port),
-        None => Err(OpenError::Memory),
+        None if has_room(&**listener) => Err(OpenError::Memory),
+        None => Err(OpenError::Net),
     }
 }
 
@@ -103,6 +109,9 @@ fn open_all<'a, R: Net + Clock + Wait + AllocGlobal>(
         let Ok(()) = ports.push(port) else {
             return Err(OpenError::Memory);
         };
+    }
+    if !has_room(&**listener) {
+        return Err(OpenError::Net);
     }
     Ok(ports)
 }
