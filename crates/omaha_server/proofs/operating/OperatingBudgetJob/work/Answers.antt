@@ -32,10 +32,10 @@ pub returns-clause-comes : goal.returns-clause-comes
 returns-clause-comes g c =
     let edges = g.S.System.edges c.args.self.now.setup.now.system.now in
     let place = c.args.self.now.setup.now.place.now in (
-      c.operate.new.press,
+      c.operate-served.new.press,
       subst (λ (port : OperatorPort g.row.P.Denot). IsOperated edges place (terms_left g.P.Port.terms port)
           (record { mirrors = g.B.Budgets.present c.args.budgets.now; history = c.args.self.now.press })
-          (record { mirrors = g.B.Budgets.present c.operate.new.budgets; history = c.operate.new.press })
-          (Some (passage_of g.P.Port.terms g.P.Port.slots g.P.Port.accepted c.operate.result)))
-          (sym c.in-New-replace.is ∙ c.replace.ensures.value) c.operate.ensures.operated,
+          (record { mirrors = g.B.Budgets.present c.operate-served.new.budgets; history = c.operate-served.new.press })
+          (Some (passage_of g.P.Port.terms g.P.Port.slots g.P.Port.accepted c.operate-served.result)))
+          (sym c.in-New-replace.is ∙ c.replace.ensures.value) c.operate-served.ensures.operated,
     )
