@@ -17,7 +17,8 @@ returns-clause-hosted g c = inl (record {
   placed = c.in-Ok.ensures;
   ended = passages_in g.P.Port.terms g.P.Port.slots g.P.Port.accepted c.serve-ended.result;
   serves = c.serve-ended.ensures.serves;
-  logged = logged_so g.P.Port.terms g.P.Port.slots g.P.Port.accepted c.serve-ended.result _ _ c.serve-ended.ensures.logged;
+  logged = logged_so g.P.Port.terms g.P.Port.slots g.P.Port.accepted c.serve-ended.result
+      (g.S.System.edges c.args.system.now) c.in-Ok.place.log c.serve-ended.ensures.logged;
   ends = ends_so g.P.Port.terms g.P.Port.slots g.P.Port.accepted c.serve-ended.result c.args.asked.now c.end_of.result c.end_of.ensures;
 })
   where
