@@ -47,7 +47,7 @@ test:
 	docs/pictures/draw.py --check
 	rt ci
 	tests/rows.py
-	tests/idle.py --only few
+	tests/idle.py --only few --size 8
 
 mutants:
 	tests/mutants.py $(CRATES)
