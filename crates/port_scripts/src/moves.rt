@@ -15,6 +15,7 @@ impl Peer {
     /// to `room` bytes.
     pub fn new(alloc: Global, input: Vec<u8>, piece: usize, room: usize) -> Result<Peer, AllocError>
         ensures input { IfOk result (λ peer. peer.input ≡ input) }
+        ensures piece { IfOk result (λ peer. peer.piece ≡ piece) }
         ensures fresh { IfOk result (λ peer. traffic_of peer ≡ no_traffic) }
         ensures room { IfOk result (λ peer. room ≤ vec_capacity peer.got) }
     {
