@@ -232,31 +232,35 @@ def first_of(shown):
     return shown[0] + more if shown else "–"
 
 
-def definitions_of(name, rules, headings):
-    """The definitions of a rule, or those that the heading says to state it."""
-    if name in rules:
-        return [f"`{place.crate}/{module_of(place)}`: `{place.name}`" for place in rules[name].definitions]
-    stated = re.findall(r"`([^`]+)` in\s+`(specs/[^`]+)`\s+of\s+`([^`]+)`", headings[name][1])
-    return [f"`{crate}/{file}`: `{item}`" for item, file, crate in stated]
+def stated_by(text):
+    """The crate and the name of each definition that a heading without marks names."""
+    return [(crate, item) for item, crate in re.findall(r"`([^`]+)` in `specs/[^`]+` of `([^`]+)`", text)]
 
 
-def anchor_of(name):
-    return re.sub(r"[^\w -]", "", name.lower()).replace(" ", "-")
+def title_of(place):
+    """The title of a heading's page."""
+    with open(os.path.join(TOP, place.path), encoding="utf-8") as file:
+        return file.readline().removeprefix("# ").strip()
+
+
+def row_of(name, rules, headings):
+    """The row of a heading in the index: a crate is named for the definition, and for a function of another one."""
+    rule = rules.get(name, Rule())
+    stated = [(place.crate, place.name) for place in rule.definitions] or stated_by(headings[name][1])
+    crate = stated[0][0] if stated else ""
+    functions = [f"{'' if place.crate == crate else place.crate + ' '}`{place.name}`" for place in rule.functions]
+    return f"| {name} | {first_of([f'{crate} `{item}`' for crate, item in stated])} | {first_of(functions)} |"
 
 
 def index_of(rules, headings):
-    """The rows of the index, a row each heading."""
-    yield "| Rule | Definition | Function |"
-    yield "|---|---|---|"
-    for name in sorted(headings, key=str.lower):
-        place = headings[name][0]
-        functions = rules[name].functions if name in rules else []
-        cells = [
-            f"[{name}]({os.path.basename(place.path)}#{anchor_of(name)})",
-            first_of(definitions_of(name, rules, headings)),
-            first_of([f"`{function.crate}`: `{function.name}`" for function in functions]),
-        ]
-        yield "| " + " | ".join(cells) + " |"
+    """The lines of the index: the pages in their order, and below each a row for each of its headings."""
+    page = ""
+    for name, (place, _) in headings.items():
+        file = os.path.basename(place.path)
+        if file != page:
+            page = file
+            yield from ["", f"## [{title_of(place)}]({file})", "", "| Rule | Definition | Function |", "|---|---|---|"]
+        yield row_of(name, rules, headings)
 
 
 def table_of(rules):
@@ -277,7 +281,7 @@ def read_index():
     """The lines of the index's file before its table, and the table."""
     with open(INDEX, encoding="utf-8") as file:
         lines = file.read().splitlines()
-    start = next((number for number, line in enumerate(lines) if line.startswith("| Rule ")), len(lines))
+    start = next((number for number, line in enumerate(lines) if line.startswith("## ")), len(lines) + 1) - 1
     return lines[:start], lines[start:]
 
 
@@ -288,9 +292,9 @@ def write_index(rules, headings):
 
 
 def proofs_of(function):
-    """The folders of a function's proofs; none if the search of the prover found them."""
-    top = os.path.join(CRATES, function.crate, "proofs")
-    for path, folders, _ in os.walk(top):
+    """The folders of a function's proofs, below that of its module; none if the search of the prover found them."""
+    module = os.path.splitext(os.path.relpath(function.path, os.path.join("crates", function.crate, "src")))[0]
+    for path, folders, _ in os.walk(os.path.join(CRATES, function.crate, "proofs", module)):
         folders.sort()
         if os.path.basename(path) == function.name:
             yield os.path.relpath(path, TOP)
@@ -315,12 +319,15 @@ def headings_near(asked, headings):
 
 
 def print_rule(name, rules, headings):
-    """Prints where a rule or a heading is."""
-    place, rule = headings[name][0], rules.get(name, Rule())
+    """Prints where a rule is, or where a heading is and then the rules that are its parts, by its links."""
+    (place, text), rule = headings[name], rules.get(name, Rule())
     print(f"{name}\n  heading     {place.path}:{place.line}")
     if name not in rules:
-        for stated in definitions_of(name, rules, headings):
-            print(f"  definition  {stated}")
+        for crate, item in stated_by(text):
+            print(f"  definition  {crate}: {item}")
+        for part in dict.fromkeys(re.findall(r"\[([^]]+)\]\(", text)):
+            if part in rules and part in headings:
+                print_rule(part, rules, headings)
     proofs = [folder for function in rule.functions for folder in proofs_of(function)]
     searched = ["by search, without a file"] if rule.functions and not proofs else []
     kinds = [
