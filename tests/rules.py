@@ -11,7 +11,7 @@ A rule has one plain name, which is a heading in `docs/definitions/`. Its marks 
 A mark of `src/`, `specs/` or `tests/rows/` is above the item's comment and its attributes.
 
 Every rule needs exactly one definition, a function, a test and a mutant, and its heading must name the definition with its
-file and crate. The rules without a test or a mutant are listed below with the reason.
+file in `specs/` and its crate. The rules without a test or a mutant are listed below with the reason.
 
     tests/rules.py            checks the marks, and that the index is the one that they give
     tests/rules.py NAME       prints where a rule is: its heading, definition, functions, proofs, tests and mutants, with
@@ -192,8 +192,8 @@ def sections():
 
 
 def module_of(place):
-    """The file of a definition, as its heading names it."""
-    return place.path.removeprefix(f"crates/{place.crate}/")
+    """The file of a definition in `specs/`, as its heading names it."""
+    return os.path.splitext(os.path.relpath(place.path, os.path.join("crates", place.crate, "specs")))[0]
 
 
 def is_named(text, place):
@@ -234,7 +234,7 @@ def first_of(shown):
 
 def stated_by(text):
     """The crate and the name of each definition that a heading without marks names."""
-    return [(crate, item) for item, crate in re.findall(r"`([^`]+)` in `specs/[^`]+` of `([^`]+)`", text)]
+    return [(crate, item) for item, crate in re.findall(r"`(\w+)` in `[\w/]+` of `(\w+)`", text)]
 
 
 def title_of(place):
