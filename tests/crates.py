@@ -35,19 +35,20 @@ def groups():
 
 
 def sentence_of(crate):
-    """The first sentence of a crate's own page."""
+    """The first sentence of a crate's own page; of tests, what they are rows of."""
     files = [CRATES / crate / "src" / name for name in ("lib.rt", "main.rt")]
     lines = next(file for file in files if file.exists()).read_text(encoding="utf-8").splitlines()
     page = [line.removeprefix("//!").strip() for line in lines if line.startswith("//!")]
     paragraph = " ".join(page[: page.index("") if "" in page else len(page)])
-    return re.match(r".*?\.(?= |$)", paragraph).group()
+    sentence = re.match(r".*?\.(?= |$)", paragraph).group()
+    return re.split(r"[:;]", sentence)[0].rstrip(".") + "." if crate.endswith("_rows") else sentence
 
 
 def page_of(found):
     """The list."""
     parts = [HEAD]
     for group, crates in found.items():
-        lines = [f"- [`{crate}`]({crate}/src): {sentence_of(crate)}\n" for crate in crates]
+        lines = [f"- `{crate}`: {sentence_of(crate)}\n" for crate in crates]
         parts.append(f"\n## {group}\n\n{''.join(lines)}")
     return "".join(parts)
 
