@@ -1,5 +1,5 @@
 #!/usr/bin/env python3
-"""Checks that the functions and clauses exist that `docs/guarantees/` names. What a claim says is not checked.
+"""Checks that the functions, clauses and rules exist that `docs/guarantees/` names. What a claim says is not checked.
 
 Each crate of a group of `crates.txt` has a heading in the group's page. Below it are functions, on a line in bold, and
 below these their claims, each with its clauses in parentheses: `docs/GUARANTEES.md` says the form. A page has at most
@@ -28,6 +28,13 @@ PART = re.compile(
     r"(?P<kind>the unnamed clause|each clause|the model)?(?:the clauses of `(?P<trait>\w+)`)?(?:`(?P<name>\w+)`)?"
     r"(?: of `(?P<of>[\w:]+)`)?(?: ?by (?:field `(?P<field>\w+)` of )?(?P<by>`\w+`(?: in `\w+`)*))?"
 )
+
+RULE = re.compile(r"(?<!\*)\*([A-Z][^*]+)\*(?!\*)")
+RULES = {
+    heading
+    for path in (TOP / "docs" / "definitions").glob("[0-9]*.md")
+    for heading in re.findall(r"(?m)^## (.+)$", path.read_text(encoding="utf-8"))
+}
 
 # A clause; or a function or a type, which says None.
 Clause = collections.namedtuple("Clause", "type trait function file name says")
@@ -128,6 +135,8 @@ def faults_of(lines, crates):
             if not parts:
                 yield number, "no claim of the form, or no functions of the form above it"
             yield from ((number, f"{part} {fault}") for part in parts if (fault := fault_of(crate, part, names)))
+            said = RULE.findall(claim[0]) if claim else []
+            yield from ((number, f"{rule} is no rule") for rule in said if rule not in RULES)
     yield from ((1, f"no heading of {name}") for name in crates if f"## `{name}`" not in lines)
 
 
