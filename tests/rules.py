@@ -249,7 +249,7 @@ def row_of(name, rules, headings):
     stated = [(place.crate, place.name) for place in rule.definitions] or stated_by(headings[name][1])
     crate = stated[0][0] if stated else ""
     functions = [f"{'' if place.crate == crate else place.crate + ' '}`{place.name}`" for place in rule.functions]
-    return f"| {name} | {first_of([f'{crate} `{item}`' for crate, item in stated])} | {first_of(functions)} |"
+    return f"{name} | {first_of([f'{crate} `{item}`' for crate, item in stated])} | {first_of(functions)}"
 
 
 def index_of(rules, headings):
@@ -259,7 +259,7 @@ def index_of(rules, headings):
         file = os.path.basename(place.path)
         if file != page:
             page = file
-            yield from ["", f"## [{title_of(place)}]({file})", "", "| Rule | Definition | Function |", "|---|---|---|"]
+            yield from ["", f"## [{title_of(place)}]({file})", "", "Rule | Definition | Function", "---|---|---"]
         yield row_of(name, rules, headings)
 
 
