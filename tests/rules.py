@@ -243,24 +243,26 @@ def title_of(place):
         return file.readline().removeprefix("# ").strip()
 
 
-def row_of(name, rules, headings):
-    """The row of a heading in the index: a crate is named for the definition, and for a function of another one."""
+def row_of(name, rules, headings, above):
+    """The row of a heading in the index, and the crate of its definition, named if the row above has another."""
     rule = rules.get(name, Rule())
     stated = [(place.crate, place.name) for place in rule.definitions] or stated_by(headings[name][1])
-    crate = stated[0][0] if stated else ""
+    crate = stated[0][0] if stated else above
     functions = [f"{'' if place.crate == crate else place.crate + ' '}`{place.name}`" for place in rule.functions]
-    return f"{name} | {first_of([f'{crate} `{item}`' for crate, item in stated])} | {first_of(functions)}"
+    definition = ("" if crate == above else crate + " ") + first_of([f"`{item}`" for _, item in stated])
+    return f"{name} | {definition} | {first_of(functions)}", crate
 
 
 def index_of(rules, headings):
     """The lines of the index: the pages in their order, and below each a row for each of its headings."""
-    page = ""
+    page = crate = ""
     for name, (place, _) in headings.items():
         file = os.path.basename(place.path)
         if file != page:
-            page = file
+            page, crate = file, ""
             yield from ["", f"## [{title_of(place)}]({file})", "", "Rule | Definition | Function", "---|---|---"]
-        yield row_of(name, rules, headings)
+        row, crate = row_of(name, rules, headings, crate)
+        yield row
 
 
 def table_of(rules):
