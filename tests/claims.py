@@ -25,7 +25,7 @@ DEFINITION = re.compile(r"^(?:abbrev pub|unfoldable pub|pub record|pub data|abbr
 NAME = re.compile(r"`([\w:]+)`(?: as `(\w+)`)?(?:: `(\w+)`)?")
 NAMES = re.compile(rf"\*\*{NAME.pattern}(, {NAME.pattern})*\*\*")
 PART = re.compile(
-    r"(?P<kind>the unnamed clause|each clause|the model)?(?:the clauses of `(?P<trait>\w+)`)?(?:`(?P<name>\w+)`)?"
+    r"(?P<kind>unnamed|each clause|the model)?(?:the clauses of `(?P<trait>\w+)`)?(?:`(?P<name>\w+)`)?"
     r"(?: of `(?P<of>[\w:]+)`)?(?: ?by (?:field `(?P<field>\w+)` of )?(?P<by>`\w+`(?: in `\w+`)*))?"
 )
 
@@ -104,7 +104,7 @@ def fault_of(crate, part, names):
     items = named(crate, found["of"]) if found["of"] else [item for name in names for item in named(crate, *name)]
     if found["trait"]:
         return None if any(item.type and item.trait == found["trait"] for item in items) else "are of no trait here"
-    absent = {"the unnamed clause": "name", "the model": "function"}.get(found["kind"])
+    absent = {"unnamed": "name", "the model": "function"}.get(found["kind"])
     items = [item for item in items if item.says is not None and not (absent and getattr(item, absent))]
     items = [item for item in items if found["name"] in (None, item.name)]
     if not items:

@@ -254,13 +254,14 @@ def row_of(name, rules, headings, above):
 
 
 def index_of(rules, headings):
-    """The lines of the index: the pages in their order, and below each a row for each of its headings."""
+    """The rows of the index: a row for each page, in their order, and below it one for each of its headings."""
     page = crate = ""
+    yield from ["Rule | Definition | Function", "---|---|---"]
     for name, (place, _) in headings.items():
         file = os.path.basename(place.path)
         if file != page:
             page, crate = file, ""
-            yield from ["", f"## [{title_of(place)}]({file})", "", "Rule | Definition | Function", "---|---|---"]
+            yield f"**[{title_of(place)}]({file})** | |"
         row, crate = row_of(name, rules, headings, crate)
         yield row
 
@@ -283,7 +284,7 @@ def read_index():
     """The lines of the index's file before its table, and the table."""
     with open(INDEX, encoding="utf-8") as file:
         lines = file.read().splitlines()
-    start = next((number for number, line in enumerate(lines) if line.startswith("## ")), len(lines) + 1) - 1
+    start = next((number for number, line in enumerate(lines) if line.startswith("Rule | ")), len(lines))
     return lines[:start], lines[start:]
 
 
