@@ -268,7 +268,7 @@ def index_of(rules, headings):
 
 def table_of(rules):
     """The rows of the table of all rules, with every item."""
-    yield "| Rule | Definition | Function | Test | Edit |"
+    yield "| Rule | Definition | Function | Test | Mutant |"
     yield "|---|---|---|---|---|"
     for name, rule in sorted(rules.items(), key=lambda entry: entry[0].lower()):
         cells = [
