@@ -39,3 +39,13 @@ abbrev pub Learns : Result (Option Record) ReadFault → List Record → List Re
 Learns (Ok (Some next)) old new = new ≡ old ++ next ∷ []
 Learns (Ok None) old new = new ≡ old
 Learns (Err fault) old new = new ≡ old
+
+-- all records are replaced by one, or are as before
+abbrev pub Compacts : Record → Result (Unit {0}) AppendFault → List Record → List Record → Type 0
+Compacts only (Ok _) old new = new ≡ only ∷ []
+Compacts only (Err fault) old new = new ≡ old
+
+-- the first record has the new number, or the one before
+abbrev pub Numbers : ℕ → Result (Unit {0}) AppendFault → ℕ → ℕ → Type 0
+Numbers number (Ok _) old new = new ≡ number
+Numbers number (Err fault) old new = new ≡ old

@@ -60,6 +60,16 @@ AppendsBy (Some turn.StoresInDoubt) old new known limit added result =
 AppendsBy (Some turn.DropsInDoubt) old new known limit added result = (result ≡ Err (append.Unknown Disk)) × (new ≡ old)
 AppendsBy (Some turn.Fails) old new known limit added result = (result ≡ Err (append.Failed Disk)) × (new ≡ old)
 
+-- a compaction replaces all records by one, unless others aren't known, it has too many bytes, or memory runs out
+abbrev pub IsCompacted : List Record → List Record → ℕ → ℕ → Record → Result (Unit {0}) AppendFault → Type 0
+IsCompacted old new known limit only (Ok _) =
+    (length old ≤ known) × (length only.bytes ≤ limit) × (new ≡ only ∷ [])
+IsCompacted old new known limit only (Err append.Taken) = (known < length old) × (new ≡ old)
+IsCompacted old new known limit only (Err append.Full) =
+    (length old ≤ known) × (limit < length only.bytes) × (new ≡ old)
+IsCompacted old new known limit only (Err (append.Failed cause)) = (cause ≡ Memory) × (new ≡ old)
+IsCompacted old new known limit only (Err (append.Unknown cause)) = ⊥
+
 -- nothing but the stored records differs
 pub record IsSameBut (old new : MemoryRecords) : Type 0 where
   pub first : new.first ≡ old.first

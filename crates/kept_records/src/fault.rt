@@ -17,15 +17,6 @@ pub enum Cause {
     /// What is stored was changed or damaged.
     #[error("the stored records are damaged")]
     Damaged,
-    /// What is stored isn't a history.
-    #[error("the stored records are of another program")]
-    Foreign,
-    /// Another program has it open.
-    #[error("another program has it open")]
-    Busy,
-    /// It could not be opened: for want of a permission, a folder or a regular file.
-    #[error("it could not be opened")]
-    Unopened,
     /// The record is larger than the store accepts.
     #[error("the record is too large")]
     TooLarge,
@@ -56,5 +47,22 @@ pub enum AppendFault {
 pub enum ReadFault {
     /// A read failed.
     #[error("the next record could not be read: {0}")]
+    Failed(Cause),
+}
+
+/// Why records were not opened. What is stored is as before.
+#[derive(Clone, Copy, Debug, Drop, PartialEq, Eq, Error)]
+pub enum OpenFault {
+    /// What is stored isn't a history: a file of another program, or one whose records aren't numbered in order.
+    #[error("it isn't a history")]
+    Foreign,
+    /// Another program has it open.
+    #[error("another program has it open")]
+    Busy,
+    /// There is no such folder, no permission, or no regular file of the name.
+    #[error("it cannot be opened")]
+    Unopened,
+    /// A call failed.
+    #[error("{0}")]
     Failed(Cause),
 }

@@ -1,8 +1,9 @@
 // What calls make of records in memory.
 
-ghost use Rattle.std.specs.Prelude.{◌≡◌, ◌+◌, [], None, if◌then◌else◌, is_ok};
-ghost use Rattle.kept_records.specs.Keeping.{Appends, Learns, record_of};
-ghost use Rattle.kept_records.specs.Memories.{AppendsBy, IsLost, IsPushed, IsSameBut, IsStored, Reads, after_read, fails, known_of, turn_of, turns_after};
+ghost use Rattle.std.specs.Prelude.{◌≡◌, ◌≤◌, ◌+◌, ◌^◌, [], None, if◌then◌else◌, is_ok};
+ghost use Rattle.kept_records.specs.declared.record.Kind.TheVariants.{Profile};
+ghost use Rattle.kept_records.specs.Keeping.{Appends, Compacts, Learns, Numbers, record_of};
+ghost use Rattle.kept_records.specs.Memories.{AppendsBy, IsCompacted, IsLost, IsPushed, IsSameBut, IsStored, Reads, after_read, fails, known_of, turn_of, turns_after};
 
 use crate::fault::{AppendFault, Cause, ReadFault};
 use crate::limits::{DEFAULT_LIMIT, has_room};
@@ -153,5 +154,29 @@ impl Records for MemoryRecords {
             }
             Err(_) => Err(ReadFault::Failed(Cause::Memory)),
         }
+    }
+
+    fn compact(&mut self, alloc: Global, number: u64, bytes: &[u8]) -> Result<(), AppendFault>
+        requires { (1 ≤ number) × (number ≤ 2 ^ 53) }
+        ensures compacts { Compacts (record_of Profile bytes.now) result (known_of self.old) (known_of self.new) }
+        ensures first { Numbers number result self.old.first self.new.first }
+        ensures exact { IsCompacted self.old.stored self.new.stored self.old.known self.old.limit
+            (record_of Profile bytes.now) result }
+        ensures limit { self.new.limit ≡ self.old.limit }
+        ensures turns { self.new.turns.items ≡ self.old.turns.items }
+        ensures reads { self.new.fails_after ≡ self.old.fails_after }
+    {
+        if self.known < self.stored.len() {
+            return Err(AppendFault::Taken);
+        }
+        if bytes.len() as u64 > self.limit {
+            return Err(AppendFault::Full);
+        }
+        let mut stored = Items::empty(alloc);
+        push(&mut stored, Record::copy_of(alloc, Kind::Profile, bytes))?;
+        self.first = number;
+        self.known = 1;
+        self.stored = stored;
+        Ok(())
     }
 }
