@@ -32,6 +32,12 @@ impl Receipt {
         Ok(Receipt { edition })
     }
 
+    pub(crate) fn shown(edition: Arc<Edition>) -> Receipt
+        ensures { result ≡ arc_value edition }
+    {
+        Receipt { edition }
+    }
+
     pub(crate) fn shared(&self) -> &Arc<Edition>
         ensures { arc_value result.now ≡ self.now }
     {
