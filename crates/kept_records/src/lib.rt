@@ -20,6 +20,7 @@ mod record;
 mod records;
 mod storing;
 mod turn;
+mod unkept;
 
 pub use crate::fault::{AppendFault, Cause, OpenFault, ReadFault};
 pub use crate::limits::{DEFAULT_LIMIT, MAX_RECORDS, has_room};
@@ -27,3 +28,4 @@ pub use crate::memory::MemoryRecords;
 pub use crate::record::{Kind, Record};
 pub use crate::records::{Records, Stores};
 pub use crate::turn::Turn;
+pub use crate::unkept::Unkept;

@@ -1,5 +1,5 @@
 -- What a raise of a budget comes to that is sent to the operator's desk; this project's profile.
-use Rattle.std.specs.Prelude.{◌≡◌, ℕ, ◌≤◌, ◌-◌, ◌==◌, ◌&&◌, not, Bool, if◌then◌else◌, List, [], ◌∷◌, ◌++◌, codes, drop, length, nat_eq, nat_lt, slice_index, take, Result, Ok, Err, Option, None, Some}
+use Rattle.std.specs.Prelude.{◌≡◌, ℕ, ◌≤◌, ◌-◌, ◌==◌, ◌&&◌, not, ⊥, Bool, true, false, if◌then◌else◌, List, [], ◌∷◌, ◌++◌, codes, drop, length, nat_eq, nat_lt, slice_index, take, Result, Ok, Err, Option, None, Some}
 use Rattle.std.specs.Char.{is_ascii_digit}
 use Rattle.std.specs.List.{after_first, before_first, ends_with, list_all, starts_with}
 use Rattle.std.specs.Str.{is_utf8}
@@ -107,7 +107,18 @@ RaisesBy old new body (Ok reply) = IsReplyToRaise old new body (raise_of body) r
 RaisesBy old new body (Err off.Memory) = new ≡ old
 RaisesBy old new body (Err off.Closed) = new ≡ old
 
--- a mirror of the name may have its budget raised to the number
-abbrev pub MayRaise : List Mirror → List ℕ → ℕ → Type 0
-MayRaise mirrors name budget =
-    (index : ℕ) × IsAt mirrors name index × (budget ≤ max_budget) × (budget_at mirrors index ≤ budget)
+-- the mirror at an index has the name, and may have its budget raised to the number
+abbrev pub MayRaise : List Mirror → List ℕ → ℕ → ℕ → Type 0
+MayRaise mirrors name budget index =
+    IsAt mirrors name index × (budget ≤ max_budget) × (budget_at mirrors index ≤ budget)
+
+-- rule: Replayed raise
+-- a body raised a budget among mirrors, once more; or no such raise could be made, and they are as before
+abbrev pub Replays : List Mirror → List ℕ → Bool → List Mirror → Type 0
+Replays old body true new =
+    (asked : List ℕ × List ℕ) × (raise_of body ≡ Some asked)
+    × RaisesTo old new asked.0 (digits_value 10 asked.1) (Ok tt)
+Replays old body false new =
+    (new ≡ old)
+    × ((asked : List ℕ × List ℕ) (raised : List Mirror) → raise_of body ≡ Some asked →
+    RaisesTo old raised asked.0 (digits_value 10 asked.1) (Ok tt) → ⊥)

@@ -1,0 +1,4 @@
+pub mod Found
+pub mod Laws
+pub mod Restarting
+pub mod Steps

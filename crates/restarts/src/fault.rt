@@ -1,0 +1,64 @@
+// Why records lead to nothing.
+
+use catalogue::Refused;
+use profile_toml::ProfileFault;
+use std::alloc::{AllocError, AllocFailed};
+use std::error::Error;
+use std::fmt;
+
+/// Why a record begins nothing, or doesn't follow those before it.
+#[derive(Debug, Drop)]
+pub enum RecordFault {
+    /// The first record is no profile.
+    NoProfile,
+    /// A later record is a profile.
+    SecondProfile,
+    /// It is an invalid profile.
+    Profile(ProfileFault),
+    /// It is an invalid script.
+    Script(ProfileFault),
+    /// An edit of it is rejected.
+    Refused(Refused),
+    /// There are 4096 batches before it, as many as a history may have.
+    HistoryFull,
+    /// It is no raise of a budget that may be made.
+    Raise,
+}
+
+impl fmt::Display for RecordFault {
+    fn fmt<W: fmt::Write>(&self, f: &mut fmt::Formatter<W>) -> fmt::Result {
+        match self {
+            RecordFault::NoProfile => f.write_str("no profile"),
+            RecordFault::SecondProfile => f.write_str("a second profile"),
+            RecordFault::Profile(fault) => write!(f, "profile {fault}"),
+            RecordFault::Script(fault) => write!(f, "script {fault}"),
+            RecordFault::Refused(refused) => write!(f, "{refused}"),
+            RecordFault::HistoryFull => f.write_str("history full"),
+            RecordFault::Raise => f.write_str("bad raise"),
+        }
+    }
+}
+
+impl Error for RecordFault {}
+
+/// Why records lead to nothing.
+#[derive(Debug, Drop)]
+pub enum RestoreError {
+    /// There are no records.
+    Empty,
+    /// The record at this index, from 0, is the first that doesn't lead on.
+    Record(usize, RecordFault),
+    /// Memory ran out.
+    Memory,
+}
+
+impl From<AllocError> for RestoreError {
+    ghost use Rattle.std.specs.Prelude.{◌≡◌};
+    ghost use Rattle.restarts.specs.declared.fault.RestoreError.TheVariants.{Memory};
+
+    ghost from_gives = { λ _ error. error ≡ Memory };
+
+    fn from(_refused: AllocError) -> RestoreError {
+        RestoreError::Memory
+    }
+}
