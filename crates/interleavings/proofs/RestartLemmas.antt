@@ -222,7 +222,7 @@ restarts_keep_replies plans began dumped calls text leads start =
     }
 
 pub services_open_again : ServicesOpenAgain
-services_open_again mirrors service text workers start =
+services_open_again mirrors service store text workers start =
     let last = ap content_of (take-length service.history) in
     let content = start.content ∙ sym last in
     let now = present mirrors service in

@@ -73,5 +73,5 @@ run machine mirrors service (event ∷ events) = run machine mirrors (machine mi
 
 -- rule: Interleaving
 -- the service after a list of events since it opened
-abbrev pub service_after : Machine → List Mirror → List Edit → ℕ → List Event → Service
-service_after machine mirrors batch workers events = run machine mirrors (opened mirrors batch workers) events
+abbrev pub service_after : Machine → List Mirror → History → ℕ → List Event → Service
+service_after machine mirrors start workers events = run machine mirrors (opened mirrors start workers) events
