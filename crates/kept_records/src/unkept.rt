@@ -1,6 +1,6 @@
 // Records that aren't kept.
 
-ghost use Rattle.std.specs.Prelude.{◌≡◌, []};
+ghost use Rattle.std.specs.Prelude.{◌≡◌, ◌≤◌, ◌^◌, []};
 
 use crate::fault::{AppendFault, ReadFault};
 use crate::record::{Kind, Record};
@@ -15,20 +15,36 @@ struct Note {
     bytes: Trace<u8>,
 }
 
+impl Note {
+    fn of(kind: Kind, bytes: &[u8]) -> Note
+        ensures kind { result.kind ≡ kind }
+        ensures bytes { result.bytes ≡ bytes.now }
+    {
+        Note {
+            kind,
+            bytes: Trace::of(bytes),
+        }
+    }
+}
+
 /// Records that no restart finds, for a server without a history. It takes no memory and has no limit.
 ///
 /// Contracts see those that were appended as known.
 #[derive(Drop)]
 pub struct Unkept {
+    first: u64,
     notes: Trace<Note>,
+    ghost numbered: { (1 ≤ first) × (first ≤ 2 ^ 53) },
 }
 
 impl Unkept {
-    /// Makes the store of no records.
+    /// Makes the store of no records, whose first one will have the number 1.
     pub fn new() -> Unkept
+        ensures first { result.first ≡ 1 }
         ensures none { result.notes ≡ [] }
     {
         Unkept {
+            first: 1,
             notes: Trace::new(),
         }
     }
@@ -40,22 +56,25 @@ impl Records for Unkept {
 
     ghost kept = { λ unkept. noted unkept.notes };
 
-    ghost first = { λ _. 1 };
+    ghost first = { λ unkept. unkept.first };
 
     fn first(&self) -> u64 {
-        1
+        self.first
     }
 
     fn append(&mut self, _alloc: Global, kind: Kind, bytes: &[u8]) -> Result<(), AppendFault> {
-        let note = Note {
-            kind,
-            bytes: Trace::of(bytes),
-        };
-        self.notes.push(&note);
+        self.notes.push(&Note::of(kind, bytes));
         Ok(())
     }
 
     fn next(&mut self, _alloc: Global) -> Result<Option<Record>, ReadFault> {
         Ok(None)
+    }
+
+    fn compact(&mut self, _alloc: Global, number: u64, bytes: &[u8]) -> Result<(), AppendFault> {
+        self.first = number;
+        self.notes = Trace::new();
+        self.notes.push(&Note::of(Kind::Profile, bytes));
+        Ok(())
     }
 }

@@ -1,4 +1,7 @@
+pub mod Exporting
 pub mod Found
 pub mod Laws
+pub mod Listing
+pub mod Prefixes
 pub mod Restarting
 pub mod Steps

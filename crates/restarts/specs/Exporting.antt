@@ -1,0 +1,15 @@
+-- The profile that records lead to; this project's profile.
+use Rattle.std.specs.Prelude.{ℕ, ◌≡◌, ◌≤◌, ◌<◌, ◌+◌, ◌++◌, List, [], length, Result, Ok, Err, Vec}
+use Rattle.editions.specs.Editions.{content_of}
+use Rattle.kept_records.specs.declared.record.Record.{Record}
+use Rattle.profile_writer.specs.Profiles.{IsProfileFile, IsReadAs}
+use Rattle.restarts.specs.Restarting.{Found, IsFaultOf, LeadTo}
+use Rattle.restarts.specs.declared.fault.RestoreError.{RestoreError}
+
+-- rule: Exported profile
+-- a text is the profile of the content and the mirrors that records lead to, and is read as them
+pub record IsExport (records : List Record) (text : List ℕ) : Type 0 where
+  pub found : Found
+  pub led : LeadTo records found
+  pub written : IsProfileFile (content_of found.history) found.mirrors text
+  pub reads_back : IsReadAs (content_of found.history) found.mirrors text
