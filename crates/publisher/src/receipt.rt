@@ -1,5 +1,6 @@
-ghost use Rattle.std.specs.Prelude.{◌≡◌, length, IfOk};
+ghost use Rattle.std.specs.Prelude.{◌≡◌, ◌≤◌, length, IfOk};
 ghost use Rattle.std.specs.Arc.{arc_value};
+ghost use Rattle.editions.specs.Editions.{max_batches};
 
 use editions::Edition;
 use std::alloc::AllocError;
@@ -46,7 +47,8 @@ impl Receipt {
 
     /// Returns the number of the edition, 1 to 4096.
     pub fn edition(&self) -> u64
-        ensures { result ≡ length self.now }
+        ensures count { result ≡ length self.now }
+        ensures few { length self.now ≤ max_batches }
     {
         self.edition.number()
     }

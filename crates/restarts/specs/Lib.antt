@@ -1,4 +1,5 @@
 pub mod Exporting
+pub mod FaultStrings
 pub mod Found
 pub mod Laws
 pub mod Listing

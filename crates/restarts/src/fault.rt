@@ -1,5 +1,8 @@
 // Why records lead to nothing.
 
+ghost use Rattle.std.specs.Prelude.{Some};
+ghost use Rattle.restarts.specs.FaultStrings.{fault_string};
+
 use catalogue::Refused;
 use profile_toml::ProfileFault;
 use std::alloc::{AllocError, AllocFailed};
@@ -25,7 +28,10 @@ pub enum RecordFault {
     Raise,
 }
 
+// rule: Fault of a history
 impl fmt::Display for RecordFault {
+    ghost output = { λ fault. Some (fault_string fault) };
+
     fn fmt<W: fmt::Write>(&self, f: &mut fmt::Formatter<W>) -> fmt::Result {
         match self {
             RecordFault::NoProfile => f.write_str("no profile"),

@@ -1,5 +1,5 @@
 -- The steps of a script between its reading and its reply; this project's profile.
-use Rattle.std.specs.Prelude.{◌≡◌, ◌⊎◌, ⊥, ℕ, ◌-◌, List, Result, Ok, Err, None}
+use Rattle.std.specs.Prelude.{◌≡◌, ◌⊎◌, ℕ, ◌-◌, List, Result, Ok, Err, None}
 use Rattle.catalogue.specs.declared.edit.Edit.{Edit}
 use Rattle.catalogue_laws.specs.Histories.{History}
 use Rattle.http_desks.specs.declared.desk.DeskStatus.{DeskStatus}

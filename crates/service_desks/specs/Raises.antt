@@ -1,5 +1,5 @@
 -- What a raise of a budget comes to that is sent to the operator's desk; this project's profile.
-use Rattle.std.specs.Prelude.{◌≡◌, ℕ, ◌≤◌, ◌-◌, ◌==◌, ◌&&◌, not, ⊥, Bool, true, false, if◌then◌else◌, List, [], ◌∷◌, ◌++◌, codes, drop, length, nat_eq, nat_lt, slice_index, take, Result, Ok, Err, Option, None, Some}
+use Rattle.std.specs.Prelude.{◌≡◌, ℕ, ◌≤◌, ◌-◌, ◌==◌, ◌&&◌, not, Bool, true, false, if◌then◌else◌, List, [], ◌∷◌, ◌++◌, codes, drop, length, nat_eq, nat_lt, slice_index, take, Result, Ok, Err, Option, None, Some}
 use Rattle.std.specs.Char.{is_ascii_digit}
 use Rattle.std.specs.List.{after_first, before_first, ends_with, list_all, starts_with}
 use Rattle.std.specs.Str.{is_utf8}

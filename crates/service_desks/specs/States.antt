@@ -1,5 +1,5 @@
 -- What the operator's desk changes: what is published, what is kept of it, and the mirrors' budgets; this project's profile.
-use Rattle.std.specs.Prelude.{ℕ, ◌+◌, ◌-◌, List, [], ◌∷◌, ◌++◌, length, Option, None, Some, unwrap_or}
+use Rattle.std.specs.Prelude.{◌≡◌, ℕ, ◌-◌, List, [], ◌∷◌, ◌++◌, length, take, Option, None, Some, unwrap_or}
 use Rattle.catalogue_laws.specs.Histories.{History}
 use Rattle.kept_records.specs.Keeping.{record_of}
 use Rattle.kept_records.specs.declared.record.Kind.TheVariants as kind
@@ -36,6 +36,11 @@ publication history first records due = record { history = history; store = stor
 -- what is published, and what is kept of it, in a state
 abbrev pub publication_of : State → Publication
 publication_of state = record { history = state.history; store = state.store }
+
+-- rule: Due edition
+-- a history begins with all batches of an earlier one, said as an equality
+abbrev pub GoesOn : History → History → Type 0
+GoesOn later earlier = take (length earlier) later ≡ earlier
 
 -- rule: Numbers of editions
 -- how many editions there were before that of the first record

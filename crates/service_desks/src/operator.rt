@@ -1,6 +1,7 @@
-ghost use Rattle.std.specs.Prelude.{◌≡◌, ◌≤◌, IfSome, codes, true};
+ghost use Rattle.std.specs.Prelude.{◌≡◌, ◌≤◌, codes, true};
+ghost use Rattle.std.specs.Option.{ForSome};
 ghost use Rattle.profile_toml.specs.Laws.{AreMirrors};
-ghost use Rattle.publisher.specs.Beginnings.{StartsWith};
+ghost use Rattle.service_desks.specs.States.{GoesOn};
 
 use crate::dumps::dump;
 use crate::raises::perform_raise;
@@ -38,7 +39,7 @@ pub struct Operator<'r, 'p, 'b, 'k, R: Threads + Wait + AllocGlobal, B: Budgets,
     pub workers: usize,
     ghost listed: { AreMirrors (B.present budgets.now) },
     ghost rising: { B.rises budgets.now ≡ true },
-    ghost followed: { IfSome due (λ next. StartsWith next press.now) },
+    ghost followed: { ForSome due (λ next. GoesOn next press.now) },
     ghost counted: { (1 ≤ workers) × (workers ≤ 16) },
 }
 

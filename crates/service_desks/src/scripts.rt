@@ -1,6 +1,7 @@
 // Scripts that are kept and published.
 
-ghost use Rattle.std.specs.Prelude.{◌≡◌, ◌≤◌, ◌+◌, ◌^◌, IfSome, MatchResult, None, Some, Err, Ok, length, unwrap_or};
+ghost use Rattle.std.specs.Prelude.{◌≡◌, ◌≤◌, ◌+◌, ◌^◌, MatchResult, None, Some, Err, Ok, length, unwrap_or};
+ghost use Rattle.std.specs.Option.{ForSome};
 ghost use Rattle.catalogue.specs.declared.edit.Edit.{Edit};
 ghost use Rattle.http_desks.specs.Calls.{answer_in};
 ghost use Rattle.http_desks.specs.declared.desk.Off.TheVariants.{Memory};
@@ -8,7 +9,7 @@ ghost use Rattle.profile_toml.specs.Reading.{script_of_bytes};
 ghost use Rattle.publisher.specs.Beginnings.{StartsWith};
 ghost use Rattle.service_desks.specs.Keeping.{IsKept, IsScriptAnswer};
 ghost use Rattle.service_desks.specs.Scripts.{Performs, publish_reply};
-ghost use Rattle.service_desks.specs.States.{publication};
+ghost use Rattle.service_desks.specs.States.{GoesOn, publication};
 
 use crate::lines::{Line, reply_with};
 use catalogue::Batch;
@@ -41,7 +42,7 @@ fn reply_to_error(alloc: Global, earlier: u64, error: &PublishError) -> Result<A
 // rule: Due edition
 // Shows the edition that is due, if one is; it stays due if memory runs out.
 fn show_due<R: Wait>(rt: &R, press: &mut Press, due: &mut Option<Prepared>) -> Result<(), Off>
-    requires { IfSome due.old (λ next. StartsWith next press.old) }
+    requires { ForSome due.old (λ next. GoesOn next press.old) }
     ensures { MatchResult result
         (λ _. (press.new ≡ unwrap_or due.old press.old) × (due.new ≡ None))
         (λ off. (off ≡ Memory) × (press.new ≡ press.old) × (due.new ≡ due.old)) }
@@ -142,11 +143,11 @@ pub fn perform_script<R: Threads + Wait + AllocGlobal, K: Records>(
     input: &[u8],
 ) -> Result<Answer, Off>
     requires workers { (1 ≤ workers) × (workers ≤ 16) }
-    requires due { IfSome due.old (λ next. StartsWith next press.old) }
+    requires due { ForSome due.old (λ next. GoesOn next press.old) }
     ensures performs { Performs
         (publication press.old (K.first records.old) (K.kept records.old) due.old) input.now (answer_in result)
         (publication press.new (K.first records.new) (K.kept records.new) due.new) }
-    ensures due { IfSome due.new (λ next. StartsWith next press.new) }
+    ensures due { ForSome due.new (λ next. GoesOn next press.new) }
 {
     match show_due(rt, press, due) {
         Ok(()) => {}
