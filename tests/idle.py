@@ -15,8 +15,9 @@ a byte a second, readers that take a package of 64 MiB at 1 KiB a second, and co
 idle and each slow one gets a reply, and each package has its SHA-256.
 
 `attacks`: clients of each kind (silent, slow, half-closed, reset, with a thousand messages at once, or that read nothing
-of a large package) before servers of 2 and 8 workers: another client gets its reply within a second, and beside as many
-of them at the operator's address a script is published within a second.
+of a large package, or nothing of a thousand replies) before servers of 2 and 8 workers: another client gets its reply
+within a second, and beside 16 of them at the operator's address a script is published within a second. Those with a
+thousand messages then read a thousand replies.
 
 `log`: a log whose pipe nobody reads, under many replies.
 
@@ -46,7 +47,8 @@ PARTS = ("few", "crowd", "attacks", "log", "files")
 PATH = "/service/update2/json"
 ASK = json.dumps({"request": {"protocol": "3.1", "app": [{"appid": "idle", "version": "1.0", "updatecheck": {}}]}}).encode()
 TICKS = os.sysconf("SC_CLK_TCK")
-KINDS = ("silent", "slow", "half-closed", "reset", "pipelining", "unread")
+KINDS = ("silent", "slow", "half-closed", "reset", "pipelining", "unread", "unread replies")
+MANY = 1000
 PROFILE = """schema = 1
 
 [[mirror]]
@@ -302,10 +304,35 @@ def crowd(program, folder, digest, options):
     server.end()
 
 
+def push(connection, left):
+    """Sends as many of the bytes as the system takes at once: how many are left."""
+    connection.setsockopt(socket.SOL_SOCKET, socket.SO_SNDBUF, 1 << 20)
+    connection.setblocking(False)
+    with contextlib.suppress(BlockingIOError):
+        while left:
+            left = left[connection.send(left) :]
+    connection.settimeout(60)
+    return left
+
+
+def replies_to(connection, left):
+    """Sends what is left of many messages while it reads their replies: how many came before the connection ended."""
+    sender = threading.Thread(target=connection.sendall, args=(left,), daemon=True)
+    sender.start()
+    connection.setsockopt(socket.SOL_SOCKET, socket.SO_RCVBUF, 1 << 20)
+    heads, kept = 0, b""
+    while more := connection.recv(1 << 20):
+        kept += more
+        heads += kept.count(b"HTTP/1.1 200 ")
+        kept = kept[-12:]
+    sender.join()
+    return heads
+
+
 def client_of(kind, port, path):
     """A client of a kind, of which the server is rid only by its limits."""
     one = connect(port, 4096)
-    message = post(ASK, path)
+    message = post(ASK if path == PATH else b"dump", path)
     if kind == "slow":
         one.sendall(message[:20])
     elif kind == "half-closed":
@@ -314,11 +341,19 @@ def client_of(kind, port, path):
     elif kind == "reset":
         one.sendall(message[:20])
         reset(one)
-    elif kind == "pipelining":
-        one.sendall(message * 1000)
+    elif kind in ("pipelining", "unread replies"):
+        push(one, message * MANY)
     elif kind == "unread":
         one.sendall(GET)
     return one
+
+
+def pipelines(server, what):
+    """A client with many messages at once reads as many replies."""
+    for port, path, body in ((server.port, PATH, ASK), (server.operator, "/operate", b"dump")):
+        with connect(port, 4096) as one:
+            left = push(one, post(body, path) * MANY)
+            expect(f"{what}: replies at {path}", replies_to(one, left), MANY)
 
 
 def attacks(program, folder, digest, options):
@@ -332,6 +367,8 @@ def attacks(program, folder, digest, options):
             for base in (1, 2, 3):
                 server.publishes(what, base)
             print(f"{what}: a reply took at most {max(took) * 1000:.1f} ms", flush=True)
+            if kind == "pipelining":
+                pipelines(server, what)
             for one in held + others:
                 one.close()
             server.end()

@@ -18,6 +18,7 @@
 mod answering;
 mod builtin;
 mod clients;
+mod crew;
 mod error;
 mod logging;
 mod mirrors;
@@ -39,7 +40,7 @@ pub use crate::error::ServerError;
 pub use crate::mirrors::Mirrors;
 pub use crate::place::Place;
 pub use crate::ports::{ServedPort, ServedPorts};
-pub use crate::service::{Service, builtin_service, make_service};
+pub use crate::service::{KeptService, Service, builtin_service, make_service};
 pub use crate::serving::serve;
 pub use crate::sockets::{LogFile, Sockets};
 pub use crate::system::{OpenError, System};

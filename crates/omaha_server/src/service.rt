@@ -25,6 +25,15 @@ pub struct Service {
     pub mirrors: Mirrors,
 }
 
+/// A service, and where what is published of it is kept.
+#[derive(Drop)]
+pub struct KeptService<K> {
+    /// The service.
+    pub service: Service,
+    /// Where scripts and raises are kept, before they take effect.
+    pub records: K,
+}
+
 // rule: Built-in catalogue
 /// Makes the built-in catalogue's service.
 pub fn builtin_service(alloc: Global) -> Result<Service, AllocError>
