@@ -50,7 +50,6 @@ impl Unkept {
     }
 }
 
-// rule: Records that aren't kept
 impl Records for Unkept {
     ghost use Rattle.kept_records.specs.Unkept.{noted};
 

@@ -39,7 +39,6 @@ edition_in options = limit_in (codes "edition") options
 abbrev pub action_asked : List Row → Option HistoryAction
 action_asked options = option_and_then (action_in (strings_in (codes "F") options)) (edition_in options)
 
--- rule: Arguments of the history
 -- what the arguments ask for
 abbrev pub asked_in : List Row → HistoryAsked
 asked_in options = record {

@@ -1,8 +1,8 @@
 //! Published editions that readers never wait for.
 //!
 //! `open` publishes edition 1, `open_edition` one that was made before; each makes a `Press` and some `View`s.
-//! `Press::publish` publishes one more batch whole or not at all, and returns a `Receipt`: `prepare` makes the edition and
-//! can refuse, and `show_prepared` shows it. `View::enter` gives an
+//! `Press::publish` publishes one more batch whole or not at all, and returns a `Receipt`: `prepare` makes the edition,
+//! or says why not, and `show_prepared` shows it. `View::enter` gives an
 //! `Entered` with one edition, whose history begins with all that the view has seen or learnt; `Entered::leave` gives
 //! the view back. `meet` compares a view with a press. Read `specs/Publishing.antt` and `specs/Sights.antt`.
 //!

@@ -6,10 +6,9 @@ use Rattle.profile_writer.specs.Profiles.{IsProfileFile, IsReadAs}
 use Rattle.restarts.specs.Restarting.{Found, IsFaultOf, LeadTo}
 use Rattle.restarts.specs.declared.fault.RestoreError.{RestoreError}
 
--- rule: Exported profile
--- a text is the profile of the content and the mirrors that records lead to, and is read as them
-pub record IsExport (records : List Record) (text : List ℕ) : Type 0 where
+-- bytes are the profile of the content and the mirrors that records lead to, and are read as them
+pub record IsExport (records : List Record) (bytes : List ℕ) : Type 0 where
   pub found : Found
   pub led : LeadTo records found
-  pub written : IsProfileFile (content_of found.history) found.mirrors text
-  pub reads_back : IsReadAs (content_of found.history) found.mirrors text
+  pub written : IsProfileFile (content_of found.history) found.mirrors bytes
+  pub reads_back : IsReadAs (content_of found.history) found.mirrors bytes

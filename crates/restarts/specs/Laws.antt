@@ -14,7 +14,6 @@ RecordsLeadToOne = (records : List Record) (one other : Found) → LeadTo record
 abbrev pub found_in : State → Found
 found_in state = record { history = (settled (publication_of state)).history; mirrors = state.mirrors }
 
--- rule: Restart from records
 -- if the records lead to what is published, or due, and to the present budgets, they do so after each call of the operator's
 -- desk; so a restart from them has just these
 abbrev pub RestartsFindWhatWasPublished : Type 0

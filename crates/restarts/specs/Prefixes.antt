@@ -13,7 +13,6 @@ is_of_edition kind.Raise = false
 abbrev pub makes_edition : Record → Bool
 makes_edition record = is_of_edition record.kind
 
--- rule: Records of an edition
 -- the first records that make so many editions, with the raises after them
 abbrev pub until : ℕ → List Record → List Record
 until count [] = []

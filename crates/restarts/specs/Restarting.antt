@@ -22,7 +22,6 @@ pub record Found : Type 0 where
   pub history : History
   pub mirrors : List Mirror
 
--- rule: First record
 -- a profile begins a history: with its one batch, which is accepted, and with its mirrors
 abbrev pub BeginsAs : Kind → List ℕ → Found → Type 0
 BeginsAs kind.Profile bytes found =
@@ -33,7 +32,6 @@ BeginsAs kind.Raise bytes found = ⊥
 abbrev pub Begins : Record → Found → Type 0
 Begins first found = BeginsAs first.kind first.bytes found
 
--- rule: Later record
 -- a script adds its batch, which is accepted after those before it; a raise gives one mirror its budget
 abbrev pub FollowsAs : Kind → List ℕ → Found → Found → Type 0
 FollowsAs kind.Profile bytes before after = ⊥
@@ -84,7 +82,7 @@ FollowsNothing before record fault.Raise =
     (record.kind ≡ kind.Raise) × Replays before.mirrors record.bytes false before.mirrors
 FollowsNothing before record other = ⊥
 
--- the record at an index is the first one that doesn't lead on
+-- the record at an index is the first one that doesn't follow
 abbrev pub StopsAt : List Record → ℕ → RecordFault → Type 0
 StopsAt [] index error = ⊥
 StopsAt (first ∷ others) zero error = BeginsNothing first error
@@ -92,8 +90,7 @@ StopsAt (first ∷ others) (suc index) error =
     (found : Found) × LeadTo (first ∷ take index others) found
     × ((record : Record) × (slice_get others index ≡ Some record) × FollowsNothing found record error)
 
--- rule: Fault of a history
--- why records lead to nothing: there are none, or one doesn't lead on; or memory ran out
+-- why records lead to nothing: there are none, or one doesn't follow; or memory ran out
 abbrev pub IsFaultOf : List Record → RestoreError → Type 0
 IsFaultOf records restore.Memory = ⊤
 IsFaultOf records restore.Empty = records ≡ []

@@ -12,7 +12,6 @@ use profile_writer::write_profile;
 use std::alloc::Global;
 use std::thread::Threads;
 
-// rule: Exported profile
 /// Writes the profile of what records lead to: its catalogue, and its mirrors with their budgets.
 ///
 /// The errors are those of `restore`.

@@ -28,7 +28,6 @@ pub enum RecordFault {
     Raise,
 }
 
-// rule: Fault of a history
 impl fmt::Display for RecordFault {
     ghost output = { λ fault. Some (fault_string fault) };
 
@@ -52,7 +51,7 @@ impl Error for RecordFault {}
 pub enum RestoreError {
     /// There are no records.
     Empty,
-    /// The record at this index, from 0, is the first that doesn't lead on.
+    /// The record at this index, from 0, is the first that doesn't follow.
     Record(usize, RecordFault),
     /// Memory ran out.
     Memory,

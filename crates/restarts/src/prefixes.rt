@@ -15,7 +15,6 @@ fn makes_edition(record: &Record) -> bool
     }
 }
 
-// rule: Records of an edition
 /// The first records that make so many editions, with the raises after them; all, if they make no more.
 pub fn records_until(records: &[Record], editions: u64) -> &[Record]
     ensures { result.now ≡ until editions records.now }

@@ -54,7 +54,6 @@ fn fault_of(error: NextError) -> ReadError<RecordFault> {
     }
 }
 
-// rule: First record
 // What a first record begins.
 fn begin(alloc: Global, first: &Record) -> Result<Draft, ReadError<RecordFault>>
     ensures ok { IfOk result (Begins first.now) }
@@ -90,8 +89,7 @@ impl Draft {
         }
     }
 
-    // rule: Later record
-    // Takes the next record.
+        // Takes the next record.
     fn follow(&mut self, alloc: Global, record: &Record) -> Result<(), ReadError<RecordFault>>
         ensures ok { MatchResult result (λ _. Follows self.old record.now self.new) (λ _. self.new ≡ self.old) }
         ensures err { IfErr result (IsWhyNoFollower self.old record.now) }
@@ -144,7 +142,7 @@ fn read_all(alloc: Global, records: &[Record]) -> Result<Draft, RestoreError>
 ///
 /// Its edition has all batches of the profile and the scripts, and its tables are made once, for the last content, in
 /// `workers` pieces, from 1 to 16, under `gate`. Each mirror has the budget that the last raise gave it, else the profile's.
-/// Fails with the first record that doesn't lead on.
+/// Fails with the first record that doesn't follow.
 pub fn restore<R: Threads, G: Gate + Sync>(
     rt: &R,
     alloc: Global,

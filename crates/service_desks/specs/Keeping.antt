@@ -15,7 +15,7 @@ IsKept script next before (Err off.Memory) after =
     after ≡ record { history = before.history; store = with_due before.store script next }
 IsKept script next before (Err off.Closed) after = after ≡ before
 
--- what a script comes to that was read, where nothing is due
+-- what a script comes to that was read, if nothing is due
 abbrev pub IsScriptAnswer :
     List ℕ → ℕ → List Edit → Publication → Result (DeskStatus × List ℕ) Off → Publication → Type 0
 IsScriptAnswer script base batch before (Ok reply) after = IsPublished before script base batch reply after

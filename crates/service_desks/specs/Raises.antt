@@ -112,7 +112,6 @@ abbrev pub MayRaise : List Mirror → List ℕ → ℕ → ℕ → Type 0
 MayRaise mirrors name budget index =
     IsAt mirrors name index × (budget ≤ max_budget) × (budget_at mirrors index ≤ budget)
 
--- rule: Replayed raise
 -- a body raised a budget among mirrors, once more; or no such raise could be made, and they are as before
 abbrev pub Replays : List Mirror → List ℕ → Bool → List Mirror → Type 0
 Replays old body true new =

@@ -6,7 +6,6 @@ use Rattle.kept_records.specs.declared.record.Kind.TheVariants as kind
 use Rattle.kept_records.specs.declared.record.Record.{Record}
 use Rattle.records.specs.declared.mirror.Mirror.{Mirror}
 
--- rule: Due edition
 -- what is kept: the number of the first record, which is that of its edition; the records that are known; and, if the last
 -- one isn't published yet, as memory ran out, the history that is due
 pub record Store : Type 0 where
@@ -37,17 +36,14 @@ publication history first records due = record { history = history; store = stor
 abbrev pub publication_of : State → Publication
 publication_of state = record { history = state.history; store = state.store }
 
--- rule: Due edition
 -- a history begins with all batches of an earlier one, said as an equality
 abbrev pub GoesOn : History → History → Type 0
 GoesOn later earlier = take (length earlier) later ≡ earlier
 
--- rule: Numbers of editions
 -- how many editions there were before that of the first record
 abbrev pub earlier_in : Store → ℕ
 earlier_in store = store.first - 1
 
--- rule: Due edition
 -- the publication once what is due is shown
 abbrev pub settled : Publication → Publication
 settled before = record {
