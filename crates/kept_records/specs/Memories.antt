@@ -50,6 +50,7 @@ abbrev pub in_doubt : Result (Unit {0}) AppendFault → Result (Unit {0}) Append
 in_doubt (Ok _) = Err (append.Unknown Disk)
 in_doubt (Err fault) = Err fault
 
+-- rule: Records in memory
 -- what an append comes to at a turn, and what it makes of the stored records
 abbrev pub AppendsBy : Option Turn → List Record → List Record → ℕ → ℕ → Record → Result (Unit {0}) AppendFault → Type 0
 AppendsBy None old new known limit added result = IsStored old new known limit added result

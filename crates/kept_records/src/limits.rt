@@ -24,6 +24,7 @@ fn bytes_left(records: &[Record], limit: u64) -> Option<u64>
     Some(left)
 }
 
+// rule: Limit of all records
 /// Whether a record of so many bytes may be added to these records.
 pub fn has_room(records: &[Record], limit: u64, bytes: usize) -> bool
     ensures { IsTrue result ↔ HasRoom limit records.now bytes }

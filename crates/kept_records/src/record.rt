@@ -27,6 +27,7 @@ pub struct Record {
 }
 
 impl Kind {
+    // rule: Kinds of records
     /// Returns the number by which the kind is stored: 1, 2 or 3.
     pub fn number(self) -> u32
         ensures { result ≡ number_of self }
@@ -38,6 +39,7 @@ impl Kind {
         }
     }
 
+    // rule: Kinds of records
     /// Returns the kind that is stored by a number, or `None` if there is none.
     pub fn of(number: u32) -> Option<Kind>
         ensures { result ≡ kind_of number }

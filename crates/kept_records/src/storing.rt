@@ -80,6 +80,7 @@ impl MemoryRecords {
         Err(AppendFault::Taken)
     }
 
+    // rule: Records in memory
     // What an append comes to at a turn; the number of known records is as before.
     fn append_by(
         &mut self,
@@ -117,6 +118,7 @@ impl Records for MemoryRecords {
         self.first
     }
 
+    // rule: Appended record
     fn append(&mut self, alloc: Global, kind: Kind, bytes: &[u8]) -> Result<(), AppendFault>
         ensures appends { Appends (record_of kind bytes.now) result (known_of self.old) (known_of self.new) }
         ensures first { self.new.first ≡ self.old.first }
@@ -132,6 +134,7 @@ impl Records for MemoryRecords {
         Ok(())
     }
 
+    // rule: Next record
     fn next(&mut self, alloc: Global) -> Result<Option<Record>, ReadFault>
         ensures learns { Learns result (known_of self.old) (known_of self.new) }
         ensures first { self.new.first ≡ self.old.first }
@@ -156,6 +159,7 @@ impl Records for MemoryRecords {
         }
     }
 
+    // rule: Compaction
     fn compact(&mut self, alloc: Global, number: u64, bytes: &[u8]) -> Result<(), AppendFault>
         requires { (1 ≤ number) × (number ≤ 2 ^ 53) }
         ensures compacts { Compacts (record_of Profile bytes.now) result (known_of self.old) (known_of self.new) }
