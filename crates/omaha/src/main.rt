@@ -4,6 +4,7 @@
 
 #![tactic(auto)]
 
+use history::HistoryFiles;
 use omaha_cli::{Sockets, report_unreadable, run};
 use std::process::ExitCode;
 use std::rt::Env;
@@ -23,6 +24,7 @@ fn main(rt: HostRuntime) -> ExitCode {
         Ok(arguments) => run(
             &rt,
             &Sockets { rt: &rt },
+            &HistoryFiles { rt: &rt },
             &arguments,
             &mut input,
             &mut output,
