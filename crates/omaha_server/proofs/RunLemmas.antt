@@ -1,5 +1,5 @@
 -- What the workers of a server and its operator came to, once all began.
-use Rattle.std.proofs.Common.{◌≡◌, ◌∙◌, ℕ, zero, suc, ◌<◌, ◌&&◌, All, Bool, List, [], ◌∷◌, Option, Some, None, Result, Ok, Err, IfOk, inl, inr, refl, ap, arith, get_or, length, map, nat_eq, not, option_map, subst, sym}
+use Rattle.std.proofs.Common.{◌≡◌, ◌∙◌, ℕ, zero, suc, ◌<◌, All, Bool, List, [], ◌∷◌, Option, Some, None, Result, Ok, Err, IfOk, inl, inr, refl, ap, arith, get_or, length, map, option_map, subst, sym}
 use Rattle.std.specs.Io.KnownBytes.{Appends}
 use Rattle.std.specs.List.{AllZip}
 use Rattle.std.specs.Option.{is_some}
@@ -32,7 +32,6 @@ use Rattle.omaha_server.specs.declared.opening.Ports.{Ports}
 use Rattle.omaha_server.specs.declared.operating.Operating.{Operating}
 use Rattle.omaha_server.specs.declared.place.Place.{Place}
 use Rattle.omaha_server.specs.declared.ports.ServedPort.{ServedPort}
-use Rattle.omaha_server.specs.declared.ports.ServedPorts.{ServedPorts}
 use Rattle.omaha_server.specs.declared.running.Ended.{Ended}
 use Rattle.omaha_server.specs.declared.service.Service.{Service}
 use Rattle.omaha_server.specs.declared.setup.Setup.{Setup}

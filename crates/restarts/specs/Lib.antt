@@ -2,7 +2,5 @@ pub mod Exporting
 pub mod FaultStrings
 pub mod Found
 pub mod Laws
-pub mod Listing
-pub mod Prefixes
 pub mod Restarting
 pub mod Steps

@@ -1,5 +1,5 @@
 -- What the records of a history lead to, and why they lead to nothing; this project's profile.
-use Rattle.std.specs.Prelude.{◌≡◌, ◌≢◌, ⊤, ⊥, ℕ, zero, suc, false, List, [], ◌∷◌, slice_get, take, Ok, Err, Some}
+use Rattle.std.specs.Prelude.{◌≡◌, ⊤, ℕ, zero, suc, false, List, [], ◌∷◌, slice_get, take, Ok, Err, Some}
 use Rattle.std.specs.Str.Parse.{digits_value}
 use Rattle.catalogue.specs.declared.edit.Edit.{Edit}
 use Rattle.catalogue_laws.specs.Histories.{History}
@@ -43,12 +43,12 @@ FollowsAs kind.Raise bytes before after =
     × RaisesTo before.mirrors after.mirrors asked.0 (digits_value 10 asked.1) (Ok tt) × (after.history ≡ before.history)
 
 abbrev pub Follows : Found → Record → Found → Type 0
-Follows before record after = FollowsAs record.kind record.bytes before after
+Follows before entry after = FollowsAs entry.kind entry.bytes before after
 
 -- each record follows what those before it lead to
 abbrev pub FollowAll : Found → List Record → Found → Type 0
 FollowAll before [] after = after ≡ before
-FollowAll before (record ∷ records) after = (between : Found) × Follows before record between × FollowAll between records after
+FollowAll before (entry ∷ records) after = (between : Found) × Follows before entry between × FollowAll between records after
 
 -- rule: Restart from records
 -- what records lead to
@@ -57,38 +57,39 @@ LeadTo [] found = ⊥
 LeadTo (first ∷ others) found = (start : Found) × Begins first start × FollowAll start others found
 
 -- why a first record begins nothing
-abbrev pub BeginsNothing : Record → RecordFault → Type 0
-BeginsNothing first fault.NoProfile = first.kind ≢ kind.Profile
-BeginsNothing first (fault.Profile error) = (first.kind ≡ kind.Profile) × (profile_of_bytes first.bytes ≡ Err error)
-BeginsNothing first (fault.Refused refused) =
-    (first.kind ≡ kind.Profile)
-    × ((profile : List Edit × List Mirror) × (profile_of_bytes first.bytes ≡ Ok profile)
-    × Continues [] profile.0 (Err (next.Refused refused)))
-BeginsNothing first other = ⊥
+abbrev pub BeginsNothing : Kind → List ℕ → RecordFault → Type 0
+BeginsNothing kind.Profile bytes (fault.Profile error) = profile_of_bytes bytes ≡ Err error
+BeginsNothing kind.Profile bytes (fault.Refused refused) =
+    (profile : List Edit × List Mirror) × (profile_of_bytes bytes ≡ Ok profile)
+    × Continues [] profile.0 (Err (next.Refused refused))
+BeginsNothing kind.Profile bytes other = ⊥
+BeginsNothing kind.Script bytes fault.NoProfile = ⊤
+BeginsNothing kind.Script bytes other = ⊥
+BeginsNothing kind.Raise bytes fault.NoProfile = ⊤
+BeginsNothing kind.Raise bytes other = ⊥
 
 -- why a record doesn't follow
-abbrev pub FollowsNothing : Found → Record → RecordFault → Type 0
-FollowsNothing before record fault.SecondProfile = record.kind ≡ kind.Profile
-FollowsNothing before record (fault.Script error) = (record.kind ≡ kind.Script) × (script_of_bytes record.bytes ≡ Err error)
-FollowsNothing before record (fault.Refused refused) =
-    (record.kind ≡ kind.Script)
-    × ((script : ℕ × List Edit) × (script_of_bytes record.bytes ≡ Ok script)
-    × Continues before.history script.1 (Err (next.Refused refused)))
-FollowsNothing before record fault.HistoryFull =
-    (record.kind ≡ kind.Script)
-    × ((script : ℕ × List Edit) × (script_of_bytes record.bytes ≡ Ok script)
-    × Continues before.history script.1 (Err next.HistoryFull))
-FollowsNothing before record fault.Raise =
-    (record.kind ≡ kind.Raise) × Replays before.mirrors record.bytes false before.mirrors
-FollowsNothing before record other = ⊥
+abbrev pub FollowsNothing : Kind → List ℕ → Found → RecordFault → Type 0
+FollowsNothing kind.Profile bytes before fault.SecondProfile = ⊤
+FollowsNothing kind.Profile bytes before other = ⊥
+FollowsNothing kind.Script bytes before (fault.Script error) = script_of_bytes bytes ≡ Err error
+FollowsNothing kind.Script bytes before (fault.Refused refused) =
+    (script : ℕ × List Edit) × (script_of_bytes bytes ≡ Ok script)
+    × Continues before.history script.1 (Err (next.Refused refused))
+FollowsNothing kind.Script bytes before fault.HistoryFull =
+    (script : ℕ × List Edit) × (script_of_bytes bytes ≡ Ok script)
+    × Continues before.history script.1 (Err next.HistoryFull)
+FollowsNothing kind.Script bytes before other = ⊥
+FollowsNothing kind.Raise bytes before fault.Raise = Replays before.mirrors bytes false before.mirrors
+FollowsNothing kind.Raise bytes before other = ⊥
 
 -- the record at an index is the first one that doesn't follow
 abbrev pub StopsAt : List Record → ℕ → RecordFault → Type 0
 StopsAt [] index error = ⊥
-StopsAt (first ∷ others) zero error = BeginsNothing first error
+StopsAt (first ∷ others) zero error = BeginsNothing first.kind first.bytes error
 StopsAt (first ∷ others) (suc index) error =
     (found : Found) × LeadTo (first ∷ take index others) found
-    × ((record : Record) × (slice_get others index ≡ Some record) × FollowsNothing found record error)
+    × ((entry : Record) × (slice_get others index ≡ Some entry) × FollowsNothing entry.kind entry.bytes found error)
 
 -- why records lead to nothing: there are none, or one doesn't follow; or memory ran out
 abbrev pub IsFaultOf : List Record → RestoreError → Type 0

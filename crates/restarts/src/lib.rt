@@ -3,8 +3,7 @@
 //! `restore` makes the edition and the mirrors of records: the profile's, with the batch of each script and the budget of
 //! each raise. Read `specs/Restarting.antt`. `laws::restarts` states that the records of an operator's desk lead to just
 //! what it published: read `specs/Laws.antt`. `list` writes records as lines, `records_until` has those up to an edition,
-//! and `export` writes the profile that records lead to: read `specs/Listing.antt`, `specs/Prefixes.antt` and
-//! `specs/Exporting.antt`.
+//! and `export` writes the profile that records lead to: read `specs/Exporting.antt`.
 //!
 //! It opens no file, and publishes nothing.
 

@@ -1,10 +1,11 @@
 // What records lead to.
 
-ghost use Rattle.std.specs.Prelude.{◌≡◌, ◌≤◌, IfErr, IfOk, MatchResult};
+ghost use Rattle.std.specs.Prelude.{◌≡◌, ◌≤◌, IfErr, IfOk, MatchResult, OnOk};
 ghost use Rattle.profile_toml.specs.Laws.{AreMirrors};
 ghost use Rattle.restarts.specs.Found.{found_of};
-ghost use Rattle.restarts.specs.Restarting.{Begins, Follows, IsFaultOf, LeadTo};
-ghost use Rattle.restarts.specs.Steps.{IsWhyNoBeginning, IsWhyNoFollower};
+ghost use Rattle.kept_records.specs.declared.record.Kind.TheVariants.{Profile, Raise, Script};
+ghost use Rattle.restarts.specs.Restarting.{BeginsAs, FollowAll, FollowsAs, IsFaultOf, LeadTo};
+ghost use Rattle.restarts.specs.Steps.{IsStopAfter, IsWhyNoBeginning, IsWhyNoFollower, error_by, fault_by};
 
 use crate::fault::{RecordFault, RestoreError};
 use catalogue::Mirror;
@@ -46,7 +47,9 @@ impl Model for Draft {
 }
 
 // Why a batch has no place in a history.
-fn fault_of(error: NextError) -> ReadError<RecordFault> {
+fn fault_of(error: NextError) -> ReadError<RecordFault>
+    ensures { result ≡ fault_by error }
+{
     match error {
         NextError::Refused(refused) => ReadError::Fault(RecordFault::Refused(refused)),
         NextError::HistoryFull => ReadError::Fault(RecordFault::HistoryFull),
@@ -54,17 +57,13 @@ fn fault_of(error: NextError) -> ReadError<RecordFault> {
     }
 }
 
-// What a first record begins.
-fn begin(alloc: Global, first: &Record) -> Result<Draft, ReadError<RecordFault>>
-    ensures ok { IfOk result (Begins first.now) }
-    ensures err { IfErr result (IsWhyNoBeginning first.now) }
+// What a profile begins.
+fn begin_with(alloc: Global, profile: &[u8]) -> Result<Draft, ReadError<RecordFault>>
+    ensures ok { IfOk result (BeginsAs Profile profile.now) }
+    ensures err { IfErr result (IsWhyNoBeginning Profile profile.now) }
 {
     laws::mirrors();
-    match first.kind {
-        Kind::Profile => {}
-        _ => return Err(ReadError::Fault(RecordFault::NoProfile)),
-    }
-    let (batch, mirrors) = match read_profile(alloc, first.bytes.as_slice()) {
+    let (batch, mirrors) = match read_profile(alloc, profile) {
         Ok(profile) => profile,
         Err(ReadError::Fault(fault)) => return Err(ReadError::Fault(RecordFault::Profile(fault))),
         Err(ReadError::Memory) => return Err(ReadError::Memory),
@@ -76,9 +75,24 @@ fn begin(alloc: Global, first: &Record) -> Result<Draft, ReadError<RecordFault>>
     }
 }
 
+// What a first record begins.
+fn begin(alloc: Global, kind: Kind, bytes: &[u8]) -> Result<Draft, ReadError<RecordFault>>
+    ensures ok { IfOk result (BeginsAs kind bytes.now) }
+    ensures err { IfErr result (IsWhyNoBeginning kind bytes.now) }
+{
+    match kind {
+        Kind::Profile => begin_with(alloc, bytes),
+        Kind::Script => Err(ReadError::Fault(RecordFault::NoProfile)),
+        Kind::Raise => Err(ReadError::Fault(RecordFault::NoProfile)),
+    }
+}
+
 impl Draft {
     // Adds the batch of a script.
-    fn add_script(&mut self, alloc: Global, script: &[u8]) -> Result<(), ReadError<RecordFault>> {
+    fn add_script(&mut self, alloc: Global, script: &[u8]) -> Result<(), ReadError<RecordFault>>
+        ensures ok { MatchResult result (λ _. FollowsAs Script script.now self.old self.new) (λ _. self.new ≡ self.old) }
+        ensures err { IfErr result (IsWhyNoFollower Script script.now self.old) }
+    {
         match read_script(alloc, script) {
             Ok((_base, batch)) => match self.builder.add(batch) {
                 Ok(()) => Ok(()),
@@ -89,31 +103,62 @@ impl Draft {
         }
     }
 
-        // Takes the next record.
-    fn follow(&mut self, alloc: Global, record: &Record) -> Result<(), ReadError<RecordFault>>
-        ensures ok { MatchResult result (λ _. Follows self.old record.now self.new) (λ _. self.new ≡ self.old) }
-        ensures err { IfErr result (IsWhyNoFollower self.old record.now) }
+    // Raises a budget.
+    fn add_raise(&mut self, raise: &[u8]) -> Result<(), ReadError<RecordFault>>
+        ensures ok { MatchResult result (λ _. FollowsAs Raise raise.now self.old self.new) (λ _. self.new ≡ self.old) }
+        ensures err { IfErr result (IsWhyNoFollower Raise raise.now self.old) }
     {
-        match record.kind {
+        if !replay_raise(&mut self.mirrors, raise) {
+            return Err(ReadError::Fault(RecordFault::Raise));
+        }
+        Ok(())
+    }
+
+    // Takes the next record.
+    fn follow(
+        &mut self,
+        alloc: Global,
+        kind: Kind,
+        bytes: &[u8],
+    ) -> Result<(), ReadError<RecordFault>>
+        ensures ok { MatchResult result (λ _. FollowsAs kind bytes.now self.old self.new) (λ _. self.new ≡ self.old) }
+        ensures err { IfErr result (IsWhyNoFollower kind bytes.now self.old) }
+    {
+        match kind {
             Kind::Profile => Err(ReadError::Fault(RecordFault::SecondProfile)),
-            Kind::Script => self.add_script(alloc, record.bytes.as_slice()),
-            Kind::Raise => {
-                if replay_raise(&mut self.mirrors, record.bytes.as_slice()) {
-                    Ok(())
-                } else {
-                    Err(ReadError::Fault(RecordFault::Raise))
-                }
-            }
+            Kind::Script => self.add_script(alloc, bytes),
+            Kind::Raise => self.add_raise(bytes),
         }
     }
 }
 
 // The error of the record at an index.
-fn error_at(index: usize, error: ReadError<RecordFault>) -> RestoreError {
+fn error_at(index: usize, error: ReadError<RecordFault>) -> RestoreError
+    ensures { result ≡ error_by index error }
+{
     match error {
         ReadError::Fault(fault) => RestoreError::Record(index, fault),
         ReadError::Memory => RestoreError::Memory,
     }
+}
+
+// Takes the records after the first one.
+fn follow_all(
+    alloc: Global,
+    draft: &mut Draft,
+    others: &[Record],
+) -> Result<(), RestoreError>
+    ensures ok { OnOk result (FollowAll draft.old others.now draft.new) }
+    ensures err { IfErr result (IsStopAfter draft.old others.now) }
+{
+    for index in 0..others.len() {
+        let entry = &others[index];
+        match draft.follow(alloc, entry.kind, entry.bytes.as_slice()) {
+            Ok(()) => {}
+            Err(error) => return Err(error_at(index + 1, error)),
+        }
+    }
+    Ok(())
 }
 
 // What all records lead to, without tables.
@@ -124,17 +169,14 @@ fn read_all(alloc: Global, records: &[Record]) -> Result<Draft, RestoreError>
     let Some((first, others)) = records.split_first() else {
         return Err(RestoreError::Empty);
     };
-    let mut draft = match begin(alloc, first) {
+    let mut draft = match begin(alloc, first.kind, first.bytes.as_slice()) {
         Ok(draft) => draft,
         Err(error) => return Err(error_at(0, error)),
     };
-    for index in 0..others.len() {
-        match draft.follow(alloc, &others[index]) {
-            Ok(()) => {}
-            Err(error) => return Err(error_at(index + 1, error)),
-        }
+    match follow_all(alloc, &mut draft, others) {
+        Ok(()) => Ok(draft),
+        Err(error) => Err(error),
     }
-    Ok(draft)
 }
 
 // rule: Restart from records

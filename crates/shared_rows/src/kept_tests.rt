@@ -76,7 +76,6 @@ fn keeps<R: Threads + Wait + Sync + AllocGlobal>(rt: &R) -> Option<&'static str>
 // rule: Kept script
 // rule: Kept raise
 // rule: Restart from records
-// rule: Listed record
 // rule: Edition of a whole history
 #[test]
 fn keeps_what_it_publishes_and_a_restart_finds_it(rt: HostRuntime) {
