@@ -72,7 +72,7 @@ after-script mirrors before after body (Err off.Memory) (inr (inr ahead)) leads 
     (more-by-script mirrors before body (ahead.base, ahead.batch) ahead.next ahead.read ahead.prepared.1 leads)
 after-script mirrors before after body (Err off.Closed) same leads = subst (Leading mirrors) (sym same) leads
 
--- a refused raise leaves the mirrors
+-- a rejected raise leaves the mirrors
 same-mirrors : (old new : List Mirror) (name : List ℕ) (budget : ℕ) (error : RaiseError) →
     RaisesTo old new name budget (Err error) → new ≡ old
 same-mirrors old new name budget raising.UnknownMirror raises = raises.1
