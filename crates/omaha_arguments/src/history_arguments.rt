@@ -6,7 +6,8 @@ ghost use Rattle.omaha_arguments.specs.HistoryArguments.{action_in, action_named
 ghost use Rattle.omaha_arguments.specs.Options.{IsMade};
 
 use crate::command::{HistoryAction, HistoryAsked};
-use crate::options::{Making, number_of, strings_in, titled, with_option, with_wanted_list};
+use crate::options::{Making, strings_in, titled, with_option, with_wanted_list};
+use crate::serve_arguments::limit_in;
 use clap::error::ErrorKind;
 use clap::{ArgMatches, Error};
 use std::alloc::{AllocError, Global};
@@ -18,7 +19,8 @@ const WORDS: &str = "The history's file, after `export` or `compact` if that is 
 
 const EDITION: &str = "The edition whose profile is printed [default: the last one]";
 
-const AFTER_HISTORY: &str = "`omaha serve --history F` keeps each script and each raise in F. The server is stopped for these:
+const AFTER_HISTORY: &str =
+    "`omaha serve --history F` keeps each script and each raise in F. The server is stopped for these:
   omaha history F             lists the records: number, kind, bytes, edition, first line
   omaha history export F      prints the profile of the last edition, or of --edition N
   omaha history compact F     replaces all records by the profile of the last edition, which keeps
@@ -82,13 +84,7 @@ fn last_of(alloc: Global, words: &[Text]) -> Result<Text, AllocError>
 fn edition_in(matches: &ArgMatches<'_>) -> Option<Option<u64>>
     ensures { result ≡ edition_in (rows_of (found_of matches.now)) }
 {
-    match matches.get_str("edition") {
-        None => Some(None),
-        Some(text) => match number_of(text) {
-            None => None,
-            Some(edition) => Some(Some(edition)),
-        },
-    }
+    limit_in(matches, "edition")
 }
 
 // The error for words that ask for nothing, built like the errors of `clap`.

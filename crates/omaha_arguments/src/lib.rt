@@ -22,7 +22,8 @@ mod serve_arguments;
 mod walk_arguments;
 
 pub use crate::command::{
-    Command, Comparison, HistoryAction, HistoryAsked, Once, Publication, Question, Raise, Report, Serve, Walk,
+    Command, Comparison, HistoryAction, HistoryAsked, Once, Publication, Question, Raise, Report,
+    Serve, Walk,
 };
 pub use crate::command_line::read_arguments;
 pub use crate::error::ArgumentError;

@@ -1,7 +1,7 @@
 // The options of the command `serve`.
 
-ghost use Rattle.std.specs.Prelude.{◌≡◌, codes, IfOk};
-ghost use Rattle.clap.specs.Words.{FailsBy, found_of, kind_of, rows_of};
+ghost use Rattle.std.specs.Prelude.{◌≡◌, codes, IfOk, is_some};
+ghost use Rattle.clap.specs.Words.{FailsBy, first_of, found_of, kind_of, rows_of};
 ghost use Rattle.omaha_arguments.specs.Options.{IsMade};
 ghost use Rattle.omaha_arguments.specs.ServeArguments.{connections_in, connections_of, faults_of_serve, is_named, limit_in, limit_of, seconds_in, seconds_of, serve_app, serve_in};
 
@@ -120,8 +120,8 @@ fn limit_of(text: &str) -> Option<Option<u64>>
     }
 }
 
-// How many sessions an option says.
-fn limit_in(matches: &ArgMatches<'_>, id: &str) -> Option<Option<u64>>
+/// The number of an option, or `None` without it; or none if that is no number.
+pub(crate) fn limit_in(matches: &ArgMatches<'_>, id: &str) -> Option<Option<u64>>
     ensures { result ≡ limit_in id.now (rows_of (found_of matches.now)) }
 {
     match matches.get_str(id) {
@@ -183,11 +183,23 @@ fn invalid_bound(alloc: Global) -> Result<Error, AllocError>
     )
 }
 
+// Whether an option is given.
+fn is_given(matches: &ArgMatches<'_>, id: &str) -> bool
+    ensures { result ≡ is_some (first_of id.now (rows_of (found_of matches.now))) }
+{
+    match matches.get_str(id) {
+        Some(_) => true,
+        None => false,
+    }
+}
+
 // Whether a profile or a history is named.
 fn is_named(matches: &ArgMatches<'_>) -> bool
     ensures { result ≡ is_named (rows_of (found_of matches.now)) }
 {
-    matches.get_str("profile").is_some() || matches.get_str("history").is_some()
+    let by_profile = is_given(matches, "profile");
+    let by_history = is_given(matches, "history");
+    by_profile || by_history
 }
 
 // The error of a server that has nothing to serve, built like the errors of `clap`.
