@@ -30,11 +30,11 @@ Remedy: Correct the edit, or the raise, and send it again with the same base.
     ),
     (
         "history",
-        "history full
-Found in: the reply to a script.
-The server has published 4096 editions, which is the most; nothing is changed.
-Usual cause: Thousands of scripts since the server was started.
-Remedy: Write `omaha dump --to ADDR` to a file, start the server from it, and set the script's `base` to 1.
+        "history full, or history F: REASON
+Found in: the reply to a script; of a history's file F: `serve` and `history`.
+Alone: the server has published 4096 editions, which is the most. With F: that file can't be used, for the reason.
+Usual cause: Thousands of scripts; a file that a server has open, another profile than the file's first one, a full disk.
+Remedy: Stop the server and use `omaha history compact F`; without a file, start from `omaha dump --to ADDR`, at base 1.
 ",
     ),
     (

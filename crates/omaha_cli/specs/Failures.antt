@@ -7,6 +7,7 @@ use Rattle.price_certificates.specs.FaultStrings.{fault_string as certificate_fa
 use Rattle.profile_toml.specs.FaultStrings.{fault_string as profile_fault_text}
 use Rattle.streams.specs.Strings.{shown_string}
 use Rattle.update_client.specs.Faults.{fault_string as walk_fault_text}
+use Rattle.omaha_cli.specs.HistoryFaults.{history_fault_string}
 use Rattle.omaha_cli.specs.declared.failure.Failure.{Failure}
 use Rattle.omaha_cli.specs.declared.failure.Failure.TheVariants as failure
 
@@ -26,6 +27,8 @@ failure_string (failure.Request fault) = fault_string fault
 failure_string (failure.Certificate fault) = certificate_fault_text fault
 failure_string (failure.Code code) = codes "no code " ++ shown_string code
 failure_string (failure.Net address) = codes "net " ++ shown_string address
+failure_string (failure.History path fault) =
+    codes "history " ++ shown_string path ++ codes ": " ++ history_fault_string fault
 failure_string failure.NoPlace = codes "no place"
 failure_string failure.Closed = codes "closed"
 failure_string failure.Thread = codes "thread"

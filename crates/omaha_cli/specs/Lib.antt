@@ -3,6 +3,8 @@ pub mod Describing
 pub mod Doing
 pub mod Explaining
 pub mod Failures
+pub mod Histories
+pub mod HistoryFaults
 pub mod Once
 pub mod Operating
 pub mod Rejections

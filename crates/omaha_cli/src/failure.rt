@@ -2,6 +2,7 @@ ghost use Rattle.std.specs.Prelude.{◌≡◌, Some};
 ghost use Rattle.omaha_cli.specs.Failures.{failure_string};
 ghost use Rattle.omaha_cli.specs.Running.{is_declined};
 
+use crate::history_fault::HistoryFault;
 use catalogue::Refused;
 use omaha_json::RequestFault;
 use package_files::DescribeError;
@@ -42,6 +43,8 @@ pub enum Failure {
     Code(Text),
     /// The address could not be bound, or the listener at it not be reached. It prints without control characters.
     Net(Text),
+    /// The history at that path can't be used, for that reason. The path prints without control characters.
+    History(Text, HistoryFault),
     /// There is no place for a view of the editions.
     NoPlace,
     /// A view entered no edition.
@@ -94,6 +97,12 @@ impl fmt::Display for Failure {
                     string: address.as_str(),
                 };
                 write!(f, "net {address}")
+            }
+            Failure::History(path, fault) => {
+                let path = Shown {
+                    string: path.as_str(),
+                };
+                write!(f, "history {path}: {fault}")
             }
             Failure::NoPlace => write!(f, "no place"),
             Failure::Closed => write!(f, "closed"),

@@ -10,6 +10,9 @@
 //! `serve` is served by `omaha_server`: read `specs/Serving.antt`. `check` with a folder of packages and `describe`
 //! print what `package_files` finds: read `specs/Comparing.antt` and `specs/Describing.antt`. `walk` is walked by
 //! `update_client`: read `specs/Walking.antt`; `publish`, `raise` and `dump` post by it: read `specs/Operating.antt`.
+//!
+//! What a server with a history begins with, and what `history` prints, is made by `restarts`: read `specs/Histories.antt`.
+//! `ReportingStores` prints why a script or a raise isn't kept.
 
 #![tactic(auto)]
 
@@ -17,10 +20,14 @@ mod comparing;
 mod describing;
 mod explaining;
 mod failure;
+mod histories;
+mod history_fault;
 mod once;
 mod operating;
 mod printing;
+mod reading_histories;
 mod reporting;
+mod reporting_stores;
 mod running;
 mod runtime;
 mod serving;
@@ -28,11 +35,14 @@ mod unreadable;
 mod walking;
 
 pub use crate::failure::Failure;
+pub use crate::history_fault::HistoryFault;
 pub use crate::once::{read_service, respond};
 pub use crate::reporting::report_on;
+pub use crate::reporting_stores::{ReportedRecords, ReportingStores};
 pub use crate::running::{Ending, Status, run};
 pub use crate::runtime::Runtime;
 pub use crate::unreadable::report_unreadable;
+pub use kept_records::Stores;
 pub use omaha_arguments::{Command, Comparison, Once, Publication, Question, Report, Serve, Walk};
 pub use omaha_server::{
     LogFile, Place, ServedPort, ServedPorts, ServerError, Service, Sockets, System, answer,

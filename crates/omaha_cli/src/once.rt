@@ -1,7 +1,8 @@
 // The command `once`: a reply to the one request that a reader holds.
 
-ghost use Rattle.std.specs.Prelude.{Some};
-ghost use Rattle.omaha_cli.specs.Once.{IsMade, IsServed, Replies, Responds, service_of_bytes};
+ghost use Rattle.std.specs.Prelude.{Err, IfErr, IfOk, Some};
+ghost use Rattle.omaha_cli.specs.Once.{IsMade, IsServed, Replies, Responds, max_profile, service_of_bytes};
+ghost use Rattle.streams.specs.Reading.{IsWhole};
 ghost use Rattle.omaha_cli.specs.Streams.{Streams};
 
 use crate::failure::Failure;
@@ -40,6 +41,32 @@ pub fn read_service<R: Threads + Sync>(
 }
 
 // rule: Maximum of a profile
+/// Reads a profile's file.
+pub(crate) fn read_named<R: Disk + AllocGlobal>(rt: &R, path: &Text) -> Result<Vec<u8>, Failure>
+    ensures ok { IfOk result (λ bytes. IsWhole (R.file_at rt.now path.now) max_profile bytes.items) }
+    ensures err { IfErr result (λ failure. IsServed (R.file_at rt.now) (Some path.now) (Err failure)) }
+{
+    match rt.read_file(rt.alloc(), path.as_str(), MAX_PROFILE) {
+        Ok(bytes) => Ok(bytes),
+        Err(ReadFailure::Memory) => Err(Failure::Memory),
+        Err(_) => Err(Failure::File(path.clone()?)),
+    }
+}
+
+/// Makes the service of a profile that was read from the file at a path, by so many threads.
+pub(crate) fn service_in<R: Disk + AllocGlobal + Threads + Sync>(
+    rt: &R,
+    path: &Text,
+    profile: &[u8],
+    workers: usize,
+) -> Result<Service, Failure>
+    requires { IsWhole (R.file_at rt.now path.now) max_profile profile.now }
+    ensures made { IsMade (service_of_bytes profile.now) result }
+    ensures served { IsServed (R.file_at rt.now) (Some path.now) result }
+{
+    read_service(rt, rt.alloc(), profile, workers)
+}
+
 /// Reads a profile's file, and makes what requests are replied to from, by so many threads.
 pub(crate) fn open_profile<R: Disk + AllocGlobal + Threads + Sync>(
     rt: &R,
@@ -48,22 +75,22 @@ pub(crate) fn open_profile<R: Disk + AllocGlobal + Threads + Sync>(
 ) -> Result<Service, Failure>
     ensures { IsServed (R.file_at rt.now) (Some path.now) result }
 {
-    match rt.read_file(rt.alloc(), path.as_str(), MAX_PROFILE) {
-        Ok(bytes) => read_service(rt, rt.alloc(), bytes.as_slice(), workers),
-        Err(ReadFailure::Memory) => Err(Failure::Memory),
-        Err(_) => Err(Failure::File(path.clone()?)),
+    match read_named(rt, path) {
+        Ok(bytes) => service_in(rt, path, bytes.as_slice(), workers),
+        Err(unread) => Err(unread),
     }
 }
 
-// What requests are replied to from: the profile's file, if one is named.
-fn open_service<R: Disk + AllocGlobal + Threads + Sync>(
+/// What requests are replied to from: the profile's file, if one is named.
+pub(crate) fn open_service<R: Disk + AllocGlobal + Threads + Sync>(
     rt: &R,
-    once: &Once,
+    profile: &Option<Text>,
+    workers: usize,
 ) -> Result<Service, Failure>
-    ensures { IsServed (R.file_at rt.now) once.now.profile result }
+    ensures { IsServed (R.file_at rt.now) profile.now result }
 {
-    match &once.profile {
-        Some(path) => open_profile(rt, path, 1),
+    match profile {
+        Some(path) => open_profile(rt, path, workers),
         None => Ok(builtin_service(rt.alloc())?),
     }
 }
@@ -114,7 +141,7 @@ pub fn respond<R: Disk + AllocGlobal + Threads + Sync + Wait, I: ReadWhole, W: W
         (record { input = I.input reader.old; output = W.output writer.old })
         (record { input = I.input reader.new; output = W.output writer.new }) result }
 {
-    match open_service(rt, once) {
+    match open_service(rt, &once.profile, 1) {
         Ok(service) => reply_from(rt, service, once.moment, reader, writer),
         Err(failure) => Err(failure),
     }

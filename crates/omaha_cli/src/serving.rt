@@ -1,15 +1,17 @@
 // The command `serve`.
 
-ghost use Rattle.std.specs.Prelude.{◌≡◌, IfOk};
-ghost use Rattle.omaha_cli.specs.Serving.{EndsAs, IsPlaceOf, IsUnbound, IsUnopened, ServesOn};
+ghost use Rattle.std.specs.Prelude.{◌≡◌, IfOk, None, Some};
+ghost use Rattle.omaha_cli.specs.Serving.{EndsAs, IsHosted, IsPlaceOf, IsUnbound, IsUnopened, ServesOn, ServesWith};
 ghost use Rattle.omaha_server.specs.Serving.{IsSilent};
 ghost use Rattle.streams.specs.Streams.{Known};
 
 use crate::failure::Failure;
-use crate::once::open_profile;
+use crate::histories::open_history;
+use crate::once::open_service;
 use http_ports::Port;
+use kept_records::{Records, Stores, Unkept};
 use omaha_arguments::Serve;
-use omaha_server::{Place, ServerError, System, serve};
+use omaha_server::{KeptService, Place, ServerError, System, serve};
 use std::alloc::AllocError;
 use std::sync::Wait;
 use std::thread::Threads;
@@ -91,14 +93,36 @@ fn place_of(asked: &Serve) -> Result<Place, AllocError>
     })
 }
 
-// rule: Service over HTTP
-/// Serves a profile and its packages, takes the operator's scripts, and prints the mirrors' totals at the end.
-///
-/// Fails, in this order, with the profile's file, its first fault, its first rejected edit, the log, the folder of
-/// packages, no place for a worker's view, the address, the operator's address, the writer, and a thread that can't be
-/// started; the writer may also fail after the last session. Replies are logged on
-/// `errors` if the log is `-`; otherwise it is left as it is.
-pub(crate) fn serve_profile<
+// Serves a service, of which what is published is kept.
+fn serve_kept<
+    P: Port + Send + Drop,
+    S: System<P> + Sync,
+    R: Clock + AllocGlobal + Threads + Sync + Wait,
+    W: WriteWhole,
+    F: WriteWhole + Send,
+    K: Records + Drop,
+>(
+    rt: &R,
+    system: &S,
+    kept: KeptService<K>,
+    asked: &Serve,
+    writer: &mut W,
+    errors: &mut F,
+) -> Result<(), Failure>
+    ensures silent { IsSilent asked.now.log → errors.new ≡ errors.old }
+    ensures hosts { IsHosted (S.edges system.now)
+        (record { service = kept.service; first = K.first kept.records; records = K.kept kept.records })
+        asked.now (W.output writer.old) (W.output writer.new) result }
+{
+    let Ok(place) = place_of(asked) else {
+        return Err(Failure::Memory);
+    };
+    let ended = serve(rt, system, kept, &place, &Free, writer, errors);
+    end_of(ended, asked)
+}
+
+// Serves a profile, and keeps nothing of what is published.
+fn serve_unkept<
     P: Port + Send + Drop,
     S: System<P> + Sync,
     R: Disk + Clock + AllocGlobal + Threads + Sync + Wait,
@@ -106,17 +130,77 @@ pub(crate) fn serve_profile<
     F: WriteWhole + Send,
 >(rt: &R, system: &S, asked: &Serve, writer: &mut W, errors: &mut F) -> Result<(), Failure>
     ensures silent { IsSilent asked.now.log → errors.new ≡ errors.old }
+    ensures serves { (input : Known) → ServesWith (R.file_at rt.now) (S.edges system.now) None asked.now
+        (record { input = input; output = W.output writer.old })
+        (record { input = input; output = W.output writer.new }) result }
+{
+    let service = match open_service(rt, &asked.profile, asked.workers.min(16) as usize) {
+        Ok(service) => service,
+        Err(failure) => return Err(failure),
+    };
+    let records = Unkept::new();
+    let kept = KeptService { service, records };
+    serve_kept(rt, system, kept, asked, writer, errors)
+}
+
+// Serves the history at a path.
+fn serve_history<
+    P: Port + Send + Drop,
+    S: System<P> + Sync,
+    R: Disk + Clock + AllocGlobal + Threads + Sync + Wait,
+    H: Stores,
+    W: WriteWhole,
+    F: WriteWhole + Send,
+>(
+    rt: &R,
+    system: &S,
+    stores: &H,
+    path: &Text,
+    asked: &Serve,
+    writer: &mut W,
+    errors: &mut F,
+) -> Result<(), Failure>
+    ensures silent { IsSilent asked.now.log → errors.new ≡ errors.old }
+    ensures serves { (input : Known) → ServesWith (R.file_at rt.now) (S.edges system.now) (Some path.now) asked.now
+        (record { input = input; output = W.output writer.old })
+        (record { input = input; output = W.output writer.new }) result }
+{
+    match open_history(rt, stores, path, asked) {
+        Ok(kept) => serve_kept(rt, system, kept, asked, writer, errors),
+        Err(failure) => Err(failure),
+    }
+}
+
+// rule: Service over HTTP
+/// Serves a profile or a history and its packages, takes the operator's scripts, and prints the mirrors' totals at the end.
+///
+/// With a history each script and each raise is kept before it takes effect. Fails, in this order, with the history, the
+/// profile's file, another profile than the history's, the profile's first fault, its first rejected edit, the first record
+/// that doesn't follow, the log, the folder of packages, no place for a worker's view, the address, the operator's
+/// address, the writer, and a thread that can't be started; the writer may also fail after the last session. Replies are
+/// logged on `errors` if the log is `-`; otherwise it is left as it is.
+pub(crate) fn serve_profile<
+    P: Port + Send + Drop,
+    S: System<P> + Sync,
+    R: Disk + Clock + AllocGlobal + Threads + Sync + Wait,
+    H: Stores,
+    W: WriteWhole,
+    F: WriteWhole + Send,
+>(
+    rt: &R,
+    system: &S,
+    stores: &H,
+    asked: &Serve,
+    writer: &mut W,
+    errors: &mut F,
+) -> Result<(), Failure>
+    ensures silent { IsSilent asked.now.log → errors.new ≡ errors.old }
     ensures serves { (input : Known) → ServesOn (R.file_at rt.now) (S.edges system.now) asked.now
         (record { input = input; output = W.output writer.old })
         (record { input = input; output = W.output writer.new }) result }
 {
-    let service = match open_profile(rt, &asked.profile, asked.workers.min(16) as usize) {
-        Ok(service) => service,
-        Err(failure) => return Err(failure),
-    };
-    let Ok(place) = place_of(asked) else {
-        return Err(Failure::Memory);
-    };
-    let ended = serve(rt, system, service, &place, &Free, writer, errors);
-    end_of(ended, asked)
+    match &asked.history {
+        Some(path) => serve_history(rt, system, stores, path, asked, writer, errors),
+        None => serve_unkept(rt, system, asked, writer, errors),
+    }
 }

@@ -9,13 +9,10 @@ use Rattle.omaha_server.specs.Passages.{passages_in}
 use Rattle.omaha_server.specs.Serving.{IsLogged}
 use Rattle.omaha_server.specs.declared.error.ServerError.{ServerError}
 use Rattle.omaha_server.specs.declared.ports.ServedPorts.{ServedPorts}
-use Rattle.omaha_cli.proofs.serving.serve_profile.Goals as goal
+use Rattle.omaha_cli.proofs.serving.serve_kept.Goals as goal
 
-pub returns-clause-serves : goal.returns-clause-serves
-returns-clause-serves g c = λ input. record {
-  made = Ok c.in-Ok.service;
-  served = c.in-Ok.ensures;
-  follows = (
+pub returns-clause-hosts : goal.returns-clause-hosts
+returns-clause-hosts g c =
     inl (record {
       place = c.in-Ok-place_of.place;
       placed = c.in-Ok-place_of.ensures;
@@ -24,10 +21,7 @@ returns-clause-serves g c = λ input. record {
       logged = logged_so g.P.Port.terms g.P.Port.slots g.P.Port.accepted c.serve-ended.result
           (g.S.System.edges c.args.system.now) c.in-Ok-place_of.place.log c.serve-ended.ensures.logged;
       ends = ends_so g.P.Port.terms g.P.Port.slots g.P.Port.accepted c.serve-ended.result c.args.asked.now c.end_of.result c.end_of.ensures;
-    }),
-    refl,
-  );
-}
+    })
   where
     -- the same, of what passed at the ports
     ends_so :

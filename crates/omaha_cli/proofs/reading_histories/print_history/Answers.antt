@@ -1,0 +1,10 @@
+use Rattle.std.proofs.Common.{List, ℕ, Ok, sym, subst}
+use Rattle.omaha_cli.specs.Histories.{IsFoundIn}
+use Rattle.omaha_cli.proofs.reading_histories.print_history.Goals as goal
+
+pub returns-in-Ok : goal.returns-in-Ok
+returns-in-Ok g c = λ input. record {
+  found = Ok c.as_slice.result.now;
+  is = subst (λ (text : List ℕ). IsFoundIn c.args.asked.now (Ok text)) (sym c.as_slice.ensures.value) c.in-Ok.ensures.ok;
+  printed = c.print.ensures input;
+}
