@@ -168,7 +168,8 @@ fn serve_press<
     let ports = match open_place(rt.alloc(), setup.system, setup.place, out) {
         Ok(ports) => ports,
         Err(error) => {
-            publishing.press.end(rt);
+            let Publishing { press, records: _ } = publishing;
+            press.end(rt);
             return Err(error);
         }
     };

@@ -143,11 +143,7 @@ fn error_at(index: usize, error: ReadError<RecordFault>) -> RestoreError
 }
 
 // Takes the records after the first one.
-fn follow_all(
-    alloc: Global,
-    draft: &mut Draft,
-    others: &[Record],
-) -> Result<(), RestoreError>
+fn follow_all(alloc: Global, draft: &mut Draft, others: &[Record]) -> Result<(), RestoreError>
     ensures ok { OnOk result (FollowAll draft.old others.now draft.new) }
     ensures err { IfErr result (IsStopAfter draft.old others.now) }
 {

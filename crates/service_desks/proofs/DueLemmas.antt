@@ -6,8 +6,7 @@ use Rattle.service_desks.specs.States.{GoesOn}
 
 -- said by what is left
 pub StartsWith-goes_on : (later earlier : History) → GoesOn later earlier → StartsWith later earlier
-StartsWith-goes_on later earlier on =
-    (
-      drop (length earlier) later,
-      sym (take-append-drop (length earlier) later) ∙ ap (λ (first : History). first ++ drop (length earlier) later) on,
-    )
+StartsWith-goes_on later earlier on = (
+  drop (length earlier) later,
+  sym (take-append-drop (length earlier) later) ∙ ap (λ (first : History). first ++ drop (length earlier) later) on,
+)

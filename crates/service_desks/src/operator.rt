@@ -73,7 +73,14 @@ impl<R: Threads + Wait + AllocGlobal, B: Budgets, K: Records> Desk
         } else if body.starts_with(b"raise ") {
             perform_raise(self.rt, self.budgets, self.records, body)
         } else {
-            perform_script(self.rt, self.press, self.records, &mut self.due, self.workers, body)
+            perform_script(
+                self.rt,
+                self.press,
+                self.records,
+                &mut self.due,
+                self.workers,
+                body,
+            )
         }
     }
 

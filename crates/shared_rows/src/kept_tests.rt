@@ -12,7 +12,8 @@ use std::thread::Threads;
 
 // What is sent, each with what it gets after those before it. The second script and the first raise can't be stored, and
 // the third script may be stored.
-const SENT: &str = r#"schema = 1~base = 1~edit = [{ do = "set_withdrawn", app = "demo", version = "3.0", on = true }] = 200 edition 2
+const SENT: &str =
+    r#"schema = 1~base = 1~edit = [{ do = "set_withdrawn", app = "demo", version = "3.0", on = true }] = 200 edition 2
 schema = 1~base = 2 = closed
 schema = 1~base = 1 = 409 stale 2
 raise m0 1000000 = closed

@@ -9,8 +9,7 @@ use Rattle.service_desks.proofs.raises.replay_raise.Goals as goal
 pub returns-in-Ok-clause-replays : goal.returns-in-Ok-clause-replays
 returns-in-Ok-clause-replays c =
     let may = subst (λ (ms : List Mirror). MayRaise ms c.in-Some.name.now c.value_of-budget.result c.in-Ok.index)
-    c.deref.ensures.value c.in-Ok.ensures in
-    (
+    c.deref.ensures.value c.in-Ok.ensures in (
       (c.in-Some.name.now, c.in-Some.digits.now),
       sym c.in-Some.ensures.asked,
       RaisesTo-spells c.args.mirrors.now.items c.set_budget.new.mirrors.items c.in-Some.name.now
