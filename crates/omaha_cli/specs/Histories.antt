@@ -1,6 +1,6 @@
 -- What a server begins with, by its profile or by the records of its history, and what is printed of records; this project's
 -- profile.
-use Rattle.std.specs.Prelude.{◌≡◌, ◌⊎◌, ⊤, ⊥, ℕ, List, [], ◌∷◌, Option, Some, None, Result, Ok, Err}
+use Rattle.std.specs.Prelude.{◌≡◌, ◌⊎◌, ⊤, ℕ, List, [], ◌∷◌, Option, Some, None, Result, Ok, Err}
 use Rattle.kept_records.specs.Keeping.{record_of}
 use Rattle.kept_records.specs.declared.record.Kind.TheVariants.{Profile}
 use Rattle.kept_records.specs.declared.record.Record.{Record}

@@ -1,6 +1,6 @@
 // What is wrong with a history.
 
-ghost use Rattle.std.specs.Prelude.{Some};
+ghost use Rattle.std.specs.Prelude.{◌≡◌, Some};
 ghost use Rattle.omaha_cli.specs.HistoryFaults.{cause_string, history_fault_string};
 
 use kept_records::{AppendFault, Cause, OpenFault};
