@@ -29,7 +29,7 @@ module _ (quotes : CertifiedRowsQuote) (graphs : TrackGraphsAreGraphs) (growth :
       (mirrors : List Mirror) (start : History) (workers : ℕ) (events : List Event) → IsAcceptedHistory start →
       IsRun mirrors events (opened mirrors start workers) (service_after happens mirrors start workers events)
   after mirrors start workers events accepted =
-      IsRun-opened mirrors quotes graphs growth prefixes are_valid batch workers events accepted
+      IsRun-opened mirrors quotes graphs growth prefixes are_valid start workers events accepted
 
   -- and after more events
   further :

@@ -1,5 +1,6 @@
 -- Each event keeps by which events the jobs of each worker began, were planned and ended.
 use Rattle.std.proofs.Common.{◌≡◌, ℕ, zero, suc, ◌⊎◌, inl, inr, eqb, List, [], ◌∷◌, ◌++◌, length, replicate, ◌+◌, None, Some, refl, sym, ap, ◌∙◌, append_assoc, subst}
+use Rattle.catalogue_laws.specs.Histories.{History}
 use Rattle.std.specs.List.{slice_get}
 use Rattle.std.proofs.lemmas.Bool.{cond_both}
 use Rattle.std.proofs.lemmas.List.{append-nil}
@@ -160,7 +161,7 @@ module _ (mirrors : List Mirror) (start : History) (workers : ℕ) where
   -- at the opening there is no job
   none-yet : AllKeep []
   none-yet index worker there =
-      subst (KeepsCourse course index []) (sym (new-at workers index worker there))
+      subst (KeepsCourse course index []) (sym (new-at (length start) workers index worker there))
       (record { job = tt; ended = λ place ended own. absurd (none-some ended own) })
 
   kept : (events : List Event) → AllKeep events

@@ -126,5 +126,5 @@ module _ (mirrors : List Mirror) (quotes : CertifiedRowsQuote) (graphs : TrackGr
   pub IsRun-opened :
       (start : History) (workers : ℕ) (events : List Event) → IsAcceptedHistory start →
       IsRun mirrors events (opened mirrors start workers) (service_after happens mirrors start workers events)
-  IsRun-opened batch workers events accepted =
-      IsRun-events events (opened mirrors start workers) (Keeps-opened batch workers accepted)
+  IsRun-opened start workers events accepted =
+      IsRun-events events (opened mirrors start workers) (Keeps-opened start workers accepted)
