@@ -17,7 +17,7 @@ use http_ports::{Port, Terms};
 use kept_records::Records;
 use log_queues::LineSender;
 use mirror_ledger::{BudgetJob, Budgets};
-use publisher::Press;
+use publisher::{Prepared, Press};
 use service_desks::Operator;
 use std::sync::Wait;
 use std::thread::Threads;
@@ -74,15 +74,16 @@ fn serve_desk<
 >(
     setup: &Setup<'_, S, R>,
     port: NewPort<P>,
-    desk: &mut Operator<'_, '_, '_, '_, R, B, K>,
+    desk: &mut Operator<'_, '_, '_, '_, '_, R, B, K>,
     lines: &mut Option<LineSender>,
 ) -> ServedPort<P>
     ensures same_press { desk.new.press.ghost_name ≡ desk.old.press.ghost_name }
     ensures same_budgets { desk.new.budgets.ghost_name ≡ desk.old.budgets.ghost_name }
     ensures same_records { desk.new.records.ghost_name ≡ desk.old.records.ghost_name }
+    ensures same_due { desk.new.due.ghost_name ≡ desk.old.due.ghost_name }
     ensures operated { AreOperated (S.edges setup.now.system.now) setup.now.place.now (P.terms port)
-        (record { mirrors = B.present desk.old.budgets.now; history = desk.old.press.now; store = store (K.first desk.old.records.now) (K.kept desk.old.records.now) desk.old.due })
-        (record { mirrors = B.present desk.new.budgets.now; history = desk.new.press.now; store = store (K.first desk.new.records.now) (K.kept desk.new.records.now) desk.new.due })
+        (record { mirrors = B.present desk.old.budgets.now; history = desk.old.press.now; store = store (K.first desk.old.records.now) (K.kept desk.old.records.now) desk.old.due.now })
+        (record { mirrors = B.present desk.new.budgets.now; history = desk.new.press.now; store = store (K.first desk.new.records.now) (K.kept desk.new.records.now) desk.new.due.now })
         (passage_of P.terms P.slots P.accepted result) }
 {
     serve_new(setup, port, desk, lines)
@@ -100,14 +101,16 @@ fn operate<
     port: NewPort<P>,
     press: &mut Press,
     records: &mut K,
+    due: &mut Option<Prepared>,
     budgets: &mut B,
     lines: &mut Option<LineSender>,
 ) -> ServedPort<P>
     requires listed { AreMirrors (B.present budgets.old) }
     requires rising { B.rises budgets.old ≡ true }
-    ensures operated { (due : Option History) × AreOperated (S.edges setup.now.system.now) setup.now.place.now (P.terms port)
-        (record { mirrors = B.present budgets.old; history = press.old; store = store (K.first records.old) (K.kept records.old) None })
-        (record { mirrors = B.present budgets.new; history = press.new; store = store (K.first records.new) (K.kept records.new) due })
+    requires none { due.old ≡ None }
+    ensures operated { AreOperated (S.edges setup.now.system.now) setup.now.place.now (P.terms port)
+        (record { mirrors = B.present budgets.old; history = press.old; store = store (K.first records.old) (K.kept records.old) due.old })
+        (record { mirrors = B.present budgets.new; history = press.new; store = store (K.first records.new) (K.kept records.new) due.new })
         (passage_of P.terms P.slots P.accepted result) }
 {
     let mut desk = Operator {
@@ -115,7 +118,7 @@ fn operate<
         press,
         budgets,
         records,
-        due: None,
+        due,
         workers: setup.place.workers,
     };
     serve_desk(setup, port, &mut desk, lines)
@@ -151,11 +154,13 @@ impl<
         let OperatorPort::New(port) = std::mem::replace(&mut self.port, OperatorPort::Served) else {
             return None;
         };
+        let mut due = None;
         let served = operate(
             self.setup,
             port,
             &mut self.press,
             &mut self.records,
+            &mut due,
             budgets,
             &mut self.lines,
         );

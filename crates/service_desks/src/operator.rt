@@ -24,7 +24,7 @@ use std::thread::Threads;
 /// records before they took effect. It is off if one can't be kept, and if memory runs out; then nothing is raised, and
 /// nothing published but what was due. It knows no package.
 #[derive(Drop)]
-pub struct Operator<'r, 'p, 'b, 'k, R: Threads + Wait + AllocGlobal, B: Budgets, K: Records> {
+pub struct Operator<'r, 'p, 'b, 'k, 'd, R: Threads + Wait + AllocGlobal, B: Budgets, K: Records> {
     /// What starts threads and has the memory of editions and replies.
     pub rt: &'r R,
     /// The press.
@@ -34,17 +34,17 @@ pub struct Operator<'r, 'p, 'b, 'k, R: Threads + Wait + AllocGlobal, B: Budgets,
     /// Where scripts and raises are kept.
     pub records: &'k mut K,
     /// The edition of the last script that was kept, if there was no memory to show it.
-    pub due: Option<Prepared>,
+    pub due: &'d mut Option<Prepared>,
     /// In how many pieces the tables of an edition are made, from 1 to 16.
     pub workers: usize,
     ghost listed: { AreMirrors (B.present budgets.now) },
     ghost rising: { B.rises budgets.now ≡ true },
-    ghost followed: { ForSome due (λ next. GoesOn next press.now) },
+    ghost followed: { ForSome due.now (λ next. GoesOn next press.now) },
     ghost counted: { (1 ≤ workers) × (workers ≤ 16) },
 }
 
 impl<R: Threads + Wait + AllocGlobal, B: Budgets, K: Records> Desk
-    for Operator<'_, '_, '_, '_, R, B, K> {
+    for Operator<'_, '_, '_, '_, '_, R, B, K> {
     ghost use Rattle.std.specs.Prelude.{◌≡◌};
     ghost use Rattle.service_desks.specs.Operators.{IsCall};
     ghost use Rattle.service_desks.specs.States.{store};
@@ -55,9 +55,9 @@ impl<R: Threads + Wait + AllocGlobal, B: Budgets, K: Records> Desk
 
     ghost steps = { λ old call new.
         (new.press.ghost_name ≡ old.press.ghost_name) × (new.budgets.ghost_name ≡ old.budgets.ghost_name)
-        × (new.records.ghost_name ≡ old.records.ghost_name)
-        × IsCall (record { mirrors = B.present old.budgets.now; history = old.press.now; store = store (K.first old.records.now) (K.kept old.records.now) old.due }) call
-        (record { mirrors = B.present new.budgets.now; history = new.press.now; store = store (K.first new.records.now) (K.kept new.records.now) new.due }) };
+        × (new.records.ghost_name ≡ old.records.ghost_name) × (new.due.ghost_name ≡ old.due.ghost_name)
+        × IsCall (record { mirrors = B.present old.budgets.now; history = old.press.now; store = store (K.first old.records.now) (K.kept old.records.now) old.due.now }) call
+        (record { mirrors = B.present new.budgets.now; history = new.press.now; store = store (K.first new.records.now) (K.kept new.records.now) new.due.now }) };
 
     fn path(&self) -> &str {
         "/operate"
@@ -77,7 +77,7 @@ impl<R: Threads + Wait + AllocGlobal, B: Budgets, K: Records> Desk
                 self.rt,
                 self.press,
                 self.records,
-                &mut self.due,
+                self.due,
                 self.workers,
                 body,
             )

@@ -19,12 +19,13 @@ use std::thread::Threads;
 // What a body gets. If memory ran out, nothing is to be published, and the body is sent again; if it was kept all the
 // same, its edition is due, and shown then, and that it is stale means that it is published.
 fn send_to<R: Threads + Wait + AllocGlobal, B: Budgets, K: Records>(
-    operator: &mut Operator<'_, '_, '_, '_, R, B, K>,
+    operator: &mut Operator<'_, '_, '_, '_, '_, R, B, K>,
     body: &[u8],
 ) -> Option<String>
     ensures same_press { operator.new.press.ghost_name ≡ operator.old.press.ghost_name }
     ensures same_budgets { operator.new.budgets.ghost_name ≡ operator.old.budgets.ghost_name }
     ensures same_records { operator.new.records.ghost_name ≡ operator.old.records.ghost_name }
+    ensures same_due { operator.new.due.ghost_name ≡ operator.old.due.ghost_name }
 {
     let alloc = operator.rt.alloc();
     let before = operator.press.edition().number();
@@ -56,12 +57,13 @@ fn send<R: Threads + Wait + AllocGlobal, B: Budgets, K: Records>(
     ensures mirrors { AreMirrors (B.present budgets.new) }
     ensures rises { B.rises budgets.new ≡ true }
 {
+    let mut due = None;
     let mut operator = Operator {
         rt,
         press,
         budgets,
         records,
-        due: None,
+        due: &mut due,
         workers: 2,
     };
     send_to(&mut operator, body)

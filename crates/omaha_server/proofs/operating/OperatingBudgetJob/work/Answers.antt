@@ -36,13 +36,12 @@ returns-clause-comes g c =
     let edges = g.S.System.edges c.args.self.now.setup.now.system.now in
     let place = c.args.self.now.setup.now.place.now in
     let records = c.args.self.now.records in
-    let (due, operated) = c.operate-served.ensures.operated in
     let left = publication c.operate-served.new.press (g.K.Records.first c.operate-served.new.records)
-    (g.K.Records.kept c.operate-served.new.records) due in (
+    (g.K.Records.kept c.operate-served.new.records) c.operate-served.new.due in (
       left,
       subst (λ (port : OperatorPort g.row.P.Denot). IsOperated edges place (terms_left g.P.Port.terms port)
           (with_mirrors (g.B.Budgets.present c.args.budgets.now) (begun c.args.self.now.press (g.K.Records.first records) (g.K.Records.kept records)))
           (with_mirrors (g.B.Budgets.present c.operate-served.new.budgets) left)
           (Some (passage_of g.P.Port.terms g.P.Port.slots g.P.Port.accepted c.operate-served.result)))
-          (sym c.in-New-replace.is ∙ c.replace.ensures.value) operated,
+          (sym c.in-New-replace.is ∙ c.replace.ensures.value) c.operate-served.ensures.operated,
     )
