@@ -1,4 +1,4 @@
-use Rattle.std.proofs.Common.{List, ℕ, Ok, sym, subst}
+use Rattle.std.proofs.Common.{List, ℕ, Ok, Err, refl, sym, subst}
 use Rattle.omaha_cli.specs.Histories.{IsFoundIn}
 use Rattle.omaha_cli.proofs.reading_histories.print_history.Goals as goal
 
@@ -8,3 +8,6 @@ returns-in-Ok g c = λ input. record {
   is = subst (λ (text : List ℕ). IsFoundIn c.args.asked.now (Ok text)) (sym c.as_slice.ensures.value) c.in-Ok.ensures.ok;
   printed = c.print.ensures input;
 }
+
+pub returns-in-Err : goal.returns-in-Err
+returns-in-Err g c = λ input. record { found = Err c.in-Err.failure; is = c.in-Err.ensures.err; printed = (refl, refl) }

@@ -14,12 +14,12 @@ use Rattle.omaha_cli.proofs.serving.serve_kept.Goals as goal
 pub returns-clause-hosts : goal.returns-clause-hosts
 returns-clause-hosts g c =
     inl (record {
-      place = c.in-Ok-place_of.place;
-      placed = c.in-Ok-place_of.ensures;
+      place = c.in-Ok.place;
+      placed = c.in-Ok.ensures;
       ended = passages_in g.P.Port.terms g.P.Port.slots g.P.Port.accepted c.serve-ended.result;
       serves = c.serve-ended.ensures.serves;
       logged = logged_so g.P.Port.terms g.P.Port.slots g.P.Port.accepted c.serve-ended.result
-          (g.S.System.edges c.args.system.now) c.in-Ok-place_of.place.log c.serve-ended.ensures.logged;
+          (g.S.System.edges c.args.system.now) c.in-Ok.place.log c.serve-ended.ensures.logged;
       ends = ends_so g.P.Port.terms g.P.Port.slots g.P.Port.accepted c.serve-ended.result c.args.asked.now c.end_of.result c.end_of.ensures;
     })
   where

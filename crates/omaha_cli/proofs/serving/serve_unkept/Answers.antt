@@ -8,3 +8,6 @@ returns-clause-serves g c = λ input. record {
   begun = (c.in-Ok.ensures, c.new-records.ensures.first, ap noted c.new-records.ensures.none);
   follows = (c.serve_kept.ensures.hosts, refl);
 }
+
+pub returns-in-Err-clause-serves : goal.returns-in-Err-clause-serves
+returns-in-Err-clause-serves g c = λ input. record { made = Err c.in-Err.failure; begun = c.in-Err.ensures; follows = (refl, refl) }
