@@ -2,7 +2,8 @@
 
 use crate::together::Meeting;
 use http_ports::Port;
-use omaha_server::{Place, Service, Sockets, System, builtin_service, serve};
+use kept_records::Unkept;
+use omaha_server::{KeptService, Place, Service, Sockets, System, builtin_service, serve};
 use std::alloc::{AllocError, Global};
 use std::io;
 use std::sync::Wait;
@@ -36,10 +37,14 @@ fn is_served<
     R: Clock + Threads + Wait + Sync + AllocGlobal,
 >(rt: &R, system: &S, service: Service, place: &Place, meeting: &Meeting<'_, R>) -> bool {
     let mut out = Vec::new(rt.alloc());
+    let kept = KeptService {
+        service,
+        records: Unkept::new(),
+    };
     let served = serve(
         rt,
         system,
-        service,
+        kept,
         place,
         meeting,
         &mut out,
