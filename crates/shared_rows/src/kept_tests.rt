@@ -48,7 +48,7 @@ fn dump_in(replies: &[String]) -> Option<&str> {
 }
 
 // Whether a restart from records makes what was dumped, and they are listed as they should be.
-fn finds<R: Threads>(rt: &R, records: &[Record], replies: &[String]) -> Option<bool> {
+fn finds<R: Threads + AllocGlobal>(rt: &R, records: &[Record], replies: &[String]) -> Option<bool> {
     if records.len() > 65536 {
         return None;
     }
