@@ -63,8 +63,8 @@ fn keeps<R: Threads + Wait + Sync + AllocGlobal>(rt: &R) -> Option<&'static str>
     let mut bodies = bodies_of(rt.alloc(), SENT)?;
     push_body(rt.alloc(), &mut bodies, b"dump")?;
     let mirrors = mirrors_of_profile(rt.alloc(), profile)?;
-    let (press, _views) = open_document(rt, rt.alloc(), profile, 1).ok()?;
     let records = records_of(rt.alloc(), profile)?;
+    let (press, _views) = open_document(rt, rt.alloc(), profile, 1).ok()?;
     let (press, records, replies) = replies_kept(rt, press, records, mirrors, &bodies);
     press.end(rt);
     let replies = replies?;
