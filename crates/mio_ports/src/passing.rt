@@ -1,4 +1,4 @@
-// Reads and writes of a slot's socket, as the book records them.
+// Reads and writes of a slot's socket, and how the book records them.
 
 ghost use Rattle.std.specs.Prelude.{◌≡◌, ◌<◌, length, vec_len};
 ghost use Rattle.http_ports.specs.Ports.{Reads, Writes};
@@ -15,8 +15,8 @@ use traces::Trace;
 // How often a call is tried that a signal interrupts.
 const TRIES: u32 = 16;
 
-// What a read of the socket gives.
-fn read_stream(stream: Option<&TcpStream>, into: &mut [u8]) -> Received
+// What a read of a slot's socket gives.
+pub(crate) fn read_stream(stream: Option<&TcpStream>, into: &mut [u8]) -> Received
     requires { 0 < length into.old }
     ensures { IsReceived result into.new }
 {
@@ -35,15 +35,14 @@ fn read_stream(stream: Option<&TcpStream>, into: &mut [u8]) -> Received
     Received::Failure
 }
 
-// Reads from a slot's socket, and records it.
-pub(crate) fn read_slot(book: &mut Book<TcpStream>, slot: usize, into: &mut [u8]) -> Received
+// Records what a read of a slot's socket gave.
+pub(crate) fn note_read(book: &mut Book<TcpStream>, slot: usize, into: &[u8], received: Received)
     requires live { IsOpen (slots_after book.old.moves slot) }
-    requires room { 0 < length into.old }
-    ensures reads { Reads slot result into.new (slots_after book.old.moves) (slots_after book.new.moves) }
+    requires received { IsReceived received into.now }
+    ensures reads { Reads slot received into.now (slots_after book.old.moves) (slots_after book.new.moves) }
     ensures accepted { accepted_in book.new.moves ≡ accepted_in book.old.moves }
     ensures capacity { vec_len book.new.places ≡ vec_len book.old.places }
 {
-    let received = read_stream(book.stream(slot), into);
     match received {
         Received::Bytes(count) => {
             book.change(slot, Change::Received(Trace::of(&into[..count])), false);
@@ -52,11 +51,10 @@ pub(crate) fn read_slot(book: &mut Book<TcpStream>, slot: usize, into: &mut [u8]
         Received::End => book.change(slot, Change::Marked(Last::InputEnded), false),
         Received::Failure => book.change(slot, Change::Marked(Last::ReadFailed), false),
     }
-    received
 }
 
-// What a write to the socket takes.
-fn write_stream(stream: Option<&TcpStream>, bytes: &[u8]) -> Sent
+// What a write to a slot's socket takes.
+pub(crate) fn write_stream(stream: Option<&TcpStream>, bytes: &[u8]) -> Sent
     ensures { IsSent result bytes.now }
 {
     let Some(mut stream) = stream else {
@@ -74,14 +72,14 @@ fn write_stream(stream: Option<&TcpStream>, bytes: &[u8]) -> Sent
     Sent::Failure
 }
 
-// Writes to a slot's socket, and records it.
-pub(crate) fn write_slot(book: &mut Book<TcpStream>, slot: usize, bytes: &[u8]) -> Sent
+// Records how many bytes a write to a slot's socket took.
+pub(crate) fn note_write(book: &mut Book<TcpStream>, slot: usize, bytes: &[u8], sent: Sent)
     requires live { IsOpen (slots_after book.old.moves slot) }
-    ensures writes { Writes slot result bytes.now (slots_after book.old.moves) (slots_after book.new.moves) }
+    requires sent { IsSent sent bytes.now }
+    ensures writes { Writes slot sent bytes.now (slots_after book.old.moves) (slots_after book.new.moves) }
     ensures accepted { accepted_in book.new.moves ≡ accepted_in book.old.moves }
     ensures capacity { vec_len book.new.places ≡ vec_len book.old.places }
 {
-    let sent = write_stream(book.stream(slot), bytes);
     match sent {
         Sent::Bytes(count) => {
             book.change(slot, Change::Sent(Trace::of(&bytes[..count])), false);
@@ -89,5 +87,4 @@ pub(crate) fn write_slot(book: &mut Book<TcpStream>, slot: usize, bytes: &[u8]) 
         Sent::Nothing => book.change(slot, Change::Marked(Last::WaitsToWrite), true),
         Sent::Failure => book.change(slot, Change::Marked(Last::WriteFailed), false),
     }
-    sent
 }

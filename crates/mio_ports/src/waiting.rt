@@ -2,7 +2,7 @@
 
 ghost use Rattle.std.specs.Prelude.{◌≡◌};
 
-use crate::passing::{read_slot, write_slot};
+use crate::passing::{note_read, note_write, read_stream, write_stream};
 use crate::port::{EVENTS, LISTENER, MioPort};
 use http_ports::{Event, Last, Port, Received, Sent};
 use port_books::Change;
@@ -104,7 +104,8 @@ impl<R: Wait + Clock> Port for MioPort<'_, R> {
     }
 
     fn read(&mut self, slot: usize, into: &mut [u8]) -> Received {
-        let received = read_slot(&mut self.book, slot, into);
+        let received = read_stream(self.book.stream(slot), into);
+        note_read(&mut self.book, slot, into, received);
         if let Received::Bytes(_) = received {
             self.times.read(slot);
         }
@@ -112,7 +113,8 @@ impl<R: Wait + Clock> Port for MioPort<'_, R> {
     }
 
     fn write(&mut self, slot: usize, bytes: &[u8]) -> Sent {
-        let sent = write_slot(&mut self.book, slot, bytes);
+        let sent = write_stream(self.book.stream(slot), bytes);
+        note_write(&mut self.book, slot, bytes, sent);
         match sent {
             Sent::Bytes(_) => self.times.written(slot),
             Sent::Nothing => self.times.held(slot),

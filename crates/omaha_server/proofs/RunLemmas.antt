@@ -1,5 +1,5 @@
 -- What the workers of a server and its operator came to, once all began.
-use Rattle.std.proofs.Common.{◌≡◌, ◌∙◌, ℕ, zero, suc, ◌<◌, ◌&&◌, All, Bool, List, [], ◌∷◌, Option, Some, None, Result, Ok, Err, IfOk, inl, inr, refl, ap, arith, get_or, length, map, nat_eq, not, option_map, subst, sym}
+use Rattle.std.proofs.Common.{◌≡◌, ◌∙◌, ℕ, zero, suc, ◌<◌, All, Bool, List, [], ◌∷◌, Option, Some, None, Result, Ok, Err, IfOk, inl, inr, refl, ap, arith, get_or, length, map, option_map, subst, sym}
 use Rattle.std.specs.Io.KnownBytes.{Appends}
 use Rattle.std.specs.List.{AllZip}
 use Rattle.std.specs.Option.{is_some}
@@ -30,7 +30,6 @@ use Rattle.omaha_server.specs.declared.opening.Ports.{Ports}
 use Rattle.omaha_server.specs.declared.operating.Operating.{Operating}
 use Rattle.omaha_server.specs.declared.place.Place.{Place}
 use Rattle.omaha_server.specs.declared.ports.ServedPort.{ServedPort}
-use Rattle.omaha_server.specs.declared.ports.ServedPorts.{ServedPorts}
 use Rattle.omaha_server.specs.declared.running.Ended.{Ended}
 use Rattle.omaha_server.specs.declared.service.Service.{Service}
 use Rattle.omaha_server.specs.declared.setup.Setup.{Setup}
@@ -60,25 +59,25 @@ ended-at {J} {E} comes (job ∷ jobs) (its ∷ worked) (end ∷ ends) zero j a e
 ended-at comes (job ∷ jobs) (its ∷ worked) (end ∷ ends) (suc worker) j a e works same below =
     ended-at comes jobs worked ends worker j a e works.1 (cc same) (omega (arith, below))
 
-module _ {S R P W : Type 0} (edges_of : S → Edges) (terms_of : P → Terms) (slots_of : P → ℕ → Slot) (accepted_of : P → ℕ)
-    (setup : Setup S R W) (mirrors : List Mirror) where
+module _ {S R P : Type 0} (edges_of : S → Edges) (terms_of : P → Terms) (slots_of : P → ℕ → Slot) (accepted_of : P → ℕ)
+    (setup : Setup S R) (mirrors : List Mirror) where
   -- what a worker's job comes to
-  abbrev comes : Bool → Clients S R P W → List Ask → ServedPort P → Type 0
+  abbrev comes : Bool → Clients S R P → List Ask → ServedPort P → Type 0
   comes single clients asks served =
       AreServed (edges_of clients.setup.now.system.now) clients.setup.now.place.now (terms_of clients.port) single mirrors
       clients.view asks (passage_of terms_of slots_of accepted_of served)
 
   -- it is said of the setup
-  at-setup : (single : Bool) (history : History) (terms : Terms) (clients : Clients S R P W) (asks : List Ask) (served : ServedPort P) →
+  at-setup : (single : Bool) (history : History) (terms : Terms) (clients : Clients S R P) (asks : List Ask) (served : ServedPort P) →
       IsClients setup (fresh history) clients → terms_of clients.port ≡ terms → comes single clients asks served →
       AreServed (edges_of setup.system.now) setup.place.now terms single mirrors (fresh history) asks (passage_of terms_of slots_of accepted_of served)
   at-setup single history terms clients asks served is by came =
       subst (λ t. AreServed (edges_of setup.system.now) setup.place.now t single mirrors (fresh history) asks (passage_of terms_of slots_of accepted_of served)) by
       (subst (λ s. AreServed (edges_of setup.system.now) setup.place.now (terms_of clients.port) single mirrors s asks (passage_of terms_of slots_of accepted_of served)) is.by
-      (subst (λ (s : Setup S R W). AreServed (edges_of s.system.now) s.place.now (terms_of clients.port) single mirrors clients.view asks (passage_of terms_of slots_of accepted_of served)) is.with came))
+      (subst (λ (s : Setup S R). AreServed (edges_of s.system.now) s.place.now (terms_of clients.port) single mirrors clients.view asks (passage_of terms_of slots_of accepted_of served)) is.with came))
 
   -- what the operator's job comes to
-  abbrev led : Operating S R P W → List Mirror → List Mirror → Option (ServedPort P) → Type 0
+  abbrev led : Operating S R P → List Mirror → List Mirror → Option (ServedPort P) → Type 0
   led own before after served =
       (history : History)
       × IsOperated (edges_of own.setup.now.system.now) own.setup.now.place.now (terms_left terms_of own.port)
@@ -94,12 +93,12 @@ module _ {S R P W : Type 0} (edges_of : S → Edges) (terms_of : P → Terms) (s
 
   -- what a worker's job came to
   served-at :
-      (jobs : List (Clients S R P W)) (asks : List (List Ask)) (results : List (Result (ServedPort P) (Clients S R P W))) (ends : List (ServedPort P))
+      (jobs : List (Clients S R P)) (asks : List (List Ask)) (results : List (Result (ServedPort P) (Clients S R P))) (ends : List (ServedPort P))
       (single : Bool) (history : History) (terms : Terms) (worker : ℕ) (a : List Ask) (p : Passage)
       (worked : HaveWorked (comes single) jobs asks results) →
-      map (λ (its : List Ask × Result (ServedPort P) (Clients S R P W)). its.1) worked.worked ≡ map Ok ends →
+      map (λ (its : List Ask × Result (ServedPort P) (Clients S R P)). its.1) worked.worked ≡ map Ok ends →
       worker < length jobs → length ends ≡ length jobs → All (IsClients setup (fresh history)) jobs →
-      ((d : Terms) → get_or (map terms_of (map (λ (job : Clients S R P W). job.port) jobs)) worker d ≡ terms) →
+      ((d : Terms) → get_or (map terms_of (map (λ (job : Clients S R P). job.port) jobs)) worker d ≡ terms) →
       AreServed (edges_of setup.system.now) setup.place.now terms single mirrors (fresh history) (get_or asks worker a)
       (get_or (map (passage_of terms_of slots_of accepted_of) ends) worker p)
   served-at [] asks results ends single history terms worker a p worked same below long each by = absurd (omega (arith, below))
@@ -109,17 +108,17 @@ module _ {S R P W : Type 0} (edges_of : S → Edges) (terms_of : P → Terms) (s
       let came = ended-at (comes single) (job ∷ jobs) worked.worked (end ∷ ends) worker job a end worked.each same below in
       let told = at-setup single history terms here (get_or (map (λ its. its.0) worked.worked) worker a) (get_or (end ∷ ends) worker end)
       (each worker job below)
-      (sym (ap terms_of (get_or-mapped (λ (c : Clients S R P W). c.port) (job ∷ jobs) worker job job.port below))
-      ∙ sym (get_or-mapped terms_of (map (λ (c : Clients S R P W). c.port) (job ∷ jobs)) worker job.port terms
-      (omega (arith, below, length-map (job ∷ jobs) (λ (c : Clients S R P W). c.port)))) ∙ by terms) came in
+      (sym (ap terms_of (get_or-mapped (λ (c : Clients S R P). c.port) (job ∷ jobs) worker job job.port below))
+      ∙ sym (get_or-mapped terms_of (map (λ (c : Clients S R P). c.port) (job ∷ jobs)) worker job.port terms
+      (omega (arith, below, length-map (job ∷ jobs) (λ (c : Clients S R P). c.port)))) ∙ by terms) came in
       subst (λ (q : Passage). AreServed (edges_of setup.system.now) setup.place.now terms single mirrors (fresh history) (get_or asks worker a) q)
       (sym (get_or-mapped (passage_of terms_of slots_of accepted_of) (end ∷ ends) worker end p (omega (arith, below, long))))
       (subst (λ (list : List (List Ask)). AreServed (edges_of setup.system.now) setup.place.now terms single mirrors (fresh history) (get_or list worker a)
       (passage_of terms_of slots_of accepted_of (get_or (end ∷ ends) worker end))) (sym worked.asked) told)
 
   pub AreTotals-run :
-      {X : Type 0} (jobs : List (Clients S R P W)) (own : Operating S R P W) (single : Bool)
-      (ran : Result (Ran (Clients S R P W) (Operating S R P W) (ServedPort P) (Option (ServedPort P))) X) (ended : Ended (ServedPort P) (Option (ServedPort P))) →
+      {X : Type 0} (jobs : List (Clients S R P)) (own : Operating S R P) (single : Bool)
+      (ran : Result (Ran (Clients S R P) (Operating S R P) (ServedPort P) (Option (ServedPort P))) X) (ended : Ended (ServedPort P) (Option (ServedPort P))) →
       IsManned terms_of setup jobs own → is_single (is_some setup.place.now.operator) setup.place.now.workers ≡ single →
       IfOk ran (λ done. (asks : List (List Ask)) × HaveWorked (comes single) jobs asks done.ends.items × AreTotalsOf done.mirrors.items asks done.totals.items) →
       IfOk ran (λ done. HasEnded (λ before after. led own before after) mirrors done.mirrors.items done.own) →
@@ -129,7 +128,7 @@ module _ {S R P W : Type 0} (edges_of : S → Edges) (terms_of : P → Terms) (s
   AreTotals-run jobs own single (Err error) ended manned alone works operated run = absurd run
   AreTotals-run jobs own single (Ok done) ended manned alone works operated (ends, ended_own, totals) =
       let (asks, worked, sums) = works in
-      let same : map (λ (its : List Ask × Result (ServedPort P) (Clients S R P W)). its.1) worked.worked ≡ map Ok ended.clients.items = sym worked.ended ∙ ends in
+      let same : map (λ (its : List Ask × Result (ServedPort P) (Clients S R P)). its.1) worked.worked ≡ map Ok ended.clients.items = sym worked.ended ∙ ends in
       let long : length worked.worked ≡ length jobs = AllZip-long (λ job its. WorksAs (comes single) job its.0 its.1) jobs worked.worked worked.each in
       let (left, there) = subst (λ (o : Option (Option (ServedPort P))). HasEnded (λ before after. led own before after) mirrors done.mirrors.items o) ended_own operated in
       record {
@@ -147,7 +146,7 @@ module _ {S R P W : Type 0} (edges_of : S → Edges) (terms_of : P → Terms) (s
         operator = terms_left terms_of own.port;
         port = manned.port;
         left = record { mirrors = done.mirrors.items; history = left };
-        operated = subst (λ (s : Setup S R W). IsOperated (edges_of s.system.now) s.place.now (terms_left terms_of own.port)
+        operated = subst (λ (s : Setup S R). IsOperated (edges_of s.system.now) s.place.now (terms_left terms_of own.port)
             (record { mirrors = mirrors; history = own.press }) (record { mirrors = done.mirrors.items; history = left })
             (option_map (passage_of terms_of slots_of accepted_of) ended.own)) manned.with there;
         summed = subst (AreTotalsOf done.mirrors.items asks) totals sums;
@@ -161,14 +160,14 @@ is_operated place terms_of (Some port) is = is.0
 
 -- jobs over new ports are those of a setup
 pub IsManned-over :
-    {S R P W : Type 0} (terms_of : P → Terms) (slots_of : P → ℕ → Slot) (accepted_of : P → ℕ) (IsOver : P → Type 0)
-    (setup : Setup S R W) (ports : Ports P) (jobs : List (Clients S R P W)) (own : Operating S R P W) →
+    {S R P : Type 0} (terms_of : P → Terms) (slots_of : P → ℕ → Slot) (accepted_of : P → ℕ) (IsOver : P → Type 0)
+    (setup : Setup S R) (ports : Ports P) (jobs : List (Clients S R P)) (own : Operating S R P) →
     ArePorts terms_of slots_of accepted_of IsOver setup.place.now ports →
-    map (λ (job : Clients S R P W). job.port) jobs ≡ ports.clients.items → All (IsClients setup (fresh own.press)) jobs →
+    map (λ (job : Clients S R P). job.port) jobs ≡ ports.clients.items → All (IsClients setup (fresh own.press)) jobs →
     own.setup.now ≡ setup → has_operator own.port ≡ is_some ports.operator →
     terms_left terms_of own.port ≡ option_map terms_of ports.operator → IsManned terms_of setup jobs own
-IsManned-over {S} {R} {P} {W} terms_of slots_of accepted_of IsOver setup ports jobs own are same each with operates terms = record {
-  many = sym (length-map jobs (λ (job : Clients S R P W). job.port)) ∙ ap length same ∙ are.many;
+IsManned-over {S} {R} {P} terms_of slots_of accepted_of IsOver setup ports jobs own are same each with operates terms = record {
+  many = sym (length-map jobs (λ (job : Clients S R P). job.port)) ∙ ap length same ∙ are.many;
   capacity = are.capacity;
   ports = subst (λ (list : List P). AreClientTerms setup.place.now are.capacity (map terms_of list)) (sym same) are.terms;
   each = each;

@@ -1,11 +1,11 @@
 -- The lines of totals, one after the other.
-use Rattle.std.proofs.Common.{◌≡◌, ◌<◌, ◌≤◌, ◌+◌, ◌++◌, ◌∙◌, ℕ, List, [], ◌∷◌, drop, flat_map, get_or, length, min, refl, subst, suc, sym, zero, zero-add, arith, ap}
+use Rattle.std.proofs.Common.{◌≡◌, ◌<◌, ◌≤◌, ◌+◌, ◌++◌, ◌∙◌, ℕ, List, [], ◌∷◌, drop, flat_map, get_or, length, min, refl, suc, sym, zero, arith, ap}
 use Rattle.std.proofs.lemmas.List.{append-nil, append_assoc, drop_all, map-append}
 use Rattle.std.proofs.lemmas.Slice.Zip.{length-zip}
 use Rattle.std.specs.List.{zip}
 use Rattle.mirror_ledger.specs.Asks.{Ask}
 use Rattle.records.specs.declared.mirror.Mirror.{Mirror}
-use Rattle.omaha_server.specs.Totals.{names_of, total_line, totals_string}
+use Rattle.omaha_server.specs.Totals.{names_of, total_line}
 
 pub names_of-last : (mirrors : List Mirror) (mirror : Mirror) → names_of (mirrors ++ mirror ∷ []) ≡ names_of mirrors ++ mirror.name ∷ []
 names_of-last mirrors mirror = map-append (λ (m : Mirror). m.name) mirrors (mirror ∷ [])

@@ -2,7 +2,6 @@
 -- that granted nothing before; or its first fault. This project's profile.
 use Rattle.std.specs.Prelude.{◌≡◌, ⊤, ℕ, List, [], Result, Ok, Err, Vec}
 use Rattle.catalogue_laws.specs.Histories.{History}
-use Rattle.editions.specs.Editions.{content_of}
 use Rattle.mirror_ledger.specs.Asks.{Ask}
 use Rattle.omaha_json.specs.RequestReading.{request_of_bytes}
 use Rattle.omaha_json.specs.declared.fault.RequestFault.{RequestFault}

@@ -10,17 +10,17 @@ use Rattle.omaha_server.specs.declared.operating.Operating.{Operating}
 use Rattle.omaha_server.specs.declared.setup.Setup.{Setup}
 
 -- a worker's job, with a view
-pub record IsClients {S R P W : Type 0} (setup : Setup S R W) (sight : Sight) (clients : Clients S R P W) : Type 0 where
+pub record IsClients {S R P : Type 0} (setup : Setup S R) (sight : Sight) (clients : Clients S R P) : Type 0 where
   pub with : clients.setup.now ≡ setup
   pub by : clients.view ≡ sight
 
 -- the jobs are those of all workers of a setup, each with its port, and that of its operator, with a press whose history
 -- each worker's view has seen
-pub record IsManned {S R P W : Type 0} (terms_of : P → Terms) (setup : Setup S R W) (jobs : List (Clients S R P W))
-    (own : Operating S R P W) : Type 0 where
+pub record IsManned {S R P : Type 0} (terms_of : P → Terms) (setup : Setup S R) (jobs : List (Clients S R P))
+    (own : Operating S R P) : Type 0 where
   pub many : length jobs ≡ setup.place.now.workers
   pub capacity : ℕ
-  pub ports : AreClientTerms setup.place.now capacity (map terms_of (map (λ (job : Clients S R P W). job.port) jobs))
+  pub ports : AreClientTerms setup.place.now capacity (map terms_of (map (λ (job : Clients S R P). job.port) jobs))
   pub each : All (IsClients setup (fresh own.press)) jobs
   pub with : own.setup.now ≡ setup
   pub operates : has_operator own.port ≡ is_some setup.place.now.operator

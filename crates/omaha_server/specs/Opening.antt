@@ -1,5 +1,5 @@
 -- The ports of a server, as they are opened; this project's profile.
-use Rattle.std.specs.Prelude.{◌≡◌, ◌<◌, ◌-◌, ◌^◌, ℕ, Bool, true, false, All, List, codes, IfSome, length, map, slice_index_or, Option, None, Some, option_map}
+use Rattle.std.specs.Prelude.{◌≡◌, ◌<◌, ◌-◌, ◌^◌, ℕ, true, false, List, codes, slice_index_or, Option, None, Some}
 use Rattle.std.specs.Option.{is_some}
 use Rattle.http_ports.specs.Traffic.{Slot, unused}
 use Rattle.http_ports.specs.declared.terms.Terms.{Terms}

@@ -1,5 +1,5 @@
 -- What a server's workers came to, up to its totals.
-use Rattle.std.specs.Prelude.{◌≡◌, ⊤, ℕ, List, Option, Some, Result, Ok, Err, map}
+use Rattle.std.specs.Prelude.{◌≡◌, ℕ, List, Some, Result, Ok, Err, map}
 use Rattle.mirror_ledger.specs.declared.running.Ran.{Ran}
 use Rattle.std.specs.Io.KnownBytes.{Appends}
 use Rattle.streams.specs.Streams.{Known}

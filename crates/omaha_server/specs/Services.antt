@@ -1,5 +1,5 @@
 -- What a profile makes the program reply from; this project's profile.
-use Rattle.std.specs.Prelude.{ℕ, List, [], ◌∷◌, Result, Ok, Err}
+use Rattle.std.specs.Prelude.{List, [], ◌∷◌, Result, Ok, Err}
 use Rattle.catalogue.specs.Batches.{outcome}
 use Rattle.records.specs.declared.content.App.{App}
 use Rattle.records.specs.declared.mirror.Mirror.{Mirror}

@@ -19,14 +19,13 @@ use service_desks::Worker;
 use std::alloc::{AllocError, Global};
 use std::sync::Wait;
 use std::time::Clock;
-use streams::WriteWhole;
 use worker_threads::portion_of;
 
 /// The connections that a worker serves, as the job of its thread.
 #[derive(Drop)]
-pub(crate) struct Clients<'s, 'a, 'b, S, R, P: Port, W: WriteWhole> {
+pub(crate) struct Clients<'s, 'a, S, R, P: Port> {
     /// What they are served with.
-    pub(crate) setup: &'s Setup<'a, 'b, S, R, W>,
+    pub(crate) setup: &'s Setup<'a, S, R>,
     /// Where they come from.
     pub(crate) port: NewPort<P>,
     /// The worker's view of the published editions.
@@ -36,8 +35,8 @@ pub(crate) struct Clients<'s, 'a, 'b, S, R, P: Port, W: WriteWhole> {
 }
 
 // rule: Sessions of a server
-impl<S: System<P>, R: Clock + Wait + AllocGlobal, P: Port + Send + Drop, W: WriteWhole> TillJob
-    for Clients<'_, '_, '_, S, R, P, W> {
+impl<S: System<P>, R: Clock + Wait + AllocGlobal, P: Port + Send + Drop> TillJob
+    for Clients<'_, '_, S, R, P> {
     ghost use Rattle.omaha_server.specs.Passages.{passage_of};
     ghost use Rattle.omaha_server.specs.Serving.{AreServed};
 
@@ -109,13 +108,13 @@ pub(crate) fn all_terms(
 }
 
 // The connections of a worker.
-fn clients_of<'s, 'a, 'b, S, R, P: Port + Drop, W: WriteWhole>(
+fn clients_of<'s, 'a, S, R, P: Port + Drop>(
     alloc: Global,
-    setup: &'s Setup<'a, 'b, S, R, W>,
+    setup: &'s Setup<'a, S, R>,
     port: P,
     view: View,
     lines: Option<LineSender>,
-) -> Result<Clients<'s, 'a, 'b, S, R, P, W>, AllocError>
+) -> Result<Clients<'s, 'a, S, R, P>, AllocError>
     requires { IsNew P.terms P.slots P.accepted P.is_over port }
     ensures clients { IfOk result (IsClients setup.now view) }
     ensures port { IfOk result (λ clients. clients.port ≡ port) }
@@ -131,13 +130,13 @@ fn clients_of<'s, 'a, 'b, S, R, P: Port + Drop, W: WriteWhole>(
 
 /// The connections of each worker, which has one of the ports, one of the views, and one of the log's senders if there are
 /// some.
-pub(crate) fn all_clients<'s, 'a, 'b, S, R, P: Port + Drop, W: WriteWhole>(
+pub(crate) fn all_clients<'s, 'a, S, R, P: Port + Drop>(
     alloc: Global,
-    setup: &'s Setup<'a, 'b, S, R, W>,
+    setup: &'s Setup<'a, S, R>,
     ports: Vec<P>,
     views: Vec<View>,
     senders: Vec<LineSender>,
-) -> Result<Vec<Clients<'s, 'a, 'b, S, R, P, W>>, AllocError>
+) -> Result<Vec<Clients<'s, 'a, S, R, P>>, AllocError>
     requires many { length views.items ≡ length ports.items }
     requires new { All (IsNew P.terms P.slots P.accepted P.is_over) ports.items }
     ensures ports { IfOk result (λ jobs. map (λ job. job.port) jobs.items ≡ ports.items) }

@@ -18,6 +18,7 @@
 mod answering;
 mod builtin;
 mod clients;
+mod crew;
 mod error;
 mod logging;
 mod mirrors;

@@ -2,30 +2,40 @@
 
 use log_queues::{LineSender, Log, LogWriter, Page, Signal, open_log};
 use std::alloc::{AllocError, Global};
+use std::fs::File;
 use std::sync::{Arc, Mutex};
 use streams::WriteWhole;
 
 // How many bytes of lines may wait for the log in each thread.
 const ROOM: usize = 1 << 19;
 
+/// What the lines of a log are written to.
+#[derive(Clone, Copy, Drop)]
+pub(crate) enum Target<'a, 'b, F: WriteWhole> {
+    /// The standard error.
+    Errors(&'a Mutex<Page<'b, F>>),
+    /// A file, at its end.
+    File(&'a Mutex<Page<'b, File>>),
+}
+
 /// What writes the lines of a log, to what, and what ends it.
 #[derive(Drop)]
-pub(crate) struct Writing<'a, 'b, W: WriteWhole> {
+pub(crate) struct Writing<'a, 'b, F: WriteWhole> {
     /// What they are written to.
-    pub(crate) page: &'a Mutex<Page<'b, W>>,
+    pub(crate) target: Target<'a, 'b, F>,
     /// What writes them.
     pub(crate) writer: LogWriter,
     /// What says that there are no more.
     pub(crate) signal: Arc<Signal, Global>,
 }
 
-/// Opens a log of so many senders, and gives what writes their lines; without a page there are no senders.
-pub(crate) fn open_lines<'a, 'b, W: WriteWhole>(
+/// Opens a log of so many senders, and gives what writes their lines; without a target there are no senders.
+pub(crate) fn open_lines<'a, 'b, F: WriteWhole>(
     alloc: Global,
     count: usize,
-    page: Option<&'a Mutex<Page<'b, W>>>,
-) -> Result<(Vec<LineSender>, Option<Writing<'a, 'b, W>>), AllocError> {
-    let Some(page) = page else {
+    target: Option<Target<'a, 'b, F>>,
+) -> Result<(Vec<LineSender>, Option<Writing<'a, 'b, F>>), AllocError> {
+    let Some(target) = target else {
         return Ok((Vec::new(alloc), None));
     };
     let Log {
@@ -34,7 +44,7 @@ pub(crate) fn open_lines<'a, 'b, W: WriteWhole>(
         signal,
     } = open_log(alloc, count, ROOM)?;
     let writing = Writing {
-        page,
+        target,
         writer,
         signal,
     };

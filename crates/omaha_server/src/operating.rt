@@ -19,7 +19,6 @@ use service_desks::Operator;
 use std::sync::Wait;
 use std::thread::Threads;
 use std::time::Clock;
-use streams::WriteWhole;
 
 // How many connections of the operator may be open at once.
 const CONNECTIONS: usize = 32;
@@ -49,17 +48,9 @@ pub(crate) enum OperatorPort<P: Port> {
 }
 
 /// The connections of the operator, as the job of the server's own thread. It is not `Drop`, since a press isn't.
-pub(crate) struct Operating<
-    's,
-    'a,
-    'b,
-    S,
-    R: Threads + Wait + AllocGlobal,
-    P: Port,
-    W: WriteWhole,
-> {
+pub(crate) struct Operating<'s, 'a, S, R: Threads + Wait + AllocGlobal, P: Port> {
     /// What they are served with.
-    pub(crate) setup: &'s Setup<'a, 'b, S, R, W>,
+    pub(crate) setup: &'s Setup<'a, S, R>,
     /// Where they come from.
     pub(crate) port: OperatorPort<P>,
     /// The press of what is served.
@@ -69,14 +60,8 @@ pub(crate) struct Operating<
 }
 
 // Serves a port by the operator's desk.
-fn serve_desk<
-    S: System<P>,
-    R: Clock + Threads + Wait + AllocGlobal,
-    P: Port + Drop,
-    W: WriteWhole,
-    B: Budgets,
->(
-    setup: &Setup<'_, '_, S, R, W>,
+fn serve_desk<S: System<P>, R: Clock + Threads + Wait + AllocGlobal, P: Port + Drop, B: Budgets>(
+    setup: &Setup<'_, S, R>,
     port: NewPort<P>,
     desk: &mut Operator<'_, '_, '_, R, B>,
     lines: &mut Option<LineSender>,
@@ -92,14 +77,8 @@ fn serve_desk<
 }
 
 // The same, over a press and budgets that may be raised.
-fn operate<
-    S: System<P>,
-    R: Clock + Threads + Wait + AllocGlobal,
-    P: Port + Drop,
-    W: WriteWhole,
-    B: Budgets,
->(
-    setup: &Setup<'_, '_, S, R, W>,
+fn operate<S: System<P>, R: Clock + Threads + Wait + AllocGlobal, P: Port + Drop, B: Budgets>(
+    setup: &Setup<'_, S, R>,
     port: NewPort<P>,
     press: &mut Press,
     budgets: &mut B,
@@ -122,12 +101,8 @@ fn operate<
 }
 
 // rule: Sessions of an operator
-impl<
-    S: System<P>,
-    R: Clock + Threads + Wait + AllocGlobal,
-    P: Port + Send + Drop,
-    W: WriteWhole,
-> BudgetJob for Operating<'_, '_, '_, S, R, P, W> {
+impl<S: System<P>, R: Clock + Threads + Wait + AllocGlobal, P: Port + Send + Drop> BudgetJob
+    for Operating<'_, '_, S, R, P> {
     ghost use Rattle.std.specs.Prelude.{option_map};
     ghost use Rattle.catalogue_laws.specs.Histories.{History};
     ghost use Rattle.omaha_server.specs.OperatorPorts.{has_operator, terms_left};

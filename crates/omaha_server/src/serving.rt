@@ -1,25 +1,21 @@
 // A service over HTTP, by workers that begin together.
 
-ghost use Rattle.std.specs.Prelude.{◌≡◌, ◌⊎◌, ◌≤◌, All, length, IfErr, IfOk, IfSome, option_map};
-ghost use Rattle.std.specs.Option.{is_some};
+ghost use Rattle.std.specs.Prelude.{◌≡◌, ◌⊎◌, ◌≤◌, All, length, IfErr, IfOk};
 ghost use Rattle.publisher.specs.Sights.{fresh};
 ghost use Rattle.omaha_server.specs.Edges.{is_dash};
 ghost use Rattle.omaha_server.specs.Jobs.{IsManned};
-ghost use Rattle.omaha_server.specs.Opening.{IsNew};
-ghost use Rattle.omaha_server.specs.OperatorPorts.{has_operator, terms_left};
 ghost use Rattle.omaha_server.specs.Passages.{passages_in, passages_of};
-ghost use Rattle.omaha_server.specs.Places.{ArePorts};
 ghost use Rattle.omaha_server.specs.Runs.{HasServed, PrintsLines};
 ghost use Rattle.omaha_server.specs.Serving.{AreTotals, IsLogged, IsOpened, IsSilent, IsUnlogged, Serves, Stops};
 ghost use Rattle.omaha_server.specs.declared.error.ServerError.TheVariants.{Memory, NoPlace, Thread};
 
-use crate::clients::{Clients, all_clients};
+use crate::clients::Clients;
+use crate::crew::{Crew, crew_of};
 use crate::error::ServerError;
-use crate::logging::{Writing, open_lines};
+use crate::logging::{Target, Writing};
 use crate::mirrors::Mirrors;
-use crate::new_port::NewPort;
-use crate::opening::{Ports, open_place};
-use crate::operating::{Operating, OperatorPort};
+use crate::opening::open_place;
+use crate::operating::Operating;
 use crate::place::Place;
 use crate::ports::ServedPorts;
 use crate::running::{Ended, ends_of};
@@ -32,7 +28,7 @@ use http_ports::Port;
 use log_queues::{Page, start_writer};
 use mirror_ledger::run_with_tills;
 use publisher::{Press, PublishError, View, open_edition};
-use std::alloc::{AllocError, Global};
+use std::alloc::Global;
 use std::fs::File;
 use std::sync::{Mutex, Wait};
 use std::thread;
@@ -70,65 +66,30 @@ fn open_views<R: Wait>(
 }
 
 // rule: Totals of a server
-// Runs the jobs of the workers and of the operator, with a till for each worker.
+// Runs the jobs of the workers and of the operator, with a till for each worker, beside a thread that writes the log if
+// there is one.
 fn run_jobs<
     P: Port + Send + Drop,
     S: System<P> + Sync,
     R: Clock + Threads + Wait + Sync + AllocGlobal,
-    W: WriteWhole + Send,
+    F: WriteWhole + Send,
     G: Gate + Sync,
 >(
-    setup: &Setup<'_, '_, S, R, W>,
+    setup: &Setup<'_, S, R>,
     gate: &G,
     mirrors: Mirrors,
-    jobs: Vec<Clients<'_, '_, '_, S, R, P, W>>,
-    own: &mut Operating<'_, '_, '_, S, R, P, W>,
+    jobs: Vec<Clients<'_, '_, S, R, P>>,
+    own: &mut Operating<'_, '_, S, R, P>,
+    log: Option<Writing<'_, '_, F>>,
 ) -> Result<Run<P>, ServerError>
     requires manned { IsManned P.terms setup.now jobs.items own.old }
     ensures ok { IfOk result (λ run. AreTotals (S.edges setup.now.system.now) setup.now.place.now
         (record { edition = own.old.press; mirrors = mirrors }) (passages_of P.terms P.slots P.accepted run.ports) run.totals.items) }
     ensures err { IfErr result (λ error. (error ≡ Thread) ⊎ (error ≡ Memory)) }
 {
-    let rt = setup.rt;
-    let ran = run_with_tills(rt, rt.alloc(), mirrors.into_vec(), gate, jobs, own);
-    let Ended {
-        clients,
-        own: operator,
-        totals,
-    } = ends_of(rt.alloc(), ran)?;
-    let ports = ServedPorts { clients, operator };
-    Ok(Run { ports, totals })
-}
-
-// The same, beside a thread that writes the log.
-fn run_logged<
-    P: Port + Send + Drop,
-    S: System<P> + Sync,
-    R: Clock + Threads + Wait + Sync + AllocGlobal,
-    W: WriteWhole + Send,
-    G: Gate + Sync,
->(
-    setup: &Setup<'_, '_, S, R, W>,
-    gate: &G,
-    mirrors: Mirrors,
-    jobs: Vec<Clients<'_, '_, '_, S, R, P, W>>,
-    own: &mut Operating<'_, '_, '_, S, R, P, W>,
-    log: Writing<'_, '_, W>,
-) -> Result<Run<P>, ServerError>
-    requires manned { IsManned P.terms setup.now jobs.items own.old }
-    ensures ok { IfOk result (λ run. AreTotals (S.edges setup.now.system.now) setup.now.place.now
-        (record { edition = own.old.press; mirrors = mirrors }) (passages_of P.terms P.slots P.accepted run.ports) run.totals.items) }
-    ensures err { IfErr result (λ error. (error ≡ Thread) ⊎ (error ≡ Memory)) }
-{
-    let rt = setup.rt;
-    let Writing {
-        page,
-        writer,
-        signal,
-    } = log;
     thread::scope(
         thread::scope_env(),
-        rt,
+        setup.rt,
         |scope| -> Result<Run<P>, ServerError>
             requires manned { IsManned P.terms setup.now jobs.items own.now }
             ensures ok { IfOk result (λ run. AreTotals (S.edges setup.entry.now.system.now) setup.entry.now.place.now
@@ -136,84 +97,38 @@ fn run_logged<
                 (passages_of P.terms P.slots P.accepted run.ports) run.totals.items) }
             ensures err { IfErr result (λ error. (error ≡ Thread) ⊎ (error ≡ Memory)) }
         {
-            if !start_writer(scope, rt, writer, page) {
-                return Err(ServerError::Thread);
+            let rt = setup.runtime();
+            let signal = match log {
+                Some(log) => {
+                    let Writing {
+                        target,
+                        writer,
+                        signal,
+                    } = log;
+                    let is_started = match target {
+                        Target::Errors(page) => start_writer(scope, rt, writer, page),
+                        Target::File(page) => start_writer(scope, rt, writer, page),
+                    };
+                    if !is_started {
+                        return Err(ServerError::Thread);
+                    }
+                    Some(signal)
+                }
+                None => None,
+            };
+            let ran = run_with_tills(rt, rt.alloc(), mirrors.into_vec(), gate, jobs, own);
+            if let Some(signal) = signal {
+                signal.end();
             }
-            let run = run_jobs(setup, gate, mirrors, jobs, own);
-            signal.end();
-            run
+            let Ended {
+                clients,
+                own: operator,
+                totals,
+            } = ends_of(rt.alloc(), ran)?;
+            let ports = ServedPorts { clients, operator };
+            Ok(Run { ports, totals })
         },
     )
-}
-
-// The operator's port, with room for its connections, if there is one.
-fn operator_port<P: Port + Drop>(
-    alloc: Global,
-    port: Option<P>,
-) -> Result<OperatorPort<P>, AllocError>
-    requires { IfSome port (IsNew P.terms P.slots P.accepted P.is_over) }
-    ensures operates { IfOk result (λ made. has_operator made ≡ is_some port) }
-    ensures terms { IfOk result (λ made. terms_left P.terms made ≡ option_map P.terms port) }
-{
-    match port {
-        Some(port) => Ok(OperatorPort::New(NewPort::of(alloc, port)?)),
-        None => Ok(OperatorPort::Missing),
-    }
-}
-
-// Serves ports by a worker for each view and by the operator's desk, each of which has a sender to the log, if there is
-// one, and gives the press back.
-fn run_workers<
-    P: Port + Send + Drop,
-    S: System<P> + Sync,
-    R: Clock + Threads + Wait + Sync + AllocGlobal,
-    W: WriteWhole + Send,
-    G: Gate + Sync,
->(
-    setup: &Setup<'_, '_, S, R, W>,
-    ports: Ports<P>,
-    gate: &G,
-    press: Press,
-    mirrors: Mirrors,
-    views: Vec<View>,
-) -> (Press, Result<Run<P>, ServerError>)
-    requires ports { ArePorts P.terms P.slots P.accepted P.is_over setup.now.place.now ports }
-    requires many { length views.items ≡ setup.now.place.now.workers }
-    requires views { All (λ sight. sight ≡ fresh press) views.items }
-    ensures ok { IfOk result.1 (λ run. AreTotals (S.edges setup.now.system.now) setup.now.place.now
-        (record { edition = press; mirrors = mirrors }) (passages_of P.terms P.slots P.accepted run.ports) run.totals.items) }
-    ensures err { IfErr result.1 (λ error. (error ≡ Thread) ⊎ (error ≡ Memory)) }
-{
-    let alloc = setup.rt.alloc();
-    let Ok((senders, log)) = open_lines(alloc, setup.place.workers + 1, setup.log) else {
-        return (press, Err(ServerError::Memory));
-    };
-    let mut senders = senders;
-    let lines = senders.pop();
-    let Ports { clients, operator } = ports;
-    let Ok(jobs) = all_clients(alloc, setup, clients, views, senders) else {
-        return (press, Err(ServerError::Memory));
-    };
-    let Ok(port) = operator_port(alloc, operator) else {
-        return (press, Err(ServerError::Memory));
-    };
-    let mut own = Operating {
-        setup,
-        port,
-        press,
-        lines,
-    };
-    let run = match log {
-        None => run_jobs(setup, gate, mirrors, jobs, &mut own),
-        Some(log) => run_logged(setup, gate, mirrors, jobs, &mut own, log),
-    };
-    let Operating {
-        setup: _,
-        port: _,
-        press,
-        lines: _,
-    } = own;
-    (press, run)
 }
 
 // Serves at the addresses of a place whose folder was found, over an edition that was published, and ends its press.
@@ -221,16 +136,17 @@ fn serve_press<
     P: Port + Send + Drop,
     S: System<P> + Sync,
     R: Clock + Threads + Wait + Sync + AllocGlobal,
-    W: WriteWhole + Send,
+    F: WriteWhole + Send,
     O: WriteWhole,
     G: Gate + Sync,
 >(
-    setup: &Setup<'_, '_, S, R, W>,
+    setup: &Setup<'_, S, R>,
     press: Press,
     mirrors: Mirrors,
     views: Vec<View>,
     gate: &G,
     out: &mut O,
+    log: Option<Target<'_, '_, F>>,
 ) -> Result<Run<P>, ServerError>
     requires folder { (S.edges setup.now.system.now).folders setup.now.place.now.packages }
     requires many { length views.items ≡ setup.now.place.now.workers }
@@ -241,15 +157,30 @@ fn serve_press<
     ensures err { IfErr result (λ error. IsUnlogged error
         × Stops (S.edges setup.now.system.now) setup.now.place.now (O.output out.old) (O.output out.new) error) }
 {
-    let ports = match open_place(setup.rt.alloc(), setup.system, setup.place, out) {
+    let rt = setup.rt;
+    let ports = match open_place(rt.alloc(), setup.system, setup.place, out) {
         Ok(ports) => ports,
         Err(error) => {
-            press.end(setup.rt);
+            press.end(rt);
             return Err(error);
         }
     };
-    let (press, run) = run_workers(setup, ports, gate, press, mirrors, views);
-    press.end(setup.rt);
+    let Crew { jobs, own, log } = match crew_of(setup, ports, press, views, log) {
+        Ok(crew) => crew,
+        Err(press) => {
+            press.end(rt);
+            return Err(ServerError::Memory);
+        }
+    };
+    let mut own = own;
+    let run = run_jobs(setup, gate, mirrors, jobs, &mut own, log);
+    let Operating {
+        setup: _,
+        port: _,
+        press,
+        lines: _,
+    } = own;
+    press.end(rt);
     run
 }
 
@@ -270,19 +201,20 @@ fn print_totals<O: WriteWhole>(
 }
 
 // rule: Run of a server
-// Serves a service, with the log that there is.
+// Serves a service, and logs its replies, if there is something to write them to.
 fn serve_with<
     P: Port + Send + Drop,
     S: System<P> + Sync,
     R: Clock + Threads + Wait + Sync + AllocGlobal,
-    W: WriteWhole + Send,
+    F: WriteWhole + Send,
     O: WriteWhole,
     G: Gate + Sync,
 >(
-    setup: &Setup<'_, '_, S, R, W>,
+    setup: &Setup<'_, S, R>,
     service: Service,
     gate: &G,
     out: &mut O,
+    log: Option<Target<'_, '_, F>>,
 ) -> Result<ServedPorts<P>, ServerError>
     ensures serves { Serves (S.edges setup.now.system.now) setup.now.place.now service (O.output out.old) (O.output out.new)
         (passages_in P.terms P.slots P.accepted result) }
@@ -295,94 +227,11 @@ fn serve_with<
     let names = names_of(rt.alloc(), service.mirrors.as_slice())?;
     let Service { edition, mirrors } = service;
     let (press, views) = open_views(rt, rt.alloc(), edition, place.workers)?;
-    let Run { ports, totals } = serve_press(setup, press, mirrors, views, gate, out)?;
+    let Run { ports, totals } = serve_press(setup, press, mirrors, views, gate, out, log)?;
     match print_totals(rt.alloc(), names.as_slice(), &totals, out) {
         Ok(()) => Ok(ports),
         Err(error) => Err(error),
     }
-}
-
-// Serves a service, with a log or without one.
-fn serve_over<
-    'a,
-    'b,
-    P: Port + Send + Drop,
-    S: System<P> + Sync,
-    R: Clock + Threads + Wait + Sync + AllocGlobal,
-    W: WriteWhole + Send,
-    O: WriteWhole,
-    G: Gate + Sync,
->(
-    rt: &'a R,
-    system: &'a S,
-    service: Service,
-    place: &'a Place,
-    gate: &G,
-    out: &mut O,
-    log: Option<&'a Mutex<Page<'b, W>>>,
-) -> Result<ServedPorts<P>, ServerError>
-    ensures serves { Serves (S.edges system.now) place.now service (O.output out.old) (O.output out.new)
-        (passages_in P.terms P.slots P.accepted result) }
-    ensures unlogged { IfErr result IsUnlogged }
-{
-    let setup = Setup {
-        system,
-        rt,
-        place,
-        log,
-    };
-    serve_with(&setup, service, gate, out)
-}
-
-// Serves a service, and logs its replies to a writer.
-fn serve_logged<
-    P: Port + Send + Drop,
-    S: System<P> + Sync,
-    R: Clock + Threads + Wait + Sync + AllocGlobal,
-    W: WriteWhole + Send,
-    O: WriteWhole,
-    G: Gate + Sync,
->(
-    rt: &R,
-    system: &S,
-    service: Service,
-    place: &Place,
-    gate: &G,
-    out: &mut O,
-    writer: &mut W,
-) -> Result<ServedPorts<P>, ServerError>
-    ensures serves { Serves (S.edges system.now) place.now service (O.output out.old) (O.output out.new)
-        (passages_in P.terms P.slots P.accepted result) }
-    ensures unlogged { IfErr result IsUnlogged }
-{
-    let log = Mutex::new(Page::new(writer));
-    serve_over(rt, system, service, place, gate, out, Some(&log))
-}
-
-// Serves a service, and logs its replies to the file at a path.
-fn serve_logged_to<
-    P: Port + Send + Drop,
-    S: System<P> + Sync,
-    R: Clock + Threads + Wait + Sync + AllocGlobal,
-    O: WriteWhole,
-    G: Gate + Sync,
->(
-    rt: &R,
-    system: &S,
-    service: Service,
-    place: &Place,
-    gate: &G,
-    out: &mut O,
-    path: &str,
-) -> Result<ServedPorts<P>, ServerError>
-    ensures serves { Serves (S.edges system.now) place.now service (O.output out.old) (O.output out.new)
-        (passages_in P.terms P.slots P.accepted result) }
-    ensures opened { IsOpened (S.edges system.now) path.now result }
-{
-    let Ok(mut file) = system.open_log(path) else {
-        return Err(ServerError::Log);
-    };
-    serve_logged(rt, system, service, place, gate, out, &mut file)
 }
 
 // Whether a path means the standard error.
@@ -409,6 +258,7 @@ fn is_dash(path: &str) -> bool
 /// The log gets a line for each reply, as `access_logs` has it, at the end of its file, or on `errors`, which is
 /// otherwise left as it is; workers never mix their lines. A line that can't be written is lost, and holds up no reply.
 pub fn serve<
+    'a,
     P: Port + Send + Drop,
     S: System<P> + Sync,
     R: Clock + Threads + Wait + Sync + AllocGlobal,
@@ -416,10 +266,10 @@ pub fn serve<
     F: WriteWhole + Send,
     G: Gate + Sync,
 >(
-    rt: &R,
-    system: &S,
+    rt: &'a R,
+    system: &'a S,
     service: Service,
-    place: &Place,
+    place: &'a Place,
     gate: &G,
     out: &mut O,
     errors: &mut F,
@@ -429,23 +279,21 @@ pub fn serve<
     ensures logged { IsLogged (S.edges system.now) place.now.log result }
     ensures silent { IsSilent place.now.log → errors.new ≡ errors.old }
 {
-    match &place.log {
-        None => serve_over(
-            rt,
-            system,
-            service,
-            place,
-            gate,
-            out,
-            None::<&'static Mutex<Page<'static, File>>>,
-        ),
-        Some(path) => {
-            let path = path.as_str();
-            if is_dash(path) {
-                serve_logged(rt, system, service, place, gate, out, errors)
-            } else {
-                serve_logged_to(rt, system, service, place, gate, out, path)
-            }
-        }
+    let setup = Setup { system, rt, place };
+    let Some(path) = &place.log else {
+        let none = None::<Target<'static, 'static, File>>;
+        return serve_with(&setup, service, gate, out, none);
+    };
+    let path = path.as_str();
+    if is_dash(path) {
+        let page = Mutex::new(Page::new(errors));
+        let log = Some(Target::Errors(&page));
+        return serve_with(&setup, service, gate, out, log);
     }
+    let Ok(mut file) = system.open_log(path) else {
+        return Err(ServerError::Log);
+    };
+    let page = Mutex::new(Page::new(&mut file));
+    let log = Some(Target::<'_, '_, File>::File(&page));
+    serve_with(&setup, service, gate, out, log)
 }

@@ -1,16 +1,12 @@
 // The system's sockets, files and clock.
 
-ghost use Rattle.std.specs.Prelude.{◌≡◌, ℕ, All, IfOk, map};
-ghost use Rattle.http_desks.specs.Uses.{IsUse};
-ghost use Rattle.http_ports.specs.Traffic.{unused};
-ghost use Rattle.http_talks.specs.Ports.{HasTalked};
-ghost use Rattle.omaha_server.specs.Edges.{IsTime};
-ghost use Rattle.omaha_server.specs.Sockets.{IsNewSocketPort, has_bytes, has_size};
+ghost use Rattle.std.specs.Prelude.{◌≡◌, All, IfOk, map};
+ghost use Rattle.omaha_server.specs.Sockets.{IsNewSocketPort};
 
 use crate::system::{OpenError, System};
 use http_desks::{Desk, Site};
 use http_devices::{Folder, SystemClock};
-use http_ports::{Port, Terms, WatchEach};
+use http_ports::{Terms, WatchEach};
 use http_talks::{Connections, serve_port};
 use http_wire::Unwatched;
 use mio_ports::MioPort;
@@ -116,33 +112,6 @@ fn open_all<'a, R: Net + Clock + Wait + AllocGlobal>(
     Ok(ports)
 }
 
-// Serves a port, with the packages of the folder at a path.
-fn serve_files<'f, R: Clock + Files + Wait + AllocGlobal, P: Port, D: Desk, V: WatchEach>(
-    rt: &'f R,
-    folder: &'f str,
-    port: &mut P,
-    room: Connections<V::Seen>,
-    desk: &mut D,
-    watch: &V,
-) -> u64
-    requires fresh { (k : ℕ) → P.slots port.old k ≡ unused }
-    requires none { P.accepted port.old ≡ 0 }
-    requires many { room ≡ (P.terms port.old).capacity }
-    ensures served { HasTalked (IsUse (D.path desk.old) IsTime has_size has_bytes) (D.content_type desk.old) D.steps desk.old desk.new
-        (record { terms = P.terms port.new; slots = P.slots port.new; accepted = P.accepted port.new; lost = result }) }
-    ensures over { P.is_over port.new }
-    ensures terms { P.terms port.new ≡ P.terms port.old }
-{
-    let alloc = rt.alloc();
-    let packages = Folder::new(alloc, rt, folder);
-    let site = Site {
-        packages: &packages,
-        clock: &SystemClock::new(rt),
-        watch: &Unwatched,
-    };
-    serve_port(rt, port, &site, watch, room, desk)
-}
-
 impl<
     'a,
     R: Net<Listener = TcpListener, Stream = TcpStream> + Clock + Files + Wait + AllocGlobal,
@@ -197,14 +166,21 @@ where
         }
     }
 
-    fn serve_port<D: Desk, V: WatchEach>(
-        &self,
-        folder: &str,
+    fn serve_port<'f, D: Desk, V: WatchEach>(
+        &'f self,
+        folder: &'f str,
         port: &mut MioPort<'a, R>,
         room: Connections<V::Seen>,
         desk: &mut D,
         watch: &V,
     ) -> u64 {
-        serve_files(self.rt, folder, port, room, desk, watch)
+        let rt: &'f R = self.rt;
+        let packages = Folder::new(rt.alloc(), rt, folder);
+        let site = Site {
+            packages: &packages,
+            clock: &SystemClock::new(rt),
+            watch: &Unwatched,
+        };
+        serve_port(rt, port, &site, watch, room, desk)
     }
 }

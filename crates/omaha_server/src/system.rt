@@ -60,9 +60,9 @@ pub trait System<P: Port> {
     // rule: Sessions of a port
     /// Serves the connections of a new port by a desk, with the packages of the folder at a path, until none will be
     /// accepted any more; returns for how many memory ran out.
-    fn serve_port<D: Desk, V: WatchEach>(
-        &self,
-        folder: &str,
+    fn serve_port<'f, D: Desk, V: WatchEach>(
+        &'f self,
+        folder: &'f str,
         port: &mut P,
         room: Connections<V::Seen>,
         desk: &mut D,

@@ -1,21 +1,5 @@
-use Rattle.std.proofs.Common.{◌≡◌, arith, vec_len}
-use Rattle.omaha_server.proofs.AnswerLemmas.{AreNamed-AreMirrors, are_bounded-mirrors}
-use Rattle.omaha_server.proofs.RunLemmas.{AreTotals-run}
+use Rattle.std.proofs.Common.{rules}
 use Rattle.omaha_server.proofs.serving.run_jobs.Goals as goal
 
-pub run_with_tills-ran-requires-clause-bounded : goal.run_with_tills-ran-requires-clause-bounded
-run_with_tills-ran-requires-clause-bounded g c = λ κs outlives. are_bounded-mirrors c.into_vec.result.items c.into_vec.ensures.valid.formed
-
-pub run_with_tills-ran-requires-clause-named : goal.run_with_tills-ran-requires-clause-named
-run_with_tills-ran-requires-clause-named g c = λ κs outlives. AreNamed-AreMirrors c.into_vec.result.items c.into_vec.ensures.valid
-
-pub returns-clause-ok : goal.returns-clause-ok
-returns-clause-ok g c =
-    let own = c.args.own.now in
-    let manned = c.requires.manned in
-    let works = rw c.into_vec.ensures.list at c.run_with_tills-ran.ensures.works in
-    let led = rw c.into_vec.ensures.list at c.run_with_tills-ran.ensures.own in
-    let counted : vec_len c.args.jobs ≡ c.args.setup.now.place.now.workers = omega (arith, c.args.jobs.ok.0, manned.many) in
-    AreTotals-run g.S.System.edges g.P.Port.terms g.P.Port.slots g.P.Port.accepted c.args.setup.now c.args.mirrors c.args.jobs.items own
-    _ c.run_with_tills-ran.result c.in_ok-clients.field-0 manned
-    (cc (manned.operates, counted)) works led c.in_ok-clients.ensures.ok
+pub scoped-requires : goal.scoped-requires
+scoped-requires g c = record { at = λ scope. (c.requires.manned, (search rules, search rules, search rules, search rules, search rules)) }

@@ -1,0 +1,93 @@
+// The jobs of a server's threads.
+
+ghost use Rattle.std.specs.Prelude.{◌≡◌, All, IfOk, IfSome, length, option_map};
+ghost use Rattle.std.specs.Option.{is_some};
+ghost use Rattle.publisher.specs.Sights.{fresh};
+ghost use Rattle.omaha_server.specs.Jobs.{IsManned};
+ghost use Rattle.omaha_server.specs.Opening.{IsNew};
+ghost use Rattle.omaha_server.specs.OperatorPorts.{has_operator, terms_left};
+ghost use Rattle.omaha_server.specs.Places.{ArePorts};
+
+use crate::clients::{Clients, all_clients};
+use crate::logging::{Target, Writing, open_lines};
+use crate::new_port::NewPort;
+use crate::opening::Ports;
+use crate::operating::{Operating, OperatorPort};
+use crate::setup::Setup;
+use http_ports::Port;
+use publisher::{Press, View};
+use std::alloc::{AllocError, Global};
+use std::sync::Wait;
+use std::thread::Threads;
+use streams::WriteWhole;
+
+// The operator's port, with room for its connections, if there is one.
+fn operator_port<P: Port + Drop>(
+    alloc: Global,
+    port: Option<P>,
+) -> Result<OperatorPort<P>, AllocError>
+    requires { IfSome port (IsNew P.terms P.slots P.accepted P.is_over) }
+    ensures operates { IfOk result (λ made. has_operator made ≡ is_some port) }
+    ensures terms { IfOk result (λ made. terms_left P.terms made ≡ option_map P.terms port) }
+{
+    match port {
+        Some(port) => Ok(OperatorPort::New(NewPort::of(alloc, port)?)),
+        None => Ok(OperatorPort::Missing),
+    }
+}
+
+/// The jobs of a server's threads, and what writes its log. It is not `Drop`, since a press isn't.
+pub(crate) struct Crew<'s, 'a, 'p, 'w, S, R: Threads + Wait + AllocGlobal, P: Port, F: WriteWhole> {
+    /// A job for each worker.
+    pub(crate) jobs: Vec<Clients<'s, 'a, S, R, P>>,
+    /// The operator's job.
+    pub(crate) own: Operating<'s, 'a, S, R, P>,
+    /// What writes the log, if there is one.
+    pub(crate) log: Option<Writing<'p, 'w, F>>,
+}
+
+/// Makes the jobs of a worker for each view and of the operator, each of which has a sender to the log, if there is
+/// one; or gives the press back, if memory runs out.
+pub(crate) fn crew_of<
+    's,
+    'a,
+    'p,
+    'w,
+    P: Port + Drop,
+    S,
+    R: Threads + Wait + AllocGlobal,
+    F: WriteWhole,
+>(
+    setup: &'s Setup<'a, S, R>,
+    ports: Ports<P>,
+    press: Press,
+    views: Vec<View>,
+    target: Option<Target<'p, 'w, F>>,
+) -> Result<Crew<'s, 'a, 'p, 'w, S, R, P, F>, Press>
+    requires ports { ArePorts P.terms P.slots P.accepted P.is_over setup.now.place.now ports }
+    requires many { length views.items ≡ setup.now.place.now.workers }
+    requires views { All (λ sight. sight ≡ fresh press) views.items }
+    ensures manned { IfOk result (λ crew. IsManned P.terms setup.now crew.jobs.items crew.own) }
+    ensures press { IfOk result (λ crew. crew.own.press ≡ press) }
+{
+    let alloc = setup.rt.alloc();
+    let Ok((senders, log)) = open_lines(alloc, setup.place.workers + 1, target) else {
+        return Err(press);
+    };
+    let mut senders = senders;
+    let lines = senders.pop();
+    let Ports { clients, operator } = ports;
+    let Ok(jobs) = all_clients(alloc, setup, clients, views, senders) else {
+        return Err(press);
+    };
+    let Ok(port) = operator_port(alloc, operator) else {
+        return Err(press);
+    };
+    let own = Operating {
+        setup,
+        port,
+        press,
+        lines,
+    };
+    Ok(Crew { jobs, own, log })
+}
