@@ -2,12 +2,14 @@
 
 use crate::together::Meeting;
 use http_ports::Port;
-use omaha_server::{Place, Service, Sockets, System, builtin_service, serve};
+use omaha_server::{Place, serve};
+use services::{Service, builtin_service};
 use std::alloc::{AllocError, Global};
 use std::io;
 use std::sync::Wait;
 use std::thread::{Threads, join};
 use std::time::Clock;
+use systems::{Sockets, System};
 use values::Text;
 
 // Two workers at a free port, and no connection.

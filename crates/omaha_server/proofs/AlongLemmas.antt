@@ -9,7 +9,7 @@ use Rattle.records.specs.declared.mirror.Mirror.{Mirror}
 use Rattle.service_desks.specs.Operators.{IsCall as IsOperatorCall, State}
 use Rattle.service_desks.specs.Workers.{IsCall, Progress}
 use Rattle.service_desks.specs.Asking.{GrantsFirst}
-use Rattle.omaha_server.specs.Edges.{Edges}
+use Rattle.systems.specs.Edges.{Edges}
 use Rattle.omaha_server.specs.Serving.{AreOperated, AreServed, DeskSteps, IsServedPort, desk_path, desk_type, operator_path, operator_type}
 use Rattle.omaha_server.specs.declared.place.Place.{Place}
 

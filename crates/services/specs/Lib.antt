@@ -1,0 +1,3 @@
+pub mod Builtin
+pub mod Services
+pub mod Totals
