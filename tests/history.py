@@ -235,7 +235,7 @@ def faults(program):
 def full(program):
     with folder_of() as folder:
         size = (folder / "profile.toml").stat().st_size
-        server = Server(program, folder, more=("--profile", "profile.toml", "--history-limit", str(size + 200)))
+        server = Server(program, folder, more=("--profile", "profile.toml", "--history-limit", str(size + 100)))
         check("full: first", (200, "edition 2\n"), server.operate(share_script(1, 7)))
         check("full: second", 500, (server.operate(share_script(2, 8)) or (500, ""))[0])
         check("full: nothing changed", 2, server.edition())

@@ -1,11 +1,18 @@
 // Records as lines.
 
+ghost use Rattle.std.specs.Prelude.{◌≡◌, ◌+◌, ◌≤◌, ◌^◌, ◌++◌, IfOk, Some, string_bytes};
+ghost use Rattle.restarts.specs.Listing.{first_line, kind_word, listing, record_line};
+
+use crate::prefixes::edition_of;
 use kept_records::{Kind, Record};
 use std::alloc::{AllocError, Global};
+use std::fmt;
 use std::str;
 use streams::Shown;
 
-fn kind_word(kind: Kind) -> &'static str {
+fn kind_word(kind: Kind) -> &'static str
+    ensures { result.now ≡ kind_word kind }
+{
     match kind {
         Kind::Profile => "profile",
         Kind::Script => "script",
@@ -14,7 +21,9 @@ fn kind_word(kind: Kind) -> &'static str {
 }
 
 // The first line of what is UTF-8, else nothing.
-fn first_line(bytes: &[u8]) -> &str {
+fn first_line(bytes: &[u8]) -> &str
+    ensures { result.now ≡ first_line bytes.now }
+{
     match str::from_utf8(bytes) {
         Ok(text) => match text.split_once('\n') {
             Some((line, _others)) => line,
@@ -24,34 +33,51 @@ fn first_line(bytes: &[u8]) -> &str {
     }
 }
 
-// The edition that is published after a record.
-fn edition_after(edition: u64, kind: Kind) -> u64 {
-    match kind {
-        Kind::Raise => edition,
-        _ => edition.saturating_add(1),
+// The line of a record.
+#[derive(Clone, Copy)]
+struct RecordLine<'a> {
+    number: u64,
+    edition: u64,
+    entry: &'a Record,
+}
+
+impl fmt::Display for RecordLine<'_> {
+    ghost output = { λ line. Some (record_line line.number line.edition line.entry.now) };
+
+    fn fmt<W: fmt::Write>(&self, f: &mut fmt::Formatter<W>) -> fmt::Result {
+        let number = self.number;
+        let kind = kind_word(self.entry.kind);
+        let length = self.entry.bytes.len();
+        let edition = self.edition;
+        let line = Shown {
+            string: first_line(self.entry.bytes.as_slice()),
+        };
+        write!(f, "{number} {kind} {length} {edition} {line}\n")
     }
 }
 
-// The line of a record.
-fn line_of(alloc: Global, number: u64, edition: u64, entry: &Record) -> Result<String, AllocError> {
-    let kind = kind_word(entry.kind);
-    let length = entry.bytes.len();
-    let line = Shown {
-        string: first_line(entry.bytes.as_slice()),
-    };
-    format!(in alloc; "{number} {kind} {length} {edition} {line}\n")
+// The line of a record, as a string.
+fn line_of(alloc: Global, line: RecordLine<'_>) -> Result<String, AllocError>
+    ensures { IfOk result (λ text. string_bytes text ≡ record_line line.number line.edition line.entry.now) }
+{
+    format!(in alloc; "{line}")
 }
 
-/// The lines of records, of which the first has this number: of each its number, its kind, how many bytes it has, the
-/// edition that is then published, and the first line of the bytes without control characters.
-pub fn list(alloc: Global, first: u64, records: &[Record]) -> Result<String, AllocError> {
+// rule: Listed records
+/// The lines of records, of which the first has this number, from 1 to 2^53: of each its number, its kind, how many bytes
+/// it has, the edition that is then published, and the first line of the bytes without control characters.
+pub fn list(alloc: Global, first: u64, records: &[Record]) -> Result<String, AllocError>
+    requires { (1 ≤ first) × (first ≤ 2 ^ 53) }
+    ensures { IfOk result (λ text. string_bytes text ≡ listing first records.now) }
+{
     let mut text = String::new(alloc);
-    let (mut number, mut edition) = (first, first.saturating_sub(1));
-    for entry in records {
-        edition = edition_after(edition, entry.kind);
-        let line = line_of(alloc, number, edition, entry)?;
+    let mut edition = first - 1;
+    for index in 0..records.len() {
+        let entry = &records[index];
+        edition += edition_of(entry.kind);
+        let number = first + index as u64;
+        let line = line_of(alloc, RecordLine { number, edition, entry })?;
         text.push_str(line.as_str())?;
-        number = number.saturating_add(1);
     }
     Ok(text)
 }

@@ -24,7 +24,7 @@ schema = 1~base = 2~edit = [{ do = "set_stone", app = "demo", version = "9.0", o
 schema = 2~base = 2 = 200 edition 3"#;
 
 // The records that are known then.
-const LISTED: &str = "2 script 85 2 schema = 1
+const LISTED: &str = "2 script 95 2 schema = 1
 3 raise 16 2 raise m0 1000000
 4 script 19 3 schema = 2
 ";
