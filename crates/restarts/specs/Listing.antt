@@ -1,5 +1,5 @@
 -- How records are listed; this project's profile.
-use Rattle.std.specs.Prelude.{ℕ, ◌+◌, ◌-◌, ◌==◌, List, [], ◌∷◌, ◌++◌, codes, decimal, if◌then◌else◌, length}
+use Rattle.std.specs.Prelude.{ℕ, Bool, ◌+◌, ◌-◌, ◌==◌, List, [], ◌∷◌, ◌++◌, codes, decimal, if◌then◌else◌, length}
 use Rattle.std.specs.List.{before_first}
 use Rattle.std.specs.Str.{is_utf8}
 use Rattle.kept_records.specs.declared.record.Kind.{Kind}
@@ -14,15 +14,28 @@ kind_word kind.Profile = codes "profile"
 kind_word kind.Script = codes "script"
 kind_word kind.Raise = codes "raise"
 
--- the first line of bytes, if they are UTF-8
-abbrev pub first_line : List ℕ → List ℕ
-first_line bytes = if is_utf8 bytes then before_first (λ (byte : ℕ). byte == 10) bytes else []
+-- a line feed
+abbrev pub is_feed : ℕ → Bool
+is_feed byte = byte == 10
 
--- a record's number and kind, how many bytes it has, the edition that is then published, and the first line of the bytes
+-- what is before the first line feed
+abbrev pub before_feed : List ℕ → List ℕ
+before_feed text = before_first is_feed text
+
+-- the first line of bytes that are UTF-8, else nothing
+abbrev pub first_line : List ℕ → List ℕ
+first_line bytes = if is_utf8 bytes then before_feed bytes else []
+
+-- a line of a record's number and kind, how many bytes it has, the edition that is then published, and a string
+abbrev pub words_line : ℕ → List ℕ → ℕ → ℕ → List ℕ → List ℕ
+words_line number kind bytes edition string =
+    decimal number ++ codes " " ++ kind ++ codes " " ++ decimal bytes ++ codes " " ++ decimal edition ++ codes " "
+    ++ shown_string string ++ codes "\n"
+
+-- the line of a record, which ends with the first line of its bytes
 abbrev pub record_line : ℕ → ℕ → Record → List ℕ
 record_line number edition entry =
-    decimal number ++ codes " " ++ kind_word entry.kind ++ codes " " ++ decimal (length entry.bytes) ++ codes " "
-    ++ decimal edition ++ codes " " ++ shown_string (first_line entry.bytes) ++ codes "\n"
+    words_line number (kind_word entry.kind) (length entry.bytes) edition (first_line entry.bytes)
 
 -- a line for each record, numbered on from a number, after so many editions
 abbrev pub record_lines : ℕ → ℕ → List Record → List ℕ
