@@ -3,12 +3,14 @@
 use crate::together::Meeting;
 use http_ports::Port;
 use kept_records::Unkept;
-use omaha_server::{KeptService, Place, Service, Sockets, System, builtin_service, serve};
+use omaha_server::{Place, serve};
+use services::{KeptService, Service, builtin_service};
 use std::alloc::{AllocError, Global};
 use std::io;
 use std::sync::Wait;
 use std::thread::{Threads, join};
 use std::time::Clock;
+use systems::{Sockets, System};
 use values::Text;
 
 // Two workers at a free port, and no connection.
@@ -41,15 +43,7 @@ fn is_served<
         service,
         records: Unkept::new(),
     };
-    let served = serve(
-        rt,
-        system,
-        kept,
-        place,
-        meeting,
-        &mut out,
-        &mut io::sink(),
-    );
+    let served = serve(rt, system, kept, place, meeting, &mut out, &mut io::sink());
     served.is_ok() && out.as_slice() == b"ready\nm0 0\n".as_slice()
 }
 

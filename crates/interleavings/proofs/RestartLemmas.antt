@@ -22,7 +22,7 @@ use Rattle.omaha_json.specs.declared.reply.CheckReply.TheVariants as check
 use Rattle.omaha_json.specs.declared.reply.Reply.{Reply}
 use Rattle.omaha_json.specs.declared.request.AppAsk.{AppAsk}
 use Rattle.omaha_json.specs.declared.request.Request.{Request}
-use Rattle.omaha_server.specs.Services.{service_if}
+use Rattle.services.specs.Services.{service_if}
 use Rattle.payload_graph.specs.declared.payload.Payload.{Payload}
 use Rattle.records.specs.declared.content.App.{App}
 use Rattle.records.specs.declared.content.Diff.{Diff}

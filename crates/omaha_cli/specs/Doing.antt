@@ -1,20 +1,20 @@
 -- What a command does; this project's profile.
 use Rattle.std.specs.Prelude.{◌≡◌, ⊤, Result}
 use Rattle.omaha_server.specs.Serving.{IsSilent}
-use Rattle.omaha_cli.specs.Comparing.{Compares}
-use Rattle.omaha_cli.specs.Describing.{PrintsDescriptions}
-use Rattle.omaha_cli.specs.Explaining.{Explains}
-use Rattle.omaha_cli.specs.Histories.{PrintsHistory}
-use Rattle.omaha_cli.specs.Once.{Responds}
-use Rattle.omaha_cli.specs.Operating.{Dumps, Publishes, Raises}
-use Rattle.omaha_cli.specs.Reports.{Reports}
+use Rattle.omaha_commands.specs.Comparing.{Compares}
+use Rattle.omaha_commands.specs.Describing.{PrintsDescriptions}
+use Rattle.omaha_commands.specs.Explaining.{Explains}
+use Rattle.omaha_histories.specs.Histories.{PrintsHistory}
+use Rattle.omaha_once.specs.Once.{Responds}
+use Rattle.omaha_commands.specs.Operating.{Dumps, Publishes, Raises}
+use Rattle.omaha_commands.specs.Reports.{Reports}
 use Rattle.omaha_cli.specs.Serving.{ServesOn}
-use Rattle.omaha_cli.specs.Streams.{Streams}
-use Rattle.omaha_cli.specs.Walking.{WalksOn}
+use Rattle.omaha_commands.specs.Streams.{Streams}
+use Rattle.omaha_commands.specs.Walking.{WalksOn}
 use Rattle.omaha_cli.specs.Worlds.{World}
 use Rattle.omaha_arguments.specs.declared.command.Command.{Command}
 use Rattle.omaha_arguments.specs.declared.command.Command.TheVariants as command
-use Rattle.omaha_cli.specs.declared.failure.Failure.{Failure}
+use Rattle.omaha_commands.specs.declared.failure.Failure.{Failure}
 
 -- a reply to a request, a report on a profile or on its packages, descriptions of files, the explanation of a code, what
 -- a history has, a server, a walk, or a call of an operator's listener

@@ -2,18 +2,18 @@
 use Rattle.std.specs.Prelude.{◌≡◌, ◌⊎◌, ℕ, max, min, List, Option, None, Some, Result, Ok, Err}
 use Rattle.streams.specs.Streams.{Known}
 use Rattle.omaha_arguments.specs.declared.command.Serve.{Serve}
-use Rattle.omaha_server.specs.Edges.{Edges}
+use Rattle.systems.specs.Edges.{Edges}
 use Rattle.omaha_server.specs.Passages.{Passages}
 use Rattle.omaha_server.specs.Serving.{IsLogged, Serves}
 use Rattle.omaha_server.specs.declared.error.ServerError.{ServerError}
 use Rattle.omaha_server.specs.declared.error.ServerError.TheVariants as server
 use Rattle.omaha_server.specs.declared.place.Place.{Place}
 use Rattle.service_desks.specs.States.{store}
-use Rattle.omaha_cli.specs.Histories.{Beginning, IsBegun}
-use Rattle.omaha_cli.specs.Once.{Files}
-use Rattle.omaha_cli.specs.Streams.{Streams}
-use Rattle.omaha_cli.specs.declared.failure.Failure.{Failure}
-use Rattle.omaha_cli.specs.declared.failure.Failure.TheVariants as failure
+use Rattle.omaha_commands.specs.Profiles.{Files}
+use Rattle.omaha_commands.specs.Streams.{Streams}
+use Rattle.omaha_commands.specs.declared.failure.Failure.{Failure}
+use Rattle.omaha_commands.specs.declared.failure.Failure.TheVariants as failure
+use Rattle.omaha_histories.specs.Histories.{Beginning, IsBegun}
 
 -- the failure of a server whose log can't be opened; naming its file takes memory
 abbrev pub IsUnopened : Option (List ℕ) → Failure → Type 0
@@ -32,7 +32,6 @@ EndsBy server.Log serve result = (named : Failure) × IsUnopened serve.log named
 EndsBy server.Folder serve result = (result ≡ Err (failure.File serve.packages)) ⊎ (result ≡ Err failure.Memory)
 EndsBy server.OperatorNet serve result = (named : Failure) × IsUnbound serve.operator named × (result ≡ Err named)
 EndsBy server.NoPlace serve result = result ≡ Err failure.NoPlace
-EndsBy server.Closed serve result = result ≡ Err failure.Closed
 EndsBy server.Thread serve result = result ≡ Err failure.Thread
 EndsBy server.Write serve result = result ≡ Err failure.Write
 EndsBy server.Memory serve result = result ≡ Err failure.Memory

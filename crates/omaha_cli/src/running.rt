@@ -5,26 +5,23 @@ ghost use Rattle.omaha_arguments.specs.WalkArguments.{IsAskable};
 ghost use Rattle.omaha_cli.specs.Doing.{Does, IsSilentCommand};
 ghost use Rattle.omaha_cli.specs.Running.{Ends, EndsBy, IsMistaken, IsReported, IsPrinted, IsSilentRun, Runs, Shows, code_of, status_of};
 
-use crate::comparing::compare_on;
-use crate::describing::describe_files;
-use crate::explaining::explain_code;
-use crate::failure::Failure;
-use crate::once::respond;
-use crate::operating::{dump_on, publish_on, raise_on};
-use crate::reading_histories::print_history;
-use crate::reporting::report_on;
 use crate::serving::serve_profile;
-use crate::walking::walk_on;
 use http_ports::Port;
 use kept_records::Stores;
 use omaha_arguments::{ArgumentError, Command, read_arguments};
-use omaha_server::System;
+use omaha_commands::{
+    Failure, compare_on, describe_files, dump_on, explain_code, publish_on, raise_on, report_on,
+    walk_on,
+};
+use omaha_histories::print_history;
+use omaha_once::respond;
 use package_files::Folders;
 use std::alloc::Global;
 use std::sync::Wait;
 use std::thread::Threads;
 use std::time::Clock;
 use streams::{Disk, ReadWhole, WriteWhole, offer};
+use systems::System;
 use update_client::Connector;
 use values::Text;
 

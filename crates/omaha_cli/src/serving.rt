@@ -5,18 +5,19 @@ ghost use Rattle.omaha_cli.specs.Serving.{EndsAs, IsHosted, IsPlaceOf, IsUnbound
 ghost use Rattle.omaha_server.specs.Serving.{IsSilent};
 ghost use Rattle.streams.specs.Streams.{Known};
 
-use crate::failure::Failure;
-use crate::histories::open_history;
-use crate::once::open_service;
 use http_ports::Port;
 use kept_records::{Records, Stores, Unkept};
 use omaha_arguments::Serve;
-use omaha_server::{KeptService, Place, ServerError, System, serve};
+use omaha_commands::{Failure, open_service};
+use omaha_histories::open_history;
+use omaha_server::{Place, ServerError, serve};
+use services::KeptService;
 use std::alloc::AllocError;
 use std::sync::Wait;
 use std::thread::Threads;
 use std::time::Clock;
 use streams::{Disk, WriteWhole};
+use systems::System;
 use values::Text;
 use worker_threads::Free;
 
@@ -57,7 +58,6 @@ fn end_of<A: Drop>(ended: Result<A, ServerError>, asked: &Serve) -> Result<(), F
         Err(ServerError::Log) => Err(unopened(&asked.log)),
         Err(ServerError::Folder) => Err(Failure::File(asked.packages.clone()?)),
         Err(ServerError::NoPlace) => Err(Failure::NoPlace),
-        Err(ServerError::Closed) => Err(Failure::Closed),
         Err(ServerError::Thread) => Err(Failure::Thread),
         Err(ServerError::Write) => Err(Failure::Write),
         Err(ServerError::Memory) => Err(Failure::Memory),

@@ -10,7 +10,7 @@ use Rattle.service_desks.specs.Operators.{IsCall as IsOperatorCall}
 use Rattle.service_desks.specs.States.{State}
 use Rattle.service_desks.specs.Workers.{IsCall, Progress}
 use Rattle.service_desks.specs.Asking.{GrantsFirst}
-use Rattle.omaha_server.specs.Edges.{Edges}
+use Rattle.systems.specs.Edges.{Edges}
 use Rattle.omaha_server.specs.Serving.{AreOperated, AreServed, DeskSteps, IsServedPort, desk_path, desk_type, operator_path, operator_type}
 use Rattle.omaha_server.specs.declared.place.Place.{Place}
 

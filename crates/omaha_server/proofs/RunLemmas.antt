@@ -16,7 +16,7 @@ use Rattle.publisher.specs.Sights.{fresh}
 use Rattle.kept_records.specs.declared.record.Record.{Record}
 use Rattle.records.specs.declared.mirror.Mirror.{Mirror}
 use Rattle.service_desks.specs.States.{Publication, Store}
-use Rattle.omaha_server.specs.Edges.{Edges}
+use Rattle.systems.specs.Edges.{Edges}
 use Rattle.omaha_server.specs.Jobs.{IsClients, IsManned}
 use Rattle.omaha_server.specs.Opening.{AreClientTerms, IsOperatorsPort, client_terms}
 use Rattle.omaha_server.specs.OperatorPorts.{has_operator, terms_left}
@@ -24,7 +24,7 @@ use Rattle.omaha_server.specs.Passages.{Passages, passage_of, passages_of}
 use Rattle.omaha_server.specs.Places.{ArePorts}
 use Rattle.omaha_server.specs.Runs.{HasServed, HaveRun, PrintsLines}
 use Rattle.omaha_server.specs.Serving.{AreServed, AreTotals, IsOperated, IsReady, PrintsTotals, Serves, ServesToEnd, begun, is_single, with_mirrors}
-use Rattle.omaha_server.specs.Totals.{names_of, totals_string}
+use Rattle.services.specs.Totals.{names_of, totals_string}
 use Rattle.omaha_server.specs.declared.clients.Clients.{Clients}
 use Rattle.omaha_server.specs.declared.error.ServerError.{ServerError}
 use Rattle.omaha_server.specs.declared.error.ServerError.TheVariants as server
@@ -33,7 +33,7 @@ use Rattle.omaha_server.specs.declared.operating.Operating.{Operating}
 use Rattle.omaha_server.specs.declared.place.Place.{Place}
 use Rattle.omaha_server.specs.declared.ports.ServedPort.{ServedPort}
 use Rattle.omaha_server.specs.declared.running.Ended.{Ended}
-use Rattle.omaha_server.specs.declared.service.Service.{Service}
+use Rattle.services.specs.declared.service.Service.{Service}
 use Rattle.omaha_server.specs.declared.setup.Setup.{Setup}
 use Rattle.streams.specs.Streams.{Known}
 use Rattle.streams.specs.Writing.{Breaks}
@@ -211,5 +211,4 @@ module _ (edges : Edges) (place : Place) (service : Service) (kept : Store) (old
   Serves-unprinted names new server.Log named never = absurd never
   Serves-unprinted names new server.Folder named never = absurd never
   Serves-unprinted names new server.NoPlace named never = absurd never
-  Serves-unprinted names new server.Closed named never = absurd never
   Serves-unprinted names new server.Thread named never = absurd never

@@ -5,15 +5,15 @@ use Rattle.std.specs.Io.KnownBytes.{Appends}
 use Rattle.service_desks.specs.States.{Store}
 use Rattle.streams.specs.Streams.{Known}
 use Rattle.streams.specs.Writing.{Breaks}
-use Rattle.omaha_server.specs.Edges.{Edges}
+use Rattle.systems.specs.Edges.{Edges}
 use Rattle.omaha_server.specs.Passages.{Passages}
 use Rattle.omaha_server.specs.Serving.{AreTotals, IsOpen, IsReady}
-use Rattle.omaha_server.specs.Totals.{totals_string}
+use Rattle.services.specs.Totals.{totals_string}
 use Rattle.omaha_server.specs.declared.error.ServerError.{ServerError}
 use Rattle.omaha_server.specs.declared.error.ServerError.TheVariants as server
 use Rattle.omaha_server.specs.declared.place.Place.{Place}
 use Rattle.omaha_server.specs.declared.running.Ended.{Ended}
-use Rattle.omaha_server.specs.declared.service.Service.{Service}
+use Rattle.services.specs.declared.service.Service.{Service}
 
 -- all jobs began and came to these ends, and these are the totals
 abbrev pub HaveRun : {J O E F X : Type 0} → Result (Ran J O E F) X → Ended E F → Type 0

@@ -1,5 +1,5 @@
 -- What a server does from its start to its end; this project's profile.
-use Rattle.std.specs.Prelude.{◌≡◌, ◌⊎◌, ◌&&◌, ◌<◌, ℕ, Bool, true, false, nat_eq, not, List, [], codes, length, slice_index_or, Option, Some, None, Result, Ok, Err, IfErr, ⊤}
+use Rattle.std.specs.Prelude.{◌≡◌, ◌⊎◌, ◌&&◌, ◌<◌, ℕ, Bool, true, false, nat_eq, not, List, [], bytes_eq, codes, length, slice_index_or, Option, Some, None, Result, Ok, Err, IfErr, ⊤}
 use Rattle.std.specs.Io.KnownBytes.{Appends}
 use Rattle.std.specs.Option.{is_some}
 use Rattle.http_desks.specs.Calls.{Call}
@@ -17,14 +17,14 @@ use Rattle.service_desks.specs.Workers.{IsCall, Progress}
 use Rattle.streams.specs.Streams.{Known}
 use Rattle.streams.specs.Writing.{Breaks}
 use Rattle.service_desks.specs.Asking.{GrantsFirst}
-use Rattle.omaha_server.specs.Edges.{Edges, IsTime, is_dash}
+use Rattle.systems.specs.Edges.{Edges, IsTime}
 use Rattle.omaha_server.specs.Opening.{IsOperatorsPort, client_terms, clients_listener, operator_listener, ready_line}
 use Rattle.omaha_server.specs.Passages.{Passages}
-use Rattle.omaha_server.specs.Totals.{names_of, totals_string}
+use Rattle.services.specs.Totals.{names_of, totals_string}
 use Rattle.omaha_server.specs.declared.error.ServerError.{ServerError}
 use Rattle.omaha_server.specs.declared.error.ServerError.TheVariants as server
 use Rattle.omaha_server.specs.declared.place.Place.{Place}
-use Rattle.omaha_server.specs.declared.service.Service.{Service}
+use Rattle.services.specs.declared.service.Service.{Service}
 
 -- a port of these terms was served to its end by a desk of this path and type, with the packages of the place's folder: it
 -- accepted all its connections, and each has ended
@@ -133,7 +133,6 @@ Stops edges place old new server.OperatorNet = new ≡ old
 Stops edges place old new server.Log = new ≡ old
 Stops edges place old new server.Folder = new ≡ old
 Stops edges place old new server.NoPlace = new ≡ old
-Stops edges place old new server.Closed = ⊥
 Stops edges place old new server.Thread = IsOpen edges place × IsReady old new
 Stops edges place old new server.Write = IsOpen edges place × Breaks old new ready_line
 Stops edges place old new server.Memory = (new ≡ old) ⊎ (IsOpen edges place × IsReady old new)
@@ -145,10 +144,13 @@ IsUnlogged server.OperatorNet = ⊤
 IsUnlogged server.Log = ⊥
 IsUnlogged server.Folder = ⊤
 IsUnlogged server.NoPlace = ⊤
-IsUnlogged server.Closed = ⊤
 IsUnlogged server.Thread = ⊤
 IsUnlogged server.Write = ⊤
 IsUnlogged server.Memory = ⊤
+
+-- the path means the standard error, and no file
+abbrev pub is_dash : List ℕ → Bool
+is_dash path = bytes_eq path (codes "-")
 
 -- the log of that path was opened, or the server ended before
 abbrev pub IsOpened : {A : Type 0} → Edges → List ℕ → Result A ServerError → Type 0

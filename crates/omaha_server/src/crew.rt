@@ -4,7 +4,7 @@ ghost use Rattle.std.specs.Prelude.{◌≡◌, All, IfOk, IfSome, length, option
 ghost use Rattle.std.specs.Option.{is_some};
 ghost use Rattle.publisher.specs.Sights.{fresh};
 ghost use Rattle.omaha_server.specs.Jobs.{IsManned};
-ghost use Rattle.omaha_server.specs.Opening.{IsNew};
+ghost use Rattle.systems.specs.NewPorts.{IsNew};
 ghost use Rattle.omaha_server.specs.OperatorPorts.{has_operator, terms_left};
 ghost use Rattle.omaha_server.specs.Places.{ArePorts};
 

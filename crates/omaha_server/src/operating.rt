@@ -12,7 +12,6 @@ use crate::new_port::NewPort;
 use crate::place::Place;
 use crate::ports::ServedPort;
 use crate::setup::{Setup, serve_new};
-use crate::system::System;
 use http_ports::{Port, Terms};
 use kept_records::Records;
 use log_queues::LineSender;
@@ -22,6 +21,7 @@ use service_desks::Operator;
 use std::sync::Wait;
 use std::thread::Threads;
 use std::time::Clock;
+use systems::System;
 
 // How many connections of the operator may be open at once.
 const CONNECTIONS: usize = 32;

@@ -1,5 +1,4 @@
 pub mod Exporting
-pub mod FaultStrings
 pub mod Found
 pub mod Laws
 pub mod Restarting

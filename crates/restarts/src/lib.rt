@@ -17,7 +17,7 @@ mod prefixes;
 mod restoring;
 
 pub use crate::exporting::export;
-pub use crate::fault::{RecordFault, RestoreError};
+pub use crate::fault::RestoreError;
 pub use crate::listing::list;
 pub use crate::prefixes::{count_editions, records_until};
 pub use crate::restoring::{Restored, restore};

@@ -7,13 +7,14 @@ ghost use Rattle.kept_records.specs.declared.record.Kind.TheVariants.{Profile, R
 ghost use Rattle.restarts.specs.Restarting.{BeginsAs, FollowAll, FollowsAs, IsFaultOf, LeadTo};
 ghost use Rattle.restarts.specs.Steps.{IsStopAfter, IsWhyNoBeginning, IsWhyNoFollower, error_by, fault_by};
 
-use crate::fault::{RecordFault, RestoreError};
+use crate::fault::RestoreError;
 use catalogue::Mirror;
 use editions::{Edition, EditionBuilder, NextError};
 use kept_records::{Kind, Record};
 use par_tables::Gate;
 use profile_toml::{laws, read_profile, read_script};
 use service_desks::replay_raise;
+use services::RecordFault;
 use std::alloc::Global;
 use std::marker::Model;
 use std::thread::Threads;

@@ -3,8 +3,8 @@ use Rattle.http_ports.specs.Traffic.{Slot}
 use Rattle.http_ports.specs.declared.terms.Terms.{Terms}
 use Rattle.omaha_arguments.specs.declared.command.Serve.{Serve}
 use Rattle.omaha_cli.specs.Serving.{EndsAs}
-use Rattle.omaha_cli.specs.declared.failure.Failure.{Failure}
-use Rattle.omaha_server.specs.Edges.{Edges}
+use Rattle.omaha_commands.specs.declared.failure.Failure.{Failure}
+use Rattle.systems.specs.Edges.{Edges}
 use Rattle.omaha_server.specs.Passages.{passages_in}
 use Rattle.omaha_server.specs.Serving.{IsLogged}
 use Rattle.omaha_server.specs.declared.error.ServerError.{ServerError}

@@ -3,7 +3,7 @@ use Rattle.catalogue_laws.specs.Histories.{History}
 use Rattle.omaha_server.specs.Passages.{passages_of}
 use Rattle.omaha_server.specs.Runs.{HasServed, PrintsLines}
 use Rattle.omaha_server.specs.Serving.{begun}
-use Rattle.omaha_server.specs.Totals.{names_of}
+use Rattle.services.specs.Totals.{names_of}
 use Rattle.omaha_server.proofs.RunLemmas.{Serves-printed, Serves-unprinted}
 use Rattle.omaha_server.proofs.serving.serve_with.Goals as goal
 

@@ -1,13 +1,6 @@
 use Rattle.std.proofs.Common.{◌≡◌, arith, vec_len}
-use Rattle.omaha_server.proofs.AnswerLemmas.{AreNamed-AreMirrors, are_bounded-mirrors}
 use Rattle.omaha_server.proofs.RunLemmas.{AreTotals-run}
 use Rattle.omaha_server.proofs.serving.fn.run_jobs.scope.Goals as goal
-
-pub run_with_tills-ran-requires-clause-bounded : goal.run_with_tills-ran-requires-clause-bounded
-run_with_tills-ran-requires-clause-bounded g c = λ κs outlives. are_bounded-mirrors c.into_vec.result.items c.into_vec.ensures.valid.formed
-
-pub run_with_tills-ran-requires-clause-named : goal.run_with_tills-ran-requires-clause-named
-run_with_tills-ran-requires-clause-named g c = λ κs outlives. AreNamed-AreMirrors c.into_vec.result.items c.into_vec.ensures.valid
 
 pub returns : goal.returns
 returns g c =
