@@ -6,7 +6,7 @@
 `make history` runs it, after `make install`. PROGRAM is the built program, else that of the last build. Each test
 prints its name and, if it fails, what was expected and what was found; then the exit status is 1.
 
-- `kills`: N times, 500 by default, a server with clients, publishes and raises is killed at a random moment. After each
+- `kills`: N times, 500 by default, a server with clients, publishes and raises is killed at a random time. After each
   start nothing that was replied to is missing, at most one script or raise more is there, and scripts go on from there.
 - `commands`: `omaha history` lists, exports and compacts what was kept, and a server goes on from the compacted file.
 - `faults`: a file of another program, a truncated one and one that began with another profile end the server with a line.

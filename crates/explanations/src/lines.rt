@@ -7,7 +7,7 @@ pub(crate) const LINES: [(&str, &str); 15] = [
 Found in: the reply to a script, and the output of `check`.
 The script is published as edition N. Of `check`: the profile makes the edition 1, and the line counts what it has.
 Usual cause: A script whose base was the published edition; a valid profile.
-Remedy: None is needed; keep what `omaha dump --to ADDR` prints, since a restart begins from the profile.
+Remedy: None is needed; without --history keep an `omaha dump --to ADDR`, as a restart begins from the profile.
 ",
     ),
     (
@@ -15,7 +15,7 @@ Remedy: None is needed; keep what `omaha dump --to ADDR` prints, since a restart
         "stale N
 Found in: the reply to a script.
 Edition N is published, and the script's `base` is another one; nothing is changed.
-Usual cause: Another script was published, this one was sent twice, or the server was started again and is at 1.
+Usual cause: Another script was published, this one was sent twice, or a server without --history was started again.
 Remedy: Look at `omaha dump --to ADDR`: if the script's edits aren't there, set its `base` to N and send it again.
 ",
     ),
@@ -52,7 +52,7 @@ Remedy: Use `omaha raise --to ADDR NAME BUDGET`.
 Found in: the reply to a raise.
 The mirror's budget is that many bytes, with those that were granted already.
 Usual cause: A raise of at least the present budget.
-Remedy: None is needed; write the number into the profile, or the next start has the old one.
+Remedy: None is needed; without --history write the number into the profile, or the next start has the old one.
 ",
     ),
     (
