@@ -26,9 +26,11 @@ made-of : (profile : List Edit × List Mirror) (ran : Result (List App) Refused)
     or_edit (service_if profile ran) ≡ Ok service →
     IsOk ran × (service.edition ≡ profile.0 ∷ []) × (service.mirrors ≡ profile.1)
 made-of profile (Err refused) service made = absurd (subst (λ (r : Result Service Failure). IsOk r) (sym made) tt)
-made-of profile (Ok apps) service made =
-    (tt, ap (λ (r : Result Service Failure). (service-in service r).edition) (sym made),
-    ap (λ (r : Result Service Failure). (service-in service r).mirrors) (sym made))
+made-of profile (Ok apps) service made = (
+  tt,
+  ap (λ (r : Result Service Failure). (service-in service r).edition) (sym made),
+  ap (λ (r : Result Service Failure). (service-in service r).mirrors) (sym made),
+)
 
 read-leads : (bytes : List ℕ) (read : Result (List Edit × List Mirror) ProfileFault) → profile_of_bytes bytes ≡ read →
     (service : Service) → service_by read ≡ Ok service → LeadToService (record_of Profile bytes ∷ []) service
@@ -36,9 +38,11 @@ read-leads bytes (Err fault) is service made = absurd (subst (λ (r : Result Ser
 read-leads bytes (Ok profile) is service made =
     let (accepted, edition, mirrors) = made-of profile (outcome profile.0 []) service made in
     let read : profile_of_bytes bytes ≡ Ok (profile.0, service.mirrors) =
-    subst (λ (m : List Mirror). profile_of_bytes bytes ≡ Ok (profile.0, m)) (sym mirrors) is in
-    (record { history = service.edition; mirrors = service.mirrors },
-    (profile.0, read, accepted, omega arith, edition), refl)
+    subst (λ (m : List Mirror). profile_of_bytes bytes ≡ Ok (profile.0, m)) (sym mirrors) is in (
+      record { history = service.edition; mirrors = service.mirrors },
+      (profile.0, read, accepted, omega arith, edition),
+      refl,
+    )
 
 -- a profile as the only record leads to its service
 pub LeadToService-profile : (bytes : List ℕ) (service : Service) → service_of_bytes bytes ≡ Ok service →

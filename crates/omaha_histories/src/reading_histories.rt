@@ -9,13 +9,13 @@ ghost use Rattle.restarts.specs.Listing.{listing};
 ghost use Rattle.streams.specs.Streams.{Known};
 
 use crate::histories::{history_failure, restore_failure};
-use kept_records::{Record, Records, Stores};
+use kept_records::{OpenFault, Record, Records, Stores};
 use omaha_arguments::{HistoryAction, HistoryAsked};
 use omaha_commands::{Failure, HistoryFault, print};
 use restarts::{count_editions, export, list, records_until};
 use std::alloc::Global;
 use std::thread::Threads;
-use streams::WriteWhole;
+use streams::{Disk, ReadFailure, WriteWhole};
 use values::Text;
 
 // The highest number of an edition: 2^53.
@@ -131,8 +131,16 @@ fn found_in<R: Threads + AllocGlobal, K: Records + Drop>(
     }
 }
 
+// Whether there is a regular file at a path that can be read. An open makes the file that isn't there.
+fn is_there<R: Disk + AllocGlobal>(rt: &R, path: &Text) -> bool {
+    match rt.read_file(rt.alloc(), path.as_str(), 0) {
+        Err(ReadFailure::Broken) => false,
+        _ => true,
+    }
+}
+
 // What is printed of a history.
-fn find<R: Threads + AllocGlobal, H: Stores>(
+fn find<R: Disk + Threads + AllocGlobal, H: Stores>(
     rt: &R,
     stores: &H,
     asked: &HistoryAsked,
@@ -140,6 +148,10 @@ fn find<R: Threads + AllocGlobal, H: Stores>(
     ensures ok { IfOk result (λ text. IsFoundIn asked.now (Ok text.items)) }
     ensures err { IfErr result (λ failure. IsFoundIn asked.now (Err failure)) }
 {
+    if !is_there(rt, &asked.path) {
+        let fault = HistoryFault::Open(OpenFault::Unopened);
+        return Err(history_failure(&asked.path, fault));
+    }
     match stores.open_records(asked.path.as_str(), u64::MAX) {
         Ok((kept, records)) => found_in(rt, kept, records.as_slice(), asked),
         Err(error) => Err(history_failure(&asked.path, HistoryFault::Open(error))),
@@ -149,7 +161,7 @@ fn find<R: Threads + AllocGlobal, H: Stores>(
 /// Lists the records of a history, prints the profile that they lead to, or replaces them by it and prints nothing.
 ///
 /// Fails with the history, each time before anything is written, and with the writer.
-pub fn print_history<R: Threads + AllocGlobal, H: Stores, W: WriteWhole>(
+pub fn print_history<R: Disk + Threads + AllocGlobal, H: Stores, W: WriteWhole>(
     rt: &R,
     stores: &H,
     asked: &HistoryAsked,
