@@ -9,13 +9,17 @@ prints its name and, if it fails, what was expected and what was found; then the
 - `kills`: N times, 500 by default, a server with clients, publishes and raises is killed at a random time. After each
   start nothing that was replied to is missing, at most one script or raise more is there, and scripts go on from there.
 - `commands`: `omaha history` lists, exports and compacts what was kept, and a server goes on from the compacted file.
-- `faults`: a file of another program, a truncated one and one that began with another profile end the server with a line.
+- `faults`: a file of another program, a truncated one, one without permission, one in use and one that began with another
+  profile end the server with a line, and are left as they are.
 - `full`: at the limit of the records a publish gets 500 and changes nothing; with a larger limit it goes on.
+- `disk`: on a full disk a publish gets 500 and changes nothing, and with room the next start goes on. Only root can mount
+  such a disk.
 - `sqlite3`: Debian's `sqlite3`, if it is installed, reads the file and finds it whole.
 """
 
 import argparse
 import contextlib
+import os
 import pathlib
 import random
 import re
@@ -63,9 +67,9 @@ def post(port, path, body):
 class Server:
     """A server over a history in a folder."""
 
-    def __init__(self, program, folder, more=("--profile", "profile.toml")):
+    def __init__(self, program, folder, more=("--profile", "profile.toml"), history=("--history", "history.db")):
         self.port, self.operator = free_port(), free_port()
-        words = ["--packages", "packages", "--history", "history.db", "--workers", "4", *more]
+        words = ["--packages", "packages", "--workers", "8", *history, *more]
         words += ["--listen", f"127.0.0.1:{self.port}", "--operator", f"127.0.0.1:{self.operator}"]
         self.process = subprocess.Popen(
             [program, "serve", *words], cwd=folder, stdout=subprocess.PIPE, stderr=subprocess.PIPE
@@ -157,7 +161,7 @@ def kills(program, count):
                 check("kills: a budget that was replied to, or one more", True, present in (budget, budget + 1))
                 most += (now == edition + 1) + (present == budget + 1)
             publisher, stop, wrong = Publisher(server, mirror, now, present), threading.Event(), []
-            asking = [threading.Thread(target=ask_on, args=(server, stop, wrong), daemon=True) for _ in range(4)]
+            asking = [threading.Thread(target=ask_on, args=(server, stop, wrong), daemon=True) for _ in range(8)]
             for thread in (publisher, *asking):
                 thread.start()
             time.sleep(random.uniform(0.0, 0.25))
@@ -203,33 +207,87 @@ def commands(program):
     print("commands")
 
 
-def ends(program, folder, *more):
-    """How a server ends that can't begin."""
+def ends(program, folder, *more, user=None):
+    """How a server ends that can't begin: its status, and what it prints."""
     done = subprocess.run(
         [program, "serve", "--packages", "packages", "--listen", "127.0.0.1:0", "--history", "history.db", *more],
-        cwd=folder, capture_output=True, text=True, timeout=30, check=False,
+        cwd=folder, capture_output=True, text=True, timeout=30, check=False, user=user,
     )
-    return done.returncode, done.stdout, done.stderr.startswith("omaha: history history.db: "), done.stderr.count("\n")
+    return done.returncode, done.stdout, done.stderr
+
+
+def line(reason):
+    """The end of a server whose history can't be used."""
+    return 1, "", f"omaha: history history.db: {reason}\n"
 
 
 def faults(program):
-    named = (1, "", True, 1)
+    profile = ("--profile", "profile.toml")
     with folder_of() as folder:
-        (folder / "history.db").write_bytes(b"a file of another program\n" * 100)
-        check("faults: another program's", named, ends(program, folder, "--profile", "profile.toml"))
-        check("faults: it is left", b"a file of another program\n" * 100, (folder / "history.db").read_bytes())
+        foreign = b"a file of another program\n" * 100
+        (folder / "history.db").write_bytes(foreign)
+        check("faults: another program's", line("not a history"), ends(program, folder, *profile))
+        check("faults: it is left", foreign, (folder / "history.db").read_bytes())
     with folder_of() as folder:
-        check("faults: nothing to begin with", named, ends(program, folder))
+        check("faults: nothing to begin with", line("has no records: name a profile"), ends(program, folder))
     with folder_of() as folder:
-        Server(program, folder).kill()
+        server = Server(program, folder)
+        check("faults: in use", line("in use by another program"), ends(program, folder, *profile))
+        server.kill()
         (folder / "other.toml").write_text((folder / "profile.toml").read_text() + "\n")
-        check("faults: another profile", named, ends(program, folder, "--profile", "other.toml"))
+        other = line("begins with another profile: leave --profile out, or begin another file")
+        check("faults: another profile", other, ends(program, folder, "--profile", "other.toml"))
         data = (folder / "history.db").read_bytes()
+        (folder / "history.db").write_bytes(data[: len(data) // 2 or 1])
         for rest in folder.glob("history.db-*"):
             rest.unlink()
-        (folder / "history.db").write_bytes(data[: len(data) // 2])
-        check("faults: truncated", 1, ends(program, folder)[0] if data else 1)
+        status, printed, error = ends(program, folder, *profile)
+        check("faults: truncated", (1, "", True), (status, printed, error.startswith("omaha: history history.db: ")))
+    if os.geteuid() == 0:
+        with folder_of() as folder:
+            Server(program, folder).kill()
+            (folder / "history.db").chmod(0)
+            for path in (folder, *folder.rglob("*")):
+                os.chown(path, 65534, 65534)
+            check("faults: no permission", line("cannot be opened"), ends(program, folder, *profile, user=65534))
     print("faults")
+
+
+@contextlib.contextmanager
+def small_disk(folder):
+    """A disk of 2 MiB in memory, as a folder below this one."""
+    disk = folder / "disk"
+    disk.mkdir()
+    subprocess.run(["mount", "-t", "tmpfs", "-o", "size=2m", "tmpfs", disk], check=True)
+    try:
+        yield disk
+    finally:
+        subprocess.run(["umount", "-l", disk], check=True)
+
+
+def disk(program):
+    if os.geteuid() != 0:
+        print("disk: not root")
+        return
+    with folder_of() as folder, small_disk(folder) as mounted:
+        more = ("--profile", "profile.toml", "--history", "disk/history.db")
+        server = Server(program, folder, more, history=())
+        check("disk: ready", b"ready\n", server.ready)
+        edition, reply = 1, (200, "")
+        while reply[0] == 200 and edition < 2000:
+            reply = server.operate("# " + "x" * 20000 + "\n" + share_script(edition, edition % 1001))
+            edition += reply[0] == 200
+        check("disk: full", 500, reply[0])
+        check("disk: nothing changed", edition, server.edition())
+        check("disk: clients are served", 200, post(server.port, "/service/update2/json", ASK)[0])
+        errors = server.kill()[1].decode()
+        check("disk: the reason", "omaha: history disk/history.db: the disk is full", errors.partition("\n")[0])
+        subprocess.run(["mount", "-o", "remount,size=16m", mounted], check=True)
+        server = Server(program, folder, more, history=())
+        check("disk: what was published is there", edition, server.edition())
+        check("disk: and goes on", (200, f"edition {edition + 1}\n"), server.operate(share_script(edition, 1)))
+        server.kill()
+    print("disk")
 
 
 def full(program):
@@ -269,7 +327,7 @@ def main():
     parser.add_argument("--kills", type=int, default=500)
     parser.add_argument("--only")
     options = parser.parse_args()
-    tests = {"commands": commands, "faults": faults, "full": full, "sqlite3": sqlite3}
+    tests = {"commands": commands, "faults": faults, "full": full, "disk": disk, "sqlite3": sqlite3}
     tests["kills"] = lambda program: kills(program, options.kills)
     for name, test in tests.items():
         if options.only in (None, name):
