@@ -1,6 +1,6 @@
 -- What a server begins with, by its profile or by the records of its history, and what is printed of records; this project's
 -- profile.
-use Rattle.std.specs.Prelude.{◌≡◌, ◌⊎◌, ⊤, ℕ, List, [], ◌∷◌, Option, Some, None, Result, Ok, Err}
+use Rattle.std.specs.Prelude.{◌≡◌, ◌≤◌, ◌<◌, ◌+◌, ◌-◌, ◌⊎◌, ⊤, ℕ, List, [], ◌∷◌, Option, Some, None, Result, Ok, Err}
 use Rattle.kept_records.specs.Keeping.{record_of}
 use Rattle.kept_records.specs.declared.record.Kind.TheVariants.{Profile}
 use Rattle.kept_records.specs.declared.record.Record.{Record}
@@ -8,10 +8,12 @@ use Rattle.omaha_arguments.specs.declared.command.HistoryAction.{HistoryAction}
 use Rattle.omaha_arguments.specs.declared.command.HistoryAction.TheVariants as action
 use Rattle.omaha_arguments.specs.declared.command.HistoryAsked.{HistoryAsked}
 use Rattle.restarts.specs.Exporting.{IsExport}
+use Rattle.restarts.specs.Listing.{listing}
+use Rattle.restarts.specs.Numbering.{AreUpTo, editions_in}
 use Rattle.restarts.specs.Restarting.{LeadTo}
 use Rattle.services.specs.declared.service.Service.{Service}
 use Rattle.streams.specs.Reading.{IsWhole}
-use Rattle.omaha_commands.specs.Profiles.{Files, IsServed, max_profile, service_of_bytes}
+use Rattle.omaha_commands.specs.Profiles.{Files, IsServed, max_profile}
 use Rattle.omaha_commands.specs.Reports.{Prints}
 use Rattle.omaha_commands.specs.Streams.{Streams}
 use Rattle.omaha_commands.specs.declared.failure.Failure.{Failure}
@@ -29,11 +31,9 @@ pub record Beginning : Type 0 where
   pub first : ℕ
   pub records : List Record
 
--- the service that records lead to; of one profile alone it is the profile's
+-- the records lead to the service
 abbrev pub LeadToService : List Record → Service → Type 0
-LeadToService records service =
-    LeadTo records (record { history = service.edition; mirrors = service.mirrors })
-    ⊎ ((bytes : List ℕ) × (records ≡ record_of Profile bytes ∷ []) × (service_of_bytes bytes ≡ Ok service))
+LeadToService records service = LeadTo records (record { history = service.edition; mirrors = service.mirrors })
 
 -- the first record has these bytes
 abbrev pub HasFirst : List Record → List ℕ → Type 0
@@ -65,21 +65,32 @@ abbrev pub IsBegun : Files → Option (List ℕ) → Option (List ℕ) → Resul
 IsBegun files history profile (Ok begins) = IsBeginning files history profile begins
 IsBegun files history profile (Err refusal) = IsNoBeginning files history profile refusal
 
--- what is printed of records: the profile that they lead to, or some of them that are up to an edition; of a list only
--- tests say what it is
-abbrev pub IsFoundOf : List Record → HistoryAction → List ℕ → Type 0
-IsFoundOf records action.List text = ⊤
-IsFoundOf records (action.Export None) text = IsExport records text
-IsFoundOf records (action.Export (Some edition)) text = (some : List Record) × IsExport some text
-IsFoundOf records action.Compact text = text ≡ []
+-- rule: Exported edition
+-- the records make the edition of a number, where the first one is that of its own number, and some of them are up to it
+pub record AreOfEdition (first edition : ℕ) (records some : List Record) : Type 0 where
+  pub after : first ≤ edition
+  pub before : edition < first + editions_in records
+  pub until : AreUpTo (edition - first + 1) records some
 
--- one record is left: the profile that records lead to
-abbrev pub IsShortened : List Record → List Record → Type 0
-IsShortened records left = (text : List ℕ) × IsExport records text × (left ≡ record_of Profile text ∷ [])
+-- what is printed of records, of which the first has this number: a line for each; the profile that they lead to, or that
+-- those up to an edition lead to; or nothing
+abbrev pub IsFoundOf : ℕ → List Record → HistoryAction → List ℕ → Type 0
+IsFoundOf first records action.List text = text ≡ listing first records
+IsFoundOf first records (action.Export None) text = IsExport records text
+IsFoundOf first records (action.Export (Some edition)) text =
+    (some : List Record) × AreOfEdition first edition records some × IsExport some text
+IsFoundOf first records action.Compact text = text ≡ []
+
+-- rule: Compacted history
+-- one record is left: the profile that records lead to, with the number of their last edition
+abbrev pub IsShortened : ℕ → List Record → ℕ → List Record → Type 0
+IsShortened first records number left =
+    (text : List ℕ) × IsExport records text × (left ≡ record_of Profile text ∷ [])
+    × (number + 1 ≡ first + editions_in records)
 
 -- what is found of a history, or why nothing is
 abbrev pub IsFoundIn : HistoryAsked → Result (List ℕ) Failure → Type 0
-IsFoundIn asked (Ok text) = (records : List Record) × IsFoundOf records asked.action text
+IsFoundIn asked (Ok text) = (first : ℕ) × (records : List Record) × IsFoundOf first records asked.action text
 IsFoundIn asked (Err refusal) = IsHistoryFailure asked.path refusal
 
 -- what is found of a history is printed

@@ -1,32 +1,36 @@
 // The command `history`.
 
-ghost use Rattle.std.specs.Prelude.{◌≡◌, IfErr, IfOk, Ok, Err};
+ghost use Rattle.std.specs.Prelude.{◌≡◌, ◌≤◌, ◌^◌, IfErr, IfOk, IfSome, Ok, Err};
 ghost use Rattle.omaha_arguments.specs.declared.command.HistoryAction.TheVariants.{Export};
-ghost use Rattle.omaha_histories.specs.Histories.{IsHistoryFailure, IsShortened, IsFoundIn, IsFoundOf, PrintsHistory};
+ghost use Rattle.omaha_histories.specs.Histories.{AreOfEdition, IsHistoryFailure, IsShortened, IsFoundIn, IsFoundOf, PrintsHistory};
 ghost use Rattle.omaha_commands.specs.declared.failure.Failure.TheVariants.{Memory};
 ghost use Rattle.restarts.specs.Exporting.{IsExport};
+ghost use Rattle.restarts.specs.Listing.{listing};
 ghost use Rattle.streams.specs.Streams.{Known};
 
 use crate::histories::{history_failure, restore_failure};
-use kept_records::{Record, Records, Stores};
+use kept_records::{OpenFault, Record, Records, Stores};
 use omaha_arguments::{HistoryAction, HistoryAsked};
 use omaha_commands::{Failure, HistoryFault, print};
 use restarts::{count_editions, export, list, records_until};
 use std::alloc::Global;
 use std::thread::Threads;
-use streams::WriteWhole;
+use streams::{Disk, ReadFailure, WriteWhole};
 use values::Text;
 
 // The highest number of an edition: 2^53.
 const MAX_NUMBER: u64 = 9007199254740992;
 
-// The records up to an edition, if there is one of that number, or all.
-fn records_up_to(first: u64, records: &[Record], edition: u64) -> Option<&[Record]> {
+// rule: Exported edition
+// The records up to the edition of a number, if they make it, of which the first is that of its own number.
+fn records_up_to(first: u64, records: &[Record], edition: u64) -> Option<&[Record]>
+    ensures { IfSome result (λ some. AreOfEdition first edition records.now some.now) }
+{
     let before = edition.checked_sub(first)?;
     if before >= count_editions(records) {
         return None;
     }
-    Some(records_until(records, before.saturating_add(1)))
+    Some(records_until(records, before + 1))
 }
 
 // The profile that records lead to, of which the first has this number.
@@ -53,7 +57,7 @@ fn export_edition<R: Threads + AllocGlobal>(
     records: &[Record],
     edition: Option<u64>,
 ) -> Result<Vec<u8>, Failure>
-    ensures ok { IfOk result (λ text. IsFoundOf records.now (Export edition) text.items) }
+    ensures ok { IfOk result (λ text. IsFoundOf first records.now (Export edition) text.items) }
     ensures err { IfErr result (IsHistoryFailure path.now) }
 {
     match edition {
@@ -65,6 +69,7 @@ fn export_edition<R: Threads + AllocGlobal>(
     }
 }
 
+// rule: Compacted history
 // Replaces all records by the profile that they lead to, with the number of their last edition.
 fn shorten<R: Threads + AllocGlobal, K: Records>(
     rt: &R,
@@ -72,7 +77,7 @@ fn shorten<R: Threads + AllocGlobal, K: Records>(
     kept: &mut K,
     records: &[Record],
 ) -> Result<(), Failure>
-    ensures ok { IfOk result (λ _. IsShortened records.now (K.kept kept.new)) }
+    ensures ok { IfOk result (λ _. IsShortened (K.first kept.old) records.now (K.first kept.new) (K.kept kept.new)) }
     ensures err { IfErr result (IsHistoryFailure path.now) }
 {
     let first = kept.first();
@@ -92,7 +97,9 @@ fn shorten<R: Threads + AllocGlobal, K: Records>(
 
 // The lines of records.
 fn list_all(alloc: Global, first: u64, records: &[Record]) -> Result<Vec<u8>, Failure>
-    ensures { IfErr result (λ failure. failure ≡ Memory) }
+    requires { (1 ≤ first) × (first ≤ 2 ^ 53) }
+    ensures ok { IfOk result (λ text. text.items ≡ listing first records.now) }
+    ensures err { IfErr result (λ failure. failure ≡ Memory) }
 {
     match list(alloc, first, records) {
         Ok(text) => Ok(text.into_bytes()),
@@ -107,7 +114,7 @@ fn found_in<R: Threads + AllocGlobal, K: Records + Drop>(
     records: &[Record],
     asked: &HistoryAsked,
 ) -> Result<Vec<u8>, Failure>
-    ensures ok { IfOk result (λ text. IsFoundOf records.now asked.now.action text.items) }
+    ensures ok { IfOk result (λ text. IsFoundOf (K.first kept) records.now asked.now.action text.items) }
     ensures err { IfErr result (IsHistoryFailure asked.now.path) }
 {
     let first = kept.first();
@@ -124,8 +131,16 @@ fn found_in<R: Threads + AllocGlobal, K: Records + Drop>(
     }
 }
 
+// Whether there is a regular file at a path that can be read. An open makes the file that isn't there.
+fn is_there<R: Disk + AllocGlobal>(rt: &R, path: &Text) -> bool {
+    match rt.read_file(rt.alloc(), path.as_str(), 0) {
+        Err(ReadFailure::Broken) => false,
+        _ => true,
+    }
+}
+
 // What is printed of a history.
-fn find<R: Threads + AllocGlobal, H: Stores>(
+fn find<R: Disk + Threads + AllocGlobal, H: Stores>(
     rt: &R,
     stores: &H,
     asked: &HistoryAsked,
@@ -133,6 +148,10 @@ fn find<R: Threads + AllocGlobal, H: Stores>(
     ensures ok { IfOk result (λ text. IsFoundIn asked.now (Ok text.items)) }
     ensures err { IfErr result (λ failure. IsFoundIn asked.now (Err failure)) }
 {
+    if !is_there(rt, &asked.path) {
+        let fault = HistoryFault::Open(OpenFault::Unopened);
+        return Err(history_failure(&asked.path, fault));
+    }
     match stores.open_records(asked.path.as_str(), u64::MAX) {
         Ok((kept, records)) => found_in(rt, kept, records.as_slice(), asked),
         Err(error) => Err(history_failure(&asked.path, HistoryFault::Open(error))),
@@ -142,7 +161,7 @@ fn find<R: Threads + AllocGlobal, H: Stores>(
 /// Lists the records of a history, prints the profile that they lead to, or replaces them by it and prints nothing.
 ///
 /// Fails with the history, each time before anything is written, and with the writer.
-pub fn print_history<R: Threads + AllocGlobal, H: Stores, W: WriteWhole>(
+pub fn print_history<R: Disk + Threads + AllocGlobal, H: Stores, W: WriteWhole>(
     rt: &R,
     stores: &H,
     asked: &HistoryAsked,

@@ -8,8 +8,7 @@ ghost use Rattle.restarts.specs.Listing.{before_feed, first_line, kind_word, lis
 use crate::prefixes::edition_of;
 use kept_records::{Kind, Record};
 use std::alloc::{AllocError, Global};
-use std::fmt;
-use std::str;
+use std::{fmt, str};
 use streams::Shown;
 
 fn kind_word(kind: Kind) -> &'static str
@@ -79,12 +78,7 @@ impl fmt::Display for RecordLine<'_> {
 }
 
 // The line of a record, as a string.
-fn line_of(
-    alloc: Global,
-    number: u64,
-    edition: u64,
-    entry: &Record,
-) -> Result<String, AllocError>
+fn line_of(alloc: Global, number: u64, edition: u64, entry: &Record) -> Result<String, AllocError>
     ensures { IfOk result (λ text. string_bytes text ≡ record_line number edition entry.now) }
 {
     let line = RecordLine {
