@@ -76,13 +76,9 @@ IsServedBy edges (Ok begins) serve old new result =
     IsHosted edges begins serve old.output new.output result × (new.input ≡ old.input)
 IsServedBy edges (Err refusal) serve old new result = (result ≡ Err refusal) × (new ≡ old)
 
--- a server with a history at that path, or with none: what it begins with is opened first, and its service is served
-pub record ServesWith (files : Files) (edges : Edges) (history : Option (List ℕ)) (serve : Serve) (old new : Streams) (result : Result (Unit {0}) Failure) : Type 0 where
-  pub made : Result Beginning Failure
-  pub begun : IsBegun files history serve.profile made
-  pub follows : IsServedBy edges made serve old new result
-
 -- rule: Service over HTTP
--- a server with the history that is named, or with none
-abbrev pub ServesOn : Files → Edges → Serve → Streams → Streams → Result (Unit {0}) Failure → Type 0
-ServesOn files edges serve old new result = ServesWith files edges serve.history serve old new result
+-- what a server begins with is opened first: that of the history that is named, or of the profile; its service is served
+pub record ServesOn (files : Files) (edges : Edges) (serve : Serve) (old new : Streams) (result : Result (Unit {0}) Failure) : Type 0 where
+  pub made : Result Beginning Failure
+  pub begun : IsBegun files serve.history serve.profile made
+  pub follows : IsServedBy edges made serve old new result

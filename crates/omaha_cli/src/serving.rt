@@ -1,17 +1,16 @@
 // The command `serve`.
 
-ghost use Rattle.std.specs.Prelude.{◌≡◌, IfOk, None, Some};
-ghost use Rattle.omaha_cli.specs.Serving.{EndsAs, IsHosted, IsPlaceOf, IsUnbound, IsUnopened, ServesOn, ServesWith};
+ghost use Rattle.std.specs.Prelude.{◌≡◌, IfOk};
+ghost use Rattle.omaha_cli.specs.Serving.{EndsAs, IsPlaceOf, IsUnbound, IsUnopened, ServesOn};
 ghost use Rattle.omaha_server.specs.Serving.{IsSilent};
 ghost use Rattle.streams.specs.Streams.{Known};
 
 use http_ports::Port;
-use kept_records::{Records, Stores, Unkept};
+use kept_records::Stores;
 use omaha_arguments::Serve;
-use omaha_commands::{Failure, open_service};
-use omaha_histories::open_history;
+use omaha_commands::Failure;
+use omaha_histories::open_beginning;
 use omaha_server::{Place, ServerError, serve};
-use services::KeptService;
 use std::alloc::AllocError;
 use std::sync::Wait;
 use std::thread::Threads;
@@ -93,84 +92,6 @@ fn place_of(asked: &Serve) -> Result<Place, AllocError>
     })
 }
 
-// Serves a service, of which what is published is kept.
-fn serve_kept<
-    P: Port + Send + Drop,
-    S: System<P> + Sync,
-    R: Clock + AllocGlobal + Threads + Sync + Wait,
-    W: WriteWhole,
-    F: WriteWhole + Send,
-    K: Records + Drop,
->(
-    rt: &R,
-    system: &S,
-    kept: KeptService<K>,
-    asked: &Serve,
-    writer: &mut W,
-    errors: &mut F,
-) -> Result<(), Failure>
-    ensures silent { IsSilent asked.now.log → errors.new ≡ errors.old }
-    ensures hosts { IsHosted (S.edges system.now)
-        (record { service = kept.service; first = K.first kept.records; records = K.kept kept.records })
-        asked.now (W.output writer.old) (W.output writer.new) result }
-{
-    let Ok(place) = place_of(asked) else {
-        return Err(Failure::Memory);
-    };
-    let ended = serve(rt, system, kept, &place, &Free, writer, errors);
-    end_of(ended, asked)
-}
-
-// Serves a profile, and keeps nothing of what is published.
-fn serve_unkept<
-    P: Port + Send + Drop,
-    S: System<P> + Sync,
-    R: Disk + Clock + AllocGlobal + Threads + Sync + Wait,
-    W: WriteWhole,
-    F: WriteWhole + Send,
->(rt: &R, system: &S, asked: &Serve, writer: &mut W, errors: &mut F) -> Result<(), Failure>
-    ensures silent { IsSilent asked.now.log → errors.new ≡ errors.old }
-    ensures serves { (input : Known) → ServesWith (R.file_at rt.now) (S.edges system.now) None asked.now
-        (record { input = input; output = W.output writer.old })
-        (record { input = input; output = W.output writer.new }) result }
-{
-    let service = match open_service(rt, &asked.profile, asked.workers.min(16) as usize) {
-        Ok(service) => service,
-        Err(failure) => return Err(failure),
-    };
-    let records = Unkept::new();
-    let kept = KeptService { service, records };
-    serve_kept(rt, system, kept, asked, writer, errors)
-}
-
-// Serves the history at a path.
-fn serve_history<
-    P: Port + Send + Drop,
-    S: System<P> + Sync,
-    R: Disk + Clock + AllocGlobal + Threads + Sync + Wait,
-    H: Stores,
-    W: WriteWhole,
-    F: WriteWhole + Send,
->(
-    rt: &R,
-    system: &S,
-    stores: &H,
-    path: &Text,
-    asked: &Serve,
-    writer: &mut W,
-    errors: &mut F,
-) -> Result<(), Failure>
-    ensures silent { IsSilent asked.now.log → errors.new ≡ errors.old }
-    ensures serves { (input : Known) → ServesWith (R.file_at rt.now) (S.edges system.now) (Some path.now) asked.now
-        (record { input = input; output = W.output writer.old })
-        (record { input = input; output = W.output writer.new }) result }
-{
-    match open_history(rt, stores, path, asked) {
-        Ok(kept) => serve_kept(rt, system, kept, asked, writer, errors),
-        Err(failure) => Err(failure),
-    }
-}
-
 // rule: Service over HTTP
 /// Serves a profile or a history and its packages, takes the operator's scripts, and prints the mirrors' totals at the end.
 ///
@@ -199,8 +120,13 @@ pub(crate) fn serve_profile<
         (record { input = input; output = W.output writer.old })
         (record { input = input; output = W.output writer.new }) result }
 {
-    match &asked.history {
-        Some(path) => serve_history(rt, system, stores, path, asked, writer, errors),
-        None => serve_unkept(rt, system, asked, writer, errors),
-    }
+    let kept = match open_beginning(rt, stores, asked) {
+        Ok(kept) => kept,
+        Err(failure) => return Err(failure),
+    };
+    let Ok(place) = place_of(asked) else {
+        return Err(Failure::Memory);
+    };
+    let ended = serve(rt, system, kept, &place, &Free, writer, errors);
+    end_of(ended, asked)
 }

@@ -1,11 +1,13 @@
 // What a server begins with, if what it publishes is kept.
 
 ghost use Rattle.std.specs.Prelude.{◌≡◌, [], IfErr, IfOk, IsTrue, Some};
-ghost use Rattle.omaha_histories.specs.Histories.{BeginWith, HasFirst, IsHistoryFailure, IsNoBeginning, LeadToService};
+ghost use Rattle.omaha_histories.specs.Histories.{BeginWith, HasFirst, IsBeginning, IsHistoryFailure, IsNoBeginning, LeadToService};
+ghost use Rattle.omaha_histories.specs.Server.{first_in, known_in};
 
-use kept_records::{Kind, Record, Records, Stores};
+use crate::server_records::ServerRecords;
+use kept_records::{Kind, Record, Records, Stores, Unkept};
 use omaha_arguments::Serve;
-use omaha_commands::{Failure, HistoryFault, read_named, service_in};
+use omaha_commands::{Failure, HistoryFault, open_service, read_named, service_in};
 use restarts::{RestoreError, Restored, restore};
 use services::{KeptService, Mirrors, Service};
 use std::thread::Threads;
@@ -148,12 +150,8 @@ fn begin_from<R: Disk + AllocGlobal + Threads + Sync, K: Records + Drop>(
     }
 }
 
-// rule: Service of a history
-/// Opens the history at a path, and makes the service that it leads to. Without records the profile is the first one.
-///
-/// Fails, in this order, with the history, the profile's file, another profile than the history's, the profile's first
-/// fault or rejected edit, and the first record that doesn't follow.
-pub fn open_history<R: Disk + AllocGlobal + Threads + Sync, H: Stores>(
+// Opens the history at a path, and makes the service that it leads to. Without records the profile is the first one.
+fn open_history<R: Disk + AllocGlobal + Threads + Sync, H: Stores>(
     rt: &R,
     stores: &H,
     path: &Text,
@@ -166,5 +164,38 @@ pub fn open_history<R: Disk + AllocGlobal + Threads + Sync, H: Stores>(
     match stores.open_records(path.as_str(), asked.history_limit) {
         Ok((kept, records)) => begin_from(rt, kept, records.as_slice(), path, asked),
         Err(error) => Err(history_failure(path, HistoryFault::Open(error))),
+    }
+}
+
+// rule: Service of a history
+/// Makes what a server begins with: the service of the profile, or the one that its history leads to. A history without
+/// records begins with the profile.
+///
+/// Fails, in this order, with the history, the profile's file, another profile than the history's, the profile's first
+/// fault or rejected edit, and the first record that doesn't follow.
+pub fn open_beginning<R: Disk + AllocGlobal + Threads + Sync, H: Stores>(
+    rt: &R,
+    stores: &H,
+    asked: &Serve,
+) -> Result<KeptService<ServerRecords<H::Kept>>, Failure>
+    ensures begins { IfOk result (λ begun. IsBeginning (R.file_at rt.now) asked.now.history asked.now.profile
+        (record { service = begun.service; first = first_in H.Kept.first begun.records; records = known_in H.Kept.kept begun.records })) }
+    ensures err { IfErr result (IsNoBeginning (R.file_at rt.now) asked.now.history asked.now.profile) }
+{
+    let Some(path) = &asked.history else {
+        return match open_service(rt, &asked.profile, asked.workers.min(16) as usize) {
+            Ok(service) => Ok(KeptService {
+                service,
+                records: ServerRecords::Unkept(Unkept::new()),
+            }),
+            Err(failure) => Err(failure),
+        };
+    };
+    match open_history(rt, stores, path, asked) {
+        Ok(KeptService { service, records }) => Ok(KeptService {
+            service,
+            records: ServerRecords::Kept(records),
+        }),
+        Err(failure) => Err(failure),
     }
 }

@@ -1,7 +1,8 @@
 //! The histories of `omaha`: what a server with one begins with, and the command `history`.
 //!
-//! `open_history` opens a history and makes the service that its records lead to, by `restarts`; without records it makes
-//! the profile's, and keeps the profile as the first one. `print_history` lists the records of a history, prints the
+//! `open_beginning` makes the service of a profile, or opens a history and makes the service that its records lead to, by
+//! `restarts`; a history without records begins with the profile. `ServerRecords` are those of such a server.
+//! `print_history` lists the records of a history, prints the
 //! profile that they lead to, or replaces them by it. Read `specs/Histories.antt`. `ReportingStores` prints why a script or
 //! a raise isn't kept.
 //!
@@ -12,7 +13,9 @@
 mod histories;
 mod reading_histories;
 mod reporting_stores;
+mod server_records;
 
-pub use crate::histories::open_history;
+pub use crate::histories::open_beginning;
 pub use crate::reading_histories::print_history;
 pub use crate::reporting_stores::{ReportedRecords, ReportingStores};
+pub use crate::server_records::ServerRecords;

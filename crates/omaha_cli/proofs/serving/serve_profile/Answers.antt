@@ -1,4 +1,4 @@
-use Rattle.std.proofs.Common.{ℕ, List, Option, Some, None, Result, Ok, Err, inl, refl}
+use Rattle.std.proofs.Common.{ℕ, List, Option, Some, None, Result, Ok, Err, inl, inr, refl}
 use Rattle.http_ports.specs.Traffic.{Slot}
 use Rattle.http_ports.specs.declared.terms.Terms.{Terms}
 use Rattle.omaha_arguments.specs.declared.command.Serve.{Serve}
@@ -9,19 +9,25 @@ use Rattle.omaha_server.specs.Passages.{passages_in}
 use Rattle.omaha_server.specs.Serving.{IsLogged}
 use Rattle.omaha_server.specs.declared.error.ServerError.{ServerError}
 use Rattle.omaha_server.specs.declared.ports.ServedPorts.{ServedPorts}
-use Rattle.omaha_cli.proofs.serving.serve_kept.Goals as goal
+use Rattle.omaha_cli.proofs.serving.serve_profile.Goals as goal
 
-pub returns-clause-hosts : goal.returns-clause-hosts
-returns-clause-hosts g c =
+pub returns-clause-serves : goal.returns-clause-serves
+returns-clause-serves g c = λ input. record {
+  made = Ok (record { service = c.in-Ok.kept.service; first = _; records = _ });
+  begun = c.in-Ok.ensures.begins;
+  follows = (
     inl (record {
-      place = c.in-Ok.place;
-      placed = c.in-Ok.ensures;
+      place = c.in-Ok-place_of.place;
+      placed = c.in-Ok-place_of.ensures;
       ended = passages_in g.P.Port.terms g.P.Port.slots g.P.Port.accepted c.serve-ended.result;
       serves = c.serve-ended.ensures.serves;
       logged = logged_so g.P.Port.terms g.P.Port.slots g.P.Port.accepted c.serve-ended.result
-          (g.S.System.edges c.args.system.now) c.in-Ok.place.log c.serve-ended.ensures.logged;
+          (g.S.System.edges c.args.system.now) c.in-Ok-place_of.place.log c.serve-ended.ensures.logged;
       ends = ends_so g.P.Port.terms g.P.Port.slots g.P.Port.accepted c.serve-ended.result c.args.asked.now c.end_of.result c.end_of.ensures;
-    })
+    }),
+    refl,
+  );
+}
   where
     -- the same, of what passed at the ports
     ends_so :
@@ -38,3 +44,6 @@ returns-clause-hosts g c =
     logged_so terms_of slots_of accepted_of (Ok served) edges None logged = logged
     logged_so terms_of slots_of accepted_of (Err error) edges (Some path) logged = logged
     logged_so terms_of slots_of accepted_of (Err error) edges None logged = logged
+
+pub returns-in-Err-clause-serves : goal.returns-in-Err-clause-serves
+returns-in-Err-clause-serves g c = λ input. record { made = Err c.in-Err.failure; begun = c.in-Err.ensures.err; follows = (refl, refl) }
