@@ -86,6 +86,7 @@ fn loses_nothing(alloc: Global) -> bool {
 }
 
 // rule: Kept records
+// rule: Restart after a crash
 // rule: Failed append
 // rule: Cause of a failure
 #[test]

@@ -111,10 +111,10 @@ after-raise history old new body (Ok reply) raises leads =
 after-raise history old new body (Err off.Memory) same leads = subst (Funded history) (sym same) leads
 after-raise history old new body (Err off.Closed) same leads = subst (Funded history) (sym same) leads
 
-abbrev Kept : State → Type 0
+abbrev pub Kept : State → Type 0
 Kept state = LeadTo state.store.records (found_in state)
 
-after-call : (before after : State) (call : Call) → IsCall before call after → Kept before → Kept after
+pub after-call : (before after : State) (call : Call) → IsCall before call after → Kept before → Kept after
 after-call before after (Looks name found) looked leads = subst Kept (sym looked.1) leads
 after-call before after (Asks body moment answer) (inl (word, dumps, same)) leads = subst Kept (sym same) leads
 after-call before after (Asks body moment answer) (inr (inl (word, raises, same))) leads =
