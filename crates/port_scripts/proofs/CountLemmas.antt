@@ -1,13 +1,10 @@
 -- How many peers there are and have connected, at all seats, of which one changes.
-use Rattle.std.proofs.Common.{◌≡◌, ◌∙◌, ◌<◌, ◌≤◌, ◌+◌, ◌^◌, ℕ, suc, Bool, List, [], ◌∷◌, get_or, length, refl, sym, ap, arith, take, if◌then◌else◌}
+use Rattle.std.proofs.Common.{◌≡◌, ◌∙◌, ◌<◌, ◌+◌, ℕ, suc, Bool, List, [], ◌∷◌, get_or, length, refl, ap, arith, take, if◌then◌else◌}
 use Rattle.std.proofs.Math.ListN.{set}
 use Rattle.std.specs.Prelude.{vec_len}
-use Rattle.std.specs.List.{sum_by}
-use Rattle.std.proofs.lemmas.List.{take-set}
 use Rattle.std.proofs.lemmas.List.Sums.{sum_by-cons, sum_by-set, sum_by_push}
 use Rattle.std.proofs.lemmas.List.{take_more_set}
-use Rattle.port_scripts.specs.Seats.{AreDone, HasConnected, accepted_in, connected_at, peers_in, peers_of}
-use Rattle.port_scripts.specs.declared.peer.Peer.{Peer}
+use Rattle.port_scripts.specs.Seats.{AreDone, HasConnected, accepted_in, connected_at, peers_in}
 use Rattle.port_scripts.specs.declared.seat.Seat.{Seat}
 
 abbrev peers_at : Seat → ℕ

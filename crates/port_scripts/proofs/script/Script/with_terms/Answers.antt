@@ -1,6 +1,4 @@
-use Rattle.std.proofs.Common.{◌∙◌, ◌<◌, length, ap, sym, arith}
-use Rattle.std.proofs.lemmas.List.{take_all}
-use Rattle.port_scripts.specs.Seats.{accepted_in}
+use Rattle.std.proofs.Common.{◌∙◌, ◌<◌, length, ap, arith}
 use Rattle.port_scripts.proofs.CountLemmas.{accepted_in-none, peers_in-set}
 use Rattle.port_scripts.proofs.SlotLemmas.{all_unused, peers_of-set, rewound}
 use Rattle.port_scripts.proofs.script.Script.with_terms.Goals as goal
