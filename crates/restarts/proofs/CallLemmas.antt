@@ -1,10 +1,10 @@
 -- The calls of an operator's desk, and what its records lead to.
-use Rattle.std.proofs.Common.{◌≡◌, ◌⊎◌, ◌∙◌, ℕ, ◌-◌, List, [], ◌∷◌, ◌++◌, ap, inl, inr, refl, subst, sym, unwrap_or, Option, Some, None, Result, Ok, Err}
+use Rattle.std.proofs.Common.{◌≡◌, ℕ, ◌-◌, List, [], ◌∷◌, ◌++◌, inl, inr, refl, subst, sym, unwrap_or, Option, Some, None, Result, Ok, Err}
 use Rattle.std.specs.Str.Parse.{digits_value}
 use Rattle.catalogue.specs.declared.edit.Edit.{Edit}
 use Rattle.catalogue_laws.specs.Histories.{History}
 use Rattle.editions.specs.Editions.{Continues}
-use Rattle.http_desks.specs.Calls.{Asks, Call, Leads, Looks}
+use Rattle.http_desks.specs.Calls.{Asks, Call, Looks}
 use Rattle.http_desks.specs.declared.desk.DeskStatus.{DeskStatus}
 use Rattle.http_desks.specs.declared.desk.Off.{Off}
 use Rattle.http_desks.specs.declared.desk.Off.TheVariants as off
@@ -21,7 +21,7 @@ use Rattle.records.specs.declared.mirror.Mirror.{Mirror}
 use Rattle.service_desks.specs.Operators.{IsCall}
 use Rattle.service_desks.specs.Raises.{Funds, IsReplyToRaise, RaisesBy, left_by as raise_left_by, raise_of}
 use Rattle.service_desks.specs.Scripts.{IsScriptReply, Performs, left_by}
-use Rattle.service_desks.specs.States.{Publication, State, Store, earlier_in, publication_of, settled, with_due, with_raise, with_script}
+use Rattle.service_desks.specs.States.{Publication, State, Store, earlier_in, publication_of, settled}
 use Rattle.restarts.specs.Laws.{RestartsFindWhatWasPublished, found_in}
 use Rattle.restarts.specs.Restarting.{Found, LeadTo}
 use Rattle.restarts.proofs.LeadLemmas.{LeadTo-more}

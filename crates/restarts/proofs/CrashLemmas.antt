@@ -1,10 +1,12 @@
 -- What is published stays over the calls of an operator's desk, and what a crash leaves of its records.
-use Rattle.std.proofs.Common.{◌≡◌, ◌⊎◌, ◌∙◌, ℕ, ◌-◌, List, [], ◌∷◌, ◌++◌, ap, inl, inr, refl, subst, sym, tt, unwrap_or, Option, Some, None, Result, Ok, Err}
+use Rattle.std.proofs.Common.{◌≡◌, ◌∙◌, ℕ, ◌-◌, List, [], ◌∷◌, ◌++◌, ap, inl, inr, refl, subst, sym, unwrap_or, Option, Some, None, Result, Ok, Err}
 use Rattle.std.proofs.lemmas.List.{append-nil, append_assoc}
+use Rattle.std.specs.Bool.{⊤}
 use Rattle.std.specs.Option.{ForSome}
+use Rattle.std.proofs.lemmas.Option.{same_Some}
 use Rattle.catalogue.specs.declared.edit.Edit.{Edit}
 use Rattle.catalogue_laws.specs.Histories.{History}
-use Rattle.http_desks.specs.Calls.{Asks, Call, Leads, Looks}
+use Rattle.http_desks.specs.Calls.{Asks, Call, Looks}
 use Rattle.http_desks.specs.declared.desk.DeskStatus.{DeskStatus}
 use Rattle.http_desks.specs.declared.desk.Off.{Off}
 use Rattle.http_desks.specs.declared.desk.Off.TheVariants as off
@@ -21,7 +23,7 @@ use Rattle.service_desks.specs.Operators.{IsCall}
 use Rattle.service_desks.specs.Raises.{Funds, IsReplyToRaise, RaisesBy, left_by as raise_left_by, raise_of}
 use Rattle.service_desks.specs.Scripts.{IsScriptReply, Performs, left_by}
 use Rattle.service_desks.specs.States.{Publication, State, Store, earlier_in, publication_of, settled}
-use Rattle.restarts.specs.Laws.{AddsOne, CrashesLoseNothing, GoesAhead, IsLeft, PublishedEditionsStay, found_in}
+use Rattle.restarts.specs.Laws.{AddsOne, CrashesLoseNothing, GoesAhead, PublishedEditionsStay, found_in}
 use Rattle.restarts.specs.Restarting.{LeadTo}
 use Rattle.restarts.proofs.CallLemmas.{Kept, after-call, restarts_find_what_was_published}
 
@@ -35,8 +37,16 @@ StartsWith-trans last next first (more, is) (rest, was) =
 -- what is due goes on from what is published
 unwrap_or-ahead : (history : History) (due : Option History) → ForSome due (λ next. StartsWith next history) →
     StartsWith (unwrap_or due history) history
-unwrap_or-ahead history (Some next) ahead = ahead
+unwrap_or-ahead history (Some next) ahead = ahead next refl
 unwrap_or-ahead history None ahead = StartsWith-same history
+
+-- nothing is due
+abbrev IsAbsent : Option History → Type 0
+IsAbsent (Some next) = ⊥
+IsAbsent None = ⊤
+
+none-ahead : (history : History) → ForSome None (λ next. StartsWith next history)
+none-ahead history next is = absurd (subst IsAbsent is tt)
 
 settled-ahead : (before : Publication) → GoesAhead before → StartsWith (settled before).history before.history
 settled-ahead before ahead = unwrap_or-ahead before.history before.store.due ahead
@@ -49,7 +59,7 @@ record Advances (before after : Publication) : Type 0 where
 
 Advances-settled : (before after : Publication) → after ≡ settled before → GoesAhead before → Advances before after
 Advances-settled before after same ahead = subst (Advances before) (sym same)
-    (record { ahead = tt; grows = settled-ahead before ahead; adds = inl refl })
+    (record { ahead = none-ahead (settled before).history; grows = settled-ahead before ahead; adds = inl refl })
 
 Advances-same : (before after : Publication) → after ≡ before → GoesAhead before → Advances before after
 Advances-same before after same ahead = subst (Advances before) (sym same)
@@ -61,7 +71,7 @@ Advances-outcome : (before after : Publication) (script : List ℕ) (batch : Lis
 Advances-outcome before after script batch base (Ok receipt) published left ahead =
     let next : StartsWith after.history (settled before).history = (batch ∷ [], published.1.2) in
     record {
-      ahead = subst GoesAhead (sym left) tt;
+      ahead = subst GoesAhead (sym left) (none-ahead receipt);
       grows = StartsWith-trans after.history (settled before).history before.history next (settled-ahead before ahead);
       adds = subst (λ (p : Publication). AddsOne before.store.records p.store.records) (sym left)
           (inr (record_of kind.Script script, refl));
@@ -83,7 +93,8 @@ Advances-script before after body (Err off.Memory) (inl same) ahead = Advances-s
 Advances-script before after body (Err off.Memory) (inr (inl same)) ahead = Advances-settled before after same ahead
 Advances-script before after body (Err off.Memory) (inr (inr due)) ahead = subst (Advances before) (sym due.left)
     (record {
-      ahead = (due.batch ∷ [], due.prepared.1.2);
+      ahead = λ later is. subst (λ (h : History). StartsWith h (settled before).history) (same_Some due.next later is)
+          (due.batch ∷ [], due.prepared.1.2);
       grows = settled-ahead before ahead;
       adds = inr (record_of kind.Script body, refl);
     })

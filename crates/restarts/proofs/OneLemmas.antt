@@ -1,5 +1,5 @@
 -- Records lead to one thing at most.
-use Rattle.std.proofs.Common.{◌≡◌, ◌∙◌, ℕ, List, [], ◌∷◌, ◌++◌, Option, Some, Result, Ok, Err, ap, ap₂, refl, subst, sym}
+use Rattle.std.proofs.Common.{◌≡◌, ◌∙◌, ℕ, List, [], ◌∷◌, ◌++◌, Some, Result, Ok, Err, ap, ap₂, subst, sym}
 use Rattle.std.specs.Str.Parse.{digits_value}
 use Rattle.std.proofs.lemmas.Option.{same_Some}
 use Rattle.catalogue.specs.declared.edit.Edit.{Edit}
@@ -11,7 +11,7 @@ use Rattle.mirror_ledger.specs.Raising.{index_of, raise_at}
 use Rattle.profile_toml.specs.declared.fault.ProfileFault.{ProfileFault}
 use Rattle.records.specs.declared.mirror.Mirror.{Mirror}
 use Rattle.restarts.specs.Laws.{RecordsLeadToOne}
-use Rattle.restarts.specs.Restarting.{BeginsAs, FollowAll, FollowsAs, Found, LeadTo}
+use Rattle.restarts.specs.Restarting.{BeginsAs, FollowAll, FollowsAs, Found}
 
 same-found : (one other : Found) → one.history ≡ other.history → one.mirrors ≡ other.mirrors → one ≡ other
 same-found one other history mirrors =
