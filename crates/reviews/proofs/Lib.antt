@@ -1,0 +1,6 @@
+mod ChainLemmas
+mod LiftLemmas
+mod ListLemmas
+mod ReasonLemmas
+mod ReviewLemmas
+mod RouteLemmas

@@ -1,0 +1,5 @@
+pub mod Lifts
+pub mod Reasons
+pub mod Reviews
+pub mod Routes
+pub mod Tracks

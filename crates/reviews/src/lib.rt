@@ -1,0 +1,22 @@
+//! Reviews: which clients of a catalogue are stuck, and why.
+//!
+//! A `TrackReview` says of a track with a target where the clients at each release are, its `Standing`: at the target,
+//! before a chain of the least sum, or stuck for a `Reason`. A reason is the first of the rules, the `Cause`s, without
+//! which the release would have a chain. Read `specs/Reviews.antt` for
+//! what a review says, `specs/Reasons.antt` for reasons and `specs/Lifts.antt` for tracks without a rule;
+//! `specs/Routes.antt` has the ways by which a track without a rule is searched.
+//!
+//! It reads no file, prints nothing, and decides no offer.
+
+#![tactic(auto)]
+
+mod cause;
+mod lifting;
+mod reasons;
+mod review;
+mod roads;
+mod standing;
+
+pub use crate::cause::{Cause, Reason};
+pub use crate::review::TrackReview;
+pub use crate::standing::Standing;
