@@ -1,3 +1,5 @@
+pub mod Changes
+pub mod Largest
 pub mod Lifts
 pub mod Reasons
 pub mod Reviews

@@ -6,6 +6,8 @@ use Rattle.payload_graph.specs.Chains.{target_index}
 use Rattle.payload_graph.specs.Net.{Net}
 use Rattle.payload_graph.specs.declared.payload.TrackKey.{TrackKey}
 use Rattle.payload_graph.specs.declared.place.Place.TheVariants.{At, Outside}
+use Rattle.par_tables.specs.Tables.{nets_of}
+use Rattle.par_tables.specs.Tracks.{keys_of}
 use Rattle.price_cert.specs.declared.row.Row.{Row}
 use Rattle.price_cert.specs.declared.row.Row.TheVariants as row
 use Rattle.quotes.specs.Quotes.{IsQuote}
@@ -53,3 +55,13 @@ pub record IsTrackReview (app : App) (review : TrackReview) : Type 0 where
 -- the same of a content, which has the track's app
 abbrev pub IsTrackReviewAmong : List App → TrackReview → Type 0
 IsTrackReviewAmong apps review = IfSome (slice_get apps review.key.app) (λ app. IsTrackReview app review)
+
+-- the keys of the tracks of a content that have a target, in the order of their tables
+abbrev pub reviewed_keys : List App → List TrackKey
+reviewed_keys apps = map (λ (net : Net). net.key) (nets_of apps (keys_of apps))
+
+-- rule: Review of a catalogue
+-- a review of each track with a target, in the order of their tables
+pub record AreReviews (apps : List App) (reviews : List TrackReview) : Type 0 where
+  pub tracks : map (λ (review : TrackReview). review.key) reviews ≡ reviewed_keys apps
+  pub each : All (IsTrackReviewAmong apps) reviews

@@ -1,8 +1,8 @@
-//! Reviews: which clients of a catalogue are stuck, and why.
+//! Reviews: which clients of a catalogue are stuck and why, and what a change makes of them.
 //!
 //! A `TrackReview` says of a track with a target where the clients at each release are, its `Standing`: at the target,
-//! before a chain of the least sum, or stuck for a `Reason`. A reason is the first of the rules, the `Cause`s, without
-//! which the release would have a chain. Read `specs/Reviews.antt` for
+//! before a chain of the least sum, or stuck for a `Reason`. `review` makes one for each track of an edition. A reason is
+//! the first of the rules, the `Cause`s, without which the release would have a chain. Read `specs/Reviews.antt` for
 //! what a review says, `specs/Reasons.antt` for reasons and `specs/Lifts.antt` for tracks without a rule;
 //! `specs/Routes.antt` has the ways by which a track without a rule is searched.
 //!
@@ -11,6 +11,8 @@
 #![tactic(auto)]
 
 mod cause;
+mod change;
+mod largest;
 mod lifting;
 mod reasons;
 mod review;
@@ -18,5 +20,7 @@ mod roads;
 mod standing;
 
 pub use crate::cause::{Cause, Reason};
-pub use crate::review::TrackReview;
+pub use crate::change::{Change, Clients, Reviewed, changes};
+pub use crate::largest::{Largest, find_largest};
+pub use crate::review::{TrackReview, review_catalogue};
 pub use crate::standing::Standing;

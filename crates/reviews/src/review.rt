@@ -4,8 +4,9 @@ ghost use Rattle.std.specs.Prelude.{◌≡◌, ◌<◌, not, IfOk, MatchOption, 
 ghost use Rattle.std.specs.List.{list_any};
 ghost use Rattle.cohorts.specs.declared.pin.Pin.TheVariants as pin;
 ghost use Rattle.payload_graph.specs.Net.{net_among};
+ghost use Rattle.par_tables.specs.Tables.{AreTables};
 ghost use Rattle.reviews.specs.Reasons.{reason_at, Explains};
-ghost use Rattle.reviews.specs.Reviews.{is_unpriced, AreStandings, IsTrackReviewAmong};
+ghost use Rattle.reviews.specs.Reviews.{is_unpriced, AreReviews, AreStandings, IsTrackReviewAmong};
 ghost use Rattle.reviews.specs.Tracks.{IsTrackOf};
 
 use crate::cause::Reason;
@@ -160,4 +161,25 @@ fn review_table(
         Some(subject) => review_subject(alloc, catalogue, &subject, table),
         None => unreachable!(),
     }
+}
+
+// rule: Review of a catalogue
+/// Reviews each track of a catalogue that has a target, in the order of its tables.
+///
+/// The tables are the catalogue's, as an edition has them. Reasons are looked for only on tracks with a stuck release.
+pub fn review_catalogue(
+    alloc: Global,
+    catalogue: &Catalogue,
+    tables: &[Certified],
+) -> Result<Vec<TrackReview>, AllocError>
+    requires { AreTables catalogue.now tables.now }
+    ensures { IfOk result (λ reviews. AreReviews catalogue.now reviews.items) }
+{
+    par_tables::laws::tracks();
+    let mut reviews = Vec::new(alloc);
+    for table in tables {
+        let review = review_table(alloc, catalogue, table)?;
+        reviews.push(review)?;
+    }
+    Ok(reviews)
 }
