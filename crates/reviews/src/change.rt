@@ -78,8 +78,7 @@ fn is_same_version(one: Option<Version>, other: Option<Version>) -> bool
 fn is_same_payload(before: &App, after: &App, one: Payload, other: Payload) -> bool
     ensures { result ≡ is_same_payload before.now after.now one other }
 {
-    is_same_form(one, other)
-        && is_same_version(version_to(before, one), version_to(after, other))
+    is_same_form(one, other) && is_same_version(version_to(before, one), version_to(after, other))
 }
 
 // rule: Changed release
@@ -117,9 +116,7 @@ fn is_same_lane_of(one: &TrackKey, other: &TrackKey) -> bool
 fn has_downgrades(reviews: &[TrackReview], key: &TrackKey) -> bool
     ensures { result ≡ has_downgrades reviews.now key.now }
 {
-    reviews
-        .iter()
-        .any(|review| is_same_lane_of(&review.key, key) && review.key.rollback)
+    reviews.iter().any(|review| is_same_lane_of(&review.key, key) && review.key.rollback)
 }
 
 fn is_served(reviews: &[TrackReview], key: &TrackKey, rollback: bool) -> bool

@@ -1,10 +1,11 @@
 //! Reviews: which clients of a catalogue are stuck and why, and what a change makes of them.
 //!
 //! A `TrackReview` says of a track with a target where the clients at each release are, its `Standing`: at the target,
-//! before a chain of the least sum, or stuck for a `Reason`. `review` makes one for each track of an edition. A reason is
-//! the first of the rules, the `Cause`s, without which the release would have a chain. Read `specs/Reviews.antt` for
-//! what a review says, `specs/Reasons.antt` for reasons and `specs/Lifts.antt` for tracks without a rule;
-//! `specs/Routes.antt` has the ways by which a track without a rule is searched.
+//! before a chain of the least sum, or stuck for a `Reason`. `review_catalogue` makes one for each track. A reason
+//! is the first of the rules, the `Cause`s, without which the release would have a chain. `changes` compares the reviews
+//! of two catalogues, and `find_largest` finds the largest sum of a track. Read `specs/Reviews.antt` for what a review
+//! says, `specs/Reasons.antt` for reasons, `specs/Lifts.antt` for tracks without a rule and `specs/Changes.antt` for
+//! changes; `specs/Routes.antt` has the ways by which a track without a rule is searched.
 //!
 //! It reads no file, prints nothing, and decides no offer.
 

@@ -53,6 +53,7 @@ fn find_subject<'a>(catalogue: &'a Catalogue, key: &'a TrackKey) -> Option<Subje
     })
 }
 
+// rule: Stuck release
 fn is_unpriced(row: &Row) -> bool
     ensures { result ≡ is_unpriced row.now }
 {

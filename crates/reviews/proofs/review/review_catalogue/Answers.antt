@@ -13,7 +13,6 @@ use Rattle.reviews.proofs.ListLemmas.{map-mapped}
 use Rattle.reviews.proofs.PinLemmas.{tables_have_no_pin}
 use Rattle.reviews.proofs.review.review_catalogue.Goals as goal
 
-
 pub review_table-requires-clause-pin : goal.review_table-requires-clause-pin
 review_table-requires-clause-pin c =
     subst (λ (table : Certificate). table.net.key.pin ≡ pin.Any) (sym c.table-item.is)
