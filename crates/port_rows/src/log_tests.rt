@@ -1,8 +1,8 @@
 // The log of connections that are open at once: a line for each reply, once it is sent or its connection has ended.
 
-ghost use Rattle.std.specs.Prelude.{◌≡◌, ℕ, [], vec_len};
+ghost use Rattle.std.specs.Prelude.{◌≡◌, ℕ, vec_len};
 ghost use Rattle.http_ports.specs.Traffic.{unused};
-ghost use Rattle.port_scripts.specs.Seats.{slots_of};
+ghost use Rattle.port_scripts.specs.Seats.{accepted_in, slots_of};
 
 use crate::desk::{CLOCK, Echo, FILES};
 use crate::peers::script_of;
@@ -36,7 +36,7 @@ fn serve_logged<R: Wait + AllocGlobal>(
     lines: &mut Vec<u8>,
 ) -> u64
     requires fresh { (k : ℕ) → slots_of script.old.seats.items k ≡ unused }
-    requires none { script.old.accepted ≡ [] }
+    requires none { accepted_in script.old.seats.items ≡ 0 }
     requires two { vec_len script.old.seats ≡ 2 }
 {
     let alloc = rt.alloc();

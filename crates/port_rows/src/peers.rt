@@ -1,8 +1,8 @@
 // The peers of a row.
 
-ghost use Rattle.std.specs.Prelude.{◌≡◌, ℕ, [], IfSome};
+ghost use Rattle.std.specs.Prelude.{◌≡◌, ℕ, IfSome};
 ghost use Rattle.http_ports.specs.Traffic.{unused};
-ghost use Rattle.port_scripts.specs.Seats.{slots_of};
+ghost use Rattle.port_scripts.specs.Seats.{accepted_in, slots_of};
 
 use crate::lines::{columns, expand};
 use http_ports::Last;
@@ -97,11 +97,11 @@ fn turns_of(alloc: Global, order: u32) -> Option<Vec<usize>> {
 /// The script of a row, whose peers send pieces of this length, and have their first turns in this order.
 pub(crate) fn script_of(alloc: Global, row: &str, piece: usize, order: u32) -> Option<Script>
     ensures fresh { IfSome result (λ script. (k : ℕ) → slots_of script.seats.items k ≡ unused) }
-    ensures none { IfSome result (λ script. script.accepted ≡ []) }
+    ensures none { IfSome result (λ script. accepted_in script.seats.items ≡ 0) }
 {
     let seats = seats_of(alloc, row, piece)?;
     let turns = turns_of(alloc, order)?;
-    Some(Script::new(seats, turns))
+    Script::new(seats, turns)
 }
 
 // How the connection of a peer has ended.

@@ -1,8 +1,8 @@
 // Rows of one string, and the first that is wrong.
 
-ghost use Rattle.std.specs.Prelude.{◌≡◌, ℕ, [], vec_len};
+ghost use Rattle.std.specs.Prelude.{◌≡◌, ℕ, vec_len};
 ghost use Rattle.http_ports.specs.Traffic.{unused};
-ghost use Rattle.port_scripts.specs.Seats.{slots_of};
+ghost use Rattle.port_scripts.specs.Seats.{accepted_in, slots_of};
 
 use crate::desk::{CLOCK, Echo, FILES};
 use crate::peers::{are_as_said, script_of};
@@ -17,7 +17,7 @@ use std::sync::Wait;
 // Serves the peers of a script; for how many memory ran out.
 fn serve<R: Wait + AllocGlobal>(rt: &R, room: &mut Buffers, script: &mut Script) -> u64
     requires fresh { (k : ℕ) → slots_of script.old.seats.items k ≡ unused }
-    requires none { script.old.accepted ≡ [] }
+    requires none { accepted_in script.old.seats.items ≡ 0 }
     requires two { vec_len script.old.seats ≡ 2 }
 {
     let alloc = rt.alloc();

@@ -1,2 +1,3 @@
+mod CountLemmas
 mod SeatLemmas
 mod SlotLemmas

@@ -1,5 +1,5 @@
 -- The slots of a script, each with its peers; this project's profile.
-use Rattle.std.specs.Prelude.{◌≡◌, ⊤, ℕ, Bool, true, false, All, List, map, reverse, take, slice_get, None, Some, option_map, IfSome, if◌then◌else◌, vec_len}
+use Rattle.std.specs.Prelude.{◌≡◌, ◌+◌, ⊤, ℕ, Bool, true, false, All, List, map, reverse, sum_by, take, slice_get, None, Some, option_map, IfSome, if◌then◌else◌, vec_len}
 use Rattle.std.specs.Option.{option_map_or}
 use Rattle.http_ports.specs.Ports.{IsWaiting, expiring}
 use Rattle.http_ports.specs.Traffic.{IsOpen, Slot, Traffic, marked, no_traffic, unused, with_open}
@@ -29,6 +29,23 @@ slot_of seat = record {
 -- what passed at each slot
 abbrev pub slots_of : List Seat → ℕ → Slot
 slots_of seats at = option_map_or slot_of (slice_get seats at) unused
+
+-- how many peers of a seat have connected
+abbrev pub connected_at : Seat → ℕ
+connected_at seat = seat.ended + (if seat.is_open then 1 else 0)
+
+-- how many connections were accepted at all seats
+abbrev pub accepted_in : List Seat → ℕ
+accepted_in seats = sum_by connected_at seats
+
+-- how many peers there are at all seats
+abbrev pub peers_in : List Seat → ℕ
+peers_in seats = sum_by (λ (seat : Seat). vec_len seat.peers) seats
+
+-- a seat has as many peers as before, of which so many more have connected
+pub record HasConnected (more : ℕ) (old new : Seat) : Type 0 where
+  pub connected : connected_at new ≡ connected_at old + more
+  pub peers : vec_len new.peers ≡ vec_len old.peers
 
 -- the connection of a seat changes so
 abbrev pub ChangesSeat : (Traffic → Traffic) → Seat → Seat → Type 0

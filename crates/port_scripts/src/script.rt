@@ -1,14 +1,13 @@
 // A port over peers in memory.
 
-ghost use Rattle.std.specs.Prelude.{◌≡◌, ◌<◌, ◌≤◌, ℕ, [], IfNone, IfSome, vec_len};
-ghost use Rattle.http_ports.specs.Ports.{Reports};
+ghost use Rattle.std.specs.Prelude.{◌≡◌, ◌+◌, ◌<◌, ◌≤◌, ◌^◌, ℕ, IfNone, IfSome, IsSome, vec_len};
+ghost use Rattle.http_ports.specs.Ports.{Reports, accepted_by};
 ghost use Rattle.http_ports.specs.Traffic.{unused};
-ghost use Rattle.port_scripts.specs.Seats.{AreDone, IsOfSlot, IsQuietAt, peers_of, slots_of};
+ghost use Rattle.port_scripts.specs.Seats.{AreDone, IsOfSlot, IsQuietAt, accepted_in, peers_in, peers_of, slots_of};
 
 use crate::seat::Seat;
 use http_ports::{Event, Port, Received, Sent, Terms};
 use std::net::IpAddr;
-use traces::Trace;
 
 /// A port in memory: each slot has its peers, which connect one after the other.
 ///
@@ -22,41 +21,68 @@ pub struct Script {
     pub turns: Vec<usize>,
     /// The slot that is looked at first once there are no more turns.
     pub next: usize,
-    /// An entry for each connection that was accepted.
-    pub accepted: Trace<()>,
     /// What it serves by: a place for each slot, and as many connections as there are peers.
     pub terms: Terms,
     ghost sized: { vec_len seats ≡ terms.capacity },
+    ghost limited: { peers_in seats.items ≡ terms.limit },
+}
+
+// How many peers there are, if they are fewer than 2^64.
+fn count_peers(seats: &[Seat]) -> Option<u64>
+    ensures some { IfSome result (λ count. count ≡ peers_in seats.now) }
+    ensures none { IfNone result (2 ^ 64 ≤ peers_in seats.now) }
+{
+    let mut count = 0u64;
+    for seat in seats {
+        count = count.checked_add(seat.peers.len() as u64)?;
+    }
+    Some(count)
 }
 
 impl Script {
     /// Makes the port of these slots, each of which begins with its first peer; `turns` has the first turn last.
-    pub fn new(seats: Vec<Seat>, turns: Vec<usize>) -> Script
-        ensures fresh { (k : ℕ) → slots_of result.seats.items k ≡ unused }
-        ensures none { result.accepted ≡ [] }
-        ensures peers { peers_of result.seats.items ≡ peers_of seats.items }
-        ensures len { vec_len result.seats ≡ vec_len seats }
+    ///
+    /// Returns `None` if there are 2^64 peers.
+    pub fn new(seats: Vec<Seat>, turns: Vec<usize>) -> Option<Script>
+        ensures fresh { IfSome result (λ script. (k : ℕ) → slots_of script.seats.items k ≡ unused) }
+        ensures none { IfSome result (λ script. accepted_in script.seats.items ≡ 0) }
+        ensures peers { IfSome result (λ script. peers_of script.seats.items ≡ peers_of seats.items) }
+        ensures some { peers_in seats.items < 2 ^ 64 → IsSome result }
     {
-        let mut seats = seats;
-        let mut limit = 0u64;
-        for slot in 0..seats.len() {
-            seats[slot].rewind();
-            limit = limit.saturating_add(seats[slot].peers.len() as u64);
-        }
         let terms = Terms {
             listener: 0,
             capacity: seats.len(),
-            limit,
+            limit: count_peers(&seats)?,
             message: 0,
             idle: 0,
         };
-        Script {
+        Script::with_terms(seats, turns, terms)
+    }
+
+    /// Makes such a port that serves by terms.
+    ///
+    /// Returns `None` unless they have a place for each slot, and as many connections in all as there are peers.
+    pub fn with_terms(seats: Vec<Seat>, turns: Vec<usize>, terms: Terms) -> Option<Script>
+        ensures fresh { IfSome result (λ script. (k : ℕ) → slots_of script.seats.items k ≡ unused) }
+        ensures none { IfSome result (λ script. accepted_in script.seats.items ≡ 0) }
+        ensures peers { IfSome result (λ script. peers_of script.seats.items ≡ peers_of seats.items) }
+        ensures terms { IfSome result (λ script. script.terms ≡ terms) }
+        ensures some { vec_len seats ≡ terms.capacity → peers_in seats.items ≡ terms.limit → IsSome result }
+    {
+        let limit = count_peers(&seats)?;
+        if limit != terms.limit || seats.len() != terms.capacity {
+            return None;
+        }
+        let mut seats = seats;
+        for slot in 0..seats.len() {
+            seats[slot].rewind();
+        }
+        Some(Script {
             seats,
             turns,
             next: 0,
-            accepted: Trace::new(),
             terms,
-        }
+        })
     }
 
     // The first report of one of these slots; if `patient`, not that a connection waits for what never comes.
@@ -68,7 +94,8 @@ impl Script {
         ensures quiet { IfNone result ((k : ℕ) → from ≤ k → k < to → IsQuietAt patient self.old.seats.items k) }
         ensures same { IfNone result (self.new.seats.items ≡ self.old.seats.items) }
         ensures len { vec_len self.new.seats ≡ vec_len self.old.seats }
-        ensures accepted { self.new.accepted ≡ self.old.accepted }
+        ensures accepted { IfSome result (λ event.
+            accepted_in self.new.seats.items ≡ accepted_in self.old.seats.items + accepted_by event) }
         ensures terms { self.new.terms ≡ self.old.terms }
     {
         for slot in from..to {
@@ -86,7 +113,8 @@ impl Script {
         ensures event { IfSome result IsOfSlot }
         ensures same { IfNone result (self.new.seats.items ≡ self.old.seats.items) }
         ensures len { vec_len self.new.seats ≡ vec_len self.old.seats }
-        ensures accepted { self.new.accepted ≡ self.old.accepted }
+        ensures accepted { IfSome result (λ event.
+            accepted_in self.new.seats.items ≡ accepted_in self.old.seats.items + accepted_by event) }
         ensures terms { self.new.terms ≡ self.old.terms }
     {
         for _ in 0..self.turns.len() {
@@ -112,7 +140,8 @@ impl Script {
         ensures done { IfNone result (AreDone self.new.seats.items) }
         ensures same { IfNone result (self.new.seats.items ≡ self.old.seats.items) }
         ensures len { vec_len self.new.seats ≡ vec_len self.old.seats }
-        ensures accepted { self.new.accepted ≡ self.old.accepted }
+        ensures accepted { IfSome result (λ event.
+            accepted_in self.new.seats.items ≡ accepted_in self.old.seats.items + accepted_by event) }
         ensures terms { self.new.terms ≡ self.old.terms }
     {
         if let Some(event) = self.next_turn() {
@@ -131,16 +160,17 @@ impl Script {
 }
 
 impl Port for Script {
-    ghost use Rattle.std.specs.Prelude.{length};
-    ghost use Rattle.port_scripts.specs.Seats.{AreDone, slots_of};
+    ghost use Rattle.std.specs.Prelude.{◌≡◌};
+    ghost use Rattle.port_scripts.specs.Seats.{AreDone, accepted_in, slots_of};
 
     ghost slots = { λ port. slots_of port.seats.items };
 
     ghost terms = { λ port. port.terms };
 
-    ghost accepted = { λ port. length port.accepted };
+    ghost accepted = { λ port. accepted_in port.seats.items };
 
-    ghost is_over = { λ port. AreDone port.seats.items };
+    // each peer has connected and ended, and these were so many
+    ghost is_over = { λ port. AreDone port.seats.items × (accepted_in port.seats.items ≡ port.terms.limit) };
 
     fn peer(&self, _slot: usize) -> Option<IpAddr> {
         None
@@ -155,10 +185,7 @@ impl Port for Script {
             return Event::Done;
         };
         match event {
-            Event::Accepted(slot) => {
-                self.accepted.push(&());
-                self.next = slot.saturating_add(1);
-            }
+            Event::Accepted(slot) => self.next = slot.saturating_add(1),
             Event::Ready(slot) => self.next = slot.saturating_add(1),
             Event::Expired(slot) => self.next = slot.saturating_add(1),
             Event::Done => {}

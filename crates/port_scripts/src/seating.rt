@@ -1,11 +1,11 @@
 // What happens at a slot of a script.
 
 ghost use Rattle.std.specs.Prelude.{◌≡◌, ◌<◌, ◌≤◌, ℕ, None, Some, false, length, IfNone, IfSome, vec_len};
-ghost use Rattle.http_ports.specs.Ports.{expiring};
+ghost use Rattle.http_ports.specs.Ports.{accepted_by, expiring};
 ghost use Rattle.http_ports.specs.Traffic.{IsOpen, Traffic, marked, no_traffic, unused, with_ended, with_open};
 ghost use Rattle.http_ports.specs.declared.last.Last.TheVariants.{Reported, Yields};
 ghost use Rattle.port_scripts.specs.Peers.{FitsRead, FitsWrite, after_read, after_write};
-ghost use Rattle.port_scripts.specs.Seats.{ChangesSeat, IsQuiet, ReportsSeat, slot_of};
+ghost use Rattle.port_scripts.specs.Seats.{ChangesSeat, HasConnected, IsQuiet, ReportsSeat, connected_at, slot_of};
 
 use crate::peer::Peer;
 use crate::seat::Seat;
@@ -28,6 +28,7 @@ impl Seat {
     pub(crate) fn rewind(&mut self)
         ensures unused { slot_of self.new ≡ unused }
         ensures peers { self.new.peers.items ≡ self.old.peers.items }
+        ensures none { connected_at self.new ≡ 0 }
     {
         self.is_open = false;
         self.ended = 0;
@@ -39,6 +40,7 @@ impl Seat {
         requires room { 0 < length into.old }
         ensures fits { FitsRead result into.new }
         ensures changes { ChangesSeat (after_read result into.new) self.old self.new }
+        ensures counts { HasConnected 0 self.old self.new }
     {
         self.peers[self.ended].read(into)
     }
@@ -49,6 +51,7 @@ impl Seat {
         requires some { 0 < length bytes.now }
         ensures fits { FitsWrite result bytes.now }
         ensures changes { ChangesSeat (after_write result bytes.now) self.old self.new }
+        ensures counts { HasConnected 0 self.old self.new }
     {
         self.peers[self.ended].write(bytes)
     }
@@ -57,6 +60,7 @@ impl Seat {
     pub(crate) fn yield_turn(&mut self)
         requires live { IsOpen (slot_of self.old) }
         ensures changes { ChangesSeat (marked Yields) self.old self.new }
+        ensures counts { HasConnected 0 self.old self.new }
     {
         self.peers[self.ended].yield_turn();
     }
@@ -67,6 +71,7 @@ impl Seat {
         requires live { IsOpen (slot_of self.old) }
         ensures ends { (traffic : Traffic) → (slot_of self.old).current ≡ Some traffic
             → slot_of self.new ≡ with_ended (slot_of self.old) traffic }
+        ensures counts { HasConnected 0 self.old self.new }
     {
         self.is_open = false;
         self.ended += 1;
@@ -78,6 +83,7 @@ impl Seat {
         requires free { self.old.is_open ≡ false }
         requires more { self.old.ended < vec_len self.old.peers }
         ensures connects { slot_of self.new ≡ with_open (slot_of self.old) no_traffic }
+        ensures counts { HasConnected 1 self.old self.new }
     {
         self.peers[self.ended].connect();
         self.is_open = true;
@@ -86,6 +92,7 @@ impl Seat {
     // What is to be reported of the seat of a slot; if `patient`, not that a connection waits for what never comes.
     pub(crate) fn report(&mut self, slot: usize, patient: bool) -> Option<Event>
         ensures reports { IfSome result (λ event. ReportsSeat slot event self.old self.new) }
+        ensures counts { IfSome result (λ event. HasConnected (accepted_by event) self.old self.new) }
         ensures quiet { IfNone result (IsQuiet patient self.old × (self.new ≡ self.old)) }
     {
         if !self.is_open {

@@ -5,5 +5,4 @@ abbrev pub invariant-loop : goal.invariant-loop
 invariant-loop l =
     (l.self.seats.items ≡ l.fn.self.seats.items)
     × (vec_len l.self.seats ≡ vec_len l.fn.self.seats)
-    × (l.self.accepted ≡ l.fn.self.accepted)
     × (l.self.terms ≡ l.fn.self.terms)

@@ -6,7 +6,7 @@ use Rattle.port_scripts.proofs.script.Script.report_of.Goals as goal
 
 pub loop-slot-preserved : goal.loop-slot-preserved
 loop-slot-preserved c =
-    let (same, len, accepted, terms, quiet) = c.loop-slot.invariant in
+    let (same, len, terms, quiet) = c.loop-slot.invariant in
     let seats = c.loop-slot.self.seats.items in
     let at = c.loop-slot.slot in
     let seat = c.index_mut.result.now in
@@ -15,7 +15,6 @@ loop-slot-preserved c =
     let within : at < length seats = omega (arith, c.loop-slot-test.true, c.requires, len, c.loop-slot.self.seats.ok) in (
       restored ∙ same,
       len,
-      accepted,
       terms,
       λ k first below. elim (below_or_last k at below) [
         | inl before ↦ quiet k first before

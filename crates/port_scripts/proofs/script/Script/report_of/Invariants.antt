@@ -6,6 +6,5 @@ abbrev pub invariant-loop-slot : goal.invariant-loop-slot
 invariant-loop-slot l =
     (l.self.seats.items ≡ l.fn.self.seats.items)
     × (vec_len l.self.seats ≡ vec_len l.fn.self.seats)
-    × (l.self.accepted ≡ l.fn.self.accepted)
     × (l.self.terms ≡ l.fn.self.terms)
     × ((k : ℕ) → l.from ≤ k → k < l.slot → IsQuietAt l.patient l.fn.self.seats.items k)

@@ -3,10 +3,8 @@ use Rattle.http_ports.specs.Traffic.{no_traffic, with_open}
 use Rattle.port_scripts.proofs.SeatLemmas.{connects, slot_at}
 use Rattle.port_scripts.proofs.seat.Seat.connect.Goals as goal
 
-pub returns : goal.returns
-returns c =
-    let seat = c.args.self.now in record {
-      connects = connects seat.peers.items seat.ended c.connect.new.self
-          (omega (arith, c.requires.more, seat.peers.ok)) c.connect.ensures.fresh
-          ∙ ap (λ (is_open : Bool). with_open (slot_at seat.peers.items seat.ended is_open) no_traffic) (sym c.requires.free);
-    }
+pub returns-clause-connects : goal.returns-clause-connects
+returns-clause-connects c =
+    let seat = c.args.self.now in
+    connects seat.peers.items seat.ended c.connect.new.self (omega (arith, c.requires.more, seat.peers.ok)) c.connect.ensures.fresh
+    ∙ ap (λ (is_open : Bool). with_open (slot_at seat.peers.items seat.ended is_open) no_traffic) (sym c.requires.free)
