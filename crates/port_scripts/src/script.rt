@@ -47,6 +47,7 @@ impl Script {
         ensures fresh { IfSome result (λ script. (k : ℕ) → slots_of script.seats.items k ≡ unused) }
         ensures none { IfSome result (λ script. accepted_in script.seats.items ≡ 0) }
         ensures peers { IfSome result (λ script. peers_of script.seats.items ≡ peers_of seats.items) }
+        ensures len { IfSome result (λ script. vec_len script.seats ≡ vec_len seats) }
         ensures some { peers_in seats.items < 2 ^ 64 → IsSome result }
     {
         let terms = Terms {
@@ -66,6 +67,7 @@ impl Script {
         ensures fresh { IfSome result (λ script. (k : ℕ) → slots_of script.seats.items k ≡ unused) }
         ensures none { IfSome result (λ script. accepted_in script.seats.items ≡ 0) }
         ensures peers { IfSome result (λ script. peers_of script.seats.items ≡ peers_of seats.items) }
+        ensures len { IfSome result (λ script. vec_len script.seats ≡ vec_len seats) }
         ensures terms { IfSome result (λ script. script.terms ≡ terms) }
         ensures some { vec_len seats ≡ terms.capacity → peers_in seats.items ≡ terms.limit → IsSome result }
     {
