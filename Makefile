@@ -9,6 +9,8 @@
 #                    certificate; the program is built without a proof
 # make serving       tests the server and the walk, after make install, over the loopback
 # make idle          tests the server before thousands of idle and slow connections, after make install; it needs wrk
+# make history       kills a server with a history 500 times while it publishes, after make install, and looks
+#                    for what it replied to
 # make cluster       tests three servers with nginx as their proxy, after make install; it needs nginx
 # make install       proves, builds and installs the program below PREFIX
 # make deb           builds a Debian package of the program, after make install, and tests it; it needs
@@ -33,7 +35,7 @@ CRATES := $(wordlist 2,$(words $(MAKECMDGOALS)),$(MAKECMDGOALS))
 $(eval $(CRATES):;@:)
 endif
 
-.PHONY: demo test mutants commands serving idle cluster install deb allocations fuzz bench load instructions $(CRATES)
+.PHONY: demo test mutants commands serving idle history cluster install deb allocations fuzz bench load instructions $(CRATES)
 
 demo:
 	@examples/demo.py
@@ -61,6 +63,9 @@ serving:
 
 idle:
 	tests/idle.py
+
+history:
+	tests/history.py
 
 cluster:
 	tests/cluster.py

@@ -411,4 +411,5 @@ def main():
             print_memory(given.omaha, folder, given)
 
 
-main()
+if __name__ == "__main__":
+    main()

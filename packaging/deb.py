@@ -3,7 +3,8 @@
 
 `make deb` runs it, after `make install`. The package has the program, the unit of `examples/` with the package's paths
 and a user of its own, a profile that an upgrade keeps, a folder for packages, and the documents and examples. Its
-version is the one that the program prints, if none is given. Prints the path of what it wrote.
+version is the one that the program prints, if none is given. The server keeps what it publishes in `/var/lib/omaha`,
+beside the packages. Prints the path of what it wrote.
 """
 
 import argparse
@@ -35,6 +36,7 @@ UNIT = [
     ("/usr/local/bin/omaha", "/usr/bin/omaha"),
     ("/srv/omaha", f"/{PACKAGES}"),
     ("DynamicUser=yes", "User=omaha"),
+    ("StateDirectory=omaha", f"StateDirectory=omaha\nReadOnlyPaths=/{PACKAGES}"),
 ]
 
 
@@ -69,7 +71,7 @@ def fill(room, program, version):
     for folder in ("docs", "examples"):
         shutil.copytree(TOP / folder, documents / folder, ignore=shutil.ignore_patterns("__pycache__"))
     put(room, "DEBIAN/conffiles", "/etc/omaha/profile.toml\n")
-    for name in ("postinst", "prerm"):
+    for name in ("postinst", "prerm", "postrm"):
         put(room, f"DEBIAN/{name}", HERE / name, 0o755)
     size = sum(path.stat().st_size for path in room.rglob("*") if path.is_file()) // 1024
     architecture = subprocess.run(["dpkg", "--print-architecture"], check=True, capture_output=True, text=True).stdout.strip()

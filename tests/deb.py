@@ -1,8 +1,9 @@
 #!/usr/bin/env python3
 """Tests the Debian package: tests/deb.py [OMAHA]      the program, `crates/omaha/out/omaha` if not given
 
-`make deb` runs it. It installs the package in a root of its own, checks the profile and serves it, upgrades, removes and
-purges. Nothing of the machine's own packages is touched. It needs root, as by `fakeroot`, and systemd.
+`make deb` runs it. It installs the package in a root of its own, checks the profile and serves it with a history,
+upgrades, serves that history again, removes and purges. Nothing of the machine's own packages is touched. It needs root,
+as by `fakeroot`, and systemd.
 """
 
 import http.client
@@ -17,6 +18,7 @@ import tempfile
 TOP = pathlib.Path(__file__).resolve().parent.parent
 ASK = b'{"request":{"protocol":"3.1","app":[{"appid":"mini","version":"1.0","updatecheck":{}}]}}'
 ADDED = '\n[[app]]\nid = "mini"\ndefault = "stable"\n\n[[app.cohort]]\nname = "stable"\n'
+HISTORY = "var/lib/omaha/history.db"
 failures = []
 
 
@@ -55,8 +57,8 @@ def serve(root):
     with socket.socket() as found:
         found.bind(("127.0.0.1", 0))
         port = found.getsockname()[1]
-    profile, packages = root / "etc/omaha/profile.toml", root / "var/lib/omaha/packages"
-    words = ["--profile", profile, "--packages", packages, "--listen", f"127.0.0.1:{port}", "--sessions", "1"]
+    words = ["--profile", root / "etc/omaha/profile.toml", "--history", root / HISTORY]
+    words += ["--packages", root / "var/lib/omaha/packages", "--listen", f"127.0.0.1:{port}", "--sessions", "1"]
     server = subprocess.Popen([root / "usr/bin/omaha", "serve", *words], stdout=subprocess.PIPE, text=True)
     expect("ready", server.stdout.readline(), "ready\n")
     got = ask(port)
@@ -77,19 +79,24 @@ def main():
         checked = subprocess.run([root / "usr/bin/omaha", "check", profile], capture_output=True, text=True)
         expect("check", checked.stdout[:18], "edition 1: 0 apps,")
         expect("the user", [line.split(":")[0] for line in (root / "etc/passwd").read_text().splitlines()].count("omaha"), 1)
-        paths = set(re.findall(r"/(?:usr|etc|var/lib|srv)/\S+", unit.read_text()))
-        expect("paths of the unit", sorted(paths), ["/etc/omaha/profile.toml", "/usr/bin/omaha", "/var/lib/omaha/packages"])
-        expect("paths that are missing", [path for path in paths if not (root / path[1:]).exists()], [])
+        lines = "\n".join(line for line in unit.read_text().splitlines() if not line.startswith("#"))
+        paths = sorted(set(re.findall(r"/(?:usr|etc|var/lib|srv)/\S+", lines)))
+        wanted = ["/etc/omaha/profile.toml", "/usr/bin/omaha", f"/{HISTORY}", "/var/lib/omaha/packages"]
+        expect("paths of the unit", paths, wanted)
+        expect("paths that are missing", [path for path in paths if not (root / path[1:]).exists()], [f"/{HISTORY}"])
+        expect("the folder of the history", "StateDirectory=omaha" in lines.split("\n"), True)
 
         profile.write_text(profile.read_text() + ADDED)
         expect("a served client", serve(root), ((200, True), 0))
+        expect("a history", (root / HISTORY).exists(), True)
         dpkg(root, "--install", build(folder, program, "1.1"))
         expect("an upgrade", serve(root), ((200, True), 0))
 
         dpkg(root, "--remove", "omaha")
         expect("a removal", ((root / "usr/bin/omaha").exists(), unit.exists(), profile.exists()), (False, False, True))
+        expect("a history after the removal", (root / HISTORY).exists(), True)
         dpkg(root, "--purge", "omaha")
-        expect("a purge", (root / "etc/omaha").exists(), False)
+        expect("a purge", ((root / "etc/omaha").exists(), list((root / "var/lib/omaha").glob("history.db*"))), (False, []))
     if failures:
         sys.exit(f"deb: {len(failures)} differ")
     print("installed, served, upgraded, removed and purged")

@@ -2,12 +2,15 @@
 
 use crate::together::Meeting;
 use http_ports::Port;
-use omaha_server::{Place, Service, Sockets, System, builtin_service, serve};
+use kept_records::Unkept;
+use omaha_server::{Place, serve};
+use services::{KeptService, Service, builtin_service};
 use std::alloc::{AllocError, Global};
 use std::io;
 use std::sync::Wait;
 use std::thread::{Threads, join};
 use std::time::Clock;
+use systems::{Sockets, System};
 use values::Text;
 
 // Two workers at a free port, and no connection.
@@ -36,15 +39,11 @@ fn is_served<
     R: Clock + Threads + Wait + Sync + AllocGlobal,
 >(rt: &R, system: &S, service: Service, place: &Place, meeting: &Meeting<'_, R>) -> bool {
     let mut out = Vec::new(rt.alloc());
-    let served = serve(
-        rt,
-        system,
+    let kept = KeptService {
         service,
-        place,
-        meeting,
-        &mut out,
-        &mut io::sink(),
-    );
+        records: Unkept::new(),
+    };
+    let served = serve(rt, system, kept, place, meeting, &mut out, &mut io::sink());
     served.is_ok() && out.as_slice() == b"ready\nm0 0\n".as_slice()
 }
 

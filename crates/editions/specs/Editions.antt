@@ -19,6 +19,12 @@ use Rattle.editions.specs.declared.fault.NextError.TheVariants as error
 abbrev pub max_batches : ℕ
 max_batches = 4096
 
+-- rule: Edition of a whole history
+-- a history that isn't too long leads to a content
+pub record IsLed (history : History) (apps : List App) : Type 0 where
+  pub few : length history ≤ max_batches
+  pub led : LeadsTo history apps
+
 -- rule: Tables of an edition
 -- an edition: its batches are not too many and lead to its catalogue's content, and its tables are those
 -- of that content

@@ -5,7 +5,7 @@ ghost use Rattle.payload_graph.specs.Net.{net_among};
 ghost use Rattle.par_tables.specs.Marks.{AreTablesFor, KeepsOthers};
 ghost use Rattle.par_tables.specs.Tables.{AreTables};
 ghost use Rattle.editions.specs.Drafts.{IsDraft};
-ghost use Rattle.editions.specs.Editions.{content_of, max_batches, Continues, IsTrackKey};
+ghost use Rattle.editions.specs.Editions.{content_of, max_batches, Continues, IsSound, IsTrackKey};
 
 use crate::fault::NextError;
 use crate::marks::marks_of;
@@ -19,7 +19,7 @@ use std::sync::Arc;
 use std::thread::Threads;
 use values::Items;
 
-const MAX_BATCHES: usize = 4096;
+pub(crate) const MAX_BATCHES: usize = 4096;
 
 /// A history of accepted batches with its catalogue and the certified tables of its tracks, which
 /// contracts see as the history.
@@ -91,6 +91,23 @@ fn next_tables(
 }
 
 impl Edition {
+    pub(crate) fn of_parts(
+        alloc: Global,
+        batches: Vec<Arc<Batch>>,
+        catalogue: Catalogue,
+        tables: TrackTables,
+    ) -> Edition
+        requires { IsSound (map arc_value batches.items) catalogue tables }
+        ensures { result ≡ map arc_value batches.items }
+    {
+        Edition {
+            alloc,
+            batches,
+            catalogue,
+            tables,
+        }
+    }
+
     /// Makes the edition of no batches; it allocates nothing.
     pub fn empty(alloc: Global) -> Edition
         ensures { result ≡ [] }

@@ -7,7 +7,7 @@ pub(crate) const LINES: [(&str, &str); 15] = [
 Found in: the reply to a script, and the output of `check`.
 The script is published as edition N. Of `check`: the profile makes the edition 1, and the line counts what it has.
 Usual cause: A script whose base was the published edition; a valid profile.
-Remedy: None is needed; keep what `omaha dump --to ADDR` prints, since a restart begins from the profile.
+Remedy: None is needed; without --history keep an `omaha dump --to ADDR`, as a restart begins from the profile.
 ",
     ),
     (
@@ -15,7 +15,7 @@ Remedy: None is needed; keep what `omaha dump --to ADDR` prints, since a restart
         "stale N
 Found in: the reply to a script.
 Edition N is published, and the script's `base` is another one; nothing is changed.
-Usual cause: Another script was published, this one was sent twice, or the server was started again and is at 1.
+Usual cause: Another script was published, this one was sent twice, or a server without --history was started again.
 Remedy: Look at `omaha dump --to ADDR`: if the script's edits aren't there, set its `base` to N and send it again.
 ",
     ),
@@ -30,11 +30,11 @@ Remedy: Correct the edit, or the raise, and send it again with the same base.
     ),
     (
         "history",
-        "history full
-Found in: the reply to a script.
-The server has published 4096 editions, which is the most; nothing is changed.
-Usual cause: Thousands of scripts since the server was started.
-Remedy: Write `omaha dump --to ADDR` to a file, start the server from it, and set the script's `base` to 1.
+        "history full, or history F: REASON
+Found in: the reply to a script; of a history's file F: `serve` and `history`.
+Alone: the server has published 4096 editions, which is the most. With F: that file can't be used, for the reason.
+Usual cause: Thousands of scripts; a file that a server has open, another profile than the file's first one, a full disk.
+Remedy: Stop the server and use `omaha history compact F`; without a file, start from `omaha dump --to ADDR`, at base 1.
 ",
     ),
     (
@@ -52,7 +52,7 @@ Remedy: Use `omaha raise --to ADDR NAME BUDGET`.
 Found in: the reply to a raise.
 The mirror's budget is that many bytes, with those that were granted already.
 Usual cause: A raise of at least the present budget.
-Remedy: None is needed; write the number into the profile, or the next start has the old one.
+Remedy: None is needed; without --history write the number into the profile, or the next start has the old one.
 ",
     ),
     (

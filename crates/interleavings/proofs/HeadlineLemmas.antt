@@ -162,8 +162,8 @@ same-apps :
 same-apps mirrors history job rendered one = ap (λ (r : Reply). r.apps) one.reply_is.is
 
 pub replies_say_true : RepliesAreOfOneCatalogue happens → StatusesSay → RepliesSayTrue happens
-replies_say_true of_one statuses mirrors batch workers events accepted =
-    let service = service_after happens mirrors batch workers events in
+replies_say_true of_one statuses mirrors start workers events accepted =
+    let service = service_after happens mirrors start workers events in
     AllReplies-well mirrors service (SayTrue mirrors service.history)
     (λ job rendered one.
     let pending = one.pending in
@@ -179,13 +179,13 @@ replies_say_true of_one statuses mirrors batch workers events accepted =
           pending.choices
           (outcomes_of pending) one.reply_is.planned one.reply_is.decided);
     })
-    (of_one mirrors batch workers events accepted)
+    (of_one mirrors start workers events accepted)
 
 pub offers_lead_to_targets :
     RepliesAreOfOneCatalogue happens → StatusesSay → OffersAreSteps → WalksExist → WalksAreLeast → OffersLeadToTargets
     happens
-offers_lead_to_targets of_one statuses steps exists least mirrors batch workers events accepted =
-    let service = service_after happens mirrors batch workers events in
+offers_lead_to_targets of_one statuses steps exists least mirrors start workers events accepted =
+    let service = service_after happens mirrors start workers events in
     AllReplies-well mirrors service (OffersLead mirrors service.history)
     (λ job rendered one.
     let pending = one.pending in
@@ -200,4 +200,4 @@ offers_lead_to_targets of_one statuses steps exists least mirrors batch workers 
           pending.request.apps
           pending.choices (outcomes_of pending) one.reply_is.planned one.reply_is.decided);
     })
-    (of_one mirrors batch workers events accepted)
+    (of_one mirrors start workers events accepted)

@@ -1,6 +1,6 @@
 -- The calls of an operator's desk as events.
-use Rattle.std.proofs.Common.{◌≡◌, ◌⊎◌, ◌∙◌, ℕ, zero, suc, ◌+◌, ◌≤◌, true, All, List, [], ◌∷◌, cond, length, nat_lt, not, Option, Some, None, Result, Ok, Err, inl, inr, ap, ap₂, arith, refl, subst, sym}
-use Rattle.std.specs.List.{AllZip, position, position_or_len}
+use Rattle.std.proofs.Common.{◌≡◌, ◌⊎◌, ◌∙◌, ℕ, zero, suc, ◌+◌, ◌-◌, ◌≤◌, true, All, IfSome, option_to_list, unwrap_or, List, [], ◌∷◌, cond, length, nat_lt, not, Option, Some, None, Result, Ok, Err, inl, inr, ap, ap₂, arith, refl, subst, sym}
+use Rattle.std.specs.List.{AllByRecursion, AllZip, position, position_or_len}
 use Rattle.std.specs.Str.{bytes_eq}
 use Rattle.std.specs.Str.Parse.{digits_value}
 use Rattle.std.proofs.lemmas.List.Elements.{All-from_recursion}
@@ -18,15 +18,18 @@ use Rattle.mirror_ledger.specs.declared.raise_error.RaiseError.TheVariants as fa
 use Rattle.profile_toml.specs.Reading.{script_of_bytes}
 use Rattle.profile_toml.specs.declared.fault.ProfileFault.{ProfileFault}
 use Rattle.records.specs.declared.mirror.Mirror.{Mirror}
-use Rattle.service_desks.specs.Operators.{IsCall, State}
-use Rattle.service_desks.specs.Raises.{IsReplyToRaise, RaisesBy, raise_of}
-use Rattle.service_desks.specs.Scripts.{IsScriptReply, Performs}
-use Rattle.interleavings.specs.Events.{Event, Publish, Raise, happens}
+use Rattle.editions.specs.Editions.{Continues}
+use Rattle.publisher.specs.declared.fault.PublishError.{PublishError}
+use Rattle.service_desks.specs.Operators.{IsCall}
+use Rattle.service_desks.specs.Raises.{Funds, IsReplyToRaise, RaisesBy, left_by as raise_left_by, raise_of}
+use Rattle.service_desks.specs.Scripts.{IsAhead, IsScriptReply, Performs, left_by}
+use Rattle.service_desks.specs.States.{Publication, State, Store, earlier_in, publication_of, settled}
+use Rattle.interleavings.specs.Events.{Event, Publish, Raise, happens, run}
 use Rattle.interleavings.specs.Restart.{IsRaised, OperatorsOnlyRaise}
-use Rattle.interleavings.specs.Services.{Service, published, with_budgets_of}
-use Rattle.interleavings.specs.Ties.{IsOperatorStep, OperatorCallsAreEvents, RaisesByNameAreEvents, is_of_operator, state_of}
+use Rattle.interleavings.specs.Services.{Service, present, published, with_budgets_of}
+use Rattle.interleavings.specs.Ties.{IsDueAfter, IsOperatorStep, OperatorCallsAreEvents, RaisesByNameAreEvents, is_of_operator, state_of}
 use Rattle.interleavings.proofs.PresentLemmas.{present-lower, present-raised}
-use Rattle.interleavings.proofs.TieLemmas.{is-published}
+use Rattle.interleavings.proofs.TieLemmas.{is-published, next_is_published}
 
 -- as many mirrors as before are before the one of a name, with their present budgets
 before-present : (name : List ℕ) (books : ℕ → Account) (mirrors : List Mirror) →
@@ -69,11 +72,9 @@ MirrorsBy old new =
 abbrev HistoryBy : History → History → Type 0
 HistoryBy old new = (new ≡ old) ⊎ ((known : ℕ) × (batch : List Edit) × (new ≡ published old known batch))
 
--- one of them is as before
-abbrev ChangesBy : State → State → Type 0
-ChangesBy before after =
-    ((after.history ≡ before.history) × MirrorsBy before.mirrors after.mirrors)
-    ⊎ ((after.mirrors ≡ before.mirrors) × HistoryBy before.history after.history)
+-- what was due was published first, if something was and could be
+abbrev SettlesBy : Option History → History → History → Type 0
+SettlesBy due old new = (new ≡ old) ⊎ ((batch : List Edit) × (due ≡ Some new) × (new ≡ published old (length old) batch))
 
 mirrors-raise : (old new : List Mirror) (name : List ℕ) (budget : ℕ) (result : Result (Unit {0}) RaiseError) →
     RaisesTo old new name budget result → MirrorsBy old new
@@ -85,74 +86,247 @@ mirrors-raise old new name budget (Err fault.TooHigh) raises =
 mirrors-raise old new name budget (Err (fault.Lower now)) raises =
     let (index, at, few, below, is, same) = raises in inl same
 
-mirrors-reply : (old new : List Mirror) (asked : Option (List ℕ × List ℕ)) (reply : DeskStatus × List ℕ) →
-    IsReplyToRaise old new asked reply → MirrorsBy old new
-mirrors-reply old new (Some asked) reply raised =
-    mirrors-raise old new asked.0 (digits_value 10 asked.1) raised.outcome raised.raised
-mirrors-reply old new None reply none = inl none.1
+mirrors-reply : (old new : Funds) (body : List ℕ) (asked : Option (List ℕ × List ℕ)) (reply : DeskStatus × List ℕ) →
+    IsReplyToRaise old new body asked reply → MirrorsBy old.0 new.0
+mirrors-reply old new body (Some asked) reply raised =
+    mirrors-raise old.0 new.0 asked.0 (digits_value 10 asked.1) raised.outcome raised.raised
+mirrors-reply old new body None reply none = inl (ap (λ (f : Funds). f.0) none.1)
 
-mirrors-raising : (old new : List Mirror) (body : List ℕ) (answer : Result (DeskStatus × List ℕ) Off) →
-    RaisesBy old new body answer → MirrorsBy old new
-mirrors-raising old new body (Ok reply) raises = mirrors-reply old new (raise_of body) reply raises
-mirrors-raising old new body (Err off.Memory) same = inl same
-mirrors-raising old new body (Err off.Closed) never = absurd never
+mirrors-raising : (old new : Funds) (body : List ℕ) (answer : Result (DeskStatus × List ℕ) Off) →
+    RaisesBy old new body answer → MirrorsBy old.0 new.0
+mirrors-raising old new body (Ok reply) raises = mirrors-reply old new body (raise_of body) reply raises
+mirrors-raising old new body (Err off.Memory) same = inl (ap (λ (f : Funds). f.0) same)
+mirrors-raising old new body (Err off.Closed) same = inl (ap (λ (f : Funds). f.0) same)
 
-history-reply : (old new : History) (script : Result (ℕ × List Edit) ProfileFault) (reply : DeskStatus × List ℕ) →
-    IsScriptReply old script reply new → HistoryBy old new
-history-reply old new (Ok script) reply done = inr (script.0, script.1, is-published old script.0 script.1 reply new done)
-history-reply old new (Err error) reply rejected = inl rejected.1
+-- a raise leaves what is due
+due-left : (store : Store) (raise : List ℕ) (outcome : Result (Unit {0}) RaiseError) →
+    (raise_left_by store raise outcome).due ≡ store.due
+due-left store raise (Ok done) = refl
+due-left store raise (Err refused) = refl
 
-history-script : (old new : History) (body : List ℕ) (answer : Result (DeskStatus × List ℕ) Off) →
-    Performs old body answer new → HistoryBy old new
-history-script old new body (Ok reply) performs = history-reply old new (script_of_bytes body) reply performs
-history-script old new body (Err off.Memory) same = inl same
-history-script old new body (Err off.Closed) never = absurd never
+due-reply : (old new : Funds) (body : List ℕ) (asked : Option (List ℕ × List ℕ)) (reply : DeskStatus × List ℕ) →
+    IsReplyToRaise old new body asked reply → new.1.due ≡ old.1.due
+due-reply old new body (Some asked) reply raised =
+    ap (λ (s : Store). s.due) raised.left ∙ due-left old.1 body raised.outcome
+due-reply old new body None reply none = ap (λ (f : Funds). f.1.due) none.1
 
-changes-call : (before after : State) (call : Call) → IsCall before call after → ChangesBy before after
-changes-call before after (Looks name found) looked =
-    inl (ap (λ (s : State). s.history) looked.1, inl (ap (λ (s : State). s.mirrors) looked.1))
-changes-call before after (Asks body moment answer) (inl (word, dumps, same)) =
-    inl (ap (λ (s : State). s.history) same, inl (ap (λ (s : State). s.mirrors) same))
-changes-call before after (Asks body moment answer) (inr (inl (word, raises, same))) =
-    inl (same, mirrors-raising before.mirrors after.mirrors body answer raises)
-changes-call before after (Asks body moment answer) (inr (inr (dump, raise, performs, same))) =
-    inr (same, history-script before.history after.history body answer performs)
+due-raising : (old new : Funds) (body : List ℕ) (answer : Result (DeskStatus × List ℕ) Off) →
+    RaisesBy old new body answer → new.1.due ≡ old.1.due
+due-raising old new body (Ok reply) raises = due-reply old new body (raise_of body) reply raises
+due-raising old new body (Err off.Memory) same = ap (λ (f : Funds). f.1.due) same
+due-raising old new body (Err off.Closed) same = ap (λ (f : Funds). f.1.due) same
 
-same-state : (one other : State) → one.mirrors ≡ other.mirrors → one.history ≡ other.history → one ≡ other
-same-state one other mirrors history =
-    ap₂ (λ (m : List Mirror) (h : History). record { mirrors = m; history = h }) mirrors history
+-- what is due, after a history
+abbrev DueAfter : History → Option History → Type 0
+DueAfter history due = IfSome due (λ next. (batch : List Edit) × Continues history batch (Ok next))
 
-own : (event : Event) → is_of_operator event ≡ true → All (λ (e : Event). is_of_operator e ≡ true) (event ∷ [])
-own event is = All-from_recursion (λ (e : Event). is_of_operator e ≡ true) (event ∷ []) (is, tt)
+-- a publication comes from another one by one publish, and what is then due follows
+record IsPublishing (before after : Publication) : Type 0 where
+  by : HistoryBy before.history after.history
+  due : DueAfter after.history after.store.due
+
+publishing-same : (before after : Publication) → before.store.due ≡ None → after ≡ before → IsPublishing before after
+publishing-same before after none same = record {
+  by = inl (ap (λ (p : Publication). p.history) same);
+  due = subst (DueAfter after.history) (sym (ap (λ (p : Publication). p.store.due) same ∙ none)) tt;
+}
+
+due-left-by : (before : Publication) (script : List ℕ) (outcome : Result History PublishError) → before.store.due ≡ None →
+    (left_by before script outcome).store.due ≡ None
+due-left-by before script (Ok receipt) none = refl
+due-left-by before script (Err error) none = none
+
+publishing-reply : (before : Publication) (input : List ℕ) (script : Result (ℕ × List Edit) ProfileFault)
+    (reply : DeskStatus × List ℕ) (after : Publication) → before.store.due ≡ None →
+    IsScriptReply before input script reply after → IsPublishing before after
+publishing-reply before input (Ok script) reply after none done = record {
+  by = inr (script.0 - earlier_in before.store, script.1, is-published before input script.0 script.1 reply after done);
+  due = subst (DueAfter after.history)
+      (sym (ap (λ (p : Publication). p.store.due) done.left ∙ due-left-by before input done.outcome none)) tt;
+}
+publishing-reply before input (Err error) reply after none rejected = publishing-same before after none rejected.1
+
+publishing-ahead : (before : Publication) (input : List ℕ) (after : Publication) → IsAhead before input after →
+    IsPublishing before after
+publishing-ahead before input after ahead = record {
+  by = inl (ap (λ (p : Publication). p.history) ahead.left);
+  due = subst (λ (p : Publication). DueAfter p.history p.store.due) (sym ahead.left) (ahead.batch, ahead.prepared.1);
+}
+
+-- what is settled comes by the publish of what is due
+settles : (history : History) (due : Option History) → DueAfter history due → SettlesBy due history (unwrap_or due history)
+settles history None follows = inl refl
+settles history (Some next) (batch, continues) = inr (batch, refl, sym (next_is_published history batch next continues))
+
+-- one publication comes from another by a script
+record ChangesPublication (before after : Publication) : Type 0 where
+  between : History
+  settled_by : SettlesBy before.store.due before.history between
+  by : HistoryBy between after.history
+  due : DueAfter after.history after.store.due
+
+through-settled : (before after : Publication) → DueAfter before.history before.store.due →
+    IsPublishing (settled before) after → ChangesPublication before after
+through-settled before after follows publishing = record {
+  between = unwrap_or before.store.due before.history;
+  settled_by = settles before.history before.store.due follows;
+  by = publishing.by;
+  due = publishing.due;
+}
+
+unchanged : (before after : Publication) → DueAfter before.history before.store.due → after ≡ before →
+    ChangesPublication before after
+unchanged before after follows same = record {
+  between = before.history;
+  settled_by = inl refl;
+  by = inl (ap (λ (p : Publication). p.history) same);
+  due = subst (λ (p : Publication). DueAfter p.history p.store.due) (sym same) follows;
+}
+
+changes-script : (before after : Publication) (body : List ℕ) (answer : Result (DeskStatus × List ℕ) Off) →
+    DueAfter before.history before.store.due → Performs before body answer after → ChangesPublication before after
+changes-script before after body (Ok reply) follows performs =
+    through-settled before after follows (publishing-reply (settled before) body (script_of_bytes body) reply after refl performs)
+changes-script before after body (Err off.Memory) follows (inl same) = unchanged before after follows same
+changes-script before after body (Err off.Memory) follows (inr (inl same)) =
+    through-settled before after follows (publishing-same (settled before) after refl same)
+changes-script before after body (Err off.Memory) follows (inr (inr ahead)) =
+    through-settled before after follows (publishing-ahead (settled before) body after ahead)
+changes-script before after body (Err off.Closed) follows same =
+    through-settled before after follows (publishing-same (settled before) after refl same)
+
+-- the mirrors changed, or the history
+abbrev ChangesBy : State → State → Type 0
+ChangesBy before after =
+    ((after.history ≡ before.history) × MirrorsBy before.mirrors after.mirrors)
+    ⊎ ((after.mirrors ≡ before.mirrors)
+    × ((between : History) × SettlesBy before.store.due before.history between × HistoryBy between after.history))
+
+-- what a call made of a state, and what is then due
+record CallsOn (before after : State) : Type 0 where
+  by : ChangesBy before after
+  follows : IsDueAfter after.history after.store
+
+calls-same : (before after : State) → IsDueAfter before.history before.store → after ≡ before → CallsOn before after
+calls-same before after follows same = record {
+  by = inl (ap (λ (s : State). s.history) same, inl (ap (λ (s : State). s.mirrors) same));
+  follows = subst (λ (s : State). IsDueAfter s.history s.store) (sym same) follows;
+}
+
+calls-on : (before after : State) (call : Call) → IsDueAfter before.history before.store → IsCall before call after →
+    CallsOn before after
+calls-on before after (Looks name found) follows looked = calls-same before after follows looked.1
+calls-on before after (Asks body moment answer) follows (inl (word, dumps, same)) = calls-same before after follows same
+calls-on before after (Asks body moment answer) follows (inr (inl (word, raises, same))) =
+    let due = due-raising (before.mirrors, before.store) (after.mirrors, after.store) body answer raises in
+    record {
+      by = inl (same, mirrors-raising (before.mirrors, before.store) (after.mirrors, after.store) body answer raises);
+      follows = subst (λ (h : History). DueAfter h after.store.due) (sym same)
+          (subst (DueAfter before.history) (sym due) follows);
+    }
+calls-on before after (Asks body moment answer) follows (inr (inr (dump, raise, performs, same))) =
+    let changes = changes-script (publication_of before) (publication_of after) body answer follows performs in
+    record {
+      by = inr (same, (changes.between, changes.settled_by, changes.by));
+      follows = changes.due;
+    }
+
+same-state : (one other : State) → one.mirrors ≡ other.mirrors → one.history ≡ other.history → one.store ≡ other.store →
+    one ≡ other
+same-state one other mirrors history store =
+    ap₂ (λ (m : List Mirror) (h : History). record { mirrors = m; history = h; store = one.store }) mirrors history
+    ∙ ap (λ (s : Store). record { mirrors = other.mirrors; history = other.history; store = s }) store
+
+own : (event : Event) (events : List Event) → is_of_operator event ≡ true → AllByRecursion (λ (e : Event). is_of_operator e ≡ true) events →
+    All (λ (e : Event). is_of_operator e ≡ true) (event ∷ events)
+own event events is others = All-from_recursion (λ (e : Event). is_of_operator e ≡ true) (event ∷ events) (is, others)
 
 none : All (λ (e : Event). is_of_operator e ≡ true) []
 none = All-from_recursion (λ (e : Event). is_of_operator e ≡ true) [] tt
 
-step-changes : (mirrors : List Mirror) (service : Service) (after : State) → ChangesBy (state_of mirrors service) after →
-    IsOperatorStep mirrors service after
-step-changes mirrors service after (inl (history, inl same)) =
-    record { events = []; few = omega arith; own = none; leaves = same-state (state_of mirrors service) after (sym same) (sym history) }
-step-changes mirrors service after (inl (history, inr (index, budget, low, raised))) =
-    record {
-      events = Raise index budget ∷ [];
-      few = omega arith;
-      own = own (Raise index budget) refl;
-      leaves = same-state (state_of mirrors (happens mirrors service (Raise index budget))) after
-          (present-raised service.books mirrors index budget low ∙ sym raised) (sym history);
-    }
-step-changes mirrors service after (inr (same, inl history)) =
-    record { events = []; few = omega arith; own = none; leaves = same-state (state_of mirrors service) after (sym same) (sym history) }
-step-changes mirrors service after (inr (same, inr (known, batch, history))) =
+-- the events of two histories, one after the other, if any
+record HasEvents (mirrors : List Mirror) (service : Service) (due : Option History) (left : History) : Type 0 where
+  events : List Event
+  few : length events ≤ 1 + length (option_to_list due)
+  own : All (λ event. is_of_operator event ≡ true) events
+  mirrors_same : present mirrors (run happens mirrors service events) ≡ present mirrors service
+  leaves : (run happens mirrors service events).history ≡ left
+
+one-of : (due : Option History) (next : History) → due ≡ Some next → length (option_to_list due) ≡ 1
+one-of due next some = ap (λ (d : Option History). length (option_to_list d)) some
+
+publishes : (mirrors : List Mirror) (service : Service) (due : Option History) (between left : History) →
+    SettlesBy due service.history between → HistoryBy between left → HasEvents mirrors service due left
+publishes mirrors service due between left (inl same) (inl last) =
+    record { events = []; few = omega arith; own = none; mirrors_same = refl; leaves = sym (last ∙ same) }
+publishes mirrors service due between left (inl same) (inr (known, batch, last)) =
     record {
       events = Publish known batch ∷ [];
       few = omega arith;
-      own = own (Publish known batch) refl;
-      leaves = same-state (state_of mirrors (happens mirrors service (Publish known batch))) after (sym same) (sym history);
+      own = own (Publish known batch) [] refl tt;
+      mirrors_same = refl;
+      leaves = sym (last ∙ ap (λ (h : History). published h known batch) same);
+    }
+publishes mirrors service due between left (inr (first, some, shown)) (inl last) =
+    record {
+      events = Publish (length service.history) first ∷ [];
+      few = omega arith;
+      own = own (Publish (length service.history) first) [] refl tt;
+      mirrors_same = refl;
+      leaves = sym (last ∙ shown);
+    }
+publishes mirrors service due between left (inr (first, some, shown)) (inr (known, batch, last)) =
+    record {
+      events = Publish (length service.history) first ∷ Publish known batch ∷ [];
+      few = omega (arith, one-of due between some);
+      own = own (Publish (length service.history) first) (Publish known batch ∷ []) refl (refl, tt);
+      mirrors_same = refl;
+      leaves = sym (last ∙ ap (λ (h : History). published h known batch) shown);
+    }
+
+step-by : (mirrors : List Mirror) (service : Service) (store : Store) (after : State) →
+    IsDueAfter after.history after.store → ChangesBy (state_of mirrors service store) after →
+    IsOperatorStep mirrors service store.due after
+step-by mirrors service store after follows (inl (history, inl same)) =
+    record {
+      events = [];
+      few = omega arith;
+      own = none;
+      leaves = same-state (state_of mirrors service after.store) after (sym same) (sym history) refl;
+      follows = follows;
+    }
+step-by mirrors service store after follows (inl (history, inr (index, budget, low, raised))) =
+    record {
+      events = Raise index budget ∷ [];
+      few = omega arith;
+      own = own (Raise index budget) [] refl tt;
+      leaves = same-state (state_of mirrors (happens mirrors service (Raise index budget)) after.store) after
+          (present-raised service.books mirrors index budget low ∙ sym raised) (sym history) refl;
+      follows = follows;
+    }
+step-by mirrors service store after follows (inr (same, (between, settles, by))) =
+    let has = publishes mirrors service store.due between after.history settles by in
+    record {
+      events = has.events;
+      few = has.few;
+      own = has.own;
+      leaves = same-state (state_of mirrors (run happens mirrors service has.events) after.store) after
+          (has.mirrors_same ∙ sym same) has.leaves refl;
+      follows = follows;
     }
 
 pub operator_calls_are_events : OperatorCallsAreEvents
-operator_calls_are_events mirrors service call after called =
-    step-changes mirrors service after (changes-call (state_of mirrors service) after call called)
+operator_calls_are_events mirrors service store call after follows called =
+    let calls = calls-on (state_of mirrors service store) after call follows called in
+    step-by mirrors service store after calls.follows calls.by
+
+-- what an operator's call makes of the mirrors
+mirrors-call : (before after : State) (call : Call) → IsCall before call after → MirrorsBy before.mirrors after.mirrors
+mirrors-call before after (Looks name found) looked = inl (ap (λ (s : State). s.mirrors) looked.1)
+mirrors-call before after (Asks body moment answer) (inl (word, dumps, same)) = inl (ap (λ (s : State). s.mirrors) same)
+mirrors-call before after (Asks body moment answer) (inr (inl (word, raises, same))) =
+    mirrors-raising (before.mirrors, before.store) (after.mirrors, after.store) body answer raises
+mirrors-call before after (Asks body moment answer) (inr (inr (dump, raise, performs, same))) = inl same
 
 -- mirrors whose budgets are no less, one raise after the other
 as-before : (mirrors : List Mirror) → AllZip IsRaised mirrors mirrors
@@ -184,13 +358,9 @@ raised-mirrors : (old new : List Mirror) → MirrorsBy old new → AllZip IsRais
 raised-mirrors old new (inl same) = subst (AllZip IsRaised old) (sym same) (as-before old)
 raised-mirrors old new (inr (index, budget, low, same)) = subst (AllZip IsRaised old) (sym same) (raised-by old index budget low)
 
-raised-changes : (before after : State) → ChangesBy before after → AllZip IsRaised before.mirrors after.mirrors
-raised-changes before after (inl (history, by)) = raised-mirrors before.mirrors after.mirrors by
-raised-changes before after (inr (same, by)) = raised-mirrors before.mirrors after.mirrors (inl same)
-
 pub operators_only_raise : OperatorsOnlyRaise
 operators_only_raise before after [] same =
     subst (λ (s : State). AllZip IsRaised before.mirrors s.mirrors) (sym same) (as-before before.mirrors)
 operators_only_raise before after (call ∷ calls) (next, called, leads) =
-    then-raised before.mirrors next.mirrors after.mirrors (raised-changes before next (changes-call before next call called))
+    then-raised before.mirrors next.mirrors after.mirrors (raised-mirrors before.mirrors next.mirrors (mirrors-call before next call called))
     (operators_only_raise next after calls leads)

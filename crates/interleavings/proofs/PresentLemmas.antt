@@ -121,5 +121,5 @@ present-run mirrors (event ∷ events) service =
     present-run mirrors events (happens mirrors service event) ∙ ap (mirrors_by events) (present-event mirrors service event)
 
 pub budgets_are_those_of_raises : BudgetsAreThoseOfRaises happens
-budgets_are_those_of_raises mirrors batch workers events accepted =
-    present-run mirrors events (opened mirrors batch workers) ∙ ap (mirrors_by events) (present-opened mirrors)
+budgets_are_those_of_raises mirrors start workers events accepted =
+    present-run mirrors events (opened mirrors start workers) ∙ ap (mirrors_by events) (present-opened mirrors)

@@ -1,5 +1,6 @@
 -- Each event keeps by which events the jobs of each worker began, were planned and ended.
 use Rattle.std.proofs.Common.{◌≡◌, ℕ, zero, suc, ◌⊎◌, inl, inr, eqb, List, [], ◌∷◌, ◌++◌, length, replicate, ◌+◌, None, Some, refl, sym, ap, ◌∙◌, append_assoc, subst}
+use Rattle.catalogue_laws.specs.Histories.{History}
 use Rattle.std.specs.List.{slice_get}
 use Rattle.std.proofs.lemmas.Bool.{cond_both}
 use Rattle.std.proofs.lemmas.List.{append-nil}
@@ -45,15 +46,15 @@ Was-changed change (suc changed) (suc at) (first ∷ items) item there =
     }
 
 -- a new worker has no job
-new-at : (count index : ℕ) (worker : Worker) → slice_get (replicate count new_worker) index ≡ Some worker →
-    worker ≡ new_worker
-new-at zero index worker there = absurd (none-some worker there)
-new-at (suc count) zero worker there = sym (same_Some new_worker worker there)
-new-at (suc count) (suc index) worker there = new-at count index worker there
+new-at : (seen count index : ℕ) (worker : Worker) → slice_get (replicate count (new_worker seen)) index ≡ Some worker →
+    worker ≡ new_worker seen
+new-at seen zero index worker there = absurd (none-some worker there)
+new-at seen (suc count) zero worker there = sym (same_Some (new_worker seen) worker there)
+new-at seen (suc count) (suc index) worker there = new-at seen count index worker there
 
-module _ (mirrors : List Mirror) (batch : List Edit) (workers : ℕ) where
+module _ (mirrors : List Mirror) (start : History) (workers : ℕ) where
   abbrev course : Course
-  course = service_after happens mirrors batch workers
+  course = service_after happens mirrors start workers
 
   -- of all workers
   abbrev AllKeep : List Event → Type 0
@@ -155,23 +156,23 @@ module _ (mirrors : List Mirror) (batch : List Edit) (workers : ℕ) where
   keep events (event ∷ more) all =
       subst AllKeep (append_assoc events (event ∷ []) more)
       (keep (events ++ event ∷ []) more
-      (step events all event (run-append happens mirrors events (event ∷ []) (opened mirrors batch workers))))
+      (step events all event (run-append happens mirrors events (event ∷ []) (opened mirrors start workers))))
 
   -- at the opening there is no job
   none-yet : AllKeep []
   none-yet index worker there =
-      subst (KeepsCourse course index []) (sym (new-at workers index worker there))
+      subst (KeepsCourse course index []) (sym (new-at (length start) workers index worker there))
       (record { job = tt; ended = λ place ended own. absurd (none-some ended own) })
 
   kept : (events : List Event) → AllKeep events
   kept events = keep [] events none-yet
 
 pub jobs_go_by_what_is_published : JobsGoByWhatIsPublished happens
-jobs_go_by_what_is_published mirrors batch workers events accepted index worker there =
-    let course = service_after happens mirrors batch workers in
-    let keeps = kept mirrors batch workers events index worker there in
+jobs_go_by_what_is_published mirrors start workers events accepted index worker there =
+    let course = service_after happens mirrors start workers in
+    let keeps = kept mirrors start workers events index worker there in
     (λ place ended own. (keeps.ended place ended own).0, IfSome_then worker.job keeps.job (λ job way. way.0))
 
 pub replies_are_to_given_requests : RepliesAreToGivenRequests happens
-replies_are_to_given_requests mirrors batch workers events accepted index worker there place ended own =
-    ((kept mirrors batch workers events index worker there).ended place ended own).1
+replies_are_to_given_requests mirrors start workers events accepted index worker there place ended own =
+    ((kept mirrors start workers events index worker there).ended place ended own).1

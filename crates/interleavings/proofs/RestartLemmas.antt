@@ -22,7 +22,7 @@ use Rattle.omaha_json.specs.declared.reply.CheckReply.TheVariants as check
 use Rattle.omaha_json.specs.declared.reply.Reply.{Reply}
 use Rattle.omaha_json.specs.declared.request.AppAsk.{AppAsk}
 use Rattle.omaha_json.specs.declared.request.Request.{Request}
-use Rattle.omaha_server.specs.Services.{service_if}
+use Rattle.services.specs.Services.{service_if}
 use Rattle.payload_graph.specs.declared.payload.Payload.{Payload}
 use Rattle.records.specs.declared.content.App.{App}
 use Rattle.records.specs.declared.content.Diff.{Diff}
@@ -222,7 +222,7 @@ restarts_keep_replies plans began dumped calls text leads start =
     }
 
 pub services_open_again : ServicesOpenAgain
-services_open_again mirrors service text workers start =
+services_open_again mirrors service store text workers start =
     let last = ap content_of (take-length service.history) in
     let content = start.content ∙ sym last in
     let now = present mirrors service in

@@ -1,21 +1,19 @@
 -- What holds after a list of events, of each machine step in turn.
-use Rattle.std.proofs.Common.{◌≡◌, ℕ, zero, suc, inl, inr, List, [], ◌∷◌, ◌++◌, replicate, refl, sym, ap, ◌∙◌, append_assoc, subst, arith}
+use Rattle.std.proofs.Common.{◌≡◌, ℕ, zero, suc, inl, inr, List, [], ◌∷◌, ◌++◌, length, replicate, refl, sym, ap, ◌∙◌, append_assoc, subst, arith}
 use Rattle.std.specs.List.{AllByRecursion, AllZip, Contains, sum_by}
 use Rattle.std.proofs.lemmas.List.{append-nil}
 use Rattle.std.proofs.lemmas.List.Elements.{Contains-append_left, Contains-append_right, Contains-push}
 use Rattle.std.proofs.lemmas.List.Sums.{sum_by-cons}
-use Rattle.catalogue.specs.Batches.{outcome, run as run_batches, then_run}
 use Rattle.catalogue.specs.declared.edit.Edit.{Edit}
 use Rattle.catalogue_laws.specs.Histories.{HistoriesAreValid, HistoriesGrow, History, PrefixesAreAccepted}
-use Rattle.editions.specs.Editions.{IsAccepted}
 use Rattle.quotes.specs.ByRows.{CertifiedRowsQuote}
 use Rattle.records.specs.declared.mirror.Mirror.{Mirror}
 use Rattle.theorems.specs.Laws.{TrackGraphsAreGraphs}
 use Rattle.interleavings.specs.Events.{Event, Machine, happens, run, service_after}
 use Rattle.interleavings.specs.Jobs.{Worker, new_worker}
-use Rattle.interleavings.specs.Laws.{batch_given, batches_given, budget_by}
+use Rattle.interleavings.specs.Laws.{IsAcceptedHistory, batch_given, batches_given, budget_by}
 use Rattle.interleavings.specs.Services.{Service, opened}
-use Rattle.interleavings.proofs.EventLemmas.{Extends, IsStep, Made, step}
+use Rattle.interleavings.proofs.EventLemmas.{Extends, IsStep, step}
 use Rattle.interleavings.proofs.KeptLemmas.{GoesOn, GoesOn-same, GoesOn-through, Keeps, KeepsWorker}
 use Rattle.interleavings.proofs.ListLemmas.{all-append, all-weaker, zip-itself, zip-through}
 
@@ -102,36 +100,31 @@ module _ (mirrors : List Mirror) (quotes : CertifiedRowsQuote) (graphs : TrackGr
       (IsRun-events events next first.keeps)
 
   -- at the opening
-  pub Keeps-opened : (batch : List Edit) (workers : ℕ) → IsAccepted [] batch → Keeps mirrors
-      (opened mirrors batch workers)
-  Keeps-opened batch workers accepted =
-      let made = Made (outcome batch []) accepted in
+  pub Keeps-opened : (start : History) (workers : ℕ) → IsAcceptedHistory start → Keeps mirrors
+      (opened mirrors start workers)
+  Keeps-opened start workers accepted =
       record {
-        accepted = record {
-          content = made.0;
-          led = ap (then_run (run_batches [])) made.1;
-          some = omega arith;
-          few = omega arith;
-        };
+        accepted = accepted;
         workers = all_new workers;
         books = λ mirror. record { adds_up = sym (no_shares mirror workers); within = omega arith };
       }
     where
-      all_new : (count : ℕ) → AllByRecursion (KeepsWorker mirrors (batch ∷ [])) (replicate count new_worker)
+      all_new : (count : ℕ) → AllByRecursion (KeepsWorker mirrors start) (replicate count (new_worker (length start)))
       all_new zero = tt
       all_new (suc count) =
           (record { seen = omega arith; job = tt; ended = tt; shares = λ mirror. refl }, all_new count)
 
       no_shares : (mirror count : ℕ) → sum_by (λ (worker : Worker). worker.share mirror)
-          (replicate count new_worker) ≡ 0
+          (replicate count (new_worker (length start))) ≡ 0
       no_shares mirror zero = refl
       no_shares mirror (suc count) =
           let rest = no_shares mirror count in
-          let whole = sum_by-cons (λ (worker : Worker). worker.share mirror) new_worker (replicate count new_worker) in
+          let whole = sum_by-cons (λ (worker : Worker). worker.share mirror) (new_worker (length start))
+          (replicate count (new_worker (length start))) in
           omega arith
 
   pub IsRun-opened :
-      (batch : List Edit) (workers : ℕ) (events : List Event) → IsAccepted [] batch →
-      IsRun mirrors events (opened mirrors batch workers) (service_after happens mirrors batch workers events)
-  IsRun-opened batch workers events accepted =
-      IsRun-events events (opened mirrors batch workers) (Keeps-opened batch workers accepted)
+      (start : History) (workers : ℕ) (events : List Event) → IsAcceptedHistory start →
+      IsRun mirrors events (opened mirrors start workers) (service_after happens mirrors start workers events)
+  IsRun-opened start workers events accepted =
+      IsRun-events events (opened mirrors start workers) (Keeps-opened start workers accepted)

@@ -1,5 +1,5 @@
 -- The contracts of the program's functions as events.
-use Rattle.std.proofs.Common.{◌≡◌, ℕ, suc, ◌+◌, ◌&&◌, max, Bool, true, false, eqb, ltb, cond, List, [], ◌∷◌, ◌++◌, length, Option, None, Some, Result, Ok, Err, ◌⊎◌, inl, inr, refl, sym, ap, ◌∙◌, subst, arith}
+use Rattle.std.proofs.Common.{◌≡◌, ℕ, suc, ◌+◌, ◌-◌, ◌&&◌, max, Bool, true, false, eqb, ltb, cond, List, [], ◌∷◌, ◌++◌, length, Option, None, Some, Result, Ok, Err, ◌⊎◌, inl, inr, refl, sym, ap, ◌∙◌, subst, arith}
 use Rattle.std.specs.Option.{is_some}
 use Rattle.std.specs.Result.{is_ok}
 use Rattle.std.proofs.lemmas.Bool.{and_from, and_left, and_right, cond-false, cond-true, eq-eqb, false≢true, le-leb, le-ltb, leb-true, lt-ltb, ne_eqb}
@@ -19,6 +19,7 @@ use Rattle.http_desks.specs.declared.desk.DeskStatus.{DeskStatus}
 use Rattle.publisher.specs.Sights.{Sight}
 use Rattle.publisher.specs.declared.fault.PublishError.{PublishError}
 use Rattle.service_desks.specs.Scripts.{IsPublished, IsScriptReply, publish_reply}
+use Rattle.service_desks.specs.States.{Publication, earlier_in, settled}
 use Rattle.service_desks.specs.Workers.{stock_of}
 use Rattle.service_desks.specs.Asking.{asks_of}
 use Rattle.interleavings.specs.Jobs.{Pending, bytes_asked, outcomes_by_app, outcomes_of}
@@ -166,21 +167,25 @@ workers_reply_by_one_history mirrors before after request moment text (history, 
 
 -- a publish that is replied to didn't run out of memory
 published-replied :
-    (history before after : History) (outcome : Result History PublishError) (reply : DeskStatus × List ℕ) →
-    publish_reply outcome ≡ Some reply →
+    (earlier : ℕ) (history before after : History) (outcome : Result History PublishError) (reply : DeskStatus × List ℕ) →
+    publish_reply earlier outcome ≡ Some reply →
     (after ≡ history) ⊎ ((outcome ≡ Err publishing.Memory) × (after ≡ before)) →
     after ≡ history
-published-replied history before after outcome reply replied (inl same) = same
-published-replied history before after outcome reply replied (inr (memory, kept)) =
-    absurd (false≢true (ap (λ (o : Option (DeskStatus × List ℕ)). is_some o) (sym (ap publish_reply memory) ∙ replied)))
+published-replied earlier history before after outcome reply replied (inl same) = same
+published-replied earlier history before after outcome reply replied (inr (memory, kept)) =
+    absurd (false≢true (ap (λ (o : Option (DeskStatus × List ℕ)). is_some o) (sym (ap (publish_reply earlier) memory) ∙ replied)))
 
 -- a script with a reply is published by somebody who knows of as many batches as its base says
-pub is-published : (before : History) (base : ℕ) (batch : List Edit) (reply : DeskStatus × List ℕ) (after : History) →
-    IsPublished before base batch reply after → after ≡ published before base batch
-is-published before base batch reply after done =
-    published-replied (published before base batch) before after done.outcome reply done.replied
-    (press_publishes before base batch done.outcome after done.published)
+pub is-published : (before : Publication) (script : List ℕ) (base : ℕ) (batch : List Edit) (reply : DeskStatus × List ℕ)
+    (after : Publication) → IsPublished before script base batch reply after →
+    after.history ≡ published before.history (base - earlier_in before.store) batch
+is-published before script base batch reply after done =
+    let known = base - earlier_in before.store in
+    published-replied (earlier_in before.store) (published before.history known batch) before.history after.history
+    done.outcome reply done.replied
+    (press_publishes before.history known batch done.outcome after.history done.published)
 
 pub scripts_are_published : ScriptsArePublished
 scripts_are_published before input script reply after read performed =
-    is-published before script.0 script.1 reply after (subst (λ r. IsScriptReply before r reply after) read performed)
+    is-published (settled before) input script.0 script.1 reply after
+    (subst (λ r. IsScriptReply (settled before) input r reply after) read performed)

@@ -60,7 +60,7 @@ pub untrue : ¬ (RepliesSayTrue says_no_update)
 unfolding hex_on_literals version.version_of version.components_of version.lenient_version_of hash_of parsed
 untrue law =
     let within : 0 < 1 = omega arith in
-    let true = law small_mirrors small_batch 1 replied_events small-accepted 0 new_worker within 0 no_job within in
+    let true = law small_mirrors (small_batch ∷ []) 1 replied_events small-accepted 0 (new_worker 1) within 0 no_job within in
     elim ((says _ _ _ _ true _ refl).0 _ (record { known = refl; wants = refl })) [
       | inl at ↦ cc
       | inr none ↦ none (Full 0 ∷ []) (refl, refl)
@@ -90,7 +90,7 @@ pub nowhere : ¬ (OffersLeadToTargets offers_from_no_mirror)
 unfolding hex_on_literals version.version_of version.components_of version.lenient_version_of hash_of parsed
 nowhere law =
     let within : 0 < 1 = omega arith in
-    let lead = law small_mirrors small_batch 1 replied_events small-accepted 0 new_worker within 0 no_job within in
+    let lead = law small_mirrors (small_batch ∷ []) 1 replied_events small-accepted 0 (new_worker 1) within 0 no_job within in
     let way = (leads _ _ _ _ lead _ refl).0 _ _ (record { known = refl; wants = refl }) refl in
     let first = way.walk.0 in
     has-codebase _ _ first.outcome (granted-within first.choice first.outcome first.granted)

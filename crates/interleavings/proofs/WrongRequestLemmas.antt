@@ -41,13 +41,13 @@ ended_count jobs = option_map_or (λ (j : Jobs). length j.0) jobs 0
 -- how many it had ended before a place of the run
 abbrev ended_before : Machine → ℕ → ℕ
 ended_before machine place =
-    ended_count (jobs_at (service_after machine small_mirrors small_batch 1 (take place twice)) 0)
+    ended_count (jobs_at (service_after machine small_mirrors (small_batch ∷ []) 1 (take place twice)) 0)
 
 pub another : ¬ (RepliesAreToGivenRequests plans_for_another)
 unfolding hex_on_literals version.version_of version.components_of version.lenient_version_of hash_of parsed
 another law =
     let events = Enter 1 ∷ Plan 0 small_request small_rows ∷ Grant 1 0 3 ∷ Render 1 86400 ∷ [] in
-    let is = law small_mirrors small_batch 2 events small-accepted 1 _ refl 0 _ refl in
+    let is = law small_mirrors (small_batch ∷ []) 2 events small-accepted 1 _ refl 0 _ refl in
     let at = plan-place _ _ _ _ _ _ is in
     at-place (λ place event. event ≡ Plan 1 is.request is.tables → ⊥) events at.place (Plan 1 is.request is.tables)
     (λ this. cc, (λ this. cc, (λ this. cc, (λ this. cc, tt)))) at.there refl
@@ -69,7 +69,7 @@ IsNot machine wrong place event = event ≡ wrong → ended_before machine place
 pub previous : ¬ (RepliesAreToGivenRequests plans_the_previous_request)
 unfolding hex_on_literals version.version_of version.components_of version.lenient_version_of hash_of parsed
 previous law =
-    let is = law small_mirrors small_batch 1 twice small-accepted 0 _ refl 1 _ refl in
+    let is = law small_mirrors (small_batch ∷ []) 1 twice small-accepted 0 _ refl 1 _ refl in
     let at = plan-place _ _ _ _ _ _ is in
     let plan = Plan 0 is.request is.tables in
     let other = IsNot plans_the_previous_request plan in
@@ -100,13 +100,13 @@ is_planned jobs =
 abbrev IsNotFirst : Event → ℕ → Event → Type 0
 IsNotFirst wrong place event =
     event ≡ wrong →
-    is_planned (jobs_at (service_after plans_again small_mirrors small_batch 1 (take place planned_twice)) 0) ≡ false → ⊥
+    is_planned (jobs_at (service_after plans_again small_mirrors (small_batch ∷ []) 1 (take place planned_twice)) 0) ≡ false → ⊥
 
 -- the reply would be to the second request, for which the job was planned already
 pub again : ¬ (RepliesAreToGivenRequests plans_again)
 unfolding hex_on_literals version.version_of version.components_of version.lenient_version_of hash_of parsed
 again law =
-    let is = law small_mirrors small_batch 1 planned_twice small-accepted 0 _ refl 0 _ refl in
+    let is = law small_mirrors (small_batch ∷ []) 1 planned_twice small-accepted 0 _ refl 0 _ refl in
     let at = plan-place _ _ _ _ _ _ is in
     let plan = Plan 0 is.request is.tables in
     let other = IsNotFirst plan in
@@ -126,7 +126,7 @@ pub another_time : ¬ (RepliesAreToGivenRequests renders_for_another_time)
 unfolding hex_on_literals version.version_of version.components_of version.lenient_version_of hash_of parsed
 another_time law =
     let events = begins 0 (Grant 0 0 3 ∷ Render 0 86400 ∷ []) in
-    let is = law small_mirrors small_batch 1 events small-accepted 0 _ refl 0 _ refl in
+    let is = law small_mirrors (small_batch ∷ []) 1 events small-accepted 0 _ refl 0 _ refl in
     let at = rendering-place _ _ _ _ _ _ is in
     at-place (λ place event. event ≡ Render 0 172800 → ⊥) events at.place (Render 0 172800)
     (λ this. cc, (λ this. cc, (λ this. cc, (λ this. apart 86400 172800 refl (ap time_of this), tt)))) at.there refl
@@ -135,7 +135,7 @@ another_time law =
 pub previous_time : ¬ (RepliesAreToGivenRequests renders_at_the_previous_time)
 unfolding hex_on_literals version.version_of version.components_of version.lenient_version_of hash_of parsed
 previous_time law =
-    let is = law small_mirrors small_batch 1 twice small-accepted 0 _ refl 1 _ refl in
+    let is = law small_mirrors (small_batch ∷ []) 1 twice small-accepted 0 _ refl 1 _ refl in
     let at = rendering-place _ _ _ _ _ _ is in
     let other = IsNot renders_at_the_previous_time (Render 0 1) in
     let second : EachPlace (λ place. other (suc (suc (suc (suc place))))) (drop 4 twice) =
@@ -149,10 +149,10 @@ pub old : ¬ (JobsGoByWhatIsPublished enters_what_was_seen)
 unfolding hex_on_literals version.version_of version.components_of version.lenient_version_of hash_of parsed
 old law =
     let events = Publish 1 (withdrawal ∷ []) ∷ Enter 0 ∷ [] in
-    let entered = (law small_mirrors small_batch 1 events small-accepted 0 _ refl).1 in
+    let entered = (law small_mirrors (small_batch ∷ []) 1 events small-accepted 0 _ refl).1 in
     let at = entry-place _ _ _ _ _ entered in
     at-place
     (λ place event. event ≡ Enter 0 →
-    1 ≡ length (service_after enters_what_was_seen small_mirrors small_batch 1 (take place events)).history → ⊥)
+    1 ≡ length (service_after enters_what_was_seen small_mirrors (small_batch ∷ []) 1 (take place events)).history → ⊥)
     events at.place (Enter 0)
     (λ this number. cc, (λ this number. apart 1 2 refl number, tt)) at.there refl at.number_is

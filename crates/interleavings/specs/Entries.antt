@@ -1,23 +1,22 @@
 -- By which events the jobs of a worker began, and by which batches each goes.
 use Rattle.std.specs.Prelude.{◌≡◌, ℕ, List, [], ◌∷◌, ◌++◌, IfSome, length, slice_get, take, Option, None, Some, option_map}
-use Rattle.catalogue.specs.declared.edit.Edit.{Edit}
-use Rattle.editions.specs.Editions.{IsAccepted}
+use Rattle.catalogue_laws.specs.Histories.{History}
 use Rattle.records.specs.declared.mirror.Mirror.{Mirror}
 use Rattle.interleavings.specs.Events.{Enter, Event, Machine, service_after}
 use Rattle.interleavings.specs.Jobs.{EndedJob, Job, Worker}
-use Rattle.interleavings.specs.Laws.{worker_at}
+use Rattle.interleavings.specs.Laws.{IsAcceptedHistory, worker_at}
 use Rattle.interleavings.specs.Services.{Service}
 
 -- a course of events: what a service is after each list of them
 abbrev pub Course : Type 0
 Course = List Event → Service
 
--- what holds of each course since a service opened with an accepted batch, for each list of events
+-- what holds of each course since a service opened with an accepted history, for each list of events
 abbrev pub EachCourse : Machine → (Course → List Event → Type 0) → Type 0
 EachCourse machine Holds =
-    (mirrors : List Mirror) (batch : List Edit) (workers : ℕ) (events : List Event) →
-    IsAccepted [] batch →
-    Holds (service_after machine mirrors batch workers) events
+    (mirrors : List Mirror) (start : History) (workers : ℕ) (events : List Event) →
+    IsAcceptedHistory start →
+    Holds (service_after machine mirrors start workers) events
 
 -- the jobs that a worker ended, and the one that it has
 abbrev pub Jobs : Type 0

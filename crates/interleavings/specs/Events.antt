@@ -1,6 +1,7 @@
 -- What can happen in a service, one event after the other. Each event is a step of one publisher, worker or operator
 -- that nothing comes between; one whose condition fails changes nothing.
 use Rattle.std.specs.Prelude.{ℕ, Bool, false, if◌then◌else◌, List, [], ◌∷◌, length, slice_get}
+use Rattle.catalogue_laws.specs.Histories.{History}
 use Rattle.std.specs.Option.{option_map_or}
 use Rattle.catalogue.specs.declared.edit.Edit.{Edit}
 use Rattle.omaha_json.specs.declared.request.Request.{Request}
@@ -73,5 +74,5 @@ run machine mirrors service (event ∷ events) = run machine mirrors (machine mi
 
 -- rule: Interleaving
 -- the service after a list of events since it opened
-abbrev pub service_after : Machine → List Mirror → List Edit → ℕ → List Event → Service
-service_after machine mirrors batch workers events = run machine mirrors (opened mirrors batch workers) events
+abbrev pub service_after : Machine → List Mirror → History → ℕ → List Event → Service
+service_after machine mirrors start workers events = run machine mirrors (opened mirrors start workers) events

@@ -44,7 +44,7 @@ pub record SayTrue (mirrors : List Mirror) (history : History) (job : Job) (rend
 -- each reply does
 abbrev pub RepliesSayTrue : Machine → Type 0
 RepliesSayTrue machine =
-    Always machine (λ mirrors batch events service. AllReplies (SayTrue mirrors service.history) service)
+    Always machine (λ mirrors start events service. AllReplies (SayTrue mirrors service.history) service)
 
 -- a client that takes an offer can go on, while the catalogue stays as it was for the reply; however the replies go on,
 -- it comes to its target, and the bytes of its offers are the least sum of a chain from where it asked
@@ -74,4 +74,4 @@ pub record OffersLead (mirrors : List Mirror) (history : History) (job : Job) (r
 -- each offer of each reply does
 abbrev pub OffersLeadToTargets : Machine → Type 0
 OffersLeadToTargets machine =
-    Always machine (λ mirrors batch events service. AllReplies (OffersLead mirrors service.history) service)
+    Always machine (λ mirrors start events service. AllReplies (OffersLead mirrors service.history) service)

@@ -39,9 +39,9 @@ pub record Worker : Type 0 where
   pub ended : List EndedJob
   pub share : ℕ → ℕ
 
--- a worker when the service opens: edition 1 is published
-abbrev pub new_worker : Worker
-new_worker = record { seen = 1; job = None; ended = []; share = λ mirror. 0 }
+-- a worker when the service opens: it has seen what is published then
+abbrev pub new_worker : ℕ → Worker
+new_worker seen = record { seen = seen; job = None; ended = []; share = λ mirror. 0 }
 
 -- the bytes that mirrors are asked to grant for choices
 abbrev pub bytes_asked : List (Option Choice) → List ℕ

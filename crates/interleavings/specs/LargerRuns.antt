@@ -41,7 +41,7 @@ two_mirrors =
 
 abbrev pub second_grants : Service
 second_grants =
-    service_after happens two_mirrors small_batch 1 (begins 0 (Grant 0 0 3 ∷ Grant 0 1 3 ∷ Render 0 86400 ∷ []))
+    service_after happens two_mirrors (small_batch ∷ []) 1 (begins 0 (Grant 0 0 3 ∷ Grant 0 1 3 ∷ Render 0 86400 ∷ []))
 
 pub record SecondMirrorGrants : Type 0 where
   pub offers : offers_in second_grants ≡ (codes "http://m1/p/", codes "1.0", 3) ∷ []
@@ -93,7 +93,7 @@ asking asks = record { session = codes "s"; apps = asks }
 
 abbrev pub both_replied : Service
 both_replied =
-    service_after happens small_mirrors two_apps 1
+    service_after happens small_mirrors (two_apps ∷ []) 1
     (Enter 0
     ∷ Plan 0 (asking (ask_of (codes "mini") [] [] ∷ ask_of (codes "maxi") [] [] ∷ [])) small_rows
     ∷ Grant 0 0 3
@@ -140,7 +140,7 @@ rows_below_two ask = End ∷ Nothing ∷ []
 -- a client of the cohort that has 1.0 asks, and then a pinned one
 abbrev pub differ_then_pin : Service
 differ_then_pin =
-    service_after happens small_mirrors two_releases 1
+    service_after happens small_mirrors (two_releases ∷ []) 1
     (Enter 0
     ∷ Plan 0 (asking (ask_of (codes "mini") fp_of_first [] ∷ [])) rows_of_two
     ∷ Grant 0 0 2
@@ -159,7 +159,7 @@ pub record DifferentialAndPin : Type 0 where
 -- a pinned client without a release is offered 1.0
 abbrev pub pinned_first : Service
 pinned_first =
-    service_after happens small_mirrors two_releases 1
+    service_after happens small_mirrors (two_releases ∷ []) 1
     (Enter 0
     ∷ Plan 0 (asking (ask_of (codes "mini") [] (codes "1.") ∷ [])) rows_below_two
     ∷ Grant 0 0 3

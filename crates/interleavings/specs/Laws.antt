@@ -4,7 +4,7 @@ use Rattle.std.specs.Prelude.{◌≡◌, ℕ, ◌≤◌, if◌then◌else◌, tr
 use Rattle.std.specs.Option.{option_map_or}
 use Rattle.catalogue.specs.declared.edit.Edit.{Edit}
 use Rattle.catalogue_laws.specs.Histories.{History, LeadsTo}
-use Rattle.editions.specs.Editions.{IsAccepted, content_of, max_batches}
+use Rattle.editions.specs.Editions.{content_of, max_batches}
 use Rattle.mirror_ledger.specs.Named.{budget_at}
 use Rattle.mirror_ledger.specs.Raising.{raise_at}
 use Rattle.omaha_json.specs.declared.reply.Reply.{Reply}
@@ -22,20 +22,27 @@ use Rattle.interleavings.specs.Events.{Event, Machine, Publish, Raise, service_a
 use Rattle.interleavings.specs.Jobs.{EndedJob, Job, Pending, Rendered, Worker, granted_for, is_decided, jobs_of, outcomes_of}
 use Rattle.interleavings.specs.Services.{Service, content_at, present, published, raised_budget}
 
--- what holds of a service after every list of events since it opened with an accepted batch
-abbrev pub Always : Machine → (List Mirror → List Edit → List Event → Service → Type 0) → Type 0
+-- an accepted history with a batch, and not too long
+pub record IsAcceptedHistory (history : History) : Type 0 where
+  pub content : List App
+  pub led : LeadsTo history content
+  pub some : 1 ≤ length history
+  pub few : length history ≤ max_batches
+
+-- what holds of a service after every list of events since it opened with an accepted history
+abbrev pub Always : Machine → (List Mirror → History → List Event → Service → Type 0) → Type 0
 Always machine Holds =
-    (mirrors : List Mirror) (batch : List Edit) (workers : ℕ) (events : List Event) →
-    IsAccepted [] batch →
-    Holds mirrors batch events (service_after machine mirrors batch workers events)
+    (mirrors : List Mirror) (start : History) (workers : ℕ) (events : List Event) →
+    IsAcceptedHistory start →
+    Holds mirrors start events (service_after machine mirrors start workers events)
 
 -- what holds of such a service and of the same one after more events
 abbrev pub Onward : Machine → (Service → Service → Type 0) → Type 0
 Onward machine Holds =
-    (mirrors : List Mirror) (batch : List Edit) (workers : ℕ) (events more : List Event) →
-    IsAccepted [] batch →
-    Holds (service_after machine mirrors batch workers events)
-    (service_after machine mirrors batch workers (events ++ more))
+    (mirrors : List Mirror) (start : History) (workers : ℕ) (events more : List Event) →
+    IsAcceptedHistory start →
+    Holds (service_after machine mirrors start workers events)
+    (service_after machine mirrors start workers (events ++ more))
 
 -- the reply to a request by one content: by a plan of first payloads of least chains, and by an outcome for each app;
 -- no price is in it
@@ -66,7 +73,7 @@ EndsWell mirrors history ended = IfSome ended.rendered (IsOfOneCatalogue mirrors
 abbrev pub RepliesAreOfOneCatalogue : Machine → Type 0
 RepliesAreOfOneCatalogue machine =
     Always machine
-    (λ mirrors batch events service.
+    (λ mirrors start events service.
     All (λ (worker : Worker). All (EndsWell mirrors service.history) worker.ended) service.workers)
 
 -- the worker at an index, if there is one
@@ -99,7 +106,7 @@ SeenNeverFalls machine = Onward machine (λ service later. (index : ℕ) → see
 -- and is published
 abbrev pub SeenIsPublished : Machine → Type 0
 SeenIsPublished machine =
-    Always machine (λ mirrors batch events service. (index : ℕ) → seen_by service index ≤ length service.history)
+    Always machine (λ mirrors start events service. (index : ℕ) → seen_by service index ≤ length service.history)
 
 -- the budget of a mirror after an event
 abbrev pub budget_after : ℕ → Event → ℕ → ℕ
@@ -120,7 +127,7 @@ pub record IsBooked (mirrors : List Mirror) (events : List Event) (service : Ser
 -- so is each book
 abbrev pub TotalsAreWithinBudgets : Machine → Type 0
 TotalsAreWithinBudgets machine =
-    Always machine (λ mirrors batch events service. (mirror : ℕ) → IsBooked mirrors events service mirror)
+    Always machine (λ mirrors start events service. (mirror : ℕ) → IsBooked mirrors events service mirror)
 
 -- the mirrors after an event: a raise of a present budget to one that is no less changes it
 abbrev pub mirrors_after : Event → List Mirror → List Mirror
@@ -136,27 +143,20 @@ mirrors_by (event ∷ events) mirrors = mirrors_by events (mirrors_after event m
 -- the present mirrors are those that the raises left, each of which changed just the budget of one mirror
 abbrev pub BudgetsAreThoseOfRaises : Machine → Type 0
 BudgetsAreThoseOfRaises machine =
-    Always machine (λ mirrors batch events service. present mirrors service ≡ mirrors_by events mirrors)
+    Always machine (λ mirrors start events service. present mirrors service ≡ mirrors_by events mirrors)
 
 -- a worker's share of a mirror is what the mirror granted for its jobs: for those that ended, with a reply or without
 -- one, and for the one that it has
 abbrev pub SharesAreOfJobs : Machine → Type 0
 SharesAreOfJobs machine =
     Always machine
-    (λ mirrors batch events service.
+    (λ mirrors start events service.
     (mirror : ℕ) →
     All (λ (worker : Worker). worker.share mirror ≡ sum_by (granted_for mirror) (jobs_of worker)) service.workers)
 
--- an accepted history with a batch, and not too long
-pub record IsAcceptedHistory (history : History) : Type 0 where
-  pub content : List App
-  pub led : LeadsTo history content
-  pub some : 1 ≤ length history
-  pub few : length history ≤ max_batches
-
 -- what is published is accepted
 abbrev pub PublishedIsAccepted : Machine → Type 0
-PublishedIsAccepted machine = Always machine (λ mirrors batch events service. IsAcceptedHistory service.history)
+PublishedIsAccepted machine = Always machine (λ mirrors start events service. IsAcceptedHistory service.history)
 
 -- a history begins with another one
 abbrev pub BeginsWith : History → History → Type 0
@@ -176,12 +176,12 @@ abbrev pub batches_given : List Event → List (List Edit)
 batches_given [] = []
 batches_given (event ∷ events) = batch_given event ++ batches_given events
 
--- each published batch was given so, as a whole
+-- each published batch was there at the start, or given so, as a whole
 abbrev pub BatchesArePublishedWhole : Machine → Type 0
 BatchesArePublishedWhole machine =
     Always machine
-    (λ mirrors batch events service.
-    All (λ (added : List Edit). Contains (batch ∷ batches_given events) added) service.history)
+    (λ mirrors start events service.
+    All (λ (added : List Edit). Contains (start ++ batches_given events) added) service.history)
 
 -- whoever publishes next, of whatever batches they know, gets what the definition says: a batch that is accepted and in
 -- turn is published, and no other. Of the machine of the service this is the definition of its event `Publish` again; it
@@ -189,7 +189,7 @@ BatchesArePublishedWhole machine =
 abbrev pub BatchesArePublishedInTurn : Machine → Type 0
 BatchesArePublishedInTurn machine =
     Always machine
-    (λ mirrors batch events service.
+    (λ mirrors start events service.
     (known : ℕ) (next : List Edit) →
     (machine mirrors service (Publish known next)).history ≡ published service.history known next)
 

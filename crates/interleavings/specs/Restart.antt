@@ -7,10 +7,11 @@ use Rattle.http_desks.specs.Calls.{Call, Leads}
 use Rattle.http_desks.specs.declared.desk.DeskStatus.{DeskStatus}
 use Rattle.mirror_ledger.specs.Asks.{Ask}
 use Rattle.omaha_json.specs.declared.request.Request.{Request}
-use Rattle.omaha_server.specs.Services.{service_of}
+use Rattle.services.specs.Services.{service_of}
 use Rattle.profile_toml.specs.Reading.{profile_of_bytes}
 use Rattle.records.specs.declared.mirror.Mirror.{Mirror}
-use Rattle.service_desks.specs.Operators.{IsCall, IsDump, State}
+use Rattle.service_desks.specs.Operators.{IsCall, IsDump}
+use Rattle.service_desks.specs.States.{State, Store}
 use Rattle.service_desks.specs.Workers.{stock_of}
 use Rattle.service_desks.specs.Answering.{IsReply, Stock}
 use Rattle.interleavings.specs.Jobs.{Pending}
@@ -76,6 +77,6 @@ pub record OpensAgain (mirrors : List Mirror) (old new : Service) : Type 0 where
 -- each service that opens so does
 abbrev pub ServicesOpenAgain : Type 0
 ServicesOpenAgain =
-    (mirrors : List Mirror) (service : Service) (text : List ℕ) (workers : ℕ)
-    (start : StartsFrom (state_of mirrors service) text) →
-    OpensAgain mirrors service (opened (present mirrors service) start.batch workers)
+    (mirrors : List Mirror) (service : Service) (store : Store) (text : List ℕ) (workers : ℕ)
+    (start : StartsFrom (state_of mirrors service store) text) →
+    OpensAgain mirrors service (opened (present mirrors service) (start.batch ∷ []) workers)

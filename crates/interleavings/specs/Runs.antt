@@ -107,7 +107,7 @@ shares_in service = map (λ (worker : Worker). worker.share 0) service.workers
 
 -- the small service after some events
 abbrev pub small_run : ℕ → List Event → Service
-small_run workers events = service_after happens small_mirrors small_batch workers events
+small_run workers events = service_after happens small_mirrors (small_batch ∷ []) workers events
 
 -- between the plan of one worker and its reply, the release is withdrawn; the other worker enters afterwards
 abbrev pub published_between : Service
@@ -181,6 +181,6 @@ unplanned = small_run 1 (Enter 0 ∷ Plan 0 small_request wrong_rows ∷ Grant 0
 
 pub record FailedConditions : Type 0 where
   pub history : nothing_happened.history ≡ small_batch ∷ []
-  pub workers : nothing_happened.workers ≡ new_worker ∷ []
+  pub workers : nothing_happened.workers ≡ new_worker 1 ∷ []
   pub total : (nothing_happened.books 0).total ≡ 0
   pub outcomes : outcomes_in unplanned ≡ [] ∷ []

@@ -21,10 +21,13 @@ pub record Service : Type 0 where
 abbrev pub opened_book : List Mirror → ℕ → Account
 opened_book mirrors mirror = record { budget = budget_at mirrors mirror; total = 0 }
 
--- a service that opens with a batch: it is published, and no worker has done anything
-abbrev pub opened : List Mirror → List Edit → ℕ → Service
-opened mirrors batch workers =
-    record { history = batch ∷ []; books = opened_book mirrors; workers = replicate workers new_worker }
+-- a service that opens with a history: it is published, each worker has seen it, and none has done anything
+abbrev pub opened : List Mirror → History → ℕ → Service
+opened mirrors start workers = record {
+  history = start;
+  books = opened_book mirrors;
+  workers = replicate workers (new_worker (length start));
+}
 
 -- the content that the first batches of a history lead to
 abbrev pub content_at : History → ℕ → List App

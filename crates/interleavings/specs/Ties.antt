@@ -1,6 +1,6 @@
 -- What the contracts of the program's functions say by helpers of events: `published`, `has_room`, `with_grant`,
 -- `with_budget` and `IsReplyOf`; and by events, what the operator's calls say. `Enter`, `Learn` and `Drop` have no law.
-use Rattle.std.specs.Prelude.{◌≡◌, ◌<◌, ◌≤◌, ◌⊎◌, ◌↔◌, ℕ, All, Bool, true, false, List, ◌++◌, length, Result, Ok, Err}
+use Rattle.std.specs.Prelude.{◌≡◌, ◌<◌, ◌≤◌, ◌⊎◌, ◌↔◌, ◌+◌, ◌-◌, ℕ, All, Bool, true, false, IfSome, List, ◌++◌, length, Option, option_to_list, Result, Ok, Err}
 use Rattle.catalogue.specs.declared.edit.Edit.{Edit}
 use Rattle.catalogue.specs.declared.fault.Refused.{Refused}
 use Rattle.catalogue_laws.specs.Histories.{History, LeadsTo}
@@ -22,8 +22,9 @@ use Rattle.publisher.specs.Publishing.{Publishes}
 use Rattle.publisher.specs.declared.fault.PublishError.{PublishError}
 use Rattle.publisher.specs.declared.fault.PublishError.TheVariants as publishing
 use Rattle.records.specs.declared.mirror.Mirror.{Mirror}
-use Rattle.service_desks.specs.Operators.{IsCall, State}
+use Rattle.service_desks.specs.Operators.{IsCall}
 use Rattle.service_desks.specs.Scripts.{Performs}
+use Rattle.service_desks.specs.States.{Publication, State, Store, earlier_in, settled}
 use Rattle.service_desks.specs.Workers.{Progress, Replies, stock_of}
 use Rattle.service_desks.specs.Answering.{IsReply, Stock}
 use Rattle.service_desks.specs.Asking.{asks_of}
@@ -75,9 +76,15 @@ RaisesAreEvents =
     (((books mirror).budget ≤ bytes) × Raises (books mirror) new bytes) ⊎ ((bytes < (books mirror).budget) × (new ≡ books mirror)) →
     with_budget books mirror bytes mirror ≡ new
 
--- the operator's view of a service over its mirrors: what is published, and the mirrors with their present budgets
-abbrev pub state_of : List Mirror → Service → State
-state_of mirrors service = record { mirrors = present mirrors service; history = service.history }
+-- the operator's view of a service over its mirrors: what is published, the mirrors with their present budgets, and what is
+-- kept
+abbrev pub state_of : List Mirror → Service → Store → State
+state_of mirrors service store =
+    record { mirrors = present mirrors service; history = service.history; store = store }
+
+-- what is due, if anything is, continues the published history by a batch
+abbrev pub IsDueAfter : History → Store → Type 0
+IsDueAfter history store = IfSome store.due (λ next. (batch : List Edit) × Continues history batch (Ok next))
 
 -- what a raise by a name comes to in a service: the event of that mirror and number; or nothing, and then the event
 -- wouldn't change the service either, if the number is below the present budget
@@ -102,18 +109,20 @@ is_of_operator (Publish known batch) = true
 is_of_operator (Raise mirror bytes) = true
 is_of_operator event = false
 
--- a service comes from another one by events of an operator, one at the most
-pub record IsOperatorStep (mirrors : List Mirror) (before : Service) (left : State) : Type 0 where
+-- a service comes from another one by events of an operator: by one at the most, but for the publish of what was due
+pub record IsOperatorStep (mirrors : List Mirror) (before : Service) (due : Option History) (left : State) : Type 0 where
   pub events : List Event
-  pub few : length events ≤ 1
+  pub few : length events ≤ 1 + length (option_to_list due)
   pub own : All (λ event. is_of_operator event ≡ true) events
-  pub leaves : state_of mirrors (run happens mirrors before events) ≡ left
+  pub leaves : state_of mirrors (run happens mirrors before events) left.store ≡ left
+  pub follows : IsDueAfter left.history left.store
 
 -- each call of the operator's desk is such a step
 abbrev pub OperatorCallsAreEvents : Type 0
 OperatorCallsAreEvents =
-    (mirrors : List Mirror) (service : Service) (call : Call) (after : State) →
-    IsCall (state_of mirrors service) call after → IsOperatorStep mirrors service after
+    (mirrors : List Mirror) (service : Service) (store : Store) (call : Call) (after : State) →
+    IsDueAfter service.history store → IsCall (state_of mirrors service store) call after →
+    IsOperatorStep mirrors service store.due after
 
 -- a reply in bytes, and what was asked for it, are those of a reply in the making whose choices are all decided
 pub record IsOfPending (stock : Stock) (request : Request) (moment : ℕ) (before after : List Ask)
@@ -148,9 +157,10 @@ WorkersReplyByOneHistory =
     (mirrors : List Mirror) (before after : Progress) (request : Request) (moment : ℕ) (text : List ℕ) →
     Replies mirrors before request moment (Ok text) after → IsOfOneHistory mirrors before after request moment text
 
--- a script that the operator's desk replies to is a publish by somebody who knows of as many batches as its base says
+-- a script that the operator's desk replies to is a publish, after what was due, by somebody who knows of as many batches
+-- as its base says
 abbrev pub ScriptsArePublished : Type 0
 ScriptsArePublished =
-    (before : History) (input : List ℕ) (script : ℕ × List Edit) (reply : DeskStatus × List ℕ) (after : History) →
+    (before : Publication) (input : List ℕ) (script : ℕ × List Edit) (reply : DeskStatus × List ℕ) (after : Publication) →
     script_of_bytes input ≡ Ok script → Performs before input (Ok reply) after →
-    after ≡ published before script.0 script.1
+    after.history ≡ published (settled before).history (script.0 - earlier_in before.store) script.1

@@ -16,7 +16,7 @@ ghost use Rattle.interleavings.specs.Wrong.{EntriesBreak, GrantsBreak, PlansAndR
 // rule: Event
 // rule: Interleaving
 // rule: Every interleaving
-/// States what holds of a service after every list of events since it opened with an accepted batch, for any number
+/// States what holds of a service after every list of events since it opened with an accepted history, for any number
 /// of workers, mirrors and batches.
 ///
 /// Each rendered reply is the reply to its request at its time, by its outcomes and by the first batches that are

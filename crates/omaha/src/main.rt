@@ -4,7 +4,8 @@
 
 #![tactic(auto)]
 
-use omaha_cli::{Sockets, report_unreadable, run};
+use history::HistoryFiles;
+use omaha_cli::{ReportingStores, Sockets, report_unreadable, run};
 use std::process::ExitCode;
 use std::rt::Env;
 use std::{env, io};
@@ -19,10 +20,15 @@ fn main(rt: HostRuntime) -> ExitCode {
     let mut input = rt.stdin();
     let mut output = rt.stdout();
     let mut errors = rt.stderr();
+    let stores = ReportingStores {
+        rt: &rt,
+        stores: HistoryFiles { rt: &rt },
+    };
     ExitCode::from(match arguments(&rt) {
         Ok(arguments) => run(
             &rt,
             &Sockets { rt: &rt },
+            &stores,
             &arguments,
             &mut input,
             &mut output,

@@ -6,6 +6,7 @@ use Rattle.clap.specs.Kinds.{or_else}
 use Rattle.clap.specs.Simple.{on_top}
 use Rattle.clap.specs.Words.{App, Kinds, Row, Text, fault_of, first_of, new_app, subcommand_of, with_rule, with_subcommand}
 use Rattle.clap.specs.declared.error.kind.ErrorKind.TheVariants.{ValueValidation}
+use Rattle.omaha_arguments.specs.HistoryArguments.{asked_in, faults_of_history, history_app}
 use Rattle.omaha_arguments.specs.OperatorArguments.{dump_app, dump_in, publication_in, publish_app, raise_app, raise_in}
 use Rattle.omaha_arguments.specs.Options.{number_in, option_named, strings_in, workers_in}
 use Rattle.omaha_arguments.specs.ReportArguments.{certify_app, check_app, comparison_in, describe_app, explain_app, faults_of_check, faults_of_report, report_in, verify_app}
@@ -36,8 +37,10 @@ omaha_app =
     (with_subcommand
     (with_subcommand
     (with_subcommand
+    (with_subcommand
     (with_subcommand (with_subcommand (with_subcommand plain_app serve_app.top) publish_app.top) raise_app.top)
     dump_app.top)
+    history_app.top)
     check_app.top)
     walk_app.top)
     describe_app.top)
@@ -81,11 +84,12 @@ command_in name options =
     else (if bytes_eq name (codes "publish") then command.Publish (publication_in options)
     else (if bytes_eq name (codes "raise") then command.Raise (raise_in options)
     else (if bytes_eq name (codes "dump") then command.Dump (dump_in options)
+    else (if bytes_eq name (codes "history") then command.History (asked_in options)
     else (if bytes_eq name (codes "explain") then command.Explain (first_of (codes "CODE") options)
     else (if bytes_eq name (codes "walk") then command.Walk (walk_in options)
     else (if bytes_eq name (codes "describe") then command.Describe (strings_in (codes "FILE") options)
     else (if bytes_eq name (codes "check") then check_in options
-    else command.Report (report_in name 1 options)))))))))
+    else command.Report (report_in name 1 options))))))))))
 
 -- what is wrong with the options of the command of a name
 abbrev pub faults_in : List ℕ → List Row → Kinds
@@ -95,10 +99,11 @@ faults_in name options =
     else (if bytes_eq name (codes "publish") then []
     else (if bytes_eq name (codes "raise") then []
     else (if bytes_eq name (codes "dump") then []
+    else (if bytes_eq name (codes "history") then faults_of_history options
     else (if bytes_eq name (codes "explain") then []
     else (if bytes_eq name (codes "walk") then faults_of_walk options
     else (if bytes_eq name (codes "describe") then []
-    else (if bytes_eq name (codes "check") then faults_of_check options else faults_of_report name options))))))))
+    else (if bytes_eq name (codes "check") then faults_of_check options else faults_of_report name options)))))))))
 
 -- rule: Arguments of the command line
 -- what the arguments ask for

@@ -1,5 +1,6 @@
 pub mod Commands
 pub mod Errors
+pub mod HistoryArguments
 pub mod OperatorArguments
 pub mod Options
 pub mod ReportArguments

@@ -1,12 +1,12 @@
 -- The options of the command `serve`; this project's profile.
-use Rattle.std.specs.Prelude.{ℕ, ◌&&◌, Bool, if◌then◌else◌, List, [], ◌∷◌, codes, is_some, nat_lt, Option, None, Some, unwrap_or}
+use Rattle.std.specs.Prelude.{ℕ, ◌&&◌, ◌||◌, Bool, if◌then◌else◌, List, [], ◌∷◌, codes, is_some, nat_lt, Option, None, Some, unwrap_or}
 use Rattle.std.specs.Option.{option_map, option_map_or}
 use Rattle.clap.specs.Words.{App, Kinds, Row, first_of, new_app, with_rule}
-use Rattle.clap.specs.declared.error.kind.ErrorKind.TheVariants.{ValueValidation}
+use Rattle.clap.specs.declared.error.kind.ErrorKind.TheVariants.{MissingRequiredArgument, ValueValidation}
 use Rattle.omaha_arguments.specs.Options.{number_in, number_of, option_named, string_in, wanted_option, workers_in}
 use Rattle.omaha_arguments.specs.declared.command.Serve.{Serve}
 
--- the command `serve`, with its twelve options
+-- the command `serve`, with its fourteen options
 abbrev pub serve_app : App
 serve_app =
     with_rule
@@ -19,7 +19,11 @@ serve_app =
     (with_rule
     (with_rule
     (with_rule
-    (with_rule (with_rule (new_app (codes "serve")) (wanted_option (codes "profile"))) (wanted_option (codes "packages")))
+    (with_rule
+    (with_rule
+    (with_rule (with_rule (new_app (codes "serve")) (option_named (codes "profile"))) (option_named (codes "history")))
+    (option_named (codes "history-limit")))
+    (wanted_option (codes "packages")))
     (wanted_option (codes "listen")))
     (option_named (codes "operator")))
     (option_named (codes "workers")))
@@ -64,7 +68,9 @@ connections_in options = option_map_or connections_of (number_in (codes "connect
 abbrev pub serve_in : List Row → Serve
 serve_in options =
     record {
-      profile = string_in (codes "profile") options;
+      profile = first_of (codes "profile") options;
+      history = first_of (codes "history") options;
+      history_limit = unwrap_or (number_in (codes "history-limit") 67108864 options) 0;
       packages = string_in (codes "packages") options;
       listen = string_in (codes "listen") options;
       operator = first_of (codes "operator") options;
@@ -78,6 +84,10 @@ serve_in options =
       log = first_of (codes "log") options;
     }
 
+-- a profile or a history is named
+abbrev pub is_named : List Row → Bool
+is_named options = is_some (first_of (codes "profile") options) || is_some (first_of (codes "history") options)
+
 -- what is wrong with the options of `serve`
 abbrev pub faults_of_serve : List Row → Kinds
 faults_of_serve options =
@@ -85,4 +95,5 @@ faults_of_serve options =
     && is_some (limit_in (codes "edits") options) && is_some (seconds_in (codes "timeout") 30 options)
     && is_some (seconds_in (codes "idle") 60 options) && is_some (connections_in options)
     && is_some (number_in (codes "pinned-tables") 256 options)
-    then [] else ValueValidation ∷ []
+    && is_some (number_in (codes "history-limit") 67108864 options)
+    then (if is_named options then [] else MissingRequiredArgument ∷ []) else ValueValidation ∷ []

@@ -60,3 +60,4 @@ IsAskable (command.Walk walk) = IsAppid walk.app
 IsAskable (command.Publish publication) = ⊤
 IsAskable (command.Raise raise) = ⊤
 IsAskable (command.Dump listener) = ⊤
+IsAskable (command.History asked) = ⊤

@@ -26,6 +26,8 @@ pub enum Command {
     Raise(Raise),
     /// To print the profile that a running server has published: its operator's listener, as `HOST:PORT`.
     Dump(Text),
+    /// To read a history, or to make it shorter.
+    History(HistoryAsked),
 }
 
 /// What the command `once` is asked to do.
@@ -37,11 +39,35 @@ pub struct Once {
     pub moment: u64,
 }
 
-/// What the command `serve` is asked to do.
+/// What the command `history` is asked to do.
+#[derive(Drop)]
+pub struct HistoryAsked {
+    /// The path of the history.
+    pub path: Text,
+    /// What to do with it.
+    pub action: HistoryAction,
+}
+
+/// What to do with a history.
+#[derive(Clone, Copy, Drop)]
+pub enum HistoryAction {
+    /// To list its records.
+    List,
+    /// To print the profile of the edition of this number, or of the last one.
+    Export(Option<u64>),
+    /// To replace its records by one, the profile of the last edition.
+    Compact,
+}
+
+/// What the command `serve` is asked to do. It names a profile or a history, or both.
 #[derive(Drop)]
 pub struct Serve {
-    /// The path of the profile.
-    pub profile: Text,
+    /// The path of the profile, or `None` for that of the history.
+    pub profile: Option<Text>,
+    /// The path of the history that keeps what is published, or `None` for none.
+    pub history: Option<Text>,
+    /// How many bytes the history's records may have together.
+    pub history_limit: u64,
     /// The path of the folder of packages.
     pub packages: Text,
     /// The address to listen on.

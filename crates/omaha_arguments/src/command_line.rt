@@ -10,6 +10,7 @@ ghost use Rattle.omaha_arguments.specs.WalkArguments.{IsAskable};
 
 use crate::command::{Command, Once};
 use crate::error::{ArgumentError, argument_error};
+use crate::history_arguments::{history_command, read_history};
 use crate::once_arguments::{once_command, read_once};
 use crate::operator_arguments::{
     dump_command, publish_command, raise_command, read_dump, read_publication, read_raise,
@@ -64,6 +65,7 @@ fn omaha_command<'a>(alloc: Global) -> Making<'a>
     let program = with_command(program, publish_command(alloc));
     let program = with_command(program, raise_command(alloc));
     let program = with_command(program, dump_command(alloc));
+    let program = with_command(program, history_command(alloc));
     let program = with_command(program, check_command(alloc));
     let program = with_command(program, walk_command(alloc));
     let program = with_command(program, describe_command(alloc));
@@ -106,6 +108,9 @@ fn read_command(alloc: Global, name: &str, matches: &ArgMatches<'_>) -> Result<C
     }
     if name == "dump" {
         return Ok(Command::Dump(read_dump(alloc, matches)?));
+    }
+    if name == "history" {
+        return Ok(Command::History(read_history(alloc, matches)?));
     }
     if name == "explain" {
         return Ok(Command::Explain(optional_string(alloc, matches, "CODE")?));

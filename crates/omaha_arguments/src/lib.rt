@@ -3,7 +3,7 @@
 //! `read_arguments` reads them with `clap` and gives a `Command`, or why there is none: the help or the
 //! version was asked for, or they are invalid. What they mean is said by `specs/Commands.antt` and, for the
 //! commands that report on a profile, `specs/ReportArguments.antt`; for `serve`, `specs/ServeArguments.antt`; for
-//! `publish`, `raise` and `dump`, `specs/OperatorArguments.antt`; for `walk`, `specs/WalkArguments.antt`. How they are
+//! `publish`, `raise` and `dump`, `specs/OperatorArguments.antt`; for `history`, `specs/HistoryArguments.antt`; for `walk`, `specs/WalkArguments.antt`. How they are
 //! rejected is said by `specs/Errors.antt`.
 //!
 //! It opens no file and carries nothing out.
@@ -13,6 +13,7 @@
 mod command;
 mod command_line;
 mod error;
+mod history_arguments;
 mod once_arguments;
 mod operator_arguments;
 mod options;
@@ -21,7 +22,8 @@ mod serve_arguments;
 mod walk_arguments;
 
 pub use crate::command::{
-    Command, Comparison, Once, Publication, Question, Raise, Report, Serve, Walk,
+    Command, Comparison, HistoryAction, HistoryAsked, Once, Publication, Question, Raise, Report,
+    Serve, Walk,
 };
 pub use crate::command_line::read_arguments;
 pub use crate::error::ArgumentError;

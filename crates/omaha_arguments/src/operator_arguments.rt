@@ -27,8 +27,10 @@ server's reply:
   `edition 5`                      the script is published as edition 5
   `stale 5`                        edition 5 is published, and `base` is another number
   `refused 0 C11 UnknownRelease`   the catalogue rejects an edit, the first one of number 0
-  `history full`                   there are 4096 editions; restart the server from a dump
+  `history full`                   there are 4096 editions; compact the history, or serve a dump
   `F3 BadEntry edit[0].on`         the script is invalid, with the location
+  nothing                          out of memory, or the server can't keep the script: see its
+                                   standard error
 `omaha explain C11` explains a code. Split a script of more than 262144 bytes.
 
 If the command fails, it prints one line on standard error.
@@ -52,7 +54,10 @@ const BUDGET: &str = "The budget in bytes, from the present one to 1152921504606
 const RAISE: &str = "Raises a mirror's budget on a running server.";
 
 const AFTER_RAISE: &str =
-    "The budget counts all that the mirror was granted since the server started.
+    "The budget counts all that the mirror was granted since the server started. A server with --history
+keeps the raise, but not what was granted: after a restart the mirror may be granted its whole
+budget again. To leave it only the rest, stop the server, change `budget` in the profile that
+`omaha history export` prints, and begin a new history with it.
 `omaha raise` sends NAME and BUDGET as they are, and prints the server's reply:
   `raised m0 510`              the mirror `m0` has a budget of 510 bytes
   `refused B1 UnknownMirror`   no mirror has the name
@@ -60,7 +65,9 @@ const AFTER_RAISE: &str =
   `refused B3 Lower 510`       the mirror has a budget of 510 bytes, which is above the new one
   `bad raise`                  NAME is empty or has a space, or BUDGET is no decimal number
                                without leading zeros
-`omaha explain B3` explains a code. A raise is lost with the server: put it into the profile too.
+  nothing                      out of memory, or the server can't keep the raise: see its
+                               standard error
+`omaha explain B3` explains a code. Without --history put the budget into the profile, too.
 
 If the command fails, it prints one line on standard error.
   omaha: net ADDR   the server can't be reached at ADDR, or its reply isn't whole

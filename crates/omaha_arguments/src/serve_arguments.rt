@@ -1,9 +1,9 @@
 // The options of the command `serve`.
 
-ghost use Rattle.std.specs.Prelude.{◌≡◌, codes, IfOk};
-ghost use Rattle.clap.specs.Words.{FailsBy, found_of, kind_of, rows_of};
+ghost use Rattle.std.specs.Prelude.{◌≡◌, codes, IfOk, is_some};
+ghost use Rattle.clap.specs.Words.{FailsBy, first_of, found_of, kind_of, rows_of};
 ghost use Rattle.omaha_arguments.specs.Options.{IsMade};
-ghost use Rattle.omaha_arguments.specs.ServeArguments.{connections_in, connections_of, faults_of_serve, limit_in, limit_of, seconds_in, seconds_of, serve_app, serve_in};
+ghost use Rattle.omaha_arguments.specs.ServeArguments.{connections_in, connections_of, faults_of_serve, is_named, limit_in, limit_of, seconds_in, seconds_of, serve_app, serve_in};
 
 use crate::command::Serve;
 use crate::options::{
@@ -18,6 +18,10 @@ use values::Text;
 const SERVE: &str = "Serves a profile's catalogue and its packages over HTTP.";
 
 const PROFILE: &str = "The catalogue and its mirrors: a TOML file of at most 256 MiB";
+
+const HISTORY: &str = "Where to keep what is published: a file, new or kept [default: none]";
+
+const HISTORY_LIMIT: &str = "How many bytes the history may have [default: 67108864]";
 
 const PACKAGES: &str = "The folder of the packages, each under its name in the catalogue";
 
@@ -51,12 +55,18 @@ between two messages is closed for the next. An operator may
 Anybody who reaches that address may publish and raise, so keep it on the loopback. After the last
 session it prints one line for each mirror: its name, and how many bytes it was granted.
 
+With --history each script and each raise is kept in that file before it takes effect and is
+replied to, so a server that is started again has the edition, the catalogue and the budgets of all
+that it replied to. A new file begins with the profile. Without --profile the file is enough; with
+it the profile must still be the one that the file began with. `omaha history` reads the file.
+
 If the command fails, it prints one line on standard error.
   omaha: file F                F can't be read, has over 256 MiB, or can't be opened for the log
   omaha: file DIR              there is no such folder of packages
   omaha: F3 BadEntry app[0].id the profile is invalid, with the location
   omaha: edit 12: C11 UnknownRelease
                                an edit of the profile is rejected
+  omaha: history F: REASON     the history can't be opened or read, or began with another profile
   omaha: no place              a worker found no place among the readers of the editions
   omaha: net ADDR              ADDR is no address, is in use, or may not be listened on
   omaha: thread                a worker's thread can't be started; no connection was accepted
@@ -73,7 +83,9 @@ pub(crate) fn serve_command<'a>(alloc: Global) -> Making<'a>
     ensures { IsMade serve_app result }
 {
     let command = titled(alloc, "serve", SERVE, AFTER_SERVE);
-    let command = with_wanted_option(alloc, command, "profile", "F", PROFILE);
+    let command = with_option(alloc, command, "profile", "F", PROFILE);
+    let command = with_option(alloc, command, "history", "FILE", HISTORY);
+    let command = with_option(alloc, command, "history-limit", "BYTES", HISTORY_LIMIT);
     let command = with_wanted_option(alloc, command, "packages", "DIR", PACKAGES);
     let command = with_wanted_option(alloc, command, "listen", "ADDR", LISTEN);
     let command = with_option(alloc, command, "operator", "ADDR", OPERATOR);
@@ -108,8 +120,8 @@ fn limit_of(text: &str) -> Option<Option<u64>>
     }
 }
 
-// How many sessions an option says.
-fn limit_in(matches: &ArgMatches<'_>, id: &str) -> Option<Option<u64>>
+/// The number of an option, or `None` without it; or none if that is no number.
+pub(crate) fn limit_in(matches: &ArgMatches<'_>, id: &str) -> Option<Option<u64>>
     ensures { result ≡ limit_in id.now (rows_of (found_of matches.now)) }
 {
     match matches.get_str(id) {
@@ -167,7 +179,37 @@ fn invalid_bound(alloc: Global) -> Result<Error, AllocError>
     let mut command = serve_command(alloc)?.bin_name("omaha serve")?;
     command.error(
         ErrorKind::ValueValidation,
-        "SECONDS is from 1 to 86400, a COUNT of connections from 1 to 1048576, and of tables below 2^64",
+        "SECONDS is from 1 to 86400, a COUNT of connections from 1 to 1048576, and of tables, and BYTES, below 2^64",
+    )
+}
+
+// Whether an option is given.
+fn is_given(matches: &ArgMatches<'_>, id: &str) -> bool
+    ensures { result ≡ is_some (first_of id.now (rows_of (found_of matches.now))) }
+{
+    match matches.get_str(id) {
+        Some(_) => true,
+        None => false,
+    }
+}
+
+// Whether a profile or a history is named.
+fn is_named(matches: &ArgMatches<'_>) -> bool
+    ensures { result ≡ is_named (rows_of (found_of matches.now)) }
+{
+    let by_profile = is_given(matches, "profile");
+    let by_history = is_given(matches, "history");
+    by_profile || by_history
+}
+
+// The error of a server that has nothing to serve, built like the errors of `clap`.
+fn missing_profile(alloc: Global) -> Result<Error, AllocError>
+    ensures { IfOk result (λ error. kind_of error ≡ ErrorKind.MissingRequiredArgument) }
+{
+    let mut command = serve_command(alloc)?.bin_name("omaha serve")?;
+    command.error(
+        ErrorKind::MissingRequiredArgument,
+        "name a profile by --profile <F>, or a history by --history <FILE>",
     )
 }
 
@@ -192,8 +234,16 @@ pub(crate) fn read_serve(alloc: Global, matches: &ArgMatches<'_>) -> Result<Serv
     ) else {
         return Err(invalid_bound(alloc)?);
     };
+    let Some(history_limit) = number_in(matches, "history-limit", 67108864) else {
+        return Err(invalid_bound(alloc)?);
+    };
+    if !is_named(matches) {
+        return Err(missing_profile(alloc)?);
+    }
     Ok(Serve {
-        profile: Text::copy_of(alloc, string_in(matches, "profile"))?,
+        profile: optional_string(alloc, matches, "profile")?,
+        history: optional_string(alloc, matches, "history")?,
+        history_limit,
         packages: Text::copy_of(alloc, string_in(matches, "packages"))?,
         listen: Text::copy_of(alloc, string_in(matches, "listen"))?,
         operator: optional_string(alloc, matches, "operator")?,

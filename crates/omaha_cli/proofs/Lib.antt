@@ -1,2 +1,1 @@
-mod DescriptionLemmas
 mod EndingLemmas

@@ -1,28 +1,30 @@
 -- What a command does; this project's profile.
 use Rattle.std.specs.Prelude.{◌≡◌, ⊤, Result}
 use Rattle.omaha_server.specs.Serving.{IsSilent}
-use Rattle.omaha_cli.specs.Comparing.{Compares}
-use Rattle.omaha_cli.specs.Describing.{PrintsDescriptions}
-use Rattle.omaha_cli.specs.Explaining.{Explains}
-use Rattle.omaha_cli.specs.Once.{Responds}
-use Rattle.omaha_cli.specs.Operating.{Dumps, Publishes, Raises}
-use Rattle.omaha_cli.specs.Reports.{Reports}
+use Rattle.omaha_commands.specs.Comparing.{Compares}
+use Rattle.omaha_commands.specs.Describing.{PrintsDescriptions}
+use Rattle.omaha_commands.specs.Explaining.{Explains}
+use Rattle.omaha_histories.specs.Histories.{PrintsHistory}
+use Rattle.omaha_once.specs.Once.{Responds}
+use Rattle.omaha_commands.specs.Operating.{Dumps, Publishes, Raises}
+use Rattle.omaha_commands.specs.Reports.{Reports}
 use Rattle.omaha_cli.specs.Serving.{ServesOn}
-use Rattle.omaha_cli.specs.Streams.{Streams}
-use Rattle.omaha_cli.specs.Walking.{WalksOn}
+use Rattle.omaha_commands.specs.Streams.{Streams}
+use Rattle.omaha_commands.specs.Walking.{WalksOn}
 use Rattle.omaha_cli.specs.Worlds.{World}
 use Rattle.omaha_arguments.specs.declared.command.Command.{Command}
 use Rattle.omaha_arguments.specs.declared.command.Command.TheVariants as command
-use Rattle.omaha_cli.specs.declared.failure.Failure.{Failure}
+use Rattle.omaha_commands.specs.declared.failure.Failure.{Failure}
 
--- a reply to a request, a report on a profile or on its packages, descriptions of files, the explanation of a code, a
--- server, a walk, or a call of an operator's listener
+-- a reply to a request, a report on a profile or on its packages, descriptions of files, the explanation of a code, what
+-- a history has, a server, a walk, or a call of an operator's listener
 abbrev pub Does : World → Command → Streams → Streams → Result (Unit {0}) Failure → Type 0
 Does world (command.Once once) old new result = Responds world.files once old new result
 Does world (command.Report report) old new result = Reports world.files report old new result
 Does world (command.Compare asked) old new result = Compares world.files world.storage asked old new result
 Does world (command.Describe paths) old new result = PrintsDescriptions world.storage paths old new result
 Does world (command.Explain code) old new result = Explains code old new result
+Does world (command.History asked) old new result = PrintsHistory asked old new result
 Does world (command.Serve serve) old new result = ServesOn world.files world.edges serve old new result
 Does world (command.Walk walk) old new result = WalksOn world.replies walk old new result
 Does world (command.Publish asked) old new result =

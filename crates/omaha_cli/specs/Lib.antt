@@ -1,14 +1,4 @@
-pub mod Comparing
-pub mod Describing
 pub mod Doing
-pub mod Explaining
-pub mod Failures
-pub mod Once
-pub mod Operating
-pub mod Rejections
-pub mod Reports
 pub mod Running
 pub mod Serving
-pub mod Streams
-pub mod Walking
 pub mod Worlds

@@ -8,11 +8,11 @@ use Rattle.omaha_arguments.specs.Errors.{AsksToShow, HasMistake}
 use Rattle.omaha_arguments.specs.declared.error.ArgumentError.{ArgumentError}
 use Rattle.omaha_arguments.specs.declared.error.ArgumentError.TheVariants as argument
 use Rattle.omaha_cli.specs.Doing.{Does, IsSilentCommand}
-use Rattle.omaha_cli.specs.Failures.{failure_string}
-use Rattle.omaha_cli.specs.Streams.{Streams}
+use Rattle.omaha_commands.specs.Failures.{failure_string, is_declined}
+use Rattle.omaha_commands.specs.Streams.{Streams}
 use Rattle.omaha_cli.specs.Worlds.{World}
-use Rattle.omaha_cli.specs.declared.failure.Failure.{Failure}
-use Rattle.omaha_cli.specs.declared.failure.Failure.TheVariants as failure
+use Rattle.omaha_commands.specs.declared.failure.Failure.{Failure}
+use Rattle.omaha_commands.specs.declared.failure.Failure.TheVariants as failure
 use Rattle.omaha_cli.specs.declared.running.Ending.{Ending}
 use Rattle.omaha_cli.specs.declared.running.Ending.TheVariants as ending
 use Rattle.omaha_cli.specs.declared.running.Status.{Status}
@@ -71,11 +71,6 @@ failure_line refusal = codes "omaha: " ++ failure_string refusal ++ 10 ∷ []
 abbrev pub IsPrinted : Failure → Known → Known → Type 0
 IsPrinted refusal before after =
     IsWritten before after (failure_line refusal) ⊎ IsWritten before after (failure_line failure.Memory)
-
--- the operator's listener declined, and said why on the standard output
-abbrev pub is_declined : Failure → Bool
-is_declined failure.Declined = true
-is_declined other = false
 
 -- what is printed on the standard error after an ending
 abbrev pub IsReported : Ending → Known → Known → Type 0

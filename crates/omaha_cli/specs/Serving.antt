@@ -2,17 +2,18 @@
 use Rattle.std.specs.Prelude.{◌≡◌, ◌⊎◌, ℕ, max, min, List, Option, None, Some, Result, Ok, Err}
 use Rattle.streams.specs.Streams.{Known}
 use Rattle.omaha_arguments.specs.declared.command.Serve.{Serve}
-use Rattle.omaha_server.specs.Edges.{Edges}
+use Rattle.systems.specs.Edges.{Edges}
 use Rattle.omaha_server.specs.Passages.{Passages}
 use Rattle.omaha_server.specs.Serving.{IsLogged, Serves}
 use Rattle.omaha_server.specs.declared.error.ServerError.{ServerError}
 use Rattle.omaha_server.specs.declared.error.ServerError.TheVariants as server
 use Rattle.omaha_server.specs.declared.place.Place.{Place}
-use Rattle.omaha_server.specs.declared.service.Service.{Service}
-use Rattle.omaha_cli.specs.Once.{Files, IsServed}
-use Rattle.omaha_cli.specs.Streams.{Streams}
-use Rattle.omaha_cli.specs.declared.failure.Failure.{Failure}
-use Rattle.omaha_cli.specs.declared.failure.Failure.TheVariants as failure
+use Rattle.service_desks.specs.States.{store}
+use Rattle.omaha_commands.specs.Profiles.{Files}
+use Rattle.omaha_commands.specs.Streams.{Streams}
+use Rattle.omaha_commands.specs.declared.failure.Failure.{Failure}
+use Rattle.omaha_commands.specs.declared.failure.Failure.TheVariants as failure
+use Rattle.omaha_histories.specs.Histories.{Beginning, IsBegun}
 
 -- the failure of a server whose log can't be opened; naming its file takes memory
 abbrev pub IsUnopened : Option (List ℕ) → Failure → Type 0
@@ -31,7 +32,6 @@ EndsBy server.Log serve result = (named : Failure) × IsUnopened serve.log named
 EndsBy server.Folder serve result = (result ≡ Err (failure.File serve.packages)) ⊎ (result ≡ Err failure.Memory)
 EndsBy server.OperatorNet serve result = (named : Failure) × IsUnbound serve.operator named × (result ≡ Err named)
 EndsBy server.NoPlace serve result = result ≡ Err failure.NoPlace
-EndsBy server.Closed serve result = result ≡ Err failure.Closed
 EndsBy server.Thread serve result = result ≡ Err failure.Thread
 EndsBy server.Write serve result = result ≡ Err failure.Write
 EndsBy server.Memory serve result = result ≡ Err failure.Memory
@@ -55,30 +55,30 @@ pub record IsPlaceOf (serve : Serve) (place : Place) : Type 0 where
   pub connections : place.connections ≡ serve.connections
   pub pinned_tables : place.pinned_tables ≡ serve.pinned_tables
 
--- a service was served at that place to its end, or to an error
-pub record IsHostedAt (edges : Edges) (service : Service) (serve : Serve) (old new : Known) (result : Result (Unit {0}) Failure) : Type 0 where
+-- what a server began with was served at that place to its end, or to an error; what is kept begins with its records
+pub record IsHostedAt (edges : Edges) (begins : Beginning) (serve : Serve) (old new : Known) (result : Result (Unit {0}) Failure) : Type 0 where
   pub place : Place
   pub placed : IsPlaceOf serve place
   pub ended : Result Passages ServerError
-  pub serves : Serves edges place service old new ended
+  pub serves : Serves edges place begins.service (store begins.first begins.records None) old new ended
   pub logged : IsLogged edges place.log ended
   pub ends : EndsAs ended serve result
 
 -- the same, or memory ran out before
-abbrev pub IsHosted : Edges → Service → Serve → Known → Known → Result (Unit {0}) Failure → Type 0
-IsHosted edges service serve old new result =
-    IsHostedAt edges service serve old new result
+abbrev pub IsHosted : Edges → Beginning → Serve → Known → Known → Result (Unit {0}) Failure → Type 0
+IsHosted edges begins serve old new result =
+    IsHostedAt edges begins serve old new result
     ⊎ ((result ≡ Err failure.Memory) × (new ≡ old))
 
--- what follows from what was made of the profile
-abbrev pub IsServedBy : Edges → Result Service Failure → Serve → Streams → Streams → Result (Unit {0}) Failure → Type 0
-IsServedBy edges (Ok service) serve old new result =
-    IsHosted edges service serve old.output new.output result × (new.input ≡ old.input)
+-- what follows from what the server begins with
+abbrev pub IsServedBy : Edges → Result Beginning Failure → Serve → Streams → Streams → Result (Unit {0}) Failure → Type 0
+IsServedBy edges (Ok begins) serve old new result =
+    IsHosted edges begins serve old.output new.output result × (new.input ≡ old.input)
 IsServedBy edges (Err refusal) serve old new result = (result ≡ Err refusal) × (new ≡ old)
 
 -- rule: Service over HTTP
--- the profile is read first, and its service is served
+-- what a server begins with is opened first: that of the history that is named, or of the profile; its service is served
 pub record ServesOn (files : Files) (edges : Edges) (serve : Serve) (old new : Streams) (result : Result (Unit {0}) Failure) : Type 0 where
-  pub made : Result Service Failure
-  pub served : IsServed files (Some serve.profile) made
+  pub made : Result Beginning Failure
+  pub begun : IsBegun files serve.history serve.profile made
   pub follows : IsServedBy edges made serve old new result

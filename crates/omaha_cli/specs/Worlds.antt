@@ -1,10 +1,10 @@
 -- What is known of what a run reads, serves and reaches; this project's profile.
 use Rattle.std.specs.Prelude.{ℕ, List}
-use Rattle.omaha_server.specs.Edges.{Edges}
+use Rattle.systems.specs.Edges.{Edges}
 use Rattle.package_files.specs.Storages.{Storage}
 use Rattle.update_client.specs.Walks.{Post}
-use Rattle.omaha_cli.specs.Once.{Files}
-use Rattle.omaha_cli.specs.Operating.{Listeners}
+use Rattle.omaha_commands.specs.Profiles.{Files}
+use Rattle.omaha_commands.specs.Operating.{Listeners}
 
 -- rule: Edges of the program
 -- of each file, by its path; of the files in folders; of addresses, connections and logs; which posts were made to the

@@ -5,24 +5,23 @@ ghost use Rattle.omaha_arguments.specs.WalkArguments.{IsAskable};
 ghost use Rattle.omaha_cli.specs.Doing.{Does, IsSilentCommand};
 ghost use Rattle.omaha_cli.specs.Running.{Ends, EndsBy, IsMistaken, IsReported, IsPrinted, IsSilentRun, Runs, Shows, code_of, status_of};
 
-use crate::comparing::compare_on;
-use crate::describing::describe_files;
-use crate::explaining::explain_code;
-use crate::failure::Failure;
-use crate::once::respond;
-use crate::operating::{dump_on, publish_on, raise_on};
-use crate::reporting::report_on;
 use crate::serving::serve_profile;
-use crate::walking::walk_on;
 use http_ports::Port;
+use kept_records::Stores;
 use omaha_arguments::{ArgumentError, Command, read_arguments};
-use omaha_server::System;
+use omaha_commands::{
+    Failure, compare_on, describe_files, dump_on, explain_code, publish_on, raise_on, report_on,
+    walk_on,
+};
+use omaha_histories::print_history;
+use omaha_once::respond;
 use package_files::Folders;
 use std::alloc::Global;
 use std::sync::Wait;
 use std::thread::Threads;
 use std::time::Clock;
 use streams::{Disk, ReadWhole, WriteWhole, offer};
+use systems::System;
 use update_client::Connector;
 use values::Text;
 
@@ -104,12 +103,14 @@ fn obey<
     P: Port + Send + Drop,
     S: System<P> + Sync,
     R: Disk + Folders + Clock + Connector + AllocGlobal + Threads + Sync + Wait,
+    H: Stores,
     I: ReadWhole,
     W: WriteWhole,
     F: WriteWhole + Send,
 >(
     rt: &R,
     system: &S,
+    stores: &H,
     command: &Command,
     reader: &mut I,
     writer: &mut W,
@@ -127,11 +128,12 @@ fn obey<
         Command::Compare(asked) => compare_on(rt, asked, writer),
         Command::Describe(paths) => describe_files(rt.alloc(), rt, paths.as_slice(), writer),
         Command::Explain(code) => explain_code(rt.alloc(), code, writer),
-        Command::Serve(asked) => serve_profile(rt, system, asked, writer, errors),
+        Command::Serve(asked) => serve_profile(rt, system, stores, asked, writer, errors),
         Command::Walk(asked) => walk_on(rt.alloc(), rt, asked, writer),
         Command::Publish(asked) => publish_on(rt, rt.alloc(), asked, writer),
         Command::Raise(asked) => raise_on(rt, rt.alloc(), asked, writer),
         Command::Dump(to) => dump_on(rt, rt.alloc(), to, writer),
+        Command::History(asked) => print_history(rt, stores, asked, writer),
     }
 }
 
@@ -140,12 +142,14 @@ fn carry_out<
     P: Port + Send + Drop,
     S: System<P> + Sync,
     R: Disk + Folders + Clock + Connector + AllocGlobal + Threads + Sync + Wait,
+    H: Stores,
     I: ReadWhole,
     W: WriteWhole,
     F: WriteWhole + Send,
 >(
     rt: &R,
     system: &S,
+    stores: &H,
     arguments: &[String],
     reader: &mut I,
     writer: &mut W,
@@ -158,7 +162,7 @@ fn carry_out<
     ensures untouched { IsMistaken result → (reader.new ≡ reader.old) × (writer.new ≡ writer.old) }
 {
     match read_arguments(rt.alloc(), arguments) {
-        Ok(command) => match obey(rt, system, &command, reader, writer, errors) {
+        Ok(command) => match obey(rt, system, stores, &command, reader, writer, errors) {
             Ok(()) => Ending::Replied,
             Err(failure) => Ending::Failed(failure),
         },
@@ -192,11 +196,11 @@ fn report<F: WriteWhole>(alloc: Global, ending: &Ending, errors: &mut F)
 // rule: Status of the program
 // rule: Edges of the program
 /// Runs the program with the arguments after its name, and returns its exit status. A server's ports, packages and log are
-/// those of `system`.
+/// those of `system`, and histories those of `stores`.
 ///
 /// Without arguments, or with `once` and its options, it does what `respond` does; with `check`, `certify` or
 /// `verify` what `report_on` does; with `check F --packages DIR` it compares packages with files, with `describe`
-/// it describes files; with `serve` it serves until its last session; with `walk` it walks along a server's
+/// it describes files; with `history` it reads a history; with `serve` it serves until its last session; with `walk` it walks along a server's
 /// offers; with `publish`, `raise` and `dump` it calls an operator's listener. It returns 0 if the command did that, or
 /// the help or the version was printed; 1 if the command failed, after one line on `errors`, or none if that listener
 /// declined; and 2 if the arguments are invalid, after `clap`'s message on `errors`. With `--log -` a server also logs
@@ -205,17 +209,26 @@ pub fn run<
     P: Port + Send + Drop,
     S: System<P> + Sync,
     R: Disk + Folders + Clock + Connector + AllocGlobal + Threads + Sync + Wait,
+    H: Stores,
     I: ReadWhole,
     W: WriteWhole,
     F: WriteWhole + Send,
->(rt: &R, system: &S, arguments: &[String], reader: &mut I, writer: &mut W, errors: &mut F) -> u8
+>(
+    rt: &R,
+    system: &S,
+    stores: &H,
+    arguments: &[String],
+    reader: &mut I,
+    writer: &mut W,
+    errors: &mut F,
+) -> u8
     ensures run { Runs (record { files = R.file_at rt.now; storage = R.storage rt.now; edges = S.edges system.now; replies = R.replies rt.now; operated = R.operated rt.now }) (map string_bytes arguments.now)
         (record { input = I.input reader.old; output = W.output writer.old })
         (record { input = I.input reader.new; output = W.output writer.new })
         (F.output errors.old) (F.output errors.new) result }
     ensures untouched { result ≡ 2 → (reader.new ≡ reader.old) × (writer.new ≡ writer.old) }
 {
-    let ending = carry_out(rt, system, arguments, reader, writer, errors);
+    let ending = carry_out(rt, system, stores, arguments, reader, writer, errors);
     report(rt.alloc(), &ending, errors);
     ending.status().code()
 }

@@ -1,20 +1,22 @@
 // The command `serve`.
 
 ghost use Rattle.std.specs.Prelude.{◌≡◌, IfOk};
-ghost use Rattle.omaha_cli.specs.Serving.{EndsAs, IsHosted, IsPlaceOf, IsUnbound, IsUnopened, ServesOn};
+ghost use Rattle.omaha_cli.specs.Serving.{EndsAs, IsPlaceOf, IsUnbound, IsUnopened, ServesOn};
 ghost use Rattle.omaha_server.specs.Serving.{IsSilent};
 ghost use Rattle.streams.specs.Streams.{Known};
 
-use crate::failure::Failure;
-use crate::once::open_profile;
 use http_ports::Port;
+use kept_records::Stores;
 use omaha_arguments::Serve;
-use omaha_server::{Place, ServerError, Service, System, serve};
+use omaha_commands::Failure;
+use omaha_histories::open_beginning;
+use omaha_server::{Place, ServerError, serve};
 use std::alloc::AllocError;
 use std::sync::Wait;
 use std::thread::Threads;
 use std::time::Clock;
 use streams::{Disk, WriteWhole};
+use systems::System;
 use values::Text;
 use worker_threads::Free;
 
@@ -55,7 +57,6 @@ fn end_of<A: Drop>(ended: Result<A, ServerError>, asked: &Serve) -> Result<(), F
         Err(ServerError::Log) => Err(unopened(&asked.log)),
         Err(ServerError::Folder) => Err(Failure::File(asked.packages.clone()?)),
         Err(ServerError::NoPlace) => Err(Failure::NoPlace),
-        Err(ServerError::Closed) => Err(Failure::Closed),
         Err(ServerError::Thread) => Err(Failure::Thread),
         Err(ServerError::Write) => Err(Failure::Write),
         Err(ServerError::Memory) => Err(Failure::Memory),
@@ -91,52 +92,41 @@ fn place_of(asked: &Serve) -> Result<Place, AllocError>
     })
 }
 
-// Serves a service.
-fn serve_made<
+// rule: Service over HTTP
+/// Serves a profile or a history and its packages, takes the operator's scripts, and prints the mirrors' totals at the end.
+///
+/// With a history each script and each raise is kept before it takes effect. Fails, in this order, with the history, the
+/// profile's file, another profile than the history's, the profile's first fault, its first rejected edit, the first record
+/// that doesn't follow, the log, the folder of packages, no place for a worker's view, the address, the operator's
+/// address, the writer, and a thread that can't be started; the writer may also fail after the last session. Replies are
+/// logged on `errors` if the log is `-`; otherwise it is left as it is.
+pub(crate) fn serve_profile<
     P: Port + Send + Drop,
     S: System<P> + Sync,
-    R: Clock + AllocGlobal + Threads + Sync + Wait,
+    R: Disk + Clock + AllocGlobal + Threads + Sync + Wait,
+    H: Stores,
     W: WriteWhole,
     F: WriteWhole + Send,
 >(
     rt: &R,
     system: &S,
-    service: Service,
+    stores: &H,
     asked: &Serve,
     writer: &mut W,
     errors: &mut F,
 ) -> Result<(), Failure>
-    ensures hosted { IsHosted (S.edges system.now) service asked.now (W.output writer.old) (W.output writer.new) result }
-    ensures silent { IsSilent asked.now.log → errors.new ≡ errors.old }
-{
-    let Ok(place) = place_of(asked) else {
-        return Err(Failure::Memory);
-    };
-    let ended = serve(rt, system, service, &place, &Free, writer, errors);
-    end_of(ended, asked)
-}
-
-// rule: Service over HTTP
-/// Serves a profile and its packages, takes the operator's scripts, and prints the mirrors' totals at the end.
-///
-/// Fails, in this order, with the profile's file, its first fault, its first rejected edit, the log, the folder of
-/// packages, no place for a worker's view, the address, the operator's address, the writer, and a thread that can't be
-/// started; the writer may also fail after the last session. Replies are logged on
-/// `errors` if the log is `-`; otherwise it is left as it is.
-pub(crate) fn serve_profile<
-    P: Port + Send + Drop,
-    S: System<P> + Sync,
-    R: Disk + Clock + AllocGlobal + Threads + Sync + Wait,
-    W: WriteWhole,
-    F: WriteWhole + Send,
->(rt: &R, system: &S, asked: &Serve, writer: &mut W, errors: &mut F) -> Result<(), Failure>
     ensures silent { IsSilent asked.now.log → errors.new ≡ errors.old }
     ensures serves { (input : Known) → ServesOn (R.file_at rt.now) (S.edges system.now) asked.now
         (record { input = input; output = W.output writer.old })
         (record { input = input; output = W.output writer.new }) result }
 {
-    match open_profile(rt, &asked.profile, asked.workers.min(16) as usize) {
-        Ok(service) => serve_made(rt, system, service, asked, writer, errors),
-        Err(failure) => Err(failure),
-    }
+    let kept = match open_beginning(rt, stores, asked) {
+        Ok(kept) => kept,
+        Err(failure) => return Err(failure),
+    };
+    let Ok(place) = place_of(asked) else {
+        return Err(Failure::Memory);
+    };
+    let ended = serve(rt, system, kept, &place, &Free, writer, errors);
+    end_of(ended, asked)
 }

@@ -6,10 +6,11 @@ use Rattle.http_talks.specs.Ports.{Passage}
 use Rattle.mirror_ledger.specs.Asks.{Ask}
 use Rattle.publisher.specs.Sights.{Sight}
 use Rattle.records.specs.declared.mirror.Mirror.{Mirror}
-use Rattle.service_desks.specs.Operators.{IsCall as IsOperatorCall, State}
+use Rattle.service_desks.specs.Operators.{IsCall as IsOperatorCall}
+use Rattle.service_desks.specs.States.{State}
 use Rattle.service_desks.specs.Workers.{IsCall, Progress}
 use Rattle.service_desks.specs.Asking.{GrantsFirst}
-use Rattle.omaha_server.specs.Edges.{Edges}
+use Rattle.systems.specs.Edges.{Edges}
 use Rattle.omaha_server.specs.Serving.{AreOperated, AreServed, DeskSteps, IsServedPort, desk_path, desk_type, operator_path, operator_type}
 use Rattle.omaha_server.specs.declared.place.Place.{Place}
 
@@ -91,16 +92,17 @@ AreServed-along {D} mirrors sight asks Alone steps edges place terms single pass
 
 -- what stays of the operator's desk: the names of what it borrows
 pub AreOperated-along :
-    {D N M : Type 0} (name : D → N) (other : D → M) (part : D → State) (steps : D → Call → D → Type 0) (edges : Edges) (place : Place)
-    (terms : Terms) (passage : Passage) (before behind : D)
+    {D N M Q O : Type 0} (name : D → N) (other : D → M) (third : D → Q) (fourth : D → O) (part : D → State) (steps : D → Call → D → Type 0)
+    (edges : Edges) (place : Place) (terms : Terms) (passage : Passage) (before behind : D)
     → ((old : D) (call : Call) (new : D) → steps old call new →
-    (name new ≡ name old) × (other new ≡ other old) × IsOperatorCall (part old) call (part new))
+    (name new ≡ name old) × (other new ≡ other old) × (third new ≡ third old) × (fourth new ≡ fourth old) × IsOperatorCall (part old) call (part new))
     → IsServedPort edges place operator_path operator_type steps before behind terms passage
-    → (name behind ≡ name before) × (other behind ≡ other before) × AreOperated edges place terms (part before) (part behind) passage
-AreOperated-along {D} name other part steps edges place terms passage before behind step port =
-    let Kept : D → Type 0 = λ d. (name d ≡ name before) × (other d ≡ other before) in
+    → (name behind ≡ name before) × (other behind ≡ other before) × (third behind ≡ third before) × (fourth behind ≡ fourth before)
+    × AreOperated edges place terms (part before) (part behind) passage
+AreOperated-along {D} name other third fourth part steps edges place terms passage before behind step port =
+    let Kept : D → Type 0 = λ d. (name d ≡ name before) × (other d ≡ other before) × (third d ≡ third before) × (fourth d ≡ fourth before) in
     let follows : Follows part Kept steps IsOperatorCall = λ old call new kept stepped.
-    let told = step old call new stepped in ((told.0 ∙ kept.0, told.1 ∙ kept.1), told.2) in
+    let told = step old call new stepped in ((told.0 ∙ kept.0, told.1 ∙ kept.1, told.2 ∙ kept.2, told.3 ∙ kept.3), told.4) in
     let along = IsServedPort-along part Kept steps IsOperatorCall follows edges place operator_path operator_type terms passage
-    before behind (refl, refl) port in
-    (along.0.0, along.0.1, along.1)
+    before behind (refl, refl, refl, refl) port in
+    (along.0.0, along.0.1, along.0.2, along.0.3, along.1)

@@ -1,6 +1,3 @@
 mod AlongLemmas
-mod BuiltinLemmas
 mod ClientLemmas
 mod RunLemmas
-mod TotalLemmas
-pub mod AnswerLemmas

@@ -13,16 +13,18 @@ use Rattle.mirror_ledger.specs.Asks.{Ask}
 use Rattle.mirror_ledger.specs.Tills.{AreTotalsOf, HasEnded, HaveWorked, WorksAs}
 use Rattle.mirror_ledger.specs.declared.running.Ran.{Ran}
 use Rattle.publisher.specs.Sights.{fresh}
+use Rattle.kept_records.specs.declared.record.Record.{Record}
 use Rattle.records.specs.declared.mirror.Mirror.{Mirror}
-use Rattle.omaha_server.specs.Edges.{Edges}
+use Rattle.service_desks.specs.States.{Publication, Store}
+use Rattle.systems.specs.Edges.{Edges}
 use Rattle.omaha_server.specs.Jobs.{IsClients, IsManned}
 use Rattle.omaha_server.specs.Opening.{AreClientTerms, IsOperatorsPort, client_terms}
 use Rattle.omaha_server.specs.OperatorPorts.{has_operator, terms_left}
 use Rattle.omaha_server.specs.Passages.{Passages, passage_of, passages_of}
 use Rattle.omaha_server.specs.Places.{ArePorts}
 use Rattle.omaha_server.specs.Runs.{HasServed, HaveRun, PrintsLines}
-use Rattle.omaha_server.specs.Serving.{AreServed, AreTotals, IsOperated, IsReady, PrintsTotals, Serves, ServesToEnd, is_single}
-use Rattle.omaha_server.specs.Totals.{names_of, totals_string}
+use Rattle.omaha_server.specs.Serving.{AreServed, AreTotals, IsOperated, IsReady, PrintsTotals, Serves, ServesToEnd, begun, is_single, with_mirrors}
+use Rattle.services.specs.Totals.{names_of, totals_string}
 use Rattle.omaha_server.specs.declared.clients.Clients.{Clients}
 use Rattle.omaha_server.specs.declared.error.ServerError.{ServerError}
 use Rattle.omaha_server.specs.declared.error.ServerError.TheVariants as server
@@ -31,7 +33,7 @@ use Rattle.omaha_server.specs.declared.operating.Operating.{Operating}
 use Rattle.omaha_server.specs.declared.place.Place.{Place}
 use Rattle.omaha_server.specs.declared.ports.ServedPort.{ServedPort}
 use Rattle.omaha_server.specs.declared.running.Ended.{Ended}
-use Rattle.omaha_server.specs.declared.service.Service.{Service}
+use Rattle.services.specs.declared.service.Service.{Service}
 use Rattle.omaha_server.specs.declared.setup.Setup.{Setup}
 use Rattle.streams.specs.Streams.{Known}
 use Rattle.streams.specs.Writing.{Breaks}
@@ -59,8 +61,8 @@ ended-at {J} {E} comes (job ∷ jobs) (its ∷ worked) (end ∷ ends) zero j a e
 ended-at comes (job ∷ jobs) (its ∷ worked) (end ∷ ends) (suc worker) j a e works same below =
     ended-at comes jobs worked ends worker j a e works.1 (cc same) (omega (arith, below))
 
-module _ {S R P : Type 0} (edges_of : S → Edges) (terms_of : P → Terms) (slots_of : P → ℕ → Slot) (accepted_of : P → ℕ)
-    (setup : Setup S R) (mirrors : List Mirror) where
+module _ {S R P K : Type 0} (edges_of : S → Edges) (terms_of : P → Terms) (slots_of : P → ℕ → Slot) (accepted_of : P → ℕ)
+    (first_of : K → ℕ) (kept_of : K → List Record) (setup : Setup S R) (mirrors : List Mirror) where
   -- what a worker's job comes to
   abbrev comes : Bool → Clients S R P → List Ask → ServedPort P → Type 0
   comes single clients asks served =
@@ -77,11 +79,11 @@ module _ {S R P : Type 0} (edges_of : S → Edges) (terms_of : P → Terms) (slo
       (subst (λ (s : Setup S R). AreServed (edges_of s.system.now) s.place.now (terms_of clients.port) single mirrors clients.view asks (passage_of terms_of slots_of accepted_of served)) is.with came))
 
   -- what the operator's job comes to
-  abbrev led : Operating S R P → List Mirror → List Mirror → Option (ServedPort P) → Type 0
+  abbrev led : Operating S R P K → List Mirror → List Mirror → Option (ServedPort P) → Type 0
   led own before after served =
-      (history : History)
+      (left : Publication)
       × IsOperated (edges_of own.setup.now.system.now) own.setup.now.place.now (terms_left terms_of own.port)
-      (record { mirrors = before; history = own.press }) (record { mirrors = after; history = history })
+      (with_mirrors before (begun own.press (first_of own.records) (kept_of own.records))) (with_mirrors after left)
       (option_map (passage_of terms_of slots_of accepted_of) served)
 
   -- as many jobs came to their end
@@ -117,13 +119,14 @@ module _ {S R P : Type 0} (edges_of : S → Edges) (terms_of : P → Terms) (slo
       (passage_of terms_of slots_of accepted_of (get_or (end ∷ ends) worker end))) (sym worked.asked) told)
 
   pub AreTotals-run :
-      {X : Type 0} (jobs : List (Clients S R P)) (own : Operating S R P) (single : Bool)
-      (ran : Result (Ran (Clients S R P) (Operating S R P) (ServedPort P) (Option (ServedPort P))) X) (ended : Ended (ServedPort P) (Option (ServedPort P))) →
+      {X : Type 0} (jobs : List (Clients S R P)) (own : Operating S R P K) (single : Bool)
+      (ran : Result (Ran (Clients S R P) (Operating S R P K) (ServedPort P) (Option (ServedPort P))) X) (ended : Ended (ServedPort P) (Option (ServedPort P))) →
       IsManned terms_of setup jobs own → is_single (is_some setup.place.now.operator) setup.place.now.workers ≡ single →
       IfOk ran (λ done. (asks : List (List Ask)) × HaveWorked (comes single) jobs asks done.ends.items × AreTotalsOf done.mirrors.items asks done.totals.items) →
       IfOk ran (λ done. HasEnded (λ before after. led own before after) mirrors done.mirrors.items done.own) →
       HaveRun ran ended →
       AreTotals (edges_of setup.system.now) setup.place.now (record { edition = own.press; mirrors = mirrors })
+      (begun own.press (first_of own.records) (kept_of own.records)).store
       (passages_of terms_of slots_of accepted_of (record { clients = ended.clients; operator = ended.own })) ended.totals.items
   AreTotals-run jobs own single (Err error) ended manned alone works operated run = absurd run
   AreTotals-run jobs own single (Ok done) ended manned alone works operated (ends, ended_own, totals) =
@@ -145,9 +148,9 @@ module _ {S R P : Type 0} (edges_of : S → Edges) (terms_of : P → Terms) (slo
             (λ d. manned.ports worker d below));
         operator = terms_left terms_of own.port;
         port = manned.port;
-        left = record { mirrors = done.mirrors.items; history = left };
+        left = with_mirrors done.mirrors.items left;
         operated = subst (λ (s : Setup S R). IsOperated (edges_of s.system.now) s.place.now (terms_left terms_of own.port)
-            (record { mirrors = mirrors; history = own.press }) (record { mirrors = done.mirrors.items; history = left })
+            (with_mirrors mirrors (begun own.press (first_of own.records) (kept_of own.records))) (with_mirrors done.mirrors.items left)
             (option_map (passage_of terms_of slots_of accepted_of) ended.own)) manned.with there;
         summed = subst (AreTotalsOf done.mirrors.items asks) totals sums;
       }
@@ -160,13 +163,13 @@ is_operated place terms_of (Some port) is = is.0
 
 -- jobs over new ports are those of a setup
 pub IsManned-over :
-    {S R P : Type 0} (terms_of : P → Terms) (slots_of : P → ℕ → Slot) (accepted_of : P → ℕ) (IsOver : P → Type 0)
-    (setup : Setup S R) (ports : Ports P) (jobs : List (Clients S R P)) (own : Operating S R P) →
+    {S R P K : Type 0} (terms_of : P → Terms) (slots_of : P → ℕ → Slot) (accepted_of : P → ℕ) (IsOver : P → Type 0)
+    (setup : Setup S R) (ports : Ports P) (jobs : List (Clients S R P)) (own : Operating S R P K) →
     ArePorts terms_of slots_of accepted_of IsOver setup.place.now ports →
     map (λ (job : Clients S R P). job.port) jobs ≡ ports.clients.items → All (IsClients setup (fresh own.press)) jobs →
     own.setup.now ≡ setup → has_operator own.port ≡ is_some ports.operator →
     terms_left terms_of own.port ≡ option_map terms_of ports.operator → IsManned terms_of setup jobs own
-IsManned-over {S} {R} {P} terms_of slots_of accepted_of IsOver setup ports jobs own are same each with operates terms = record {
+IsManned-over {S} {R} {P} {K} terms_of slots_of accepted_of IsOver setup ports jobs own are same each with operates terms = record {
   many = sym (length-map jobs (λ (job : Clients S R P). job.port)) ∙ ap length same ∙ are.many;
   capacity = are.capacity;
   ports = subst (λ (list : List P). AreClientTerms setup.place.now are.capacity (map terms_of list)) (sym same) are.terms;
@@ -176,10 +179,10 @@ IsManned-over {S} {R} {P} terms_of slots_of accepted_of IsOver setup ports jobs 
   port = subst (IsOperatorsPort setup.place.now) (sym terms) are.port;
 }
 
-module _ (edges : Edges) (place : Place) (service : Service) (old between : Known) (passages : Passages) (totals : List ℕ)
-    (served : HasServed edges place service old between passages totals) where
+module _ (edges : Edges) (place : Place) (service : Service) (kept : Store) (old between : Known) (passages : Passages) (totals : List ℕ)
+    (served : HasServed edges place service kept old between passages totals) where
   to-end : (new : Known) (result : Result Passages ServerError) → PrintsTotals service.mirrors totals passages between new result →
-      ServesToEnd edges place service old new result
+      ServesToEnd edges place service kept old new result
   to-end new result printed = record {
     opened = served.opened;
     passages = passages;
@@ -192,13 +195,13 @@ module _ (edges : Edges) (place : Place) (service : Service) (old between : Know
 
   -- a server that was served prints its totals
   pub Serves-printed : (names : List (List ℕ)) (new : Known) → names ≡ names_of service.mirrors →
-      Appends between.bytes new.bytes (totals_string names totals) → Serves edges place service old new (Ok passages)
+      Appends between.bytes new.bytes (totals_string names totals) → Serves edges place service kept old new (Ok passages)
   Serves-printed names new named printed =
       inl (to-end new (Ok passages) (refl, subst (λ (these : List (List ℕ)). Appends between.bytes new.bytes (totals_string these totals)) named printed))
 
   -- or it ends with a first part of them, or without memory after `ready`
   pub Serves-unprinted : (names : List (List ℕ)) (new : Known) (error : ServerError) → names ≡ names_of service.mirrors →
-      PrintsLines names totals between new (Err error) → Serves edges place service old new (Err error)
+      PrintsLines names totals between new (Err error) → Serves edges place service kept old new (Err error)
   Serves-unprinted names new server.Write named printed =
       inl (to-end new (Err server.Write) (refl, subst (λ (these : List (List ℕ)). Breaks between new (totals_string these totals)) named printed))
   Serves-unprinted names new server.Memory named same =
@@ -208,5 +211,4 @@ module _ (edges : Edges) (place : Place) (service : Service) (old between : Know
   Serves-unprinted names new server.Log named never = absurd never
   Serves-unprinted names new server.Folder named never = absurd never
   Serves-unprinted names new server.NoPlace named never = absurd never
-  Serves-unprinted names new server.Closed named never = absurd never
   Serves-unprinted names new server.Thread named never = absurd never

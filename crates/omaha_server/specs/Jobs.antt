@@ -16,8 +16,8 @@ pub record IsClients {S R P : Type 0} (setup : Setup S R) (sight : Sight) (clien
 
 -- the jobs are those of all workers of a setup, each with its port, and that of its operator, with a press whose history
 -- each worker's view has seen
-pub record IsManned {S R P : Type 0} (terms_of : P → Terms) (setup : Setup S R) (jobs : List (Clients S R P))
-    (own : Operating S R P) : Type 0 where
+pub record IsManned {S R P K : Type 0} (terms_of : P → Terms) (setup : Setup S R) (jobs : List (Clients S R P))
+    (own : Operating S R P K) : Type 0 where
   pub many : length jobs ≡ setup.place.now.workers
   pub capacity : ℕ
   pub ports : AreClientTerms setup.place.now capacity (map terms_of (map (λ (job : Clients S R P). job.port) jobs))

@@ -1,13 +1,7 @@
-pub mod Answering
-pub mod Builtin
-pub mod Edges
 pub mod Jobs
 pub mod Opening
 pub mod OperatorPorts
 pub mod Passages
 pub mod Places
 pub mod Runs
-pub mod Services
 pub mod Serving
-pub mod Sockets
-pub mod Totals

@@ -1,17 +1,9 @@
 -- The ports of a server, as they are opened; this project's profile.
 use Rattle.std.specs.Prelude.{◌≡◌, ◌<◌, ◌-◌, ◌^◌, ℕ, true, false, List, codes, slice_index_or, Option, None, Some}
 use Rattle.std.specs.Option.{is_some}
-use Rattle.http_ports.specs.Traffic.{Slot, unused}
 use Rattle.http_ports.specs.declared.terms.Terms.{Terms}
 use Rattle.worker_threads.specs.Portions.{portion}
 use Rattle.omaha_server.specs.declared.place.Place.{Place}
-
--- nothing has passed at the port; and once it is over, it has accepted as many connections as its terms say
-pub record IsNew {P : Type 0} (terms_of : P → Terms) (slots_of : P → ℕ → Slot) (accepted_of : P → ℕ) (IsOver : P → Type 0)
-    (port : P) : Type 0 where
-  pub free : (k : ℕ) → slots_of port k ≡ unused
-  pub none : accepted_of port ≡ 0
-  pub ends : (later : P) → terms_of later ≡ terms_of port → IsOver later → accepted_of later ≡ (terms_of later).limit
 
 -- rule: Start of a server
 -- the line that says that it listens

@@ -2,7 +2,8 @@
 use Rattle.std.specs.Prelude.{◌≡◌, ℕ, All, IfSome, length, map, option_map}
 use Rattle.http_ports.specs.Traffic.{Slot}
 use Rattle.http_ports.specs.declared.terms.Terms.{Terms}
-use Rattle.omaha_server.specs.Opening.{AreClientTerms, IsNew, IsOperatorsPort}
+use Rattle.omaha_server.specs.Opening.{AreClientTerms, IsOperatorsPort}
+use Rattle.systems.specs.NewPorts.{IsNew}
 use Rattle.omaha_server.specs.declared.opening.Ports.{Ports}
 use Rattle.omaha_server.specs.declared.place.Place.{Place}
 

@@ -2,17 +2,18 @@
 use Rattle.std.specs.Prelude.{◌≡◌, ℕ, List, Some, Result, Ok, Err, map}
 use Rattle.mirror_ledger.specs.declared.running.Ran.{Ran}
 use Rattle.std.specs.Io.KnownBytes.{Appends}
+use Rattle.service_desks.specs.States.{Store}
 use Rattle.streams.specs.Streams.{Known}
 use Rattle.streams.specs.Writing.{Breaks}
-use Rattle.omaha_server.specs.Edges.{Edges}
+use Rattle.systems.specs.Edges.{Edges}
 use Rattle.omaha_server.specs.Passages.{Passages}
 use Rattle.omaha_server.specs.Serving.{AreTotals, IsOpen, IsReady}
-use Rattle.omaha_server.specs.Totals.{totals_string}
+use Rattle.services.specs.Totals.{totals_string}
 use Rattle.omaha_server.specs.declared.error.ServerError.{ServerError}
 use Rattle.omaha_server.specs.declared.error.ServerError.TheVariants as server
 use Rattle.omaha_server.specs.declared.place.Place.{Place}
 use Rattle.omaha_server.specs.declared.running.Ended.{Ended}
-use Rattle.omaha_server.specs.declared.service.Service.{Service}
+use Rattle.services.specs.declared.service.Service.{Service}
 
 -- all jobs began and came to these ends, and these are the totals
 abbrev pub HaveRun : {J O E F X : Type 0} → Result (Ran J O E F) X → Ended E F → Type 0
@@ -21,9 +22,9 @@ HaveRun (Ok ran) ended =
 HaveRun (Err error) ended = ⊥
 
 -- listeners were bound, `ready` was printed and nothing else, and the service was served with these totals
-pub record HasServed (edges : Edges) (place : Place) (service : Service) (old new : Known) (passages : Passages) (totals : List ℕ) : Type 0 where
+pub record HasServed (edges : Edges) (place : Place) (service : Service) (kept : Store) (old new : Known) (passages : Passages) (totals : List ℕ) : Type 0 where
   pub opened : IsOpen edges place
-  pub served : AreTotals edges place service passages totals
+  pub served : AreTotals edges place service kept passages totals
   pub ready : IsReady old new
 
 -- the lines of the totals were printed, whole or in part; or nothing, as memory ran out

@@ -1,28 +1,31 @@
 -- What a server does from its start to its end; this project's profile.
-use Rattle.std.specs.Prelude.{◌≡◌, ◌⊎◌, ◌&&◌, ◌<◌, ℕ, Bool, true, false, nat_eq, not, List, [], codes, length, slice_index_or, Option, Some, None, Result, Ok, Err, IfErr, ⊤}
+use Rattle.std.specs.Prelude.{◌≡◌, ◌⊎◌, ◌&&◌, ◌<◌, ℕ, Bool, true, false, nat_eq, not, List, [], bytes_eq, codes, length, slice_index_or, Option, Some, None, Result, Ok, Err, IfErr, ⊤}
 use Rattle.std.specs.Io.KnownBytes.{Appends}
 use Rattle.std.specs.Option.{is_some}
+use Rattle.catalogue_laws.specs.Histories.{History}
 use Rattle.http_desks.specs.Calls.{Call}
 use Rattle.http_desks.specs.Uses.{IsUse}
 use Rattle.http_ports.specs.declared.terms.Terms.{Terms}
 use Rattle.http_talks.specs.Ports.{HasTalked, Passage}
+use Rattle.kept_records.specs.declared.record.Record.{Record}
 use Rattle.mirror_ledger.specs.Asks.{Ask}
 use Rattle.mirror_ledger.specs.Tills.{AreTotalsOf}
 use Rattle.publisher.specs.Sights.{Sight, fresh}
 use Rattle.records.specs.declared.mirror.Mirror.{Mirror}
-use Rattle.service_desks.specs.Operators.{IsCall as IsOperatorCall, State}
+use Rattle.service_desks.specs.Operators.{IsCall as IsOperatorCall}
+use Rattle.service_desks.specs.States.{Publication, State, Store, publication}
 use Rattle.service_desks.specs.Workers.{IsCall, Progress}
 use Rattle.streams.specs.Streams.{Known}
 use Rattle.streams.specs.Writing.{Breaks}
 use Rattle.service_desks.specs.Asking.{GrantsFirst}
-use Rattle.omaha_server.specs.Edges.{Edges, IsTime, is_dash}
+use Rattle.systems.specs.Edges.{Edges, IsTime}
 use Rattle.omaha_server.specs.Opening.{IsOperatorsPort, client_terms, clients_listener, operator_listener, ready_line}
 use Rattle.omaha_server.specs.Passages.{Passages}
-use Rattle.omaha_server.specs.Totals.{names_of, totals_string}
+use Rattle.services.specs.Totals.{names_of, totals_string}
 use Rattle.omaha_server.specs.declared.error.ServerError.{ServerError}
 use Rattle.omaha_server.specs.declared.error.ServerError.TheVariants as server
 use Rattle.omaha_server.specs.declared.place.Place.{Place}
-use Rattle.omaha_server.specs.declared.service.Service.{Service}
+use Rattle.services.specs.declared.service.Service.{Service}
 
 -- a port of these terms was served to its end by a desk of this path and type, with the packages of the place's folder: it
 -- accepted all its connections, and each has ended
@@ -79,15 +82,23 @@ IsOperated edges place None before after (Some passage) = ⊥
 IsOperated edges place (Some terms) before after None = ⊥
 IsOperated edges place (Some terms) before after (Some passage) = AreOperated edges place terms before after passage
 
--- what the operator of a service begins with: its edition, and its mirrors
-abbrev pub state_of : Service → State
-state_of service = record { mirrors = service.mirrors; history = service.edition }
+-- a press and records as they are when the operator begins: nothing is due
+abbrev pub begun : History → ℕ → List Record → Publication
+begun history first records = publication history first records None
+
+-- the state of mirrors and a publication
+abbrev pub with_mirrors : List Mirror → Publication → State
+with_mirrors mirrors published = record { mirrors = mirrors; history = published.history; store = published.store }
+
+-- what the operator of a service begins with: its edition, its mirrors, and what is kept
+abbrev pub state_of : Service → Store → State
+state_of service kept = record { mirrors = service.mirrors; history = service.edition; store = kept }
 
 -- rule: Totals of a server
 -- each worker served a port with its portion of the sessions, with a view that has seen the service's edition, and the
--- operator's port was served, if there is an operator; the totals are the sums of what the workers asked for, and each is
+-- operator's port was served, if there is an operator, from what was kept on; the totals are the sums of what the workers asked for, and each is
 -- within the budget that its mirror has after the operator's last connection
-pub record AreTotals (edges : Edges) (place : Place) (service : Service) (passages : Passages) (totals : List ℕ) : Type 0 where
+pub record AreTotals (edges : Edges) (place : Place) (service : Service) (kept : Store) (passages : Passages) (totals : List ℕ) : Type 0 where
   pub asks : List (List Ask)
   pub many : length asks ≡ place.workers
   pub ports : length passages.clients ≡ place.workers
@@ -98,7 +109,7 @@ pub record AreTotals (edges : Edges) (place : Place) (service : Service) (passag
   pub operator : Option Terms
   pub port : IsOperatorsPort place operator
   pub left : State
-  pub operated : IsOperated edges place operator (state_of service) left passages.operator
+  pub operated : IsOperated edges place operator (state_of service kept) left passages.operator
   pub summed : AreTotalsOf left.mirrors asks totals
 
 -- the line that says that the server listens was printed
@@ -123,7 +134,6 @@ Stops edges place old new server.OperatorNet = new ≡ old
 Stops edges place old new server.Log = new ≡ old
 Stops edges place old new server.Folder = new ≡ old
 Stops edges place old new server.NoPlace = new ≡ old
-Stops edges place old new server.Closed = ⊥
 Stops edges place old new server.Thread = IsOpen edges place × IsReady old new
 Stops edges place old new server.Write = IsOpen edges place × Breaks old new ready_line
 Stops edges place old new server.Memory = (new ≡ old) ⊎ (IsOpen edges place × IsReady old new)
@@ -135,10 +145,13 @@ IsUnlogged server.OperatorNet = ⊤
 IsUnlogged server.Log = ⊥
 IsUnlogged server.Folder = ⊤
 IsUnlogged server.NoPlace = ⊤
-IsUnlogged server.Closed = ⊤
 IsUnlogged server.Thread = ⊤
 IsUnlogged server.Write = ⊤
 IsUnlogged server.Memory = ⊤
+
+-- the path means the standard error, and no file
+abbrev pub is_dash : List ℕ → Bool
+is_dash path = bytes_eq path (codes "-")
 
 -- the log of that path was opened, or the server ended before
 abbrev pub IsOpened : {A : Type 0} → Edges → List ℕ → Result A ServerError → Type 0
@@ -165,18 +178,18 @@ PrintsTotals mirrors totals passages old new (Err error) =
 
 -- there was the folder of the place, listeners were bound to its addresses, their sessions were served after `ready`,
 -- and the totals printed after them, whole or not
-pub record ServesToEnd (edges : Edges) (place : Place) (service : Service) (old new : Known) (result : Result Passages ServerError) : Type 0 where
+pub record ServesToEnd (edges : Edges) (place : Place) (service : Service) (kept : Store) (old new : Known) (result : Result Passages ServerError) : Type 0 where
   pub opened : IsOpen edges place
   pub passages : Passages
   pub totals : List ℕ
-  pub served : AreTotals edges place service passages totals
+  pub served : AreTotals edges place service kept passages totals
   pub between : Known
   pub ready : IsReady old between
   pub printed : PrintsTotals service.mirrors totals passages between new result
 
 -- rule: Run of a server
 -- a server served to its end, and gave its ports back; or it ended before
-abbrev pub Serves : Edges → Place → Service → Known → Known → Result Passages ServerError → Type 0
-Serves edges place service old new result =
-    ServesToEnd edges place service old new result
+abbrev pub Serves : Edges → Place → Service → Store → Known → Known → Result Passages ServerError → Type 0
+Serves edges place service kept old new result =
+    ServesToEnd edges place service kept old new result
     ⊎ ((error : ServerError) × (result ≡ Err error) × Stops edges place old new error)

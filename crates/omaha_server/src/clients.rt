@@ -4,13 +4,13 @@ ghost use Rattle.std.specs.Prelude.{◌≡◌, ◌<◌, ◌∷◌, ◌++◌, All
 ghost use Rattle.catalogue_laws.specs.Histories.{History};
 ghost use Rattle.publisher.specs.Sights.{fresh};
 ghost use Rattle.omaha_server.specs.Jobs.{IsClients};
-ghost use Rattle.omaha_server.specs.Opening.{AreClientTerms, IsNew, client_terms, clients_listener, portion_at};
+ghost use Rattle.omaha_server.specs.Opening.{AreClientTerms, client_terms, clients_listener, portion_at};
+ghost use Rattle.systems.specs.NewPorts.{IsNew};
 
 use crate::new_port::NewPort;
 use crate::place::Place;
 use crate::ports::ServedPort;
 use crate::setup::{Setup, serve_new};
-use crate::system::System;
 use http_ports::{Port, Terms};
 use log_queues::LineSender;
 use mirror_ledger::{Till, TillJob};
@@ -19,6 +19,7 @@ use service_desks::Worker;
 use std::alloc::{AllocError, Global};
 use std::sync::Wait;
 use std::time::Clock;
+use systems::System;
 use worker_threads::portion_of;
 
 /// The connections that a worker serves, as the job of its thread.

@@ -4,7 +4,7 @@ ghost use Rattle.std.specs.Prelude.{◌≡◌, All, IfOk, IfSome, length, option
 ghost use Rattle.std.specs.Option.{is_some};
 ghost use Rattle.publisher.specs.Sights.{fresh};
 ghost use Rattle.omaha_server.specs.Jobs.{IsManned};
-ghost use Rattle.omaha_server.specs.Opening.{IsNew};
+ghost use Rattle.systems.specs.NewPorts.{IsNew};
 ghost use Rattle.omaha_server.specs.OperatorPorts.{has_operator, terms_left};
 ghost use Rattle.omaha_server.specs.Places.{ArePorts};
 
@@ -37,13 +37,31 @@ fn operator_port<P: Port + Drop>(
 }
 
 /// The jobs of a server's threads, and what writes its log. It is not `Drop`, since a press isn't.
-pub(crate) struct Crew<'s, 'a, 'p, 'w, S, R: Threads + Wait + AllocGlobal, P: Port, F: WriteWhole> {
+pub(crate) struct Crew<
+    's,
+    'a,
+    'p,
+    'w,
+    S,
+    R: Threads + Wait + AllocGlobal,
+    P: Port,
+    F: WriteWhole,
+    K,
+> {
     /// A job for each worker.
     pub(crate) jobs: Vec<Clients<'s, 'a, S, R, P>>,
     /// The operator's job.
-    pub(crate) own: Operating<'s, 'a, S, R, P>,
+    pub(crate) own: Operating<'s, 'a, S, R, P, K>,
     /// What writes the log, if there is one.
     pub(crate) log: Option<Writing<'p, 'w, F>>,
+}
+
+/// What an operator publishes by. It is not `Drop`, since a press isn't.
+pub(crate) struct Publishing<K> {
+    /// The press.
+    pub(crate) press: Press,
+    /// Where scripts and raises are kept.
+    pub(crate) records: K,
 }
 
 /// Makes the jobs of a worker for each view and of the operator, each of which has a sender to the log, if there is
@@ -57,19 +75,22 @@ pub(crate) fn crew_of<
     S,
     R: Threads + Wait + AllocGlobal,
     F: WriteWhole,
+    K: Drop,
 >(
     setup: &'s Setup<'a, S, R>,
     ports: Ports<P>,
-    press: Press,
+    publishing: Publishing<K>,
     views: Vec<View>,
     target: Option<Target<'p, 'w, F>>,
-) -> Result<Crew<'s, 'a, 'p, 'w, S, R, P, F>, Press>
+) -> Result<Crew<'s, 'a, 'p, 'w, S, R, P, F, K>, Press>
     requires ports { ArePorts P.terms P.slots P.accepted P.is_over setup.now.place.now ports }
     requires many { length views.items ≡ setup.now.place.now.workers }
-    requires views { All (λ sight. sight ≡ fresh press) views.items }
+    requires views { All (λ sight. sight ≡ fresh publishing.press) views.items }
     ensures manned { IfOk result (λ crew. IsManned P.terms setup.now crew.jobs.items crew.own) }
-    ensures press { IfOk result (λ crew. crew.own.press ≡ press) }
+    ensures press { IfOk result (λ crew. crew.own.press ≡ publishing.press) }
+    ensures records { IfOk result (λ crew. crew.own.records ≡ publishing.records) }
 {
+    let Publishing { press, records } = publishing;
     let alloc = setup.rt.alloc();
     let Ok((senders, log)) = open_lines(alloc, setup.place.workers + 1, target) else {
         return Err(press);
@@ -87,6 +108,7 @@ pub(crate) fn crew_of<
         setup,
         port,
         press,
+        records,
         lines,
     };
     Ok(Crew { jobs, own, log })

@@ -2,7 +2,7 @@
 
 use std::alloc::AllocError;
 
-/// Why there is no reply, or why a server ends before its last session or without its totals.
+/// Why a server ends before its last session or without its totals.
 #[derive(Clone, Copy, Debug, Drop, PartialEq, Eq)]
 pub enum ServerError {
     /// The address could not be bound.
@@ -15,8 +15,6 @@ pub enum ServerError {
     Folder,
     /// There is no place for a view of the editions.
     NoPlace,
-    /// A view entered no edition.
-    Closed,
     /// A thread could not be started.
     Thread,
     /// The output could not be written.

@@ -1,7 +1,7 @@
 // A port before it is served.
 
 ghost use Rattle.std.specs.Prelude.{◌≡◌, IfOk};
-ghost use Rattle.omaha_server.specs.Opening.{IsNew};
+ghost use Rattle.systems.specs.NewPorts.{IsNew};
 
 use access_logs::Seen;
 use http_ports::Port;
@@ -18,7 +18,7 @@ pub(crate) struct NewPort<P: Port> {
 
 impl<P: Port> Model for NewPort<P> {
     ghost use Rattle.std.specs.Prelude.{◌≡◌};
-    ghost use Rattle.omaha_server.specs.Opening.{IsNew};
+    ghost use Rattle.systems.specs.NewPorts.{IsNew};
 
     ghost Value = { P };
 

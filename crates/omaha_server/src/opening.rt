@@ -3,7 +3,8 @@
 ghost use Rattle.std.specs.Prelude.{◌≡◌, ◌⊎◌, ℕ, All, IfErr, IfOk, IfSome, OnErr, OnOk, length, map, option_map};
 ghost use Rattle.std.specs.Io.KnownBytes.{Appends};
 ghost use Rattle.streams.specs.Writing.{Breaks};
-ghost use Rattle.omaha_server.specs.Opening.{AreClientTerms, IsNew, IsOperatorsPort, clients_listener, ready_line};
+ghost use Rattle.omaha_server.specs.Opening.{AreClientTerms, IsOperatorsPort, clients_listener, ready_line};
+ghost use Rattle.systems.specs.NewPorts.{IsNew};
 ghost use Rattle.omaha_server.specs.Places.{ArePorts};
 ghost use Rattle.omaha_server.specs.Serving.{IsListening, IsOpen, IsReady, IsUnlogged, Stops};
 ghost use Rattle.omaha_server.specs.declared.error.ServerError.TheVariants.{Memory, Net, OperatorNet};
@@ -12,11 +13,11 @@ use crate::clients::all_terms;
 use crate::error::ServerError;
 use crate::operating::operator_terms;
 use crate::place::Place;
-use crate::system::{OpenError, System};
 use http_ports::Port;
 use std::alloc::Global;
 use std::io;
 use streams::WriteWhole;
+use systems::{OpenError, System};
 
 /// The ports of a server, before they are served.
 #[derive(Drop)]

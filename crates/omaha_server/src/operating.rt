@@ -1,24 +1,27 @@
 // The connections of the operator.
 
-ghost use Rattle.std.specs.Prelude.{◌≡◌, IfSome, true};
+ghost use Rattle.std.specs.Prelude.{◌≡◌, IfSome, None, Option, true};
+ghost use Rattle.catalogue_laws.specs.Histories.{History};
 ghost use Rattle.profile_toml.specs.Laws.{AreMirrors};
 ghost use Rattle.omaha_server.specs.Opening.{operator_terms};
 ghost use Rattle.omaha_server.specs.Passages.{passage_of};
 ghost use Rattle.omaha_server.specs.Serving.{AreOperated};
+ghost use Rattle.service_desks.specs.States.{store};
 
 use crate::new_port::NewPort;
 use crate::place::Place;
 use crate::ports::ServedPort;
 use crate::setup::{Setup, serve_new};
-use crate::system::System;
 use http_ports::{Port, Terms};
+use kept_records::Records;
 use log_queues::LineSender;
 use mirror_ledger::{BudgetJob, Budgets};
-use publisher::Press;
+use publisher::{Prepared, Press};
 use service_desks::Operator;
 use std::sync::Wait;
 use std::thread::Threads;
 use std::time::Clock;
+use systems::System;
 
 // How many connections of the operator may be open at once.
 const CONNECTIONS: usize = 32;
@@ -48,74 +51,99 @@ pub(crate) enum OperatorPort<P: Port> {
 }
 
 /// The connections of the operator, as the job of the server's own thread. It is not `Drop`, since a press isn't.
-pub(crate) struct Operating<'s, 'a, S, R: Threads + Wait + AllocGlobal, P: Port> {
+pub(crate) struct Operating<'s, 'a, S, R: Threads + Wait + AllocGlobal, P: Port, K> {
     /// What they are served with.
     pub(crate) setup: &'s Setup<'a, S, R>,
     /// Where they come from.
     pub(crate) port: OperatorPort<P>,
     /// The press of what is served.
     pub(crate) press: Press,
+    /// Where scripts and raises are kept.
+    pub(crate) records: K,
     /// The operator's end of the log, if there is one.
     pub(crate) lines: Option<LineSender>,
 }
 
 // Serves a port by the operator's desk.
-fn serve_desk<S: System<P>, R: Clock + Threads + Wait + AllocGlobal, P: Port + Drop, B: Budgets>(
+fn serve_desk<
+    S: System<P>,
+    R: Clock + Threads + Wait + AllocGlobal,
+    P: Port + Drop,
+    B: Budgets,
+    K: Records,
+>(
     setup: &Setup<'_, S, R>,
     port: NewPort<P>,
-    desk: &mut Operator<'_, '_, '_, R, B>,
+    desk: &mut Operator<'_, '_, '_, '_, '_, R, B, K>,
     lines: &mut Option<LineSender>,
 ) -> ServedPort<P>
     ensures same_press { desk.new.press.ghost_name ≡ desk.old.press.ghost_name }
     ensures same_budgets { desk.new.budgets.ghost_name ≡ desk.old.budgets.ghost_name }
+    ensures same_records { desk.new.records.ghost_name ≡ desk.old.records.ghost_name }
+    ensures same_due { desk.new.due.ghost_name ≡ desk.old.due.ghost_name }
     ensures operated { AreOperated (S.edges setup.now.system.now) setup.now.place.now (P.terms port)
-        (record { mirrors = B.present desk.old.budgets.now; history = desk.old.press.now })
-        (record { mirrors = B.present desk.new.budgets.now; history = desk.new.press.now })
+        (record { mirrors = B.present desk.old.budgets.now; history = desk.old.press.now; store = store (K.first desk.old.records.now) (K.kept desk.old.records.now) desk.old.due.now })
+        (record { mirrors = B.present desk.new.budgets.now; history = desk.new.press.now; store = store (K.first desk.new.records.now) (K.kept desk.new.records.now) desk.new.due.now })
         (passage_of P.terms P.slots P.accepted result) }
 {
     serve_new(setup, port, desk, lines)
 }
 
-// The same, over a press and budgets that may be raised.
-fn operate<S: System<P>, R: Clock + Threads + Wait + AllocGlobal, P: Port + Drop, B: Budgets>(
+// The same, over a press, records and budgets that may be raised.
+fn operate<
+    S: System<P>,
+    R: Clock + Threads + Wait + AllocGlobal,
+    P: Port + Drop,
+    B: Budgets,
+    K: Records,
+>(
     setup: &Setup<'_, S, R>,
     port: NewPort<P>,
     press: &mut Press,
+    records: &mut K,
+    due: &mut Option<Prepared>,
     budgets: &mut B,
     lines: &mut Option<LineSender>,
 ) -> ServedPort<P>
     requires listed { AreMirrors (B.present budgets.old) }
     requires rising { B.rises budgets.old ≡ true }
+    requires none { due.old ≡ None }
     ensures operated { AreOperated (S.edges setup.now.system.now) setup.now.place.now (P.terms port)
-        (record { mirrors = B.present budgets.old; history = press.old })
-        (record { mirrors = B.present budgets.new; history = press.new })
+        (record { mirrors = B.present budgets.old; history = press.old; store = store (K.first records.old) (K.kept records.old) due.old })
+        (record { mirrors = B.present budgets.new; history = press.new; store = store (K.first records.new) (K.kept records.new) due.new })
         (passage_of P.terms P.slots P.accepted result) }
 {
     let mut desk = Operator {
         rt: setup.rt,
         press,
         budgets,
+        records,
+        due,
         workers: setup.place.workers,
     };
     serve_desk(setup, port, &mut desk, lines)
 }
 
 // rule: Sessions of an operator
-impl<S: System<P>, R: Clock + Threads + Wait + AllocGlobal, P: Port + Send + Drop> BudgetJob
-    for Operating<'_, '_, S, R, P> {
+impl<
+    S: System<P>,
+    R: Clock + Threads + Wait + AllocGlobal,
+    P: Port + Send + Drop,
+    K: Records,
+> BudgetJob for Operating<'_, '_, S, R, P, K> {
     ghost use Rattle.std.specs.Prelude.{option_map};
-    ghost use Rattle.catalogue_laws.specs.Histories.{History};
+    ghost use Rattle.service_desks.specs.States.{Publication};
     ghost use Rattle.omaha_server.specs.OperatorPorts.{has_operator, terms_left};
     ghost use Rattle.omaha_server.specs.Passages.{passage_of};
-    ghost use Rattle.omaha_server.specs.Serving.{IsOperated};
+    ghost use Rattle.omaha_server.specs.Serving.{IsOperated, begun, with_mirrors};
 
     type End = Option<ServedPort<P>>;
 
     ghost raises = { λ own. has_operator own.port };
 
-    ghost comes_to = { λ before after old served. (history : History)
+    ghost comes_to = { λ before after old served. (left : Publication)
         × IsOperated (S.edges old.setup.now.system.now) old.setup.now.place.now (terms_left P.terms old.port)
-        (record { mirrors = before; history = old.press }) (record { mirrors = after; history = history })
+        (with_mirrors before (begun old.press (K.first old.records) (K.kept old.records))) (with_mirrors after left)
         (option_map (passage_of P.terms P.slots P.accepted) served) };
 
     fn work<B: Budgets>(&mut self, budgets: &mut B) -> Option<ServedPort<P>> {
@@ -126,7 +154,16 @@ impl<S: System<P>, R: Clock + Threads + Wait + AllocGlobal, P: Port + Send + Dro
         let OperatorPort::New(port) = std::mem::replace(&mut self.port, OperatorPort::Served) else {
             return None;
         };
-        let served = operate(self.setup, port, &mut self.press, budgets, &mut self.lines);
+        let mut due = None;
+        let served = operate(
+            self.setup,
+            port,
+            &mut self.press,
+            &mut self.records,
+            &mut due,
+            budgets,
+            &mut self.lines,
+        );
         if let Some(lines) = self.lines.take() {
             let _ = lines.finish();
         }

@@ -2,32 +2,30 @@
 
 ghost use Rattle.std.specs.Prelude.{◌≡◌, ◌⊎◌, ◌≤◌, All, length, IfErr, IfOk};
 ghost use Rattle.publisher.specs.Sights.{fresh};
-ghost use Rattle.omaha_server.specs.Edges.{is_dash};
+ghost use Rattle.omaha_server.specs.Serving.{is_dash};
 ghost use Rattle.omaha_server.specs.Jobs.{IsManned};
 ghost use Rattle.omaha_server.specs.Passages.{passages_in, passages_of};
 ghost use Rattle.omaha_server.specs.Runs.{HasServed, PrintsLines};
-ghost use Rattle.omaha_server.specs.Serving.{AreTotals, IsLogged, IsOpened, IsSilent, IsUnlogged, Serves, Stops};
+ghost use Rattle.omaha_server.specs.Serving.{AreTotals, IsLogged, IsOpened, IsSilent, IsUnlogged, Serves, Stops, begun};
 ghost use Rattle.omaha_server.specs.declared.error.ServerError.TheVariants.{Memory, NoPlace, Thread};
 
 use crate::clients::Clients;
-use crate::crew::{Crew, crew_of};
+use crate::crew::{Crew, Publishing, crew_of};
 use crate::error::ServerError;
 use crate::logging::{Target, Writing};
-use crate::mirrors::Mirrors;
 use crate::opening::open_place;
 use crate::operating::Operating;
 use crate::place::Place;
 use crate::ports::ServedPorts;
 use crate::running::{Ended, ends_of};
-use crate::service::Service;
 use crate::setup::Setup;
-use crate::system::System;
-use crate::totals::{names_of, totals_string};
 use editions::Edition;
 use http_ports::Port;
+use kept_records::Records;
 use log_queues::{Page, start_writer};
 use mirror_ledger::run_with_tills;
 use publisher::{Press, PublishError, View, open_edition};
+use services::{KeptService, Mirrors, Service, names_of, totals_string};
 use std::alloc::Global;
 use std::fs::File;
 use std::sync::{Mutex, Wait};
@@ -35,6 +33,7 @@ use std::thread;
 use std::thread::Threads;
 use std::time::Clock;
 use streams::WriteWhole;
+use systems::System;
 use values::Text;
 use worker_threads::Gate;
 
@@ -74,17 +73,20 @@ fn run_jobs<
     R: Clock + Threads + Wait + Sync + AllocGlobal,
     F: WriteWhole + Send,
     G: Gate + Sync,
+    K: Records,
 >(
     setup: &Setup<'_, S, R>,
     gate: &G,
     mirrors: Mirrors,
     jobs: Vec<Clients<'_, '_, S, R, P>>,
-    own: &mut Operating<'_, '_, S, R, P>,
+    own: &mut Operating<'_, '_, S, R, P, K>,
     log: Option<Writing<'_, '_, F>>,
 ) -> Result<Run<P>, ServerError>
     requires manned { IsManned P.terms setup.now jobs.items own.old }
     ensures ok { IfOk result (λ run. AreTotals (S.edges setup.now.system.now) setup.now.place.now
-        (record { edition = own.old.press; mirrors = mirrors }) (passages_of P.terms P.slots P.accepted run.ports) run.totals.items) }
+        (record { edition = own.old.press; mirrors = mirrors })
+        (begun own.old.press (K.first own.old.records) (K.kept own.old.records)).store
+        (passages_of P.terms P.slots P.accepted run.ports) run.totals.items) }
     ensures err { IfErr result (λ error. (error ≡ Thread) ⊎ (error ≡ Memory)) }
 {
     thread::scope(
@@ -94,6 +96,7 @@ fn run_jobs<
             requires manned { IsManned P.terms setup.now jobs.items own.now }
             ensures ok { IfOk result (λ run. AreTotals (S.edges setup.entry.now.system.now) setup.entry.now.place.now
                 (record { edition = own.entry.now.press; mirrors = mirrors })
+                (begun own.entry.now.press (K.first own.entry.now.records) (K.kept own.entry.now.records)).store
                 (passages_of P.terms P.slots P.accepted run.ports) run.totals.items) }
             ensures err { IfErr result (λ error. (error ≡ Thread) ⊎ (error ≡ Memory)) }
         {
@@ -139,9 +142,10 @@ fn serve_press<
     F: WriteWhole + Send,
     O: WriteWhole,
     G: Gate + Sync,
+    K: Records + Drop,
 >(
     setup: &Setup<'_, S, R>,
-    press: Press,
+    publishing: Publishing<K>,
     mirrors: Mirrors,
     views: Vec<View>,
     gate: &G,
@@ -150,9 +154,10 @@ fn serve_press<
 ) -> Result<Run<P>, ServerError>
     requires folder { (S.edges setup.now.system.now).folders setup.now.place.now.packages }
     requires many { length views.items ≡ setup.now.place.now.workers }
-    requires views { All (λ sight. sight ≡ fresh press) views.items }
+    requires views { All (λ sight. sight ≡ fresh publishing.press) views.items }
     ensures ok { IfOk result (λ run. HasServed (S.edges setup.now.system.now) setup.now.place.now
-        (record { edition = press; mirrors = mirrors }) (O.output out.old) (O.output out.new)
+        (record { edition = publishing.press; mirrors = mirrors })
+        (begun publishing.press (K.first publishing.records) (K.kept publishing.records)).store (O.output out.old) (O.output out.new)
         (passages_of P.terms P.slots P.accepted run.ports) run.totals.items) }
     ensures err { IfErr result (λ error. IsUnlogged error
         × Stops (S.edges setup.now.system.now) setup.now.place.now (O.output out.old) (O.output out.new) error) }
@@ -161,11 +166,12 @@ fn serve_press<
     let ports = match open_place(rt.alloc(), setup.system, setup.place, out) {
         Ok(ports) => ports,
         Err(error) => {
+            let Publishing { press, records: _ } = publishing;
             press.end(rt);
             return Err(error);
         }
     };
-    let Crew { jobs, own, log } = match crew_of(setup, ports, press, views, log) {
+    let Crew { jobs, own, log } = match crew_of(setup, ports, publishing, views, log) {
         Ok(crew) => crew,
         Err(press) => {
             press.end(rt);
@@ -178,6 +184,7 @@ fn serve_press<
         setup: _,
         port: _,
         press,
+        records: _,
         lines: _,
     } = own;
     press.end(rt);
@@ -209,14 +216,16 @@ fn serve_with<
     F: WriteWhole + Send,
     O: WriteWhole,
     G: Gate + Sync,
+    K: Records + Drop,
 >(
     setup: &Setup<'_, S, R>,
-    service: Service,
+    kept: KeptService<K>,
     gate: &G,
     out: &mut O,
     log: Option<Target<'_, '_, F>>,
 ) -> Result<ServedPorts<P>, ServerError>
-    ensures serves { Serves (S.edges setup.now.system.now) setup.now.place.now service (O.output out.old) (O.output out.new)
+    ensures serves { Serves (S.edges setup.now.system.now) setup.now.place.now kept.service
+        (begun kept.service.edition (K.first kept.records) (K.kept kept.records)).store (O.output out.old) (O.output out.new)
         (passages_in P.terms P.slots P.accepted result) }
     ensures unlogged { IfErr result IsUnlogged }
 {
@@ -224,10 +233,12 @@ fn serve_with<
     if !setup.system.has_folder(place.packages.as_str()) {
         return Err(ServerError::Folder);
     }
+    let KeptService { service, records } = kept;
     let names = names_of(rt.alloc(), service.mirrors.as_slice())?;
     let Service { edition, mirrors } = service;
     let (press, views) = open_views(rt, rt.alloc(), edition, place.workers)?;
-    let Run { ports, totals } = serve_press(setup, press, mirrors, views, gate, out, log)?;
+    let publishing = Publishing { press, records };
+    let Run { ports, totals } = serve_press(setup, publishing, mirrors, views, gate, out, log)?;
     match print_totals(rt.alloc(), names.as_slice(), &totals, out) {
         Ok(()) => Ok(ports),
         Err(error) => Err(error),
@@ -265,16 +276,18 @@ pub fn serve<
     O: WriteWhole,
     F: WriteWhole + Send,
     G: Gate + Sync,
+    K: Records + Drop,
 >(
     rt: &'a R,
     system: &'a S,
-    service: Service,
+    kept: KeptService<K>,
     place: &'a Place,
     gate: &G,
     out: &mut O,
     errors: &mut F,
 ) -> Result<ServedPorts<P>, ServerError>
-    ensures serves { Serves (S.edges system.now) place.now service (O.output out.old) (O.output out.new)
+    ensures serves { Serves (S.edges system.now) place.now kept.service
+        (begun kept.service.edition (K.first kept.records) (K.kept kept.records)).store (O.output out.old) (O.output out.new)
         (passages_in P.terms P.slots P.accepted result) }
     ensures logged { IsLogged (S.edges system.now) place.now.log result }
     ensures silent { IsSilent place.now.log → errors.new ≡ errors.old }
@@ -282,18 +295,18 @@ pub fn serve<
     let setup = Setup { system, rt, place };
     let Some(path) = &place.log else {
         let none = None::<Target<'static, 'static, File>>;
-        return serve_with(&setup, service, gate, out, none);
+        return serve_with(&setup, kept, gate, out, none);
     };
     let path = path.as_str();
     if is_dash(path) {
         let page = Mutex::new(Page::new(errors));
         let log = Some(Target::Errors(&page));
-        return serve_with(&setup, service, gate, out, log);
+        return serve_with(&setup, kept, gate, out, log);
     }
     let Ok(mut file) = system.open_log(path) else {
         return Err(ServerError::Log);
     };
     let page = Mutex::new(Page::new(&mut file));
     let log = Some(Target::<'_, '_, File>::File(&page));
-    serve_with(&setup, service, gate, out, log)
+    serve_with(&setup, kept, gate, out, log)
 }

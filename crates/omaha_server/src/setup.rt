@@ -7,7 +7,6 @@ ghost use Rattle.omaha_server.specs.Serving.{IsServedPort};
 use crate::new_port::NewPort;
 use crate::place::Place;
 use crate::ports::ServedPort;
-use crate::system::System;
 use access_logs::ReplyLog;
 use http_desks::{Clock, Desk};
 use http_devices::SystemClock;
@@ -15,6 +14,7 @@ use http_ports::Port;
 use log_queues::LineSender;
 use std::alloc::Global;
 use std::time;
+use systems::System;
 
 /// What the ports of a server are served with.
 #[derive(Drop)]

@@ -25,6 +25,18 @@ Publishes before base batch (Err publishing.HistoryFull) after =
 Publishes before base batch (Err publishing.NoPlace) after = ⊥
 Publishes before base batch (Err publishing.Memory) after = after ≡ before
 
+-- what preparing a batch on a base comes to: the history with the batch at its end; or why there is none, as publishing it
+-- would say
+abbrev pub Prepares : History → ℕ → List Edit → Result History PublishError → Type 0
+Prepares before base batch (Ok next) = (base ≡ length before) × Continues before batch (Ok next)
+Prepares before base batch (Err error) = Publishes before base batch (Err error) before
+
+-- what showing a prepared history comes to: it is published, and the receipt has it; or it is given back, with the
+-- published history as before
+abbrev pub Shows : History → History → Result History History → History → Type 0
+Shows before prepared (Ok receipt) after = (receipt ≡ prepared) × (after ≡ prepared)
+Shows before prepared (Err back) after = (back ≡ prepared) × (after ≡ before)
+
 -- why nothing was opened: an edit of the first batch is rejected; there is no place for a reader, although the batch
 -- is accepted; or out of memory
 abbrev pub FailsToOpen : List Edit → PublishError → Type 0

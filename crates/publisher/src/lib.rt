@@ -1,7 +1,8 @@
 //! Published editions that readers never wait for.
 //!
 //! `open` publishes edition 1, `open_edition` one that was made before; each makes a `Press` and some `View`s.
-//! `Press::publish` publishes one more batch whole or not at all, and returns a `Receipt`. `View::enter` gives an
+//! `Press::publish` publishes one more batch whole or not at all, and returns a `Receipt`: `prepare` makes the edition,
+//! or says why not, and `show_prepared` shows it. `View::enter` gives an
 //! `Entered` with one edition, whose history begins with all that the view has seen or learnt; `Entered::leave` gives
 //! the view back. `meet` compares a view with a press. Read `specs/Publishing.antt` and `specs/Sights.antt`.
 //!
@@ -18,6 +19,7 @@ mod fault;
 mod histories;
 mod learnt;
 mod meeting;
+mod prepared;
 mod press;
 mod receipt;
 mod rule;
@@ -29,6 +31,7 @@ mod view;
 pub use crate::fault::PublishError;
 pub use crate::histories::{is_same, starts_with};
 pub use crate::meeting::meet;
+pub use crate::prepared::Prepared;
 pub use crate::press::{Press, open, open_edition};
 pub use crate::receipt::Receipt;
 pub use crate::view::{Entered, View};

@@ -4,10 +4,11 @@ ghost use Rattle.publisher.specs.Beginnings.{StartsWith};
 ghost use Rattle.editions.specs.Editions.{Continues};
 ghost use Rattle.left_right.specs.Sides.{view as heard_by};
 ghost use Rattle.publisher.specs.declared.fault.PublishError.TheVariants.{Memory, NoPlace};
-ghost use Rattle.publisher.specs.Publishing.{FailsToOpen, Opens, OpensWith, Publishes};
+ghost use Rattle.publisher.specs.Publishing.{FailsToOpen, Opens, OpensWith, Prepares, Publishes, Shows};
 ghost use Rattle.publisher.specs.Sights.{fresh};
 
 use crate::fault::PublishError;
+use crate::prepared::Prepared;
 use crate::receipt::Receipt;
 use crate::rule::PressWriter;
 use crate::steps::{new_writer, show, views_of};
@@ -92,12 +93,59 @@ impl Press {
 
     // rule: Publishing
     // rule: Stale base
-    /// Publishes a batch on the base, the number of the edition that it was made for.
+    /// Makes the edition with one more batch on the base, the number of the edition that the batch was made for, and
+    /// shows it to nobody.
     ///
-    /// Returns `Stale` if another edition is published, then the error of `Edition::next`; the published edition is
-    /// then as before. A batch is published whole or not at all. The tables that it may change are made in `workers`
-    /// pieces, from 1 to 16, under `gate`, as `Edition::next_with` does. Then it waits for views that still read the
-    /// edition before the published one.
+    /// Returns `Stale` if another edition is published, then the error of `Edition::next`. The tables that the batch may
+    /// change are made in `workers` pieces, from 1 to 16, under `gate`, as `Edition::next_with` does.
+    pub fn prepare<R: Threads, G: Gate + Sync>(
+        &self,
+        rt: &R,
+        alloc: Global,
+        base: u64,
+        batch: Batch,
+        workers: usize,
+        gate: &G,
+    ) -> Result<Prepared, PublishError>
+        requires { (1 ≤ workers) × (workers ≤ 16) }
+        ensures { Prepares self.now base batch result }
+    {
+        if self.edition().number() != base {
+            return Err(PublishError::Stale(Receipt::of(self.published())?));
+        }
+        let next = next_of(rt, alloc, self.edition(), batch, workers, gate)?;
+        Ok(Prepared::of(next))
+    }
+
+    // rule: Publishing
+    /// Publishes an edition that was prepared from the published one.
+    ///
+    /// It waits for views that still read the edition before the published one. Without memory it gives the prepared
+    /// edition back, and the published one is as before.
+    pub fn show_prepared<R: Wait>(
+        &mut self,
+        rt: &R,
+        prepared: Prepared,
+    ) -> Result<Receipt, Prepared>
+        requires { StartsWith prepared self.old }
+        ensures { Shows self.old prepared result self.new }
+    {
+        let Ok(next) = prepared.share() else {
+            return Err(prepared);
+        };
+        match self.show(rt, next) {
+            Ok(()) => Ok(prepared.into_receipt()),
+            Err(_) => Err(prepared),
+        }
+    }
+
+    // rule: Publishing
+    // rule: Stale base
+    /// Publishes a batch on the base, the number of the edition that it was made for: prepares the next edition and shows
+    /// it.
+    ///
+    /// Returns the errors of `prepare`, or `Memory`; the published edition is then as before. A batch is published whole
+    /// or not at all.
     pub fn publish<R: Threads + Wait, G: Gate + Sync>(
         &mut self,
         rt: &R,
@@ -110,13 +158,11 @@ impl Press {
         requires { (1 ≤ workers) × (workers ≤ 16) }
         ensures { Publishes self.old base batch result self.new }
     {
-        if self.edition().number() != base {
-            return Err(PublishError::Stale(Receipt::of(self.published())?));
+        let prepared = self.prepare(rt, alloc, base, batch, workers, gate)?;
+        match self.show_prepared(rt, prepared) {
+            Ok(receipt) => Ok(receipt),
+            Err(_) => Err(PublishError::Memory),
         }
-        let next = next_of(rt, alloc, self.edition(), batch, workers, gate)?;
-        let receipt = Receipt::of(&next)?;
-        self.show(rt, next)?;
-        Ok(receipt)
     }
 
     /// Ends the press: no view enters an edition any more. It waits for those that still read one.

@@ -1,5 +1,6 @@
-ghost use Rattle.std.specs.Prelude.{◌≡◌, length, IfOk};
+ghost use Rattle.std.specs.Prelude.{◌≡◌, ◌≤◌, length, IfOk};
 ghost use Rattle.std.specs.Arc.{arc_value};
+ghost use Rattle.editions.specs.Editions.{max_batches};
 
 use editions::Edition;
 use std::alloc::AllocError;
@@ -32,6 +33,12 @@ impl Receipt {
         Ok(Receipt { edition })
     }
 
+    pub(crate) fn shown(edition: Arc<Edition>) -> Receipt
+        ensures { result ≡ arc_value edition }
+    {
+        Receipt { edition }
+    }
+
     pub(crate) fn shared(&self) -> &Arc<Edition>
         ensures { arc_value result.now ≡ self.now }
     {
@@ -40,7 +47,8 @@ impl Receipt {
 
     /// Returns the number of the edition, 1 to 4096.
     pub fn edition(&self) -> u64
-        ensures { result ≡ length self.now }
+        ensures count { result ≡ length self.now }
+        ensures few { length self.now ≤ max_batches }
     {
         self.edition.number()
     }

@@ -1,5 +1,6 @@
 mod AnswerLemmas
 mod AskLemmas
+pub mod DueLemmas
 mod KeptLemmas
 mod MirrorLemmas
 mod OrderLemmas

@@ -1,5 +1,5 @@
 -- Mirrors after a raise of a budget are mirrors that a profile may name.
-use Rattle.std.proofs.Common.{◌≡◌, ◌∙◌, zero, suc, Result, Ok, Err, ◌≤◌, ◌+◌, ◌&&◌, Bool, cond, ℕ, List, [], ◌∷◌, length, nat_le, true, ap, arith, refl, subst, sym}
+use Rattle.std.proofs.Common.{◌≡◌, ◌∙◌, zero, suc, Result, Ok, Err, ◌<◌, ◌≤◌, ◌+◌, ◌&&◌, Bool, cond, ℕ, List, [], ◌∷◌, length, nat_le, true, ap, arith, get_or, refl, set, subst, sym}
 use Rattle.std.specs.List.{count_by, list_all}
 use Rattle.std.specs.Str.{bytes_eq}
 use Rattle.std.proofs.lemmas.Bool.{and_parts}
@@ -19,6 +19,16 @@ both-from a b one other = ap (λ c. c && b) one ∙ other
 
 nat_le-from : (a b : ℕ) → a ≤ b → nat_le a b ≡ true
 nat_le-from a b below = grind (arith, nat_tests)
+
+-- the mirror at an index in place of itself, with another budget
+pub raise_at-set : (mirrors : List Mirror) (index budget : ℕ) (mirror : Mirror) → mirror ≡ get_or mirrors index mirror →
+    index < length mirrors →
+    set mirrors index (record { name = mirror.name; codebase = mirror.codebase; budget = budget }) ≡ raise_at mirrors index budget
+raise_at-set [] index budget mirror is below = absurd (omega (arith, below))
+raise_at-set (first ∷ mirrors) zero budget mirror is below =
+    ap (λ (m : Mirror). record { name = m.name; codebase = m.codebase; budget = budget } ∷ mirrors) is
+raise_at-set (first ∷ mirrors) (suc index) budget mirror is below =
+    ap (λ (rest : List Mirror). first ∷ rest) (raise_at-set mirrors index budget mirror is (omega (arith, below)))
 
 -- a mirror with another budget
 abbrev with-budget : Mirror → ℕ → Mirror

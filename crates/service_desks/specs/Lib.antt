@@ -1,10 +1,12 @@
 pub mod Answering
 pub mod Asking
 pub mod Entries
+pub mod Keeping
 pub mod Kept
 pub mod Lines
 pub mod Operators
 pub mod Raises
 pub mod Replies
 pub mod Scripts
+pub mod States
 pub mod Workers

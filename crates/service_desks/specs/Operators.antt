@@ -11,6 +11,7 @@ use Rattle.profile_writer.specs.Profiles.{IsProfileFile, IsReadAs}
 use Rattle.records.specs.declared.mirror.Mirror.{Mirror}
 use Rattle.service_desks.specs.Raises.{RaisesBy, is_raise}
 use Rattle.service_desks.specs.Scripts.{Performs}
+use Rattle.service_desks.specs.States.{State, publication_of}
 
 -- rule: Dump
 -- a reply is the profile of a history's content and of the mirrors with their present budgets, and is read as them
@@ -29,22 +30,19 @@ Dumps mirrors history (Err off.Closed) = ⊥
 abbrev pub dump_word : List ℕ
 dump_word = codes "dump"
 
--- what an operator changes: the published history, and the mirrors' budgets
-pub record State : Type 0 where
-  pub mirrors : List Mirror
-  pub history : History
-
 -- what a body comes to: a dump, if it asks for one, and then all is as before; a raise, if it asks for one, and then
 -- nothing is published; else a script, and then no budget is raised
 abbrev pub IsOperated : State → List ℕ → Result (DeskStatus × List ℕ) Off → State → Type 0
 IsOperated before body answer after =
     ((body ≡ dump_word) × Dumps before.mirrors before.history answer × (after ≡ before))
-    ⊎ ((is_raise body ≡ true) × RaisesBy before.mirrors after.mirrors body answer × (after.history ≡ before.history))
-    ⊎ ((body ≢ dump_word) × (is_raise body ≡ false) × Performs before.history body answer after.history × (after.mirrors ≡ before.mirrors))
+    ⊎ ((is_raise body ≡ true)
+    × RaisesBy (before.mirrors, before.store) (after.mirrors, after.store) body answer × (after.history ≡ before.history))
+    ⊎ ((body ≢ dump_word) × (is_raise body ≡ false)
+    × Performs (publication_of before) body answer (publication_of after) × (after.mirrors ≡ before.mirrors))
 
 -- rule: Operator's desk
--- a call of the desk, with the mirrors and their budgets and the published history before and after it; the desk knows no
--- package
+-- a call of the desk, with the mirrors and their budgets, the published history, and what is kept, before and after it; the
+-- desk knows no package
 abbrev pub IsCall : State → Call → State → Type 0
 IsCall before (Asks body moment answer) after = IsOperated before body answer after
 IsCall before (Looks name found) after = (found ≡ None) × (after ≡ before)

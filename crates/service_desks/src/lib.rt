@@ -29,6 +29,7 @@ mod worker;
 pub use crate::held_view::HeldView;
 pub use crate::operator::Operator;
 pub use crate::packages::find_package;
+pub use crate::raises::replay_raise;
 pub use crate::scripts::perform_script;
 pub use crate::update_checks::reply_to;
 pub use crate::worker::Worker;

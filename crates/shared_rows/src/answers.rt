@@ -17,7 +17,7 @@ pub(crate) fn print_answer(alloc: Global, answer: &Result<Answer, Off>) -> Optio
             let body = str::from_utf8(&answer.body).ok()?;
             format!(in alloc; "{status} {body}").ok()
         }
-        Err(Off::Memory) => String::from_str(alloc, "memory").ok(),
-        Err(Off::Closed) => String::from_str(alloc, "closed").ok(),
+        Err(Off::Memory) => String::from_str(alloc, "memory\n").ok(),
+        Err(Off::Closed) => String::from_str(alloc, "closed\n").ok(),
     }
 }

@@ -7,6 +7,7 @@ use crate::answers::print_answer;
 use catalogue::Mirror;
 use fixtures::{has_bounds, mirrors_of_profile, open_document};
 use http_desks::{Desk, Off};
+use kept_records::{Records, Unkept};
 use mirror_ledger::{BudgetJob, Budgets, Till, TillJob, run_with_tills};
 use par_tables::Free;
 use publisher::Press;
@@ -15,28 +16,39 @@ use std::alloc::{AllocError, Global};
 use std::sync::Wait;
 use std::thread::Threads;
 
-// What a body gets. If memory ran out, nothing is to be published, and the body is sent again.
-fn send_to<R: Threads + Wait + AllocGlobal, B: Budgets>(
-    operator: &mut Operator<'_, '_, '_, R, B>,
+// What a body gets. If memory ran out, nothing is to be published, and the body is sent again; if it was kept all the
+// same, its edition is due, and shown then, and that it is stale means that it is published.
+fn send_to<R: Threads + Wait + AllocGlobal, B: Budgets, K: Records>(
+    operator: &mut Operator<'_, '_, '_, '_, '_, R, B, K>,
     body: &[u8],
 ) -> Option<String>
     ensures same_press { operator.new.press.ghost_name ≡ operator.old.press.ghost_name }
     ensures same_budgets { operator.new.budgets.ghost_name ≡ operator.old.budgets.ghost_name }
+    ensures same_records { operator.new.records.ghost_name ≡ operator.old.records.ghost_name }
+    ensures same_due { operator.new.due.ghost_name ≡ operator.old.due.ghost_name }
 {
     let alloc = operator.rt.alloc();
     let before = operator.press.edition().number();
     match operator.answer(body, 0) {
         Err(Off::Memory) if operator.press.edition().number() == before => {
-            print_answer(alloc, &operator.answer(body, 0))
+            let due = operator.due.is_some();
+            let again = print_answer(alloc, &operator.answer(body, 0))?;
+            let number = operator.press.edition().number();
+            if due && number > before {
+                format!(in alloc; "200 edition {number}\n").ok()
+            } else {
+                Some(again)
+            }
         }
         answer => print_answer(alloc, &answer),
     }
 }
 
 // The same, of a desk over a press and budgets that may be raised.
-fn send<R: Threads + Wait + AllocGlobal, B: Budgets>(
+fn send<R: Threads + Wait + AllocGlobal, B: Budgets, K: Records>(
     rt: &R,
     press: &mut Press,
+    records: &mut K,
     budgets: &mut B,
     body: &[u8],
 ) -> Option<String>
@@ -45,23 +57,27 @@ fn send<R: Threads + Wait + AllocGlobal, B: Budgets>(
     ensures mirrors { AreMirrors (B.present budgets.new) }
     ensures rises { B.rises budgets.new ≡ true }
 {
+    let mut due = None;
     let mut operator = Operator {
         rt,
         press,
         budgets,
+        records,
+        due: &mut due,
         workers: 2,
     };
     send_to(&mut operator, body)
 }
 
 // Bodies that are sent one after the other.
-struct Sending<'a, R> {
+struct Sending<'a, R, K> {
     rt: &'a R,
     press: Press,
+    records: K,
     bodies: &'a [Vec<u8>],
 }
 
-impl<R: Threads + Wait + AllocGlobal> BudgetJob for Sending<'_, R> {
+impl<R: Threads + Wait + AllocGlobal, K: Records> BudgetJob for Sending<'_, R, K> {
     type End = Option<Vec<String>>;
 
     ghost raises = { λ _. true };
@@ -71,7 +87,7 @@ impl<R: Threads + Wait + AllocGlobal> BudgetJob for Sending<'_, R> {
     fn work<B: Budgets>(&mut self, budgets: &mut B) -> Option<Vec<String>> {
         let mut replies = Vec::new(self.rt.alloc());
         for body in self.bodies {
-            let reply = send(self.rt, &mut self.press, budgets, body)?;
+            let reply = send(self.rt, &mut self.press, &mut self.records, budgets, body)?;
             replies.push(reply).ok()?;
         }
         Some(replies)
@@ -101,10 +117,10 @@ fn one_idle(alloc: Global) -> Result<Vec<Idle>, AllocError>
 }
 
 // Sends the bodies, beside a worker that asks for nothing.
-fn send_bodies<R: Threads + Wait + Sync + AllocGlobal>(
+fn send_bodies<R: Threads + Wait + Sync + AllocGlobal, K: Records>(
     rt: &R,
     mirrors: Vec<Mirror>,
-    sending: &mut Sending<'_, R>,
+    sending: &mut Sending<'_, R, K>,
 ) -> Option<Vec<String>>
     requires { AreMirrors mirrors.items }
 {
@@ -118,7 +134,33 @@ fn send_bodies<R: Threads + Wait + Sync + AllocGlobal>(
     }
 }
 
-/// What bodies get that are sent to the desk of a press one after the other, and the press.
+/// What bodies get that are sent to the desk of a press one after the other, with the press and the records.
+pub(crate) fn replies_kept<R: Threads + Wait + Sync + AllocGlobal, K: Records>(
+    rt: &R,
+    press: Press,
+    records: K,
+    mirrors: Vec<Mirror>,
+    bodies: &[Vec<u8>],
+) -> (Press, K, Option<Vec<String>>)
+    requires { AreMirrors mirrors.items }
+{
+    let mut sending = Sending {
+        rt,
+        press,
+        records,
+        bodies,
+    };
+    let replies = send_bodies(rt, mirrors, &mut sending);
+    let Sending {
+        rt: _,
+        press,
+        records,
+        bodies: _,
+    } = sending;
+    (press, records, replies)
+}
+
+/// What bodies get that are sent to the desk of a press one after the other, and the press. Nothing is kept.
 pub(crate) fn replies_of<R: Threads + Wait + Sync + AllocGlobal>(
     rt: &R,
     press: Press,
@@ -127,13 +169,7 @@ pub(crate) fn replies_of<R: Threads + Wait + Sync + AllocGlobal>(
 ) -> (Press, Option<Vec<String>>)
     requires { AreMirrors mirrors.items }
 {
-    let mut sending = Sending { rt, press, bodies };
-    let replies = send_bodies(rt, mirrors, &mut sending);
-    let Sending {
-        rt: _,
-        press,
-        bodies: _,
-    } = sending;
+    let (press, _unkept, replies) = replies_kept(rt, press, Unkept::new(), mirrors, bodies);
     (press, replies)
 }
 

@@ -14,6 +14,8 @@ mod desk;
 #[cfg(test)]
 mod full_tests;
 #[cfg(test)]
+mod kept_tests;
+#[cfg(test)]
 mod one_worker;
 #[cfg(test)]
 mod operator_tests;

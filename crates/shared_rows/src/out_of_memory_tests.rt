@@ -40,6 +40,7 @@ fn operates<R: Threads + Wait + Sync + AllocGlobal>(rt: &R) -> Option<bool> {
 
 // rule: Operator's desk
 // rule: Performed script
+// rule: Due edition
 #[test]
 fn operator_answer_without_memory(rt: HostRuntime) {
     assert!(rt; are_right(operates(&rt), operates(&rt)));

@@ -13,5 +13,5 @@ returns c =
       accepted = published_is_accepted quotes graphs growth prefixes valid;
       stays = published_stays quotes graphs growth prefixes valid;
       whole = batches_are_published_whole quotes graphs growth prefixes valid;
-      turn = λ mirrors batch workers events accepted known next. refl;
+      turn = λ mirrors start workers events accepted known next. refl;
     }

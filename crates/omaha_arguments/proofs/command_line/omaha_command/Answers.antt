@@ -4,6 +4,7 @@ use Rattle.omaha_arguments.proofs.command_line.omaha_command.Goals as goal
 pub returns : goal.returns
 returns c =
     c.with_command.ensures _ _ refl
+    (c.with_command-program-11.ensures _ _ refl
     (c.with_command-program-10.ensures _ _ refl
     (c.with_command-program-9.ensures _ _ refl
     (c.with_command-program-8.ensures _ _ refl
@@ -17,6 +18,7 @@ returns c =
     c.publish_command.ensures)
     c.raise_command.ensures)
     c.dump_command.ensures)
+    c.history_command.ensures)
     c.check_command.ensures)
     c.walk_command.ensures)
     c.describe_command.ensures)

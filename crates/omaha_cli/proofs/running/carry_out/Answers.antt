@@ -1,7 +1,7 @@
 use Rattle.std.proofs.Common.{Ok, map, string_bytes, subst}
 use Rattle.omaha_arguments.specs.declared.command.Command.{Command}
 use Rattle.omaha_cli.specs.Doing.{Does}
-use Rattle.omaha_cli.specs.Streams.{Streams}
+use Rattle.omaha_commands.specs.Streams.{Streams}
 use Rattle.omaha_cli.specs.Worlds.{World}
 use Rattle.omaha_cli.proofs.EndingLemmas.{Ends-without_command}
 use Rattle.omaha_cli.proofs.running.carry_out.Goals as goal

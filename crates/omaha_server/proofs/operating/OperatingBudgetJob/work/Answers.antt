@@ -1,8 +1,9 @@
 use Rattle.std.proofs.Common.{◌≡◌, ◌∙◌, Option, Some, None, refl, subst, sym}
 use Rattle.http_ports.specs.declared.terms.Terms.{Terms}
+use Rattle.service_desks.specs.States.{publication}
 use Rattle.omaha_server.specs.OperatorPorts.{terms_left}
 use Rattle.omaha_server.specs.Passages.{passage_of}
-use Rattle.omaha_server.specs.Serving.{IsOperated}
+use Rattle.omaha_server.specs.Serving.{IsOperated, begun, with_mirrors}
 use Rattle.omaha_server.specs.declared.operating.OperatorPort.{OperatorPort}
 use Rattle.omaha_server.specs.declared.operating.OperatorPort.TheVariants as variant
 use Rattle.omaha_server.proofs.operating.OperatingBudgetJob.work.Goals as goal
@@ -17,13 +18,15 @@ pub returns-in_default : goal.returns-in_default
 returns-in_default g c =
     let edges = g.S.System.edges c.args.self.now.setup.now.system.now in
     let place = c.args.self.now.setup.now.place.now in
+    let records = c.args.self.now.records in
+    let first = begun c.args.self.now.press (g.K.Records.first records) (g.K.Records.kept records) in
     record {
       raises = refl;
       comes = (
-        c.args.self.now.press,
+        first,
         subst (λ (terms : Option Terms). IsOperated edges place terms
-            (record { mirrors = g.B.Budgets.present c.args.budgets.now; history = c.args.self.now.press })
-            (record { mirrors = g.B.Budgets.present c.args.budgets.now; history = c.args.self.now.press }) None)
+            (with_mirrors (g.B.Budgets.present c.args.budgets.now) first)
+            (with_mirrors (g.B.Budgets.present c.args.budgets.now) first) None)
             (sym (none_left g.P.Port.terms c.args.self.now.port c.in_default.not-New)) refl,
       );
     }
@@ -31,11 +34,14 @@ returns-in_default g c =
 pub returns-clause-comes : goal.returns-clause-comes
 returns-clause-comes g c =
     let edges = g.S.System.edges c.args.self.now.setup.now.system.now in
-    let place = c.args.self.now.setup.now.place.now in (
-      c.operate-served.new.press,
+    let place = c.args.self.now.setup.now.place.now in
+    let records = c.args.self.now.records in
+    let left = publication c.operate-served.new.press (g.K.Records.first c.operate-served.new.records)
+    (g.K.Records.kept c.operate-served.new.records) c.operate-served.new.due in (
+      left,
       subst (λ (port : OperatorPort g.row.P.Denot). IsOperated edges place (terms_left g.P.Port.terms port)
-          (record { mirrors = g.B.Budgets.present c.args.budgets.now; history = c.args.self.now.press })
-          (record { mirrors = g.B.Budgets.present c.operate-served.new.budgets; history = c.operate-served.new.press })
+          (with_mirrors (g.B.Budgets.present c.args.budgets.now) (begun c.args.self.now.press (g.K.Records.first records) (g.K.Records.kept records)))
+          (with_mirrors (g.B.Budgets.present c.operate-served.new.budgets) left)
           (Some (passage_of g.P.Port.terms g.P.Port.slots g.P.Port.accepted c.operate-served.result)))
           (sym c.in-New-replace.is ∙ c.replace.ensures.value) c.operate-served.ensures.operated,
     )

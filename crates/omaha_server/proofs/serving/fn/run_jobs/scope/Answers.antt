@@ -1,13 +1,6 @@
 use Rattle.std.proofs.Common.{◌≡◌, arith, vec_len}
-use Rattle.omaha_server.proofs.AnswerLemmas.{AreNamed-AreMirrors, are_bounded-mirrors}
 use Rattle.omaha_server.proofs.RunLemmas.{AreTotals-run}
 use Rattle.omaha_server.proofs.serving.fn.run_jobs.scope.Goals as goal
-
-pub run_with_tills-ran-requires-clause-bounded : goal.run_with_tills-ran-requires-clause-bounded
-run_with_tills-ran-requires-clause-bounded g c = λ κs outlives. are_bounded-mirrors c.into_vec.result.items c.into_vec.ensures.valid.formed
-
-pub run_with_tills-ran-requires-clause-named : goal.run_with_tills-ran-requires-clause-named
-run_with_tills-ran-requires-clause-named g c = λ κs outlives. AreNamed-AreMirrors c.into_vec.result.items c.into_vec.ensures.valid
 
 pub returns : goal.returns
 returns g c =
@@ -17,7 +10,7 @@ returns g c =
     let led = rw c.into_vec.ensures.list at c.run_with_tills-ran.ensures.own in
     let counted : vec_len c.captures.jobs ≡ c.captures.setup.now.place.now.workers = omega (arith, c.captures.jobs.ok.0, manned.many) in
     record {
-      ok = AreTotals-run g.S.System.edges g.P.Port.terms g.P.Port.slots g.P.Port.accepted c.captures.setup.now c.captures.mirrors
+      ok = AreTotals-run g.S.System.edges g.P.Port.terms g.P.Port.slots g.P.Port.accepted g.K.Records.first g.K.Records.kept c.captures.setup.now c.captures.mirrors
           c.captures.jobs.items own _ c.run_with_tills-ran.result c.in_ok-clients.field-0 manned
           (cc (manned.operates, counted)) works led c.in_ok-clients.ensures.ok;
       err = tt;

@@ -1,0 +1,149 @@
+-- What statements make of a history, and what a crash leaves of it.
+use Rattle.std.proofs.Common.{◌≡◌, ◌∙◌, ◌+◌, ◌++◌, List, [], ◌∷◌, ap, arith, false, inl, inr, length, map, subst, sym, true, ℕ}
+use Rattle.std.proofs.lemmas.List.Sums.{sum_by-append}
+use Rattle.std.specs.List.Sorted.{IsPermutation}
+use Rattle.std.specs.Prelude.{IsTrue}
+use Rattle.kept_records.specs.Keeping.{bytes_in}
+use Rattle.kept_records.specs.declared.record.Record.{Record}
+use Rattle.sqlite.specs.Effect.{Database}
+use Rattle.sqlite.specs.Order.{Row}
+use Rattle.sqlite.specs.State.{HasCleanDisk, IsUnchanged, Opens, Shows, State}
+use Rattle.sqlite.specs.Tree.{Trees}
+use Rattle.history.proofs.RowLemmas.{Holds-append, Holds-nil}
+use Rattle.history.specs.Holdings.{CrashLeaves, Holds, IsAsBefore, IsHistory, IsInside, Keeps, Leads, LeavesEither}
+use Rattle.history.specs.Tables.{entries_from, history_schema, shown_row, stored_row}
+
+-- an open store leaves its last commit alone
+abbrev pub IsSettled : State → Type 0
+IsSettled s = (db : Trees) → s.may_leave db → db ≡ s.committed.trees
+
+-- a statement outside a transaction left these records
+pub history_of : (old new : State) (first : ℕ) (kept : List Record) → old.in_transaction ≡ false → Leads old new history_schema
+    → Holds new.now.trees first kept → IsHistory new first kept
+history_of old new first kept outside leads holds =
+    let shown = rw outside at leads.shown in
+    record { is_open = shown.is_open; schema = leads.schema; holds = holds; committed = shown.committed_is; autocommit = shown.mode }
+
+-- one more record was added
+pub history_appended : (old new : State) (first : ℕ) (kept : List Record) (last : Record) → IsHistory old first kept → Leads old new history_schema
+    → new.now.trees 0 ≡ old.now.trees 0 ++ stored_row (first + length kept) last ∷ [] → IsHistory new first (kept ++ last ∷ [])
+history_appended old new first kept last is leads added =
+    history_of old new first (kept ++ last ∷ []) is.autocommit leads
+    (Holds-append old.now.trees new.now.trees first kept last is.holds added)
+
+-- nothing was changed
+history_same : (old new : State) (first : ℕ) (kept : List Record) → IsHistory old first kept → IsTrue new.is_open → new.now ≡ old.now
+    → new.committed ≡ old.committed → new.in_transaction ≡ false → IsHistory new first kept
+history_same old new first kept is opened now committed outside = record {
+  is_open = opened;
+  schema = ap (λ (it : Database). it.schema) now ∙ is.schema;
+  holds = subst (λ (it : Database). Holds it.trees first kept) (sym now) is.holds;
+  committed = committed ∙ is.committed ∙ sym now;
+  autocommit = outside;
+}
+
+pub history_unchanged : (old new : State) (first : ℕ) (kept : List Record) → IsHistory old first kept → IsUnchanged old new → IsHistory new first kept
+history_unchanged old new first kept is same =
+    history_same old new first kept is same.0.is_open same.0.now_is same.0.committed_is (same.0.mode ∙ is.autocommit)
+
+-- a statement failed, and the connection is open
+pub history_as_before : (old new : State) (first : ℕ) (kept : List Record) → IsHistory old first kept → IsTrue new.is_open → IsAsBefore old new
+    → IsHistory new first kept
+history_as_before old new first kept is opened (inl same) = history_unchanged old new first kept is same
+history_as_before old new first kept is opened (inr back) =
+    history_same old new first kept is opened ((back.undone opened).0 ∙ is.committed) (back.undone opened).1 back.autocommit
+
+-- what a history holds is committed
+pub history_holds : (s : State) (first : ℕ) (kept : List Record) → IsHistory s first kept → Holds s.committed.trees first kept
+history_holds s first kept is = subst (λ (it : Database). Holds it.trees first kept) (sym is.committed) is.holds
+
+pub history_keeps : (s : State) (first : ℕ) (kept : List Record) → IsHistory s first kept → IsSettled s → Keeps s first kept
+history_keeps s first kept is settled = record {
+  committed = history_holds s first kept is;
+  crash = λ db may. subst (λ trees. Holds trees first kept) (sym (settled db may)) (history_holds s first kept is);
+}
+
+-- one call after another
+pub CrashLeaves-then : (a b c : State) (P Q R : Trees → Type 0) → CrashLeaves a b P → CrashLeaves b c Q
+    → (HasCleanDisk b → (db : Trees) → P db → R db) → (HasCleanDisk b → (db : Trees) → Q db → R db) → CrashLeaves a c R
+CrashLeaves-then a b c P Q R one two early late = record {
+  clean = λ clean. one.clean (two.clean clean);
+  crash = λ clean db may. elim (two.crash clean db may) [
+    | inl before ↦ elim (one.crash (two.clean clean) db before) [
+      | inl was ↦ inl was
+      | inr made ↦ inr (early (two.clean clean) db made)
+    ]
+    | inr made ↦ inr (late (two.clean clean) db made)
+  ];
+}
+
+pub CrashLeaves-weaker : (a b : State) (P Q : Trees → Type 0) → (HasCleanDisk a → (db : Trees) → P db → Q db) → CrashLeaves a b P → CrashLeaves a b Q
+CrashLeaves-weaker a b P Q leads leaves = record {
+  clean = leaves.clean;
+  crash = λ clean db may. elim (leaves.crash clean db may) [
+    | inl was ↦ inl was
+    | inr made ↦ inr (leads (leaves.clean clean) db made)
+  ];
+}
+
+-- a call that commits nothing, after another one
+pub CrashLeaves-after : (a b c : State) (P : Trees → Type 0) → CrashLeaves a b P → CrashLeaves b c (λ _. ⊥) → CrashLeaves a c P
+CrashLeaves-after a b c P one two = CrashLeaves-then a b c P (λ _. ⊥) P one two (λ _ db made. made) (λ _ db made. absurd made)
+
+-- a crash leaves the records as they were, or those that the call commits
+pub leaves_either : (old new : State) (first : ℕ) (kept : List Record) (number : ℕ) (others : List Record) (P : Trees → Type 0)
+    → HasCleanDisk new → IsHistory old first kept → IsSettled old → ((db : Trees) → P db → Holds db number others)
+    → CrashLeaves old new P → LeavesEither new first kept number others
+leaves_either old new first kept number others P clean is settled holds leaves db may = elim (leaves.crash clean db may) [
+  | inl was ↦ inl (subst (λ trees. Holds trees first kept) (sym (settled db was)) (history_holds old first kept is))
+  | inr made ↦ inr (holds db made)
+]
+
+-- the rows that were listed are these records
+pub history_opened : (old new : State) (first : ℕ) (kept : List Record) (rows : List Row) → Opens old → old.now.schema ≡ history_schema
+    → IsUnchanged old new → IsPermutation (map shown_row (old.now.trees 0)) rows → rows ≡ entries_from first kept → IsHistory new first kept
+history_opened old new first kept rows opens schema same all is =
+    let now = same.0.now_is in
+    record {
+      is_open = same.0.is_open;
+      schema = ap (λ (it : Database). it.schema) now ∙ schema;
+      holds = subst (λ (it : Database). Holds it.trees first kept) (sym now) (subst (IsPermutation (map shown_row (old.now.trees 0))) is all);
+      committed = same.0.committed_is ∙ sym opens.clean ∙ sym now;
+      autocommit = same.0.mode ∙ opens.autocommit;
+    }
+
+-- the first record of a table that was made anew
+pub inside_first : (old new : State) (number : ℕ) (only : Record) → old.in_transaction ≡ true → old.now.trees 0 ≡ [] → Leads old new history_schema
+    → new.now.trees 0 ≡ old.now.trees 0 ++ stored_row number only ∷ [] → IsInside new number (only ∷ [])
+inside_first old new number only within none leads added = record {
+  is_open = leads.shown.is_open;
+  schema = leads.schema;
+  holds = Holds-append old.now.trees new.now.trees number [] only (Holds-nil old.now.trees number none)
+      (added ∙ ap (λ n. old.now.trees 0 ++ stored_row n only ∷ []) (omega arith));
+  within = leads.shown.mode ∙ within;
+}
+
+-- the commit of a transaction that replaced the records
+pub history_committed : (old new : State) (number : ℕ) (kept : List Record) → IsInside old number kept → Shows old new old.now old.now false
+    → IsHistory new number kept
+history_committed old new number kept is shown = record {
+  is_open = shown.is_open;
+  schema = ap (λ (it : Database). it.schema) shown.now_is ∙ is.schema;
+  holds = subst (λ (it : Database). Holds it.trees number kept) (sym shown.now_is) is.holds;
+  committed = shown.committed_is ∙ sym shown.now_is;
+  autocommit = shown.mode;
+}
+
+-- a crash within an append
+pub append_leaves : (old new : State) (first len : ℕ) (kept : List Record) (last : Record) → HasCleanDisk new → len ≡ length kept
+    → IsHistory old first kept → IsSettled old
+    → CrashLeaves old new (λ db. (old.in_transaction ≡ false) × (db 0 ≡ old.now.trees 0 ++ stored_row (first + len) last ∷ []))
+    → LeavesEither new first kept first (kept ++ last ∷ [])
+append_leaves old new first len kept last clean counted is settled leaves =
+    leaves_either old new first kept first (kept ++ last ∷ []) _ clean is settled
+    (λ db made. Holds-append old.now.trees db first kept last is.holds
+    (made.1 ∙ ap (λ n. old.now.trees 0 ++ stored_row (first + n) last ∷ []) counted))
+    leaves
+
+pub bytes_in-append : (kept : List Record) (last : Record) → bytes_in (kept ++ last ∷ []) ≡ bytes_in kept + length last.bytes
+bytes_in-append kept last = sum_by-append (λ (it : Record). length it.bytes) kept (last ∷ []) ∙ omega arith

@@ -1,0 +1,5 @@
+mod Texts
+mod StatementLemmas
+mod RowLemmas
+mod HistoryLemmas
+mod LawLemmas

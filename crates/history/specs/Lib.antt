@@ -1,0 +1,6 @@
+pub mod Tables
+pub mod Holdings
+pub mod Logs
+pub mod Causes
+pub mod Openings
+pub mod Laws

@@ -1,0 +1,41 @@
+-- What an open finds; this project's profile.
+use Rattle.std.specs.Prelude.{◌≡◌, ◌⊎◌, ◌≤◌, ◌^◌, ℕ, List, [], length}
+use Rattle.kept_records.specs.declared.record.Record.{Record}
+use Rattle.sqlite.specs.Files.{Finds, file_state, over_files}
+use Rattle.sqlite.specs.Held.{Held, state}
+use Rattle.sqlite.specs.Order.{Row}
+use Rattle.sqlite.specs.Recovery.{Image}
+use Rattle.sqlite.specs.Start.{FindsIn}
+use Rattle.sqlite.specs.declared.FileStore.{FileStore}
+use Rattle.sqlite_disk.specs.declared.Disk.{Ghosts}
+use Rattle.sqlite_disk.specs.declared.Files.{Files}
+use Rattle.sqlite_trees.specs.declared.store.Store.{Ghosts as Stored}
+use Rattle.history.specs.Holdings.{Holds, Keeps}
+use Rattle.history.specs.Logs.{Log}
+use Rattle.history.specs.Tables.{empty_schema, entries_from}
+
+-- rows that were listed are these records, from this number on
+pub record IsRead (rows : List Row) (first : ℕ) (kept : List Record) : Type 0 where
+  pub numbered : (1 ≤ first) × (first ≤ 2 ^ 53)
+  pub most : length kept ≤ 65536
+  pub is : rows ≡ entries_from first kept
+
+-- the records are those of the last commit, or there was no table and there are none
+abbrev pub FindsOrMakes : {S : Type 0} → Stored S → Held S → Log S → Type 0
+FindsOrMakes g was now =
+    ((state g now.conn).committed ≡ (state g was).committed)
+    ⊎ (((state g was).now.schema ≡ empty_schema) × (now.kept ≡ []))
+
+-- rule: Opened history
+-- the records are those of the database that the files held, or there was no table in it and there are none
+pub record IsOpenedAt {D : Type 0} {g : Ghosts D} (start : Image) (now : Log (FileStore D g)) : Type 0 where
+  pub was : Held (FileStore D g)
+  pub found : FindsIn start (file_state was)
+  pub same : FindsOrMakes over_files was now
+  pub keeps : Keeps (file_state now.conn) now.first now.kept
+
+-- rule: Closed history
+-- the next open of the files finds the records that the history kept
+abbrev pub IsClosed : {D : Type 0} {g : Ghosts D} → Log (FileStore D g) → Files D → Type 0
+IsClosed {D} {g} log files = (again : Held (FileStore D g)) → Finds files again
+    → Keeps (file_state log.conn) log.first log.kept → Holds (file_state again).committed.trees log.first log.kept

@@ -1,0 +1,143 @@
+// What calls make of a history.
+
+ghost use Rattle.std.specs.Prelude.{◌≡◌, ◌↔◌, ◌≤◌, ◌^◌, ◌++◌, ◌∷◌, [], Err, None, Ok, OnErr, OnOk, IfErr, IsTrue, false, length, true};
+ghost use Rattle.kept_records.specs.declared.fault.AppendFault.TheVariants.{Failed, Full};
+ghost use Rattle.kept_records.specs.declared.fault.Cause.TheVariants.{Closed};
+ghost use Rattle.kept_records.specs.declared.fault.ReadFault.TheVariants as read;
+ghost use Rattle.kept_records.specs.declared.record.Kind.TheVariants.{Profile};
+ghost use Rattle.kept_records.specs.Keeping.{Appends, Compacts, HasRoom, Learns, Numbers, record_of};
+ghost use Rattle.sqlite.specs.Held.{state};
+ghost use Rattle.sqlite.specs.State.{HasCleanDisk};
+ghost use Rattle.history.specs.Holdings.{LeavesEither};
+ghost use Rattle.history.specs.Logs.{IsClean, KeepsKnown, Reports};
+
+use crate::causes::cause_of;
+use crate::history::History;
+use crate::marks::note;
+use crate::refilling::replace;
+use crate::statements::{insert, probe};
+use kept_records::{AppendFault, Cause, Kind, MAX_RECORDS, ReadFault, Record, Records};
+use sqlite::Alter;
+use std::alloc::Global;
+use traces::Trace;
+
+impl<S: Alter> History<S> {
+    /// Whether its calls still reach the disk: no failure may have closed the database.
+    pub fn is_live(&self) -> bool
+        ensures live { result ≡ self.now.is_live }
+        ensures keeps { IsTrue result → IsClean S.Store self.now → KeepsKnown S.Store self.now }
+    {
+        self.is_live
+    }
+
+    // rule: Limit of all records
+    // Whether a record of so many bytes may be added.
+    fn has_room(&self, bytes: usize) -> bool
+        ensures { IsTrue result ↔ HasRoom self.now.limit self.now.kept bytes }
+    {
+        (self.len as usize) < MAX_RECORDS
+            && self.size <= self.limit
+            && bytes as u64 <= self.limit - self.size
+    }
+}
+
+impl<S: Alter> Records for History<S> {
+    ghost kept = { λ history. history.kept };
+
+    ghost first = { λ history. history.first };
+
+    fn first(&self) -> u64 {
+        self.first
+    }
+
+    // rule: Failed append
+    // rule: Kept records
+    fn append(&mut self, _alloc: Global, kind: Kind, bytes: &[u8]) -> Result<(), AppendFault>
+        ensures appends { Appends (record_of kind bytes.now) result self.old.kept self.new.kept }
+        ensures first { self.new.first ≡ self.old.first }
+        ensures limit { self.new.limit ≡ self.old.limit }
+        ensures keeps { IsClean S.Store self.new → IsTrue self.new.is_live → KeepsKnown S.Store self.new }
+        ensures crash { IsClean S.Store self.new → IsTrue self.old.is_live → LeavesEither (state S.Store self.new.conn)
+            self.old.first self.old.kept self.old.first (self.old.kept ++ record_of kind bytes.now ∷ []) }
+
+        ensures live { OnOk result (IsTrue self.new.is_live) }
+        ensures full { (result ≡ Err Full) ↔ (IsTrue self.old.is_live × (HasRoom self.old.limit self.old.kept (length bytes.now) → ⊥)) }
+        ensures shut { self.old.is_live ≡ false → (result ≡ Err (Failed Closed)) × (self.new ≡ self.old) }
+        ensures reports { IfErr result (Reports self.new.is_live) }
+    {
+        if !self.is_live {
+            return Err(AppendFault::Failed(Cause::Closed));
+        }
+        if !self.has_room(bytes.len()) {
+            return Err(AppendFault::Full);
+        }
+        match insert(&mut self.conn, self.first + self.len as u64, kind, bytes) {
+            Ok(_) => {
+                self.len += 1;
+                self.size += bytes.len() as u64;
+                note(&mut self.marks, kind, bytes);
+                Ok(())
+            }
+            Err(error) => {
+                self.is_live = probe(&mut self.conn);
+                if self.is_live {
+                    Err(AppendFault::Failed(cause_of(error)))
+                } else {
+                    Err(AppendFault::Unknown(cause_of(error)))
+                }
+            }
+        }
+    }
+
+    /// Returns `None`: nobody else appends. Fails once calls don't reach the disk any more.
+    fn next(&mut self, _alloc: Global) -> Result<Option<Record>, ReadFault>
+        ensures learns { Learns result self.old.kept self.new.kept }
+        ensures first { self.new.first ≡ self.old.first }
+        ensures same { self.new ≡ self.old }
+        ensures none { self.old.is_live ≡ true → result ≡ Ok None }
+        ensures shut { self.old.is_live ≡ false → result ≡ Err (read.Failed Closed) }
+    {
+        if self.is_live {
+            Ok(None)
+        } else {
+            Err(ReadFault::Failed(Cause::Closed))
+        }
+    }
+
+    // rule: Compaction
+    /// Replaces all records by one in one transaction. After a failure but `Full` the history is closed.
+    fn compact(&mut self, _alloc: Global, number: u64, bytes: &[u8]) -> Result<(), AppendFault>
+        requires { (1 ≤ number) × (number ≤ 2 ^ 53) }
+        ensures compacts { Compacts (record_of Profile bytes.now) result self.old.kept self.new.kept }
+        ensures first { Numbers number result self.old.first self.new.first }
+        ensures limit { self.new.limit ≡ self.old.limit }
+        ensures keeps { IsClean S.Store self.new → IsTrue self.new.is_live → KeepsKnown S.Store self.new }
+        ensures crash { IsClean S.Store self.new → IsTrue self.old.is_live → LeavesEither (state S.Store self.new.conn)
+            self.old.first self.old.kept number (record_of Profile bytes.now ∷ []) }
+
+        ensures live { OnOk result (IsTrue self.new.is_live) }
+        ensures shut { self.old.is_live ≡ false → (result ≡ Err (Failed Closed)) × (self.new ≡ self.old) }
+    {
+        if !self.is_live {
+            return Err(AppendFault::Failed(Cause::Closed));
+        }
+        if bytes.len() as u64 > self.limit {
+            return Err(AppendFault::Full);
+        }
+        match replace(&mut self.conn, number, bytes) {
+            Ok(()) => {
+                let mut marks = Trace::new();
+                note(&mut marks, Kind::Profile, bytes);
+                self.first = number;
+                self.len = 1;
+                self.size = bytes.len() as u64;
+                self.marks = marks;
+                Ok(())
+            }
+            Err(error) => {
+                self.is_live = false;
+                Err(AppendFault::Unknown(cause_of(error)))
+            }
+        }
+    }
+}

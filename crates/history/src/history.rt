@@ -1,0 +1,67 @@
+// The records of a database, and what is known of them.
+
+ghost use Rattle.std.specs.Prelude.{◌≡◌};
+
+use crate::marks::Mark;
+use sqlite::{Alter, Connection};
+use std::marker::Model;
+use traces::Trace;
+
+/// Records in a database, which are committed before `append` returns.
+///
+/// Contracts see its connection, the records that it is known to hold, the number of the first one, how many bytes all may
+/// have, and whether its calls still reach the disk.
+pub struct History<S: Alter> {
+    pub(crate) conn: Connection<S>,
+    pub(crate) first: u64,
+    pub(crate) len: u32,
+    pub(crate) size: u64,
+    pub(crate) limit: u64,
+    pub(crate) is_live: bool,
+    pub(crate) marks: Trace<Mark>,
+}
+
+// Written out, so that no caller proves again how each part is dropped.
+impl<S: Alter + Drop> Drop for History<S> {
+    fn drop(self) {
+        let History {
+            conn: _,
+            first: _,
+            len: _,
+            size: _,
+            limit: _,
+            is_live: _,
+            marks: _,
+        } = self;
+    }
+}
+
+impl<S: Alter> Model for History<S> {
+    ghost use Rattle.history.specs.Logs.{IsLog, Log, log_code};
+
+    ghost Value = { Log S };
+
+    ghost coded = { log_code S.code };
+
+    ghost view = { λ h. record { conn = h.conn; first = h.first; kept = h.marks; limit = h.limit; is_live = h.is_live } };
+
+    ghost invariant = { λ h. IsLog S.Store h.conn h.first h.len h.size h.marks h.is_live };
+}
+
+impl<S: Alter + Drop> History<S> {
+    /// Gives the connection back.
+    pub fn into_connection(self) -> Connection<S>
+        ensures { result ≡ self.conn }
+    {
+        let History {
+            conn,
+            first: _,
+            len: _,
+            size: _,
+            limit: _,
+            is_live: _,
+            marks: _,
+        } = self;
+        conn
+    }
+}

@@ -1,0 +1,57 @@
+// The history in a file.
+
+ghost use Rattle.std.specs.Prelude.{◌≡◌, IfOk};
+ghost use Rattle.sqlite.specs.Files.{file_state};
+ghost use Rattle.sqlite.specs.State.{HasCleanDisk};
+ghost use Rattle.sqlite.specs.WalFiles.{image_at};
+ghost use Rattle.history.specs.Logs.{IsKnown};
+ghost use Rattle.history.specs.Openings.{IsOpenedAt};
+
+use crate::causes::open_fault_of;
+use crate::history::History;
+use kept_records::{OpenFault, Record, Stores};
+use sqlite::{Connection, FileFrom, FileStore, Start, Wary};
+use std::rt::HostRuntime;
+
+// rule: Opened history
+/// Opens the history in the file at a path, or makes one in a new or empty file, and returns its records in order.
+///
+/// The file has a log beside it, whose name is the path and `-wal`: the two belong together. `start` says what contracts
+/// suppose of the files before; a program passes `Wary`, which syncs each commit twice.
+pub fn open_at<S: Start>(
+    rt: &HostRuntime,
+    path: &str,
+    limit: u64,
+    start: S,
+) -> Result<(History<FileStore<FileFrom<S>>>, Vec<Record>), OpenFault>
+    ensures known { IfOk result (λ opened. IsKnown opened.0 opened.1.items limit) }
+    ensures opened { IfOk result (λ opened. HasCleanDisk (file_state opened.0.conn) → IsOpenedAt (image_at S.Start) opened.0) }
+{
+    let conn = match Connection::open_from(rt, path, false, start) {
+        Ok(conn) => conn,
+        Err((error, _left)) => return Err(open_fault_of(error)),
+    };
+    match History::open_or_create(rt.alloc(), conn, limit) {
+        Ok(opened) => Ok(opened),
+        Err((fault, _conn)) => Err(fault),
+    }
+}
+
+/// Histories in files of the system, by their paths.
+#[derive(Clone, Copy)]
+pub struct HistoryFiles<'a> {
+    /// What opens the files.
+    pub rt: &'a HostRuntime,
+}
+
+impl Stores for HistoryFiles<'_> {
+    type Kept = History<FileStore<FileFrom<Wary>>>;
+
+    fn open_records(
+        &self,
+        path: &str,
+        limit: u64,
+    ) -> Result<(History<FileStore<FileFrom<Wary>>>, Vec<Record>), OpenFault> {
+        open_at(self.rt, path, limit, Wary)
+    }
+}

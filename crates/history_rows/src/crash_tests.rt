@@ -1,0 +1,95 @@
+// A disk that stops at each of its calls in turn: what a call that succeeded has stored is there afterwards, and nothing
+// else unless a call was in doubt.
+
+use crate::calls::are_records;
+use crate::disks::{Found, Fragile, crashed, empty_files, open};
+use kept_records::{AppendFault, Cause, Kind, Record, Records};
+use std::alloc::Global;
+
+// The records after so many calls.
+const WORDS: [&str; 5] = ["", "p:A", "p:A s:B", "p:A s:B r:C", "p:Z"];
+
+// How many calls succeeded, and whether one more may have been carried out.
+#[derive(Clone, Copy)]
+struct Outcome {
+    done: usize,
+    in_doubt: bool,
+}
+
+// Three appends, and then a compaction.
+fn call(history: &mut Fragile, alloc: Global, number: usize) -> Result<(), AppendFault> {
+    match number {
+        0 => history.append(alloc, Kind::Profile, b"A"),
+        1 => history.append(alloc, Kind::Script, b"B"),
+        2 => history.append(alloc, Kind::Raise, b"C"),
+        _ => history.compact(alloc, 7, b"Z"),
+    }
+}
+
+// Makes the calls until one fails; `None` if its cause isn't the disk, or if a closed history takes one more.
+fn call_all(history: &mut Fragile, alloc: Global) -> Option<Outcome> {
+    for done in 0..4 {
+        let in_doubt = match call(history, alloc, done) {
+            Ok(()) => continue,
+            Err(AppendFault::Failed(Cause::Disk)) => false,
+            Err(AppendFault::Unknown(Cause::Disk)) => true,
+            Err(_) => return None,
+        };
+        let next = call(history, alloc, done);
+        if in_doubt && next != Err(AppendFault::Failed(Cause::Closed)) {
+            return None;
+        }
+        return Some(Outcome { done, in_doubt });
+    }
+    Some(Outcome {
+        done: 4,
+        in_doubt: false,
+    })
+}
+
+// Whether these are the records after the calls that succeeded, or after one more that was in doubt.
+fn are_after(found: &[Record], outcome: Outcome) -> bool {
+    for (calls, words) in WORDS.iter().enumerate() {
+        if are_records(found, words) {
+            return calls == outcome.done
+                || (outcome.in_doubt && calls == outcome.done.saturating_add(1));
+        }
+    }
+    false
+}
+
+// Runs a log that stops after so many calls, and returns how many calls of the history succeeded; `None` if the crash
+// lost what they stored, or if the history could not be opened.
+fn run(alloc: Global, log_calls: u64) -> Option<usize> {
+    let mut found = Found::new(alloc);
+    let mut history = open(alloc, empty_files(alloc, log_calls, u64::MAX), &mut found)?;
+    let outcome = call_all(&mut history, alloc);
+    let _again = open(alloc, crashed(history), &mut found)?;
+    let outcome = outcome?;
+    are_after(&found.records, outcome).then_some(outcome.done)
+}
+
+// Whether a log that stops at any call loses nothing, once the history was opened, and stops between all calls of the
+// history.
+fn loses_nothing(alloc: Global) -> bool {
+    let mut most = 0;
+    for log_calls in 0..300 {
+        match run(alloc, log_calls) {
+            Some(done) if done < most || most.saturating_add(1) < done => return false,
+            Some(4) => return true,
+            Some(done) => most = done,
+            None if most > 0 => return false,
+            None => {}
+        }
+    }
+    false
+}
+
+// rule: Kept records
+// rule: Restart after a crash
+// rule: Failed append
+// rule: Cause of a failure
+#[test]
+fn keeps_what_succeeded_wherever_the_log_stops(rt: HostRuntime) {
+    assert!(rt; loses_nothing(rt.alloc()));
+}

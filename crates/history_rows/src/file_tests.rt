@@ -1,0 +1,103 @@
+// Histories in files of a disk in memory.
+
+use crate::calls::{are_records, follows};
+use crate::disks::{Found, Fused, connect, empty_files, open};
+use kept_records::{OpenFault, Records};
+use sqlite::{Connection, FileStore, Files};
+use std::alloc::Global;
+
+// The calls on a new history; the number of the first record and the records that the next open finds.
+const LIVES: &str = "\
+p:A=ok s:B=ok r:C=ok n=none | 1 | p:A s:B r:C
+n=none | 1 |
+p:A=ok s:=ok c7:Z=ok s:B=ok n=none | 7 | p:Z s:B
+c3:Y=ok c5:Z=ok | 5 | p:Z
+p:ABCDE=ok s:FGHIJK=full s:FGHIJ=ok r:K=full c2:ABCDEFGHIJK=full c2:ABCDEFGHIJ=ok | 2 | p:ABCDEFGHIJ";
+
+// Makes the calls of a row on a new history, and closes it.
+fn live(alloc: Global, calls: &str) -> Option<Files<Fused>> {
+    let files = empty_files(alloc, u64::MAX, u64::MAX);
+    let mut history = open(alloc, files, &mut Found::new(alloc))?;
+    let follows = follows(&mut history, alloc, calls) == Some(true);
+    let files = history.close().ok()?;
+    follows.then_some(files)
+}
+
+// The number of the first record of the history in two files.
+fn first_of(alloc: Global, files: Files<Fused>, found: &mut Found) -> Option<u64> {
+    let history = open(alloc, files, found)?;
+    Some(history.first())
+}
+
+// Whether the next open of the files finds these records, from this number on.
+fn is_found(alloc: Global, files: Files<Fused>, first: &str, words: &str) -> Option<bool> {
+    let mut found = Found::new(alloc);
+    let number = first_of(alloc, files, &mut found);
+    Some(number == first.trim().parse().ok() && are_records(&found.records, words))
+}
+
+fn is_so(alloc: Global, row: &str) -> Option<bool> {
+    let (calls, after) = row.split_once('|')?;
+    let (first, words) = after.split_once('|')?;
+    is_found(alloc, live(alloc, calls)?, first, words)
+}
+
+// rule: Limit of all records
+// rule: Compaction
+// rule: Records of a database
+// rule: Opened history
+// rule: Closed history
+#[test]
+fn finds_what_was_kept_after_a_close(rt: HostRuntime) {
+    for row in LIVES.lines() {
+        assert!(rt; is_so(rt.alloc(), row) == Some(true), "{row}");
+    }
+}
+
+// Databases that are no history.
+const FOREIGN: &str = "\
+CREATE TABLE t (a INTEGER) STRICT
+CREATE TABLE record (number INTEGER PRIMARY KEY, kind INTEGER NOT NULL, bytes BLOB) STRICT
+CREATE TABLE record (number INTEGER PRIMARY KEY, kind INTEGER NOT NULL, bytes BLOB NOT NULL)
+CREATE TABLE record (number INTEGER PRIMARY KEY, bytes BLOB NOT NULL, kind INTEGER NOT NULL) STRICT
+R CREATE INDEX i ON record (kind)
+R CREATE TABLE t (a INTEGER) STRICT
+R INSERT INTO record VALUES (1, 1, x'41'), (3, 2, x'42')
+R INSERT INTO record VALUES (0, 1, x'41')
+R INSERT INTO record VALUES (1, 4, x'41')";
+
+const TABLE: &str =
+    "CREATE TABLE record (number INTEGER PRIMARY KEY, kind INTEGER NOT NULL, bytes BLOB NOT NULL) STRICT";
+
+// Whether the statements run.
+fn runs(conn: &mut Connection<FileStore<Fused>>, sql: &str) -> bool {
+    conn.execute_batch(sql).is_ok()
+}
+
+// The files of a database that these statements make.
+fn made(alloc: Global, table: &str, rest: &str) -> Option<Files<Fused>> {
+    let mut conn = connect(alloc, empty_files(alloc, u64::MAX, u64::MAX))?;
+    let runs = runs(&mut conn, table) && runs(&mut conn, rest);
+    let files = conn.close_files().ok()?;
+    runs.then_some(files)
+}
+
+// Whether the next open rejects what the statements of a row make.
+fn is_foreign(alloc: Global, row: &str) -> Option<bool> {
+    let files = match row.strip_prefix("R ") {
+        Some(rest) => made(alloc, TABLE, rest)?,
+        None => made(alloc, row, "")?,
+    };
+    let mut found = Found::new(alloc);
+    let is_open = open(alloc, files, &mut found).is_some();
+    Some(!is_open && found.fault == Some(OpenFault::Foreign))
+}
+
+// rule: Schema of a history
+// rule: Records of a database
+#[test]
+fn rejects_a_database_of_another_program(rt: HostRuntime) {
+    for row in FOREIGN.lines() {
+        assert!(rt; is_foreign(rt.alloc(), row) == Some(true), "{row}");
+    }
+}

@@ -1,0 +1,68 @@
+// Why records could not be kept or read.
+
+use thiserror::Error;
+
+/// What made a call fail.
+#[derive(Clone, Copy, Debug, Drop, PartialEq, Eq, Error)]
+pub enum Cause {
+    /// An allocation failed.
+    #[error("out of memory")]
+    Memory,
+    /// The disk has no room.
+    #[error("the disk is full")]
+    DiskFull,
+    /// A read, a write or a sync of the disk failed.
+    #[error("the disk failed")]
+    Disk,
+    /// What is stored was changed or damaged.
+    #[error("the stored records are damaged")]
+    Damaged,
+    /// The record is larger than the store accepts.
+    #[error("the record is too large")]
+    TooLarge,
+    /// An earlier failure closed it, and nothing is written until it is opened again.
+    #[error("an earlier failure closed it, restart the server")]
+    Closed,
+}
+
+/// Why a record was not appended.
+#[derive(Clone, Copy, Debug, Drop, PartialEq, Eq, Error)]
+pub enum AppendFault {
+    /// Another record has the next number: `next` reads it.
+    #[error("another record has the next number")]
+    Taken,
+    /// The record may be stored, or not: the next read or the next start shows which.
+    #[error("the record may be stored or not: {0}")]
+    Unknown(Cause),
+    /// The record isn't stored.
+    #[error("the record is not stored: {0}")]
+    Failed(Cause),
+    /// There is no room for it within the limit of all records, and it isn't stored.
+    #[error("the history is full: compact it, or raise its limit")]
+    Full,
+}
+
+/// Why the next record was not read.
+#[derive(Clone, Copy, Debug, Drop, PartialEq, Eq, Error)]
+pub enum ReadFault {
+    /// A read failed.
+    #[error("the next record could not be read: {0}")]
+    Failed(Cause),
+}
+
+/// Why records were not opened. What is stored is as before.
+#[derive(Clone, Copy, Debug, Drop, PartialEq, Eq, Error)]
+pub enum OpenFault {
+    /// What is stored isn't a history: a file of another program, or one whose records aren't numbered in order.
+    #[error("it isn't a history")]
+    Foreign,
+    /// Another program has it open.
+    #[error("another program has it open")]
+    Busy,
+    /// There is no such folder, no permission, or no regular file of the name.
+    #[error("it cannot be opened")]
+    Unopened,
+    /// A call failed.
+    #[error("{0}")]
+    Failed(Cause),
+}

@@ -1,0 +1,61 @@
+// Where records are kept.
+
+ghost use Rattle.std.specs.Prelude.{◌≡◌, ◌≤◌, ◌^◌, ℕ, List, IfOk};
+ghost use Rattle.kept_records.specs.declared.record.Record.{Record};
+ghost use Rattle.kept_records.specs.declared.record.Kind.TheVariants.{Profile};
+ghost use Rattle.kept_records.specs.Keeping.{Appends, Compacts, Learns, Numbers, record_of};
+
+use crate::fault::{AppendFault, OpenFault, ReadFault};
+use crate::record::{Kind, Record};
+use std::alloc::Global;
+
+/// Numbered records, of which this handle knows the first ones.
+///
+/// Others may append too, so there may be more than it knows.
+pub trait Records {
+    // the records that this handle knows to be stored, in order
+    ghost kept: { Self → List Record };
+
+    // the number of the first record, which is that of its edition
+    ghost first: { Self → ℕ };
+
+    /// Returns the number of the first record, from 1 to 2^53: 1, unless earlier ones were removed.
+    ///
+    /// The first record is a profile, and this is the number of its edition too.
+    fn first(&self) -> u64
+        ensures is { result ≡ first self.now }
+        ensures bound { (1 ≤ result) × (result ≤ 2 ^ 53) };
+
+    /// Appends a record after the last one that is known.
+    ///
+    /// Fails with `Taken` if there is a record after that already, with `Full` if all records would be too large together,
+    /// and with `Failed` or `Unknown` if the store fails: then the record isn't stored, or it may be.
+    fn append(&mut self, alloc: Global, kind: Kind, bytes: &[u8]) -> Result<(), AppendFault>
+        ensures appends { Appends (record_of kind bytes.now) result (kept self.old) (kept self.new) }
+        ensures first { first self.new ≡ first self.old };
+
+    /// Reads the record after the last one that is known, or returns `None` if there is none.
+    fn next(&mut self, alloc: Global) -> Result<Option<Record>, ReadFault>
+        ensures learns { Learns result (kept self.old) (kept self.new) }
+        ensures first { first self.new ≡ first self.old };
+
+    /// Replaces all records by one, a profile, which gets this number, from 1 to 2^53.
+    ///
+    /// Fails as `append` does; then all records are as before, or with `Unknown` replaced.
+    fn compact(&mut self, alloc: Global, number: u64, bytes: &[u8]) -> Result<(), AppendFault>
+        requires { (1 ≤ number) × (number ≤ 2 ^ 53) }
+        ensures compacts { Compacts (record_of Profile bytes.now) result (kept self.old) (kept self.new) }
+        ensures first { Numbers number result (first self.old) (first self.new) };
+}
+
+/// Opens records that are kept at a path.
+pub trait Stores {
+    /// A handle that knows all records which were there.
+    type Kept: Records + Drop;
+
+    /// Opens the records at a path, or makes a store of none there, and returns those that there are.
+    ///
+    /// All records may have at most so many bytes together; if there are more already, none can be appended.
+    fn open_records(&self, path: &str, limit: u64) -> Result<(Self::Kept, Vec<Record>), OpenFault>
+        ensures known { IfOk result (λ opened. Self.Kept.kept opened.0 ≡ opened.1.items) };
+}

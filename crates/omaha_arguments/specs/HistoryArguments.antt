@@ -1,0 +1,51 @@
+-- The arguments of the command `history`; this project's profile.
+use Rattle.std.specs.Prelude.{ℕ, ◌-◌, ◌==◌, if◌then◌else◌, List, [], ◌∷◌, codes, is_some, length, slice_index_or, Option, None, Some, unwrap_or}
+use Rattle.std.specs.Option.{option_and_then, option_map_or}
+use Rattle.std.specs.Str.{bytes_eq}
+use Rattle.clap.specs.Words.{App, Kinds, Row, first_of, new_app, with_rule}
+use Rattle.clap.specs.declared.error.kind.ErrorKind.TheVariants.{ValueValidation}
+use Rattle.omaha_arguments.specs.Options.{option_named, strings_in, wanted_list}
+use Rattle.omaha_arguments.specs.ServeArguments.{limit_in}
+use Rattle.omaha_arguments.specs.declared.command.HistoryAction.{HistoryAction}
+use Rattle.omaha_arguments.specs.declared.command.HistoryAction.TheVariants as action
+use Rattle.omaha_arguments.specs.declared.command.HistoryAsked.{HistoryAsked}
+
+-- the command `history [export|compact] F [--edition N]`
+abbrev pub history_app : App
+history_app =
+    with_rule (with_rule (new_app (codes "history")) (option_named (codes "edition"))) (wanted_list (codes "F"))
+
+-- what a word asks for
+abbrev pub action_named : List ℕ → Option ℕ → Option HistoryAction
+action_named word edition =
+    if bytes_eq word (codes "export") then Some (action.Export edition)
+    else (if bytes_eq word (codes "compact") then Some action.Compact else None)
+
+-- what some words ask for: one is the path alone, and of two the first one says what to do
+abbrev pub action_in : List (List ℕ) → Option ℕ → Option HistoryAction
+action_in words edition =
+    if length words == 1 then Some action.List
+    else (if length words == 2 then action_named (slice_index_or words 0 []) edition else None)
+
+-- the last of some words, or nothing
+abbrev pub last_of : List (List ℕ) → List ℕ
+last_of words = slice_index_or words (length words - 1) []
+
+-- the edition of `--edition`; none if that is no number
+abbrev pub edition_in : List Row → Option (Option ℕ)
+edition_in options = limit_in (codes "edition") options
+
+-- what to do, if the arguments say so
+abbrev pub action_asked : List Row → Option HistoryAction
+action_asked options = option_and_then (action_in (strings_in (codes "F") options)) (edition_in options)
+
+-- what the arguments ask for
+abbrev pub asked_in : List Row → HistoryAsked
+asked_in options = record {
+  path = last_of (strings_in (codes "F") options);
+  action = unwrap_or (action_asked options) action.List;
+}
+
+-- what is wrong with them
+abbrev pub faults_of_history : List Row → Kinds
+faults_of_history options = if is_some (action_asked options) then [] else ValueValidation ∷ []

@@ -1,0 +1,115 @@
+// The arguments of the command `history`, as `clap` reads them.
+
+ghost use Rattle.std.specs.Prelude.{◌≡◌, IfOk};
+ghost use Rattle.clap.specs.Words.{FailsBy, found_of, kind_of, rows_of};
+ghost use Rattle.omaha_arguments.specs.HistoryArguments.{action_in, action_named, asked_in, edition_in, faults_of_history, history_app, last_of};
+ghost use Rattle.omaha_arguments.specs.Options.{IsMade};
+
+use crate::command::{HistoryAction, HistoryAsked};
+use crate::options::{Making, strings_in, titled, with_option, with_wanted_list};
+use crate::serve_arguments::limit_in;
+use clap::error::ErrorKind;
+use clap::{ArgMatches, Error};
+use std::alloc::{AllocError, Global};
+use values::Text;
+
+const HISTORY: &str = "Reads the history of what a server published, or makes it shorter.";
+
+const WORDS: &str = "The history's file, after `export` or `compact` if that is wanted";
+
+const EDITION: &str = "The edition whose profile is printed [default: the last one]";
+
+const AFTER_HISTORY: &str =
+    "`omaha serve --history F` keeps each script and each raise in F. The server is stopped for these:
+  omaha history F             lists the records: number, kind, bytes, edition, first line
+  omaha history export F      prints the profile of the last edition, or of --edition N
+  omaha history compact F     replaces all records by the profile of the last edition, which keeps
+                              its number; scripts go on from there
+
+If the command fails, it prints one line on standard error.
+  omaha: history F: REASON    F can't be opened or read, or is no history
+  omaha: write                standard output failed
+  omaha: memory               out of memory
+
+Exit status: 0 if the command did that, 1 if it failed, 2 if the arguments are invalid.
+
+Example: the way back to edition 4, as a profile for a new history.
+  omaha history export --edition 4 history.db > profile.toml";
+
+pub(crate) fn history_command<'a>(alloc: Global) -> Making<'a>
+    ensures { IsMade history_app result }
+{
+    let command = titled(alloc, "history", HISTORY, AFTER_HISTORY);
+    let command = with_option(alloc, command, "edition", "N", EDITION);
+    with_wanted_list(alloc, command, "F", WORDS)
+}
+
+// What a word asks for.
+fn action_named(word: &str, edition: Option<u64>) -> Option<HistoryAction>
+    ensures { result ≡ action_named word.now edition }
+{
+    if word == "export" {
+        return Some(HistoryAction::Export(edition));
+    }
+    if word == "compact" {
+        return Some(HistoryAction::Compact);
+    }
+    None
+}
+
+// What one or two words ask for, of which the last one is the path.
+fn action_in(words: &[Text], edition: Option<u64>) -> Option<HistoryAction>
+    ensures { result ≡ action_in words.now edition }
+{
+    if words.len() == 1 {
+        return Some(HistoryAction::List);
+    }
+    if words.len() == 2 {
+        return action_named(words[0].as_str(), edition);
+    }
+    None
+}
+
+// The last of some words, or nothing.
+fn last_of(alloc: Global, words: &[Text]) -> Result<Text, AllocError>
+    ensures { IfOk result (λ last. last ≡ last_of words.now) }
+{
+    match words.last() {
+        Some(last) => last.clone(),
+        None => Text::copy_of(alloc, ""),
+    }
+}
+
+// The edition that is asked for, if it is one.
+fn edition_in(matches: &ArgMatches<'_>) -> Option<Option<u64>>
+    ensures { result ≡ edition_in (rows_of (found_of matches.now)) }
+{
+    limit_in(matches, "edition")
+}
+
+// The error for words that ask for nothing, built like the errors of `clap`.
+fn invalid_words(alloc: Global) -> Result<Error, AllocError>
+    ensures { IfOk result (λ error. kind_of error ≡ ErrorKind.ValueValidation) }
+{
+    let mut command = history_command(alloc)?.bin_name("omaha history")?;
+    command.error(
+        ErrorKind::ValueValidation,
+        "name a history, after `export` or `compact` if that is wanted, and a number of an edition",
+    )
+}
+
+/// Reads the arguments of `history`.
+pub(crate) fn read_history(alloc: Global, matches: &ArgMatches<'_>) -> Result<HistoryAsked, Error>
+    ensures faults { FailsBy (faults_of_history (rows_of (found_of matches.now))) result }
+    ensures asked { IfOk result (λ asked. asked ≡ asked_in (rows_of (found_of matches.now))) }
+{
+    let words = strings_in(alloc, matches, "F")?;
+    let Some(edition) = edition_in(matches) else {
+        return Err(invalid_words(alloc)?);
+    };
+    let Some(action) = action_in(words.as_slice(), edition) else {
+        return Err(invalid_words(alloc)?);
+    };
+    let path = last_of(alloc, words.as_slice())?;
+    Ok(HistoryAsked { path, action })
+}

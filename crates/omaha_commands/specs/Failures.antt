@@ -1,0 +1,43 @@
+-- What the program prints of a failure, after `omaha: `; this project's profile.
+use Rattle.std.specs.Prelude.{ℕ, Bool, true, false, List, ◌++◌, codes, decimal}
+use Rattle.catalogue.specs.FaultStrings.{refused_string}
+use Rattle.omaha_json.specs.Faults.{fault_string}
+use Rattle.package_files.specs.Descriptions.{error_string as reason_text}
+use Rattle.price_certificates.specs.FaultStrings.{fault_string as certificate_fault_text}
+use Rattle.profile_toml.specs.FaultStrings.{fault_string as profile_fault_text}
+use Rattle.streams.specs.Strings.{shown_string}
+use Rattle.update_client.specs.Faults.{fault_string as walk_fault_text}
+use Rattle.omaha_commands.specs.HistoryFaults.{history_fault_string}
+use Rattle.omaha_commands.specs.declared.failure.Failure.{Failure}
+use Rattle.omaha_commands.specs.declared.failure.Failure.TheVariants as failure
+
+-- rule: Printed failure
+-- `file` and the path as it is shown, perhaps with the reason; the code and name of a fault, with its place; or a
+-- word
+abbrev pub failure_string : Failure → List ℕ
+failure_string (failure.File path) = codes "file " ++ shown_string path
+failure_string (failure.Undescribed path reason) =
+    codes "file " ++ shown_string path ++ codes ": " ++ reason_text reason
+failure_string (failure.Packages count) = codes "packages " ++ decimal count
+failure_string (failure.Profile fault) = profile_fault_text fault
+failure_string (failure.Edit refused) = refused_string refused
+failure_string failure.Read = codes "read"
+failure_string failure.TooLong = codes "read"
+failure_string (failure.Request fault) = fault_string fault
+failure_string (failure.Certificate fault) = certificate_fault_text fault
+failure_string (failure.Code code) = codes "no code " ++ shown_string code
+failure_string (failure.Net address) = codes "net " ++ shown_string address
+failure_string (failure.History path fault) =
+    codes "history " ++ shown_string path ++ codes ": " ++ history_fault_string fault
+failure_string failure.NoPlace = codes "no place"
+failure_string failure.Closed = codes "closed"
+failure_string failure.Thread = codes "thread"
+failure_string (failure.Walk fault) = walk_fault_text fault
+failure_string failure.Declined = codes "declined"
+failure_string failure.Memory = codes "memory"
+failure_string failure.Write = codes "write"
+
+-- the operator's listener declined, and said why on the standard output
+abbrev pub is_declined : Failure → Bool
+is_declined failure.Declined = true
+is_declined other = false

@@ -1,0 +1,33 @@
+-- What the program prints of what is wrong with a history; this project's profile.
+use Rattle.std.specs.Prelude.{ℕ, List, ◌++◌, codes, decimal}
+use Rattle.kept_records.specs.declared.fault.AppendFault.TheVariants as append
+use Rattle.kept_records.specs.declared.fault.Cause.{Cause}
+use Rattle.kept_records.specs.declared.fault.Cause.TheVariants as cause
+use Rattle.kept_records.specs.declared.fault.OpenFault.TheVariants as open_fault
+use Rattle.services.specs.FaultStrings.{fault_string as record_fault_text}
+use Rattle.omaha_commands.specs.declared.history_fault.HistoryFault.{HistoryFault}
+use Rattle.omaha_commands.specs.declared.history_fault.HistoryFault.TheVariants as fault
+
+-- the words for what made a call fail
+abbrev pub cause_string : Cause → List ℕ
+cause_string cause.Memory = codes "out of memory"
+cause_string cause.DiskFull = codes "the disk is full"
+cause_string cause.Disk = codes "the disk failed"
+cause_string cause.Damaged = codes "damaged"
+cause_string cause.TooLarge = codes "the record is too large"
+cause_string cause.Closed = codes "closed by an earlier failure"
+
+-- the reason that is printed after the history's path
+abbrev pub history_fault_string : HistoryFault → List ℕ
+history_fault_string (fault.Open open_fault.Foreign) = codes "not a history"
+history_fault_string (fault.Open open_fault.Busy) = codes "in use by another program"
+history_fault_string (fault.Open open_fault.Unopened) = codes "cannot be opened"
+history_fault_string (fault.Open (open_fault.Failed reason)) = cause_string reason
+history_fault_string (fault.Append append.Taken) = codes "another program has added a record"
+history_fault_string (fault.Append append.Full) = codes "full"
+history_fault_string (fault.Append (append.Failed reason)) = cause_string reason
+history_fault_string (fault.Append (append.Unknown reason)) = cause_string reason
+history_fault_string (fault.Record number reason) = codes "record " ++ decimal number ++ codes ": " ++ record_fault_text reason
+history_fault_string fault.OtherProfile = codes "begins with another profile: leave --profile out, or begin another file"
+history_fault_string fault.Empty = codes "has no records: name a profile"
+history_fault_string (fault.NoEdition number) = codes "no edition " ++ decimal number

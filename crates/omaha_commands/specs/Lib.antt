@@ -1,0 +1,11 @@
+pub mod Comparing
+pub mod Describing
+pub mod Explaining
+pub mod Failures
+pub mod HistoryFaults
+pub mod Operating
+pub mod Profiles
+pub mod Rejections
+pub mod Reports
+pub mod Streams
+pub mod Walking

@@ -1,0 +1,74 @@
+-- What the commands that report on a profile find and print; this project's profile.
+use Rattle.std.specs.Prelude.{◌≡◌, ◌⊎◌, ℕ, List, codes, length, Some, Result, Ok, Err}
+use Rattle.std.specs.Io.KnownBytes.{Appends}
+use Rattle.streams.specs.Reading.{IsWhole}
+use Rattle.streams.specs.Writing.{Breaks}
+use Rattle.records.specs.declared.content.App.{App}
+use Rattle.editions.specs.Editions.{content_of}
+use Rattle.services.specs.declared.service.Service.{Service}
+use Rattle.reports.specs.Certificates.{Certifies, Verifies}
+use Rattle.reports.specs.Summaries.{summary_of}
+use Rattle.price_certificates.specs.declared.fault.Fault.{Fault}
+use Rattle.values.specs.declared.read_error.ReadError.{ReadError}
+use Rattle.omaha_commands.specs.Profiles.{Files, IsServed, IsUnreadable, max_profile}
+use Rattle.omaha_commands.specs.Rejections.{failure_of_certificate}
+use Rattle.omaha_commands.specs.Streams.{Streams}
+use Rattle.omaha_arguments.specs.declared.command.Question.{Question}
+use Rattle.omaha_arguments.specs.declared.command.Question.TheVariants.{Check, Certify, Verify}
+use Rattle.omaha_arguments.specs.declared.command.Report.{Report}
+use Rattle.omaha_commands.specs.declared.failure.Failure.{Failure}
+use Rattle.omaha_commands.specs.declared.failure.Failure.TheVariants as failure
+
+-- what is printed of a valid certificate
+abbrev pub certified_line : List ℕ
+certified_line = codes "certified\n"
+
+-- the failure is that of an error of a certificate, of which something holds
+abbrev pub FailsAs : (ReadError Fault → Type 0) → Failure → Type 0
+FailsAs holds refusal = (error : ReadError Fault) × (refusal ≡ failure_of_certificate error) × holds error
+
+-- the file is read, and its bytes are found valid or not
+abbrev pub IsVerified : Files → List App → List ℕ → Result (Unit {0}) (ReadError Fault) → Type 0
+IsVerified files apps path found =
+    (bytes : List ℕ) × IsWhole (files path) max_profile bytes × Verifies apps bytes found
+
+-- rule: Report on a profile
+-- what is found for a question about a service's edition: its summary; the certificate of the named track; or
+-- that the certificate in the file is valid. Or why that is not found.
+abbrev pub Finds : Files → Service → Question → Result (List ℕ) Failure → Type 0
+Finds files service Check (Ok text) = text ≡ summary_of (length service.edition) (content_of service.edition)
+Finds files service Check (Err refusal) = refusal ≡ failure.Memory
+Finds files service (Certify names) (Ok text) = Certifies (content_of service.edition) names (Ok text)
+Finds files service (Certify names) (Err refusal) =
+    FailsAs (λ error. Certifies (content_of service.edition) names (Err error)) refusal
+Finds files service (Verify path) (Ok text) =
+    IsVerified files (content_of service.edition) path (Ok tt) × (text ≡ certified_line)
+Finds files service (Verify path) (Err refusal) =
+    ((refusal ≡ failure.File path) × IsUnreadable (files path))
+    ⊎ (refusal ≡ failure.Memory)
+    ⊎ FailsAs (λ error. IsVerified files (content_of service.edition) path (Err error)) refusal
+
+-- what follows from what was made of the profile: what is found, or the same failure
+abbrev pub IsFoundBy : Files → Question → Result Service Failure → Result (List ℕ) Failure → Type 0
+IsFoundBy files question (Ok service) found = Finds files service question found
+IsFoundBy files question (Err refusal) found = found ≡ Err refusal
+
+-- the profile is read first, and what follows from it is found
+pub record IsReported (files : Files) (report : Report) (found : Result (List ℕ) Failure) : Type 0 where
+  pub made : Result Service Failure
+  pub served : IsServed files (Some report.profile) made
+  pub follows : IsFoundBy files report.question made found
+
+-- what was found is printed and nothing else; or the writer failed within it; or nothing is printed
+abbrev pub Prints : Result (List ℕ) Failure → Streams → Streams → Result (Unit {0}) Failure → Type 0
+Prints (Ok text) old new (Ok done) =
+    Appends old.output.bytes new.output.bytes text × (new.input ≡ old.input)
+Prints (Ok text) old new (Err refusal) =
+    (refusal ≡ failure.Write) × Breaks old.output new.output text × (new.input ≡ old.input)
+Prints (Err refusal) old new result = (result ≡ Err refusal) × (new ≡ old)
+
+-- a report is found, and printed
+pub record Reports (files : Files) (report : Report) (old new : Streams) (result : Result (Unit {0}) Failure) : Type 0 where
+  pub found : Result (List ℕ) Failure
+  pub is : IsReported files report found
+  pub printed : Prints found old new result

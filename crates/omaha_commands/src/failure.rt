@@ -1,0 +1,211 @@
+ghost use Rattle.std.specs.Prelude.{◌≡◌, Some};
+ghost use Rattle.omaha_commands.specs.Failures.{failure_string, is_declined};
+
+use crate::history_fault::HistoryFault;
+use catalogue::Refused;
+use omaha_json::RequestFault;
+use package_files::DescribeError;
+use price_certificates::Fault as CertificateFault;
+use profile_toml::ProfileFault;
+use std::alloc::AllocError;
+use std::error::Error;
+use std::fmt;
+use streams::{ReadFailure, Shown};
+use update_client::Fault;
+use values::{ReadError, Text};
+
+/// Why a command fails; it prints as the rest of the line that begins `omaha: `.
+///
+/// Those of the profile come before those of the request.
+#[derive(Debug, Drop)]
+pub enum Failure {
+    /// The profile's file, of that path, could not be read, or has over 256 MiB; or the log's, of that path, could
+    /// not be opened; or there is no folder of packages of that path. The path prints without control characters.
+    File(Text),
+    /// The file at that path can't be described, for that reason. The path prints without control characters.
+    Undescribed(Text, DescribeError),
+    /// So many declared packages differ from their files.
+    Packages(u64),
+    /// The profile is invalid.
+    Profile(ProfileFault),
+    /// An edit of the profile was rejected.
+    Edit(Refused),
+    /// The input could not be read to its end.
+    Read,
+    /// The input has over 262144 bytes; it prints as `Read` does.
+    TooLong,
+    /// The request is invalid.
+    Request(RequestFault),
+    /// There is no such certificate, or it is not valid.
+    Certificate(CertificateFault),
+    /// The program prints no such code. The code prints without control characters.
+    Code(Text),
+    /// The address could not be bound, or the listener at it not be reached. It prints without control characters.
+    Net(Text),
+    /// The history at that path can't be used, for that reason. The path prints without control characters.
+    History(Text, HistoryFault),
+    /// There is no place for a view of the editions.
+    NoPlace,
+    /// A view entered no edition.
+    Closed,
+    /// A thread could not be started.
+    Thread,
+    /// A walk failed.
+    Walk(Fault),
+    /// The operator's listener replied with another status than 200. Its reply is printed, and nothing else.
+    Declined,
+    /// Memory ran out.
+    Memory,
+    /// The reply could not be written.
+    Write,
+}
+
+// rule: Printed failure
+impl fmt::Display for Failure {
+    ghost output = { λ f. Some (failure_string f) };
+
+    fn fmt<W: fmt::Write>(&self, f: &mut fmt::Formatter<W>) -> fmt::Result {
+        match self {
+            Failure::File(path) => {
+                let path = Shown {
+                    string: path.as_str(),
+                };
+                write!(f, "file {path}")
+            }
+            Failure::Undescribed(path, reason) => {
+                let path = Shown {
+                    string: path.as_str(),
+                };
+                write!(f, "file {path}: {reason}")
+            }
+            Failure::Packages(count) => write!(f, "packages {count}"),
+            Failure::Profile(fault) => write!(f, "{fault}"),
+            Failure::Edit(refused) => write!(f, "{refused}"),
+            Failure::Read => write!(f, "read"),
+            Failure::TooLong => write!(f, "read"),
+            Failure::Request(fault) => write!(f, "{fault}"),
+            Failure::Certificate(fault) => write!(f, "{fault}"),
+            Failure::Code(code) => {
+                let code = Shown {
+                    string: code.as_str(),
+                };
+                write!(f, "no code {code}")
+            }
+            Failure::Net(address) => {
+                let address = Shown {
+                    string: address.as_str(),
+                };
+                write!(f, "net {address}")
+            }
+            Failure::History(path, fault) => {
+                let path = Shown {
+                    string: path.as_str(),
+                };
+                write!(f, "history {path}: {fault}")
+            }
+            Failure::NoPlace => write!(f, "no place"),
+            Failure::Closed => write!(f, "closed"),
+            Failure::Thread => write!(f, "thread"),
+            Failure::Walk(fault) => write!(f, "{fault}"),
+            Failure::Declined => write!(f, "declined"),
+            Failure::Memory => write!(f, "memory"),
+            Failure::Write => write!(f, "write"),
+        }
+    }
+}
+
+impl Error for Failure {}
+
+impl Failure {
+    /// Whether it is `Declined`, of which standard error says nothing.
+    pub fn is_declined(&self) -> bool
+        ensures { result ≡ is_declined self.now }
+    {
+        match self {
+            Failure::Declined => true,
+            _ => false,
+        }
+    }
+}
+
+impl From<AllocError> for Failure {
+    ghost use Rattle.std.specs.Prelude.{◌≡◌};
+    ghost use Rattle.omaha_commands.specs.declared.failure.Failure.TheVariants.{Memory};
+
+    ghost from_gives = { λ _ failure. failure ≡ Memory };
+
+    fn from(_refused: AllocError) -> Failure {
+        Failure::Memory
+    }
+}
+
+impl From<ReadFailure> for Failure {
+    ghost use Rattle.std.specs.Prelude.{◌≡◌};
+    ghost use Rattle.omaha_commands.specs.Rejections.{failure_of_input};
+
+    ghost from_gives = { λ error failure. failure ≡ failure_of_input error };
+
+    fn from(error: ReadFailure) -> Failure {
+        match error {
+            ReadFailure::Broken => Failure::Read,
+            ReadFailure::TooLong => Failure::TooLong,
+            ReadFailure::Memory => Failure::Memory,
+        }
+    }
+}
+
+impl From<ReadError<ProfileFault>> for Failure {
+    ghost use Rattle.std.specs.Prelude.{◌≡◌};
+    ghost use Rattle.omaha_commands.specs.Rejections.{failure_of_profile};
+
+    ghost from_gives = { λ error failure. failure ≡ failure_of_profile error };
+
+    fn from(error: ReadError<ProfileFault>) -> Failure {
+        match error {
+            ReadError::Fault(fault) => Failure::Profile(fault),
+            ReadError::Memory => Failure::Memory,
+        }
+    }
+}
+
+impl From<ReadError<Refused>> for Failure {
+    ghost use Rattle.std.specs.Prelude.{◌≡◌};
+    ghost use Rattle.omaha_commands.specs.Rejections.{failure_of_edit};
+
+    ghost from_gives = { λ error failure. failure ≡ failure_of_edit error };
+
+    fn from(error: ReadError<Refused>) -> Failure {
+        match error {
+            ReadError::Fault(refused) => Failure::Edit(refused),
+            ReadError::Memory => Failure::Memory,
+        }
+    }
+}
+
+impl From<ReadError<CertificateFault>> for Failure {
+    ghost use Rattle.std.specs.Prelude.{◌≡◌};
+    ghost use Rattle.omaha_commands.specs.Rejections.{failure_of_certificate};
+
+    ghost from_gives = { λ error failure. failure ≡ failure_of_certificate error };
+
+    fn from(error: ReadError<CertificateFault>) -> Failure {
+        match error {
+            ReadError::Fault(fault) => Failure::Certificate(fault),
+            ReadError::Memory => Failure::Memory,
+        }
+    }
+}
+
+impl From<ReadError<Fault>> for Failure {
+    ghost use Rattle.std.specs.Prelude.{◌≡◌};
+    ghost use Rattle.omaha_commands.specs.Rejections.{failure_of_walk};
+
+    ghost from_gives = { λ error failure. failure ≡ failure_of_walk error };
+
+    fn from(error: ReadError<Fault>) -> Failure {
+        match error {
+            ReadError::Fault(fault) => Failure::Walk(fault),
+            ReadError::Memory => Failure::Memory,
+        }
+    }
+}

@@ -1,0 +1,67 @@
+// What is wrong with a history.
+
+ghost use Rattle.std.specs.Prelude.{◌≡◌, Some};
+ghost use Rattle.omaha_commands.specs.HistoryFaults.{cause_string, history_fault_string};
+
+use kept_records::{AppendFault, Cause, OpenFault};
+use services::RecordFault;
+use std::error::Error;
+use std::fmt;
+
+/// What is wrong with a history; it prints as the reason after its path.
+#[derive(Debug, Drop)]
+pub enum HistoryFault {
+    /// It can't be opened.
+    Open(OpenFault),
+    /// A record can't be kept.
+    Append(AppendFault),
+    /// The record of this number begins nothing, or doesn't follow those before it.
+    Record(u64, RecordFault),
+    /// Its first record isn't the profile that is named.
+    OtherProfile,
+    /// It has no records, and no profile is named.
+    Empty,
+    /// It has no edition of this number.
+    NoEdition(u64),
+}
+
+// The words for what made a call fail.
+fn cause_string(cause: Cause) -> &'static str
+    ensures { result.now ≡ cause_string cause }
+{
+    match cause {
+        Cause::Memory => "out of memory",
+        Cause::DiskFull => "the disk is full",
+        Cause::Disk => "the disk failed",
+        Cause::Damaged => "damaged",
+        Cause::TooLarge => "the record is too large",
+        Cause::Closed => "closed by an earlier failure",
+    }
+}
+
+impl fmt::Display for HistoryFault {
+    ghost output = { λ fault. Some (history_fault_string fault) };
+
+    fn fmt<W: fmt::Write>(&self, f: &mut fmt::Formatter<W>) -> fmt::Result {
+        match self {
+            HistoryFault::Open(OpenFault::Foreign) => f.write_str("not a history"),
+            HistoryFault::Open(OpenFault::Busy) => f.write_str("in use by another program"),
+            HistoryFault::Open(OpenFault::Unopened) => f.write_str("cannot be opened"),
+            HistoryFault::Open(OpenFault::Failed(cause)) => f.write_str(cause_string(*cause)),
+            HistoryFault::Append(AppendFault::Taken) => {
+                f.write_str("another program has added a record")
+            }
+            HistoryFault::Append(AppendFault::Full) => f.write_str("full"),
+            HistoryFault::Append(AppendFault::Failed(cause)) => f.write_str(cause_string(*cause)),
+            HistoryFault::Append(AppendFault::Unknown(cause)) => f.write_str(cause_string(*cause)),
+            HistoryFault::Record(number, fault) => write!(f, "record {number}: {fault}"),
+            HistoryFault::OtherProfile => f.write_str(
+                "begins with another profile: leave --profile out, or begin another file",
+            ),
+            HistoryFault::Empty => f.write_str("has no records: name a profile"),
+            HistoryFault::NoEdition(number) => write!(f, "no edition {number}"),
+        }
+    }
+}
+
+impl Error for HistoryFault {}

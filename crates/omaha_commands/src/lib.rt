@@ -1,0 +1,34 @@
+//! The commands of `omaha` that serve nothing.
+//!
+//! `read_service` and `open_service` make a service of a profile: read `specs/Profiles.antt`. `report_on` does `check`,
+//! `certify` and `verify`: read `specs/Reports.antt`; `compare_on` is `check` with a folder of packages, and
+//! `describe_files` describes files, by `package_files`: read `specs/Comparing.antt` and `specs/Describing.antt`.
+//! `explain_code` prints what `explanations` says of a code. `walk_on` is walked by `update_client`: read
+//! `specs/Walking.antt`; `publish_on`, `raise_on` and `dump_on` post by it: read `specs/Operating.antt`. `print` writes
+//! what a command found. A `Failure` is why a command fails, and a `HistoryFault` what is wrong with a history.
+//!
+//! It reads no arguments, and exits with no status.
+
+#![tactic(auto)]
+
+mod comparing;
+mod describing;
+mod explaining;
+mod failure;
+mod history_fault;
+mod operating;
+mod printing;
+mod profile;
+mod reporting;
+mod walking;
+
+pub use crate::comparing::compare_on;
+pub use crate::describing::describe_files;
+pub use crate::explaining::explain_code;
+pub use crate::failure::Failure;
+pub use crate::history_fault::HistoryFault;
+pub use crate::operating::{dump_on, publish_on, raise_on};
+pub use crate::printing::print;
+pub use crate::profile::{open_service, read_named, read_service, service_in};
+pub use crate::reporting::report_on;
+pub use crate::walking::walk_on;

@@ -1,0 +1,85 @@
+// The commands that report on a profile: `check`, `certify` and `verify`.
+
+ghost use Rattle.std.specs.Prelude.{IfErr, IfOk, Ok, Err};
+ghost use Rattle.omaha_commands.specs.Reports.{Finds, IsReported, Reports};
+ghost use Rattle.omaha_arguments.specs.declared.command.Question.TheVariants.{Verify};
+ghost use Rattle.streams.specs.Streams.{Known};
+
+use crate::failure::Failure;
+use crate::printing::print;
+use crate::profile::{MAX_PROFILE, open_profile};
+use omaha_arguments::{Question, Report};
+use reports::{certify, summary, verify};
+use services::Service;
+use std::thread::Threads;
+use streams::{Disk, ReadFailure, WriteWhole};
+use values::Text;
+
+// That the certificate in a file is valid.
+fn verify_file<R: Disk + AllocGlobal + Threads + Sync>(
+    rt: &R,
+    service: &Service,
+    path: &Text,
+) -> Result<Vec<u8>, Failure>
+    ensures ok { IfOk result (λ text. Finds (R.file_at rt.now) service.now (Verify path.now) (Ok text.items)) }
+    ensures err { IfErr result (λ failure. Finds (R.file_at rt.now) service.now (Verify path.now) (Err failure)) }
+{
+    let bytes = match rt.read_file(rt.alloc(), path.as_str(), MAX_PROFILE) {
+        Ok(bytes) => bytes,
+        Err(ReadFailure::Memory) => return Err(Failure::Memory),
+        Err(_) => return Err(Failure::File(path.clone()?)),
+    };
+    verify(rt, rt.alloc(), &service.edition, bytes.as_slice())?;
+    Ok(Vec::from_slice(rt.alloc(), b"certified\n")?)
+}
+
+// What is found for a question about a service's edition.
+fn find<R: Disk + AllocGlobal + Threads + Sync>(
+    rt: &R,
+    service: &Service,
+    question: &Question,
+) -> Result<Vec<u8>, Failure>
+    ensures ok { IfOk result (λ text. Finds (R.file_at rt.now) service.now question.now (Ok text.items)) }
+    ensures err { IfErr result (λ failure. Finds (R.file_at rt.now) service.now question.now (Err failure)) }
+{
+    match question {
+        Question::Check => Ok(summary(rt.alloc(), &service.edition)?.into_bytes()),
+        Question::Certify(names) => Ok(certify(rt.alloc(), &service.edition, names)?),
+        Question::Verify(path) => verify_file(rt, service, path),
+    }
+}
+
+// What a report finds.
+fn report_bytes<R: Disk + AllocGlobal + Threads + Sync>(
+    rt: &R,
+    report: &Report,
+) -> Result<Vec<u8>, Failure>
+    ensures ok { IfOk result (λ text. IsReported (R.file_at rt.now) report.now (Ok text.items)) }
+    ensures err { IfErr result (λ failure. IsReported (R.file_at rt.now) report.now (Err failure)) }
+{
+    match open_profile(rt, &report.profile, report.workers) {
+        Ok(service) => find(rt, &service, &report.question),
+        Err(failure) => Err(failure),
+    }
+}
+
+// rule: Report on a profile
+/// Reports on a profile, and writes what it finds.
+///
+/// Fails, in this order, with the profile's file, its first fault, its first rejected edit, and what the
+/// question finds; each time nothing is written. If the writer fails, a first part of the report is written,
+/// and not all of it.
+pub fn report_on<R: Disk + AllocGlobal + Threads + Sync, W: WriteWhole>(
+    rt: &R,
+    asked: &Report,
+    writer: &mut W,
+) -> Result<(), Failure>
+    ensures { (input : Known) → Reports (R.file_at rt.now) asked.now
+        (record { input = input; output = W.output writer.old })
+        (record { input = input; output = W.output writer.new }) result }
+{
+    match report_bytes(rt, asked) {
+        Ok(text) => print(text.as_slice(), writer),
+        Err(failure) => Err(failure),
+    }
+}

@@ -1,0 +1,16 @@
+-- The records of a server that may have a history; this project's profile.
+use Rattle.std.specs.Prelude.{ℕ, List}
+use Rattle.kept_records.specs.Unkept.{noted}
+use Rattle.kept_records.specs.declared.record.Record.{Record}
+use Rattle.omaha_histories.specs.declared.server_records.ServerRecords.{ServerRecords}
+use Rattle.omaha_histories.specs.declared.server_records.ServerRecords.TheVariants.{Kept, Unkept}
+
+-- the known records: those of the history, or those that were appended without one
+abbrev pub known_in : {K : Type 0} → (K → List Record) → ServerRecords K → List Record
+known_in kept_of (Kept records) = kept_of records
+known_in kept_of (Unkept records) = noted records.notes
+
+-- the number of the first one
+abbrev pub first_in : {K : Type 0} → (K → ℕ) → ServerRecords K → ℕ
+first_in first_of (Kept records) = first_of records
+first_in first_of (Unkept records) = records.first

@@ -1,0 +1,201 @@
+// What a server begins with, if what it publishes is kept.
+
+ghost use Rattle.std.specs.Prelude.{◌≡◌, [], IfErr, IfOk, IsTrue, Some};
+ghost use Rattle.omaha_histories.specs.Histories.{BeginWith, HasFirst, IsBeginning, IsHistoryFailure, IsNoBeginning, LeadToService};
+ghost use Rattle.omaha_histories.specs.Server.{first_in, known_in};
+
+use crate::server_records::ServerRecords;
+use kept_records::{Kind, Record, Records, Stores, Unkept};
+use omaha_arguments::Serve;
+use omaha_commands::{Failure, HistoryFault, open_service, read_named, service_in};
+use restarts::{RestoreError, Restored, restore};
+use services::{KeptService, Mirrors, Service};
+use std::thread::Threads;
+use streams::Disk;
+use values::Text;
+use worker_threads::Free;
+
+/// The failure of the history at a path.
+pub(crate) fn history_failure(path: &Text, fault: HistoryFault) -> Failure
+    ensures { IsHistoryFailure path.now result }
+{
+    match path.clone() {
+        Ok(path) => Failure::History(path, fault),
+        Err(_) => Failure::Memory,
+    }
+}
+
+/// The failure of a history whose records, of which the first has this number, lead to nothing.
+pub(crate) fn restore_failure(path: &Text, first: u64, error: RestoreError) -> Failure
+    ensures { IsHistoryFailure path.now result }
+{
+    match error {
+        RestoreError::Empty => history_failure(path, HistoryFault::Empty),
+        RestoreError::Record(index, fault) => {
+            let number = first.saturating_add(index as u64);
+            history_failure(path, HistoryFault::Record(number, fault))
+        }
+        RestoreError::Memory => Failure::Memory,
+    }
+}
+
+// Makes the profile's service, and keeps the profile as the first record.
+fn begin<R: Disk + AllocGlobal + Threads + Sync, K: Records + Drop>(
+    rt: &R,
+    kept: K,
+    path: &Text,
+    profile: &Option<Text>,
+    workers: usize,
+) -> Result<KeptService<K>, Failure>
+    requires none { K.kept kept ≡ [] }
+    ensures leads { IfOk result (λ begun. LeadToService (K.kept begun.records) begun.service) }
+    ensures begins { IfOk result (λ begun. BeginWith (R.file_at rt.now) profile.now (K.kept begun.records)) }
+    ensures err { IfErr result (IsNoBeginning (R.file_at rt.now) (Some path.now) profile.now) }
+{
+    let Some(profile) = profile else {
+        return Err(history_failure(path, HistoryFault::Empty));
+    };
+    let bytes = read_named(rt, profile)?;
+    let service = service_in(rt, profile, bytes.as_slice(), workers)?;
+    let mut kept = kept;
+    match kept.append(rt.alloc(), Kind::Profile, bytes.as_slice()) {
+        Ok(()) => Ok(KeptService {
+            service,
+            records: kept,
+        }),
+        Err(fault) => Err(history_failure(path, HistoryFault::Append(fault))),
+    }
+}
+
+// Whether the first record has these bytes.
+fn has_first(records: &[Record], bytes: &[u8]) -> bool
+    ensures { IsTrue result → HasFirst records.now bytes.now }
+{
+    match records.split_first() {
+        Some((first, _others)) => first.bytes.as_slice() == bytes,
+        None => false,
+    }
+}
+
+// That the records begin with the profile, if one is named.
+fn compare_first<R: Disk + AllocGlobal>(
+    rt: &R,
+    records: &[Record],
+    path: &Text,
+    profile: &Option<Text>,
+) -> Result<(), Failure>
+    ensures begins { IfOk result (λ _. BeginWith (R.file_at rt.now) profile.now records.now) }
+    ensures err { IfErr result (IsNoBeginning (R.file_at rt.now) (Some path.now) profile.now) }
+{
+    let Some(profile) = profile else {
+        return Ok(());
+    };
+    let bytes = read_named(rt, profile)?;
+    if has_first(records, bytes.as_slice()) {
+        Ok(())
+    } else {
+        Err(history_failure(path, HistoryFault::OtherProfile))
+    }
+}
+
+// Makes the service that the records lead to.
+fn resume<R: Threads + AllocGlobal, K: Records + Drop>(
+    rt: &R,
+    kept: K,
+    records: &[Record],
+    path: &Text,
+    workers: usize,
+) -> Result<KeptService<K>, Failure>
+    requires records { K.kept kept ≡ records.now }
+    ensures leads { IfOk result (λ begun. LeadToService (K.kept begun.records) begun.service) }
+    ensures records { IfOk result (λ begun. K.kept begun.records ≡ records.now) }
+    ensures err { IfErr result (IsHistoryFailure path.now) }
+{
+    let workers = workers.max(1).min(16);
+    match restore(rt, rt.alloc(), records, workers, &Free) {
+        Ok(Restored { edition, mirrors }) => Ok(KeptService {
+            service: Service {
+                edition,
+                mirrors: Mirrors::new(mirrors),
+            },
+            records: kept,
+        }),
+        Err(error) => Err(restore_failure(path, kept.first(), error)),
+    }
+}
+
+// What records that were opened begin.
+fn begin_from<R: Disk + AllocGlobal + Threads + Sync, K: Records + Drop>(
+    rt: &R,
+    kept: K,
+    records: &[Record],
+    path: &Text,
+    asked: &Serve,
+) -> Result<KeptService<K>, Failure>
+    requires records { K.kept kept ≡ records.now }
+    ensures leads { IfOk result (λ begun. LeadToService (K.kept begun.records) begun.service) }
+    ensures begins { IfOk result (λ begun. BeginWith (R.file_at rt.now) asked.now.profile (K.kept begun.records)) }
+    ensures err { IfErr result (IsNoBeginning (R.file_at rt.now) (Some path.now) asked.now.profile) }
+{
+    let workers = asked.workers.min(16) as usize;
+    if records.is_empty() {
+        return begin(rt, kept, path, &asked.profile, workers);
+    }
+    match compare_first(rt, records, path, &asked.profile) {
+        Ok(()) => match resume(rt, kept, records, path, workers) {
+            Ok(begun) => Ok(begun),
+            Err(failure) => Err(failure),
+        },
+        Err(failure) => Err(failure),
+    }
+}
+
+// Opens the history at a path, and makes the service that it leads to. Without records the profile is the first one.
+fn open_history<R: Disk + AllocGlobal + Threads + Sync, H: Stores>(
+    rt: &R,
+    stores: &H,
+    path: &Text,
+    asked: &Serve,
+) -> Result<KeptService<H::Kept>, Failure>
+    ensures leads { IfOk result (λ begun. LeadToService (H.Kept.kept begun.records) begun.service) }
+    ensures begins { IfOk result (λ begun. BeginWith (R.file_at rt.now) asked.now.profile (H.Kept.kept begun.records)) }
+    ensures err { IfErr result (IsNoBeginning (R.file_at rt.now) (Some path.now) asked.now.profile) }
+{
+    match stores.open_records(path.as_str(), asked.history_limit) {
+        Ok((kept, records)) => begin_from(rt, kept, records.as_slice(), path, asked),
+        Err(error) => Err(history_failure(path, HistoryFault::Open(error))),
+    }
+}
+
+// rule: Service of a history
+/// Makes what a server begins with: the service of the profile, or the one that its history leads to. A history without
+/// records begins with the profile.
+///
+/// Fails, in this order, with the history, the profile's file, another profile than the history's, the profile's first
+/// fault or rejected edit, and the first record that doesn't follow.
+pub fn open_beginning<R: Disk + AllocGlobal + Threads + Sync, H: Stores>(
+    rt: &R,
+    stores: &H,
+    asked: &Serve,
+) -> Result<KeptService<ServerRecords<H::Kept>>, Failure>
+    ensures begins { IfOk result (λ begun. IsBeginning (R.file_at rt.now) asked.now.history asked.now.profile
+        (record { service = begun.service; first = first_in H.Kept.first begun.records; records = known_in H.Kept.kept begun.records })) }
+    ensures err { IfErr result (IsNoBeginning (R.file_at rt.now) asked.now.history asked.now.profile) }
+{
+    let Some(path) = &asked.history else {
+        return match open_service(rt, &asked.profile, asked.workers.min(16) as usize) {
+            Ok(service) => Ok(KeptService {
+                service,
+                records: ServerRecords::Unkept(Unkept::new()),
+            }),
+            Err(failure) => Err(failure),
+        };
+    };
+    match open_history(rt, stores, path, asked) {
+        Ok(KeptService { service, records }) => Ok(KeptService {
+            service,
+            records: ServerRecords::Kept(records),
+        }),
+        Err(failure) => Err(failure),
+    }
+}

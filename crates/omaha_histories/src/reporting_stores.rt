@@ -1,0 +1,94 @@
+// Histories that print on standard error why a script or a raise isn't kept.
+
+use kept_records::{AppendFault, Cause, Kind, OpenFault, ReadFault, Record, Records, Stores};
+use omaha_commands::HistoryFault;
+use std::alloc::Global;
+use std::rt::HostRuntime;
+use streams::{Shown, offer};
+use values::Text;
+
+/// Histories of other stores. Each prints on standard error why a record after the first one isn't kept.
+#[derive(Drop)]
+pub struct ReportingStores<'a, H> {
+    /// What has standard error.
+    pub rt: &'a HostRuntime,
+    /// Where the histories are.
+    pub stores: H,
+}
+
+/// A history that prints on standard error why a record after the first one isn't kept.
+#[derive(Drop)]
+pub struct ReportedRecords<'a, K> {
+    rt: &'a HostRuntime,
+    path: Text,
+    is_begun: bool,
+    kept: K,
+}
+
+// Prints why a record of the history at a path isn't kept.
+fn report(rt: &HostRuntime, path: &Text, fault: AppendFault) {
+    let path = Shown {
+        string: path.as_str(),
+    };
+    let fault = HistoryFault::Append(fault);
+    let mut errors = rt.stderr();
+    match format!(in rt.alloc(); "omaha: history {path}: {fault}\n") {
+        Ok(line) => offer(&mut errors, line.as_str().as_bytes()),
+        Err(_) => offer(&mut errors, b"omaha: memory\n"),
+    }
+}
+
+impl<K: Records> Records for ReportedRecords<'_, K> {
+    ghost kept = { λ reported. K.kept reported.kept };
+
+    ghost first = { λ reported. K.first reported.kept };
+
+    fn first(&self) -> u64 {
+        self.kept.first()
+    }
+
+    fn append(&mut self, alloc: Global, kind: Kind, bytes: &[u8]) -> Result<(), AppendFault> {
+        match self.kept.append(alloc, kind, bytes) {
+            Ok(()) => {
+                self.is_begun = true;
+                Ok(())
+            }
+            Err(fault) => {
+                if self.is_begun {
+                    report(self.rt, &self.path, fault);
+                }
+                Err(fault)
+            }
+        }
+    }
+
+    fn next(&mut self, alloc: Global) -> Result<Option<Record>, ReadFault> {
+        self.kept.next(alloc)
+    }
+
+    fn compact(&mut self, alloc: Global, number: u64, bytes: &[u8]) -> Result<(), AppendFault> {
+        self.kept.compact(alloc, number, bytes)
+    }
+}
+
+impl<'a, H: Stores> Stores for ReportingStores<'a, H> {
+    type Kept = ReportedRecords<'a, H::Kept>;
+
+    fn open_records(
+        &self,
+        path: &str,
+        limit: u64,
+    ) -> Result<(ReportedRecords<'a, H::Kept>, Vec<Record>), OpenFault> {
+        let Ok(name) = Text::copy_of(self.rt.alloc(), path) else {
+            return Err(OpenFault::Failed(Cause::Memory));
+        };
+        let (kept, records) = self.stores.open_records(path, limit)?;
+        let reported = ReportedRecords {
+            rt: self.rt,
+            path: name,
+            is_begun: !records.is_empty(),
+            kept,
+        };
+        Ok((reported, records))
+    }
+}

@@ -1,8 +1,0 @@
--- There is a port for each of the terms so far.
-use Rattle.std.proofs.Common.{◌≡◌, All, map, take}
-use Rattle.omaha_server.specs.Sockets.{IsNewSocketPort}
-use Rattle.omaha_server.proofs.sockets.open_all.Given as goal
-
-abbrev pub invariant-loop-each : goal.invariant-loop-each
-invariant-loop-each g l =
-    (map (λ port. port.terms) l.ports.items ≡ take l.each-index l.terms) × All IsNewSocketPort l.ports.items

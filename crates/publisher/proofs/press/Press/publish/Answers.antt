@@ -1,8 +1,0 @@
-use Rattle.std.proofs.Common.{rules}
-use Rattle.publisher.proofs.press.Press.publish.Goals as goal
-
-pub returns-then-number-base : goal.returns-then-number-base
-returns-then-number-base g c = search rules
-
-pub returns : goal.returns
-returns g c = search rules

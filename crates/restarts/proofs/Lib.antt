@@ -1,0 +1,4 @@
+mod LeadLemmas
+mod OneLemmas
+mod CallLemmas
+mod CrashLemmas

@@ -1,0 +1,23 @@
+//! What a server restarts from: the records of a history, and what they lead to.
+//!
+//! `restore` makes the edition and the mirrors of records: the profile's, with the batch of each script and the budget of
+//! each raise. Read `specs/Restarting.antt`. `laws::restarts` states that the records of an operator's desk lead to just
+//! what it published: read `specs/Laws.antt`. `list` writes records as lines, `records_until` has those up to an edition,
+//! and `export` writes the profile that records lead to: read `specs/Exporting.antt`.
+//!
+//! It opens no file, and publishes nothing.
+
+#![tactic(auto)]
+
+mod exporting;
+mod fault;
+pub mod laws;
+mod listing;
+mod prefixes;
+mod restoring;
+
+pub use crate::exporting::export;
+pub use crate::fault::RestoreError;
+pub use crate::listing::list;
+pub use crate::prefixes::{count_editions, records_until};
+pub use crate::restoring::{Restored, restore};

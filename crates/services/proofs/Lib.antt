@@ -1,0 +1,3 @@
+mod BuiltinLemmas
+mod MirrorLemmas
+mod TotalLemmas

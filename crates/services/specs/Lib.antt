@@ -1,0 +1,4 @@
+pub mod Builtin
+pub mod FaultStrings
+pub mod Services
+pub mod Totals

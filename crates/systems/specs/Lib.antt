@@ -1,0 +1,3 @@
+pub mod Edges
+pub mod NewPorts
+pub mod Sockets

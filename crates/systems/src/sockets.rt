@@ -1,0 +1,186 @@
+// The system's sockets, files and clock.
+
+ghost use Rattle.std.specs.Prelude.{◌≡◌, All, IfOk, map};
+ghost use Rattle.systems.specs.Sockets.{IsNewSocketPort};
+
+use crate::system::{OpenError, System};
+use http_desks::{Desk, Site};
+use http_devices::{Folder, SystemClock};
+use http_ports::{Terms, WatchEach};
+use http_talks::{Connections, serve_port};
+use http_wire::Unwatched;
+use mio_ports::MioPort;
+use std::alloc::Global;
+use std::fs::{File, OpenOptions};
+use std::io;
+use std::io::ErrorKind;
+use std::net::{Net, TcpListener, TcpStream};
+use std::os::unix::fs::FileTypeExt;
+use std::rt::Files;
+use std::sync::{Arc, Wait};
+use std::time::Clock;
+use streams::Disk;
+
+// How many files a server opens beside its connections: standard streams, the log, and for each worker what watches its
+// sockets and a package.
+const OTHER_FILES: u64 = 48;
+
+/// A runtime's file, of which a log can be made.
+pub trait LogFile {
+    /// The file to write lines to; fails if it isn't one of the system's.
+    fn into_log(self) -> io::Result<File>;
+}
+
+impl LogFile for File {
+    fn into_log(self) -> io::Result<File> {
+        Ok(self)
+    }
+}
+
+/// The sockets, files and clock of a runtime, as a server's system.
+#[derive(Drop)]
+pub struct Sockets<'a, R> {
+    /// The runtime.
+    pub rt: &'a R,
+}
+
+// The number in a line of `/proc/self/limits` that says how many files may be open.
+fn limit_in(line: &str) -> Option<u64> {
+    let rest = line.strip_prefix("Max open files")?;
+    rest.split_whitespace().next()?.parse().ok()
+}
+
+// How many files the process may have open, if the system says so.
+fn file_limit<R: Disk + AllocGlobal>(rt: &R) -> Option<u64> {
+    let bytes = rt.read_file(rt.alloc(), "/proc/self/limits", 65536).ok()?;
+    let text = std::str::from_utf8(&bytes).ok()?;
+    text.lines().find_map(limit_in)
+}
+
+// Binds an address.
+fn bind<R: Net<Listener = TcpListener, Stream = TcpStream>>(
+    rt: &R,
+    address: &str,
+) -> io::Result<TcpListener> {
+    let listener = TcpListener::bind(rt, address)?;
+    listener.set_nonblocking(true)?;
+    Ok(listener)
+}
+
+// Whether two more files may be opened: a connection and a package take one each, and without them nobody would be served.
+fn has_room(listener: &TcpListener) -> bool {
+    let connection = listener.try_clone();
+    let package = listener.try_clone();
+    connection.is_ok() && package.is_ok()
+}
+
+// Opens a port of a listener.
+fn open_one<'a, R: Net + Clock + Wait + AllocGlobal>(
+    rt: &'a R,
+    listener: &Arc<TcpListener, Global>,
+    terms: Terms,
+) -> Result<MioPort<'a, R>, OpenError>
+    ensures terms { IfOk result (λ port. port.terms ≡ terms) }
+    ensures new { IfOk result IsNewSocketPort }
+{
+    match MioPort::new(rt, listener.clone()?, terms) {
+        Some(port) => Ok(port),
+        None if has_room(&**listener) => Err(OpenError::Memory),
+        None => Err(OpenError::Net),
+    }
+}
+
+// Opens a port of a listener for each of these terms.
+fn open_all<'a, R: Net + Clock + Wait + AllocGlobal>(
+    rt: &'a R,
+    listener: &Arc<TcpListener, Global>,
+    terms: &[Terms],
+) -> Result<Vec<MioPort<'a, R>>, OpenError>
+    ensures terms { IfOk result (λ ports. map (λ port. port.terms) ports.items ≡ terms.now) }
+    ensures new { IfOk result (λ ports. All IsNewSocketPort ports.items) }
+{
+    let mut ports = Vec::new(rt.alloc());
+    for each in terms {
+        let port = open_one(rt, listener, *each)?;
+        let Ok(()) = ports.push(port) else {
+            return Err(OpenError::Memory);
+        };
+    }
+    if !has_room(&**listener) {
+        return Err(OpenError::Net);
+    }
+    Ok(ports)
+}
+
+impl<
+    'a,
+    R: Net<Listener = TcpListener, Stream = TcpStream> + Clock + Files + Wait + AllocGlobal,
+> System<MioPort<'a, R>> for Sockets<'a, R>
+where
+    R::File: LogFile,
+{
+    ghost use Rattle.std.specs.Prelude.{⊤};
+    ghost use Rattle.systems.specs.Sockets.{has_bytes, has_size};
+
+    // a size and bytes are those of a file of the folder
+    ghost edges = { λ _. record {
+      listens = λ _ _. ⊤;
+      folders = λ _. ⊤;
+      sizes = λ _. has_size;
+      reads = λ _. has_bytes;
+      logs = λ _. ⊤;
+    } };
+
+    fn capacity(&self, connections: u64, ports: usize) -> usize {
+        let ports = (ports as u64).max(1);
+        let files = file_limit(self.rt).unwrap_or(1024);
+        let most = connections.min(files.saturating_sub(OTHER_FILES));
+        (most / ports).max(1).min(1 << 20) as usize
+    }
+
+    fn open_ports(&self, address: &str, terms: &[Terms]) -> Result<Vec<MioPort<'a, R>>, OpenError> {
+        let Ok(listener) = bind(self.rt, address) else {
+            return Err(OpenError::Net);
+        };
+        let Ok(listener) = Arc::new(self.rt.alloc(), listener) else {
+            return Err(OpenError::Memory);
+        };
+        open_all(self.rt, &listener, terms)
+    }
+
+    fn open_log(&self, path: &str) -> io::Result<File> {
+        if let Ok(found) = self.rt.metadata(path) {
+            if found.file_type().is_fifo() {
+                return Err(io::Error::from(ErrorKind::InvalidInput));
+            }
+        }
+        let mut options = OpenOptions::new();
+        options.append(true).create(true);
+        options.open(self.rt, path)?.into_log()
+    }
+
+    fn has_folder(&self, path: &str) -> bool {
+        match self.rt.metadata(path) {
+            Ok(found) => found.is_dir(),
+            Err(_) => false,
+        }
+    }
+
+    fn serve_port<'f, D: Desk, V: WatchEach>(
+        &'f self,
+        folder: &'f str,
+        port: &mut MioPort<'a, R>,
+        room: Connections<V::Seen>,
+        desk: &mut D,
+        watch: &V,
+    ) -> u64 {
+        let rt: &'f R = self.rt;
+        let packages = Folder::new(rt.alloc(), rt, folder);
+        let site = Site {
+            packages: &packages,
+            clock: &SystemClock::new(rt),
+            watch: &Unwatched,
+        };
+        serve_port(rt, port, &site, watch, room, desk)
+    }
+}

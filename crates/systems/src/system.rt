@@ -1,0 +1,79 @@
+// What a server asks of the system.
+
+ghost use Rattle.std.specs.Prelude.{◌≡◌, All, IfOk, IsTrue, ℕ, map};
+ghost use Rattle.http_desks.specs.Uses.{IsUse};
+ghost use Rattle.http_ports.specs.Traffic.{unused};
+ghost use Rattle.http_talks.specs.Ports.{HasTalked};
+ghost use Rattle.systems.specs.Edges.{IsTime};
+ghost use Rattle.systems.specs.NewPorts.{IsNew};
+
+use http_desks::Desk;
+use http_ports::{Port, Terms, WatchEach};
+use http_talks::Connections;
+use std::alloc::AllocError;
+use std::fs::File;
+use std::io;
+
+/// Why ports could not be opened.
+#[derive(Clone, Copy, Drop)]
+pub enum OpenError {
+    /// The address could not be bound.
+    Net,
+    /// Memory ran out.
+    Memory,
+}
+
+impl From<AllocError> for OpenError {
+    fn from(_refused: AllocError) -> OpenError {
+        OpenError::Memory
+    }
+}
+
+/// What a server asks of the system, which has its ports: sockets, or a test's room-in for them.
+pub trait System<P: Port> {
+    ghost use Rattle.systems.specs.Edges.{Edges};
+
+    // what is known of addresses, folders and logs
+    ghost edges: { Self → Edges };
+
+    /// Returns how many connections each of so many ports may hold, of so many in all: fewer if the system allows fewer.
+    fn capacity(&self, connections: u64, ports: usize) -> usize;
+
+    // rule: Ports of a server
+    /// Binds an address, `HOST:PORT` with an IPv6 address in brackets, and opens a port for each of these terms, whose
+    /// connections are those of the address.
+    fn open_ports(&self, address: &str, terms: &[Terms]) -> Result<Vec<P>, OpenError>
+        ensures terms { IfOk result (λ ports. map P.terms ports.items ≡ terms.now) }
+        ensures bound { IfOk result (λ _. All (λ t. (edges self.now).listens address.now t.listener) terms.now) }
+        ensures new { IfOk result (λ ports. All (IsNew P.terms P.slots P.accepted P.is_over) ports.items) };
+
+    /// Opens the file at a path for lines at its end, and makes it if there is none.
+    ///
+    /// Fails if it can't be opened, or is a pipe, which would wait for a reader.
+    fn open_log(&self, path: &str) -> io::Result<File>
+        ensures { IfOk result (λ _. (edges self.now).logs path.now) };
+
+    /// Whether there is a folder at a path, which may be empty.
+    fn has_folder(&self, path: &str) -> bool
+        ensures { IsTrue result → (edges self.now).folders path.now };
+
+    // rule: Sessions of a port
+    /// Serves the connections of a new port by a desk, with the packages of the folder at a path, until none will be
+    /// accepted any more; returns for how many memory ran out.
+    fn serve_port<'f, D: Desk, V: WatchEach>(
+        &'f self,
+        folder: &'f str,
+        port: &mut P,
+        room: Connections<V::Seen>,
+        desk: &mut D,
+        watch: &V,
+    ) -> u64
+        requires fresh { (k : ℕ) → P.slots port.old k ≡ unused }
+        requires none { P.accepted port.old ≡ 0 }
+        requires many { room ≡ (P.terms port.old).capacity }
+        ensures served { HasTalked (IsUse (D.path desk.old) IsTime ((edges self.now).sizes folder.now) ((edges self.now).reads folder.now))
+            (D.content_type desk.old) D.steps desk.old desk.new
+            (record { terms = P.terms port.new; slots = P.slots port.new; accepted = P.accepted port.new; lost = result }) }
+        ensures over { P.is_over port.new }
+        ensures terms { P.terms port.new ≡ P.terms port.old };
+}
