@@ -229,7 +229,10 @@ def faults(program):
         check("faults: another program's", line("not a history"), ends(program, folder, *profile))
         check("faults: it is left", foreign, (folder / "history.db").read_bytes())
     with folder_of() as folder:
-        check("faults: nothing to begin with", line("has no records: name a profile"), ends(program, folder))
+        check("faults: nothing to begin with", line("cannot be opened"), ends(program, folder))
+        check("faults: and nothing is made", False, (folder / "history.db").exists())
+        (folder / "history.db").touch()
+        check("faults: no records", line("has no records: name a profile"), ends(program, folder))
     with folder_of() as folder:
         server = Server(program, folder)
         check("faults: in use", line("in use by another program"), ends(program, folder, *profile))

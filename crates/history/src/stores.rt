@@ -47,6 +47,10 @@ pub struct HistoryFiles<'a> {
 impl Stores for HistoryFiles<'_> {
     type Kept = History<FileStore<FileFrom<Wary>>>;
 
+    ghost use Rattle.std.specs.Prelude.{⊤};
+
+    ghost found = { λ _ _ _ _. ⊤ };
+
     fn open_records(
         &self,
         path: &str,

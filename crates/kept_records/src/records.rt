@@ -53,9 +53,13 @@ pub trait Stores {
     /// A handle that knows all records which were there.
     type Kept: Records + Drop;
 
+    // which records may be found at a path, of which the first has this number
+    ghost found: { Self → List ℕ → ℕ → List Record → Type 0 };
+
     /// Opens the records at a path, or makes a store of none there, and returns those that there are.
     ///
     /// All records may have at most so many bytes together; if there are more already, none can be appended.
     fn open_records(&self, path: &str, limit: u64) -> Result<(Self::Kept, Vec<Record>), OpenFault>
-        ensures known { IfOk result (λ opened. Self.Kept.kept opened.0 ≡ opened.1.items) };
+        ensures known { IfOk result (λ opened. Self.Kept.kept opened.0 ≡ opened.1.items) }
+        ensures found { IfOk result (λ opened. found self.now path.now (Self.Kept.first opened.0) opened.1.items) };
 }

@@ -24,8 +24,8 @@ Does world (command.Report report) old new result = Reports world.files report o
 Does world (command.Compare asked) old new result = Compares world.files world.storage asked old new result
 Does world (command.Describe paths) old new result = PrintsDescriptions world.storage paths old new result
 Does world (command.Explain code) old new result = Explains code old new result
-Does world (command.History asked) old new result = PrintsHistory asked old new result
-Does world (command.Serve serve) old new result = ServesOn world.files world.edges serve old new result
+Does world (command.History asked) old new result = PrintsHistory world.stored asked old new result
+Does world (command.Serve serve) old new result = ServesOn world.files world.stored world.edges serve old new result
 Does world (command.Walk walk) old new result = WalksOn world.replies walk old new result
 Does world (command.Publish asked) old new result =
     Publishes world.files world.operated asked old.output new.output result × (new.input ≡ old.input)

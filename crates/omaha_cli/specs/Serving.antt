@@ -13,7 +13,7 @@ use Rattle.omaha_commands.specs.Profiles.{Files}
 use Rattle.omaha_commands.specs.Streams.{Streams}
 use Rattle.omaha_commands.specs.declared.failure.Failure.{Failure}
 use Rattle.omaha_commands.specs.declared.failure.Failure.TheVariants as failure
-use Rattle.omaha_histories.specs.Histories.{Beginning, IsBegun}
+use Rattle.omaha_histories.specs.Histories.{Beginning, IsBegun, Stored}
 
 -- the failure of a server whose log can't be opened; naming its file takes memory
 abbrev pub IsUnopened : Option (List ℕ) → Failure → Type 0
@@ -78,7 +78,7 @@ IsServedBy edges (Err refusal) serve old new result = (result ≡ Err refusal) �
 
 -- rule: Service over HTTP
 -- what a server begins with is opened first: that of the history that is named, or of the profile; its service is served
-pub record ServesOn (files : Files) (edges : Edges) (serve : Serve) (old new : Streams) (result : Result (Unit {0}) Failure) : Type 0 where
+pub record ServesOn (files : Files) (stored : Stored) (edges : Edges) (serve : Serve) (old new : Streams) (result : Result (Unit {0}) Failure) : Type 0 where
   pub made : Result Beginning Failure
-  pub begun : IsBegun files serve.history serve.profile made
+  pub begun : IsBegun files stored serve.history serve.profile made
   pub follows : IsServedBy edges made serve old new result

@@ -5,13 +5,15 @@ use Rattle.package_files.specs.Storages.{Storage}
 use Rattle.update_client.specs.Walks.{Post}
 use Rattle.omaha_commands.specs.Profiles.{Files}
 use Rattle.omaha_commands.specs.Operating.{Listeners}
+use Rattle.omaha_histories.specs.Histories.{Stored}
 
 -- rule: Edges of the program
--- of each file, by its path; of the files in folders; of addresses, connections and logs; which posts were made to the
--- server at an address, each with the reply that came back; and which replies operators' listeners gave
+-- of each file, by its path; of the files in folders; of the histories at paths; of addresses, connections and logs;
+-- which posts were made to the server at an address, each with the reply that came back; and which replies operators' listeners gave
 pub record World : Type 1 where
   pub files : Files
   pub storage : Storage
+  pub stored : Stored
   pub edges : Edges
   pub replies : List ℕ → List Post → Type 0
   pub operated : Listeners

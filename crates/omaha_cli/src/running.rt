@@ -118,7 +118,7 @@ fn obey<
 ) -> Result<(), Failure>
     requires { IsAskable command.now }
     ensures silent { IsSilentCommand command.now → errors.new ≡ errors.old }
-    ensures does { Does (record { files = R.file_at rt.now; storage = R.storage rt.now; edges = S.edges system.now; replies = R.replies rt.now; operated = R.operated rt.now }) command.now
+    ensures does { Does (record { files = R.file_at rt.now; storage = R.storage rt.now; stored = H.found stores.now; edges = S.edges system.now; replies = R.replies rt.now; operated = R.operated rt.now }) command.now
         (record { input = I.input reader.old; output = W.output writer.old })
         (record { input = I.input reader.new; output = W.output writer.new }) result }
 {
@@ -156,7 +156,7 @@ fn carry_out<
     errors: &mut F,
 ) -> Ending
     ensures silent { IsSilentRun (map string_bytes arguments.now) → errors.new ≡ errors.old }
-    ensures ends { Ends (record { files = R.file_at rt.now; storage = R.storage rt.now; edges = S.edges system.now; replies = R.replies rt.now; operated = R.operated rt.now }) (map string_bytes arguments.now)
+    ensures ends { Ends (record { files = R.file_at rt.now; storage = R.storage rt.now; stored = H.found stores.now; edges = S.edges system.now; replies = R.replies rt.now; operated = R.operated rt.now }) (map string_bytes arguments.now)
         (record { input = I.input reader.old; output = W.output writer.old })
         (record { input = I.input reader.new; output = W.output writer.new }) result }
     ensures untouched { IsMistaken result → (reader.new ≡ reader.old) × (writer.new ≡ writer.old) }
@@ -222,7 +222,7 @@ pub fn run<
     writer: &mut W,
     errors: &mut F,
 ) -> u8
-    ensures run { Runs (record { files = R.file_at rt.now; storage = R.storage rt.now; edges = S.edges system.now; replies = R.replies rt.now; operated = R.operated rt.now }) (map string_bytes arguments.now)
+    ensures run { Runs (record { files = R.file_at rt.now; storage = R.storage rt.now; stored = H.found stores.now; edges = S.edges system.now; replies = R.replies rt.now; operated = R.operated rt.now }) (map string_bytes arguments.now)
         (record { input = I.input reader.old; output = W.output writer.old })
         (record { input = I.input reader.new; output = W.output writer.new })
         (F.output errors.old) (F.output errors.new) result }

@@ -116,7 +116,7 @@ pub(crate) fn serve_profile<
     errors: &mut F,
 ) -> Result<(), Failure>
     ensures silent { IsSilent asked.now.log → errors.new ≡ errors.old }
-    ensures serves { (input : Known) → ServesOn (R.file_at rt.now) (S.edges system.now) asked.now
+    ensures serves { (input : Known) → ServesOn (R.file_at rt.now) (H.found stores.now) (S.edges system.now) asked.now
         (record { input = input; output = W.output writer.old })
         (record { input = input; output = W.output writer.new }) result }
 {

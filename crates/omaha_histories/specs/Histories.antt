@@ -25,6 +25,10 @@ abbrev pub IsHistoryFailure : List ℕ → Failure → Type 0
 IsHistoryFailure path refusal =
     ((fault : HistoryFault) × (refusal ≡ failure.History path fault)) ⊎ (refusal ≡ failure.Memory)
 
+-- which records may be found at a path, of which the first has this number
+abbrev pub Stored : Type 1
+Stored = List ℕ → ℕ → List Record → Type 0
+
 -- what a server begins with: its service, the number of the first record, and the records
 pub record Beginning : Type 0 where
   pub service : Service
@@ -46,14 +50,30 @@ BeginWith files None records = ⊤
 BeginWith files (Some path) records =
     (bytes : List ℕ) × IsWhole (files path) max_profile bytes × HasFirst records bytes
 
+-- the only record is the profile that is named
+abbrev pub IsFirst : Files → Option (List ℕ) → List Record → Type 0
+IsFirst files None records = ⊥
+IsFirst files (Some path) records =
+    (bytes : List ℕ) × IsWhole (files path) max_profile bytes × (records ≡ record_of Profile bytes ∷ [])
+
+-- a server begins with the records that were found; if there were none, with the profile that is named
+abbrev pub AreBegun : Files → Option (List ℕ) → List Record → List Record → Type 0
+AreBegun files profile found records =
+    ((found ≡ []) × IsFirst files profile records) ⊎ ((records ≡ found) × BeginWith files profile records)
+
+-- so by the records that were found at a path, of which the first has this number
+abbrev pub AreBegunAt : Stored → Files → List ℕ → Option (List ℕ) → ℕ → List Record → Type 0
+AreBegunAt stored files path profile first records =
+    (found : List Record) × stored path first found × AreBegun files profile found records
+
 -- rule: Service of a history
 -- without a history the service is the profile's, and there are no records; with one there are records that lead to the
--- service and begin with the profile, if one is named
-abbrev pub IsBeginning : Files → Option (List ℕ) → Option (List ℕ) → Beginning → Type 0
-IsBeginning files None profile begins =
+-- service: those that were found at its path, or the profile
+abbrev pub IsBeginning : Files → Stored → Option (List ℕ) → Option (List ℕ) → Beginning → Type 0
+IsBeginning files stored None profile begins =
     IsServed files profile (Ok begins.service) × (begins.first ≡ 1) × (begins.records ≡ [])
-IsBeginning files (Some path) profile begins =
-    LeadToService begins.records begins.service × BeginWith files profile begins.records
+IsBeginning files stored (Some path) profile begins =
+    LeadToService begins.records begins.service × AreBegunAt stored files path profile begins.first begins.records
 
 -- why there is no service: because of the history, or of the profile
 abbrev pub IsNoBeginning : Files → Option (List ℕ) → Option (List ℕ) → Failure → Type 0
@@ -61,9 +81,9 @@ IsNoBeginning files None profile refusal = IsServed files profile (Err refusal)
 IsNoBeginning files (Some path) profile refusal = IsHistoryFailure path refusal ⊎ IsServed files profile (Err refusal)
 
 -- what a server begins with, or why it doesn't
-abbrev pub IsBegun : Files → Option (List ℕ) → Option (List ℕ) → Result Beginning Failure → Type 0
-IsBegun files history profile (Ok begins) = IsBeginning files history profile begins
-IsBegun files history profile (Err refusal) = IsNoBeginning files history profile refusal
+abbrev pub IsBegun : Files → Stored → Option (List ℕ) → Option (List ℕ) → Result Beginning Failure → Type 0
+IsBegun files stored history profile (Ok begins) = IsBeginning files stored history profile begins
+IsBegun files stored history profile (Err refusal) = IsNoBeginning files history profile refusal
 
 -- rule: Exported edition
 -- the records make the edition of a number, where the first one is that of its own number, and some of them are up to it
@@ -88,13 +108,14 @@ IsShortened first records number left =
     (text : List ℕ) × IsExport records text × (left ≡ record_of Profile text ∷ [])
     × (number + 1 ≡ first + editions_in records)
 
--- what is found of a history, or why nothing is
-abbrev pub IsFoundIn : HistoryAsked → Result (List ℕ) Failure → Type 0
-IsFoundIn asked (Ok text) = (first : ℕ) × (records : List Record) × IsFoundOf first records asked.action text
-IsFoundIn asked (Err refusal) = IsHistoryFailure asked.path refusal
+-- what is found of the history at a path, or why nothing is
+abbrev pub IsFoundIn : Stored → HistoryAsked → Result (List ℕ) Failure → Type 0
+IsFoundIn stored asked (Ok text) =
+    (first : ℕ) × (records : List Record) × stored asked.path first records × IsFoundOf first records asked.action text
+IsFoundIn stored asked (Err refusal) = IsHistoryFailure asked.path refusal
 
 -- what is found of a history is printed
-pub record PrintsHistory (asked : HistoryAsked) (old new : Streams) (result : Result (Unit {0}) Failure) : Type 0 where
+pub record PrintsHistory (stored : Stored) (asked : HistoryAsked) (old new : Streams) (result : Result (Unit {0}) Failure) : Type 0 where
   pub found : Result (List ℕ) Failure
-  pub is : IsFoundIn asked found
+  pub is : IsFoundIn stored asked found
   pub printed : Prints found old new result

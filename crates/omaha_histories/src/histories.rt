@@ -1,17 +1,17 @@
 // What a server begins with, if what it publishes is kept.
 
 ghost use Rattle.std.specs.Prelude.{◌≡◌, [], IfErr, IfOk, IsTrue, Some};
-ghost use Rattle.omaha_histories.specs.Histories.{BeginWith, HasFirst, IsBeginning, IsHistoryFailure, IsNoBeginning, LeadToService};
+ghost use Rattle.omaha_histories.specs.Histories.{AreBegun, AreBegunAt, BeginWith, HasFirst, IsBeginning, IsFirst, IsHistoryFailure, IsNoBeginning, LeadToService};
 ghost use Rattle.omaha_histories.specs.Server.{first_in, known_in};
 
 use crate::server_records::ServerRecords;
-use kept_records::{Kind, Record, Records, Stores, Unkept};
+use kept_records::{Kind, OpenFault, Record, Records, Stores, Unkept};
 use omaha_arguments::Serve;
 use omaha_commands::{Failure, HistoryFault, open_service, read_named, service_in};
 use restarts::{RestoreError, Restored, restore};
 use services::{KeptService, Mirrors, Service};
 use std::thread::Threads;
-use streams::Disk;
+use streams::{Disk, ReadFailure};
 use values::Text;
 use worker_threads::Free;
 
@@ -49,7 +49,8 @@ fn begin<R: Disk + AllocGlobal + Threads + Sync, K: Records + Drop>(
 ) -> Result<KeptService<K>, Failure>
     requires none { K.kept kept ≡ [] }
     ensures leads { IfOk result (λ begun. LeadToService (K.kept begun.records) begun.service) }
-    ensures begins { IfOk result (λ begun. BeginWith (R.file_at rt.now) profile.now (K.kept begun.records)) }
+    ensures begins { IfOk result (λ begun. IsFirst (R.file_at rt.now) profile.now (K.kept begun.records)) }
+    ensures first { IfOk result (λ begun. K.first begun.records ≡ K.first kept) }
     ensures err { IfErr result (IsNoBeginning (R.file_at rt.now) (Some path.now) profile.now) }
 {
     let Some(profile) = profile else {
@@ -109,6 +110,7 @@ fn resume<R: Threads + AllocGlobal, K: Records + Drop>(
     requires records { K.kept kept ≡ records.now }
     ensures leads { IfOk result (λ begun. LeadToService (K.kept begun.records) begun.service) }
     ensures records { IfOk result (λ begun. K.kept begun.records ≡ records.now) }
+    ensures first { IfOk result (λ begun. K.first begun.records ≡ K.first kept) }
     ensures err { IfErr result (IsHistoryFailure path.now) }
 {
     let workers = workers.max(1).min(16);
@@ -134,7 +136,8 @@ fn begin_from<R: Disk + AllocGlobal + Threads + Sync, K: Records + Drop>(
 ) -> Result<KeptService<K>, Failure>
     requires records { K.kept kept ≡ records.now }
     ensures leads { IfOk result (λ begun. LeadToService (K.kept begun.records) begun.service) }
-    ensures begins { IfOk result (λ begun. BeginWith (R.file_at rt.now) asked.now.profile (K.kept begun.records)) }
+    ensures begins { IfOk result (λ begun. AreBegun (R.file_at rt.now) asked.now.profile records.now (K.kept begun.records)) }
+    ensures first { IfOk result (λ begun. K.first begun.records ≡ K.first kept) }
     ensures err { IfErr result (IsNoBeginning (R.file_at rt.now) (Some path.now) asked.now.profile) }
 {
     let workers = asked.workers.min(16) as usize;
@@ -150,7 +153,16 @@ fn begin_from<R: Disk + AllocGlobal + Threads + Sync, K: Records + Drop>(
     }
 }
 
-// Opens the history at a path, and makes the service that it leads to. Without records the profile is the first one.
+/// Whether there is a regular file at a path that can be read. An open makes the file that isn't there.
+pub(crate) fn is_there<R: Disk + AllocGlobal>(rt: &R, path: &Text) -> bool {
+    match rt.read_file(rt.alloc(), path.as_str(), 0) {
+        Err(ReadFailure::Broken) => false,
+        _ => true,
+    }
+}
+
+// Opens the history at a path, and makes the service that it leads to. Without records the profile is the first one; if
+// none is named, no file is made.
 fn open_history<R: Disk + AllocGlobal + Threads + Sync, H: Stores>(
     rt: &R,
     stores: &H,
@@ -158,9 +170,12 @@ fn open_history<R: Disk + AllocGlobal + Threads + Sync, H: Stores>(
     asked: &Serve,
 ) -> Result<KeptService<H::Kept>, Failure>
     ensures leads { IfOk result (λ begun. LeadToService (H.Kept.kept begun.records) begun.service) }
-    ensures begins { IfOk result (λ begun. BeginWith (R.file_at rt.now) asked.now.profile (H.Kept.kept begun.records)) }
+    ensures begins { IfOk result (λ begun. AreBegunAt (H.found stores.now) (R.file_at rt.now) path.now asked.now.profile (H.Kept.first begun.records) (H.Kept.kept begun.records)) }
     ensures err { IfErr result (IsNoBeginning (R.file_at rt.now) (Some path.now) asked.now.profile) }
 {
+    if asked.profile.is_none() && !is_there(rt, path) {
+        return Err(history_failure(path, HistoryFault::Open(OpenFault::Unopened)));
+    }
     match stores.open_records(path.as_str(), asked.history_limit) {
         Ok((kept, records)) => begin_from(rt, kept, records.as_slice(), path, asked),
         Err(error) => Err(history_failure(path, HistoryFault::Open(error))),
@@ -178,7 +193,7 @@ pub fn open_beginning<R: Disk + AllocGlobal + Threads + Sync, H: Stores>(
     stores: &H,
     asked: &Serve,
 ) -> Result<KeptService<ServerRecords<H::Kept>>, Failure>
-    ensures begins { IfOk result (λ begun. IsBeginning (R.file_at rt.now) asked.now.history asked.now.profile
+    ensures begins { IfOk result (λ begun. IsBeginning (R.file_at rt.now) (H.found stores.now) asked.now.history asked.now.profile
         (record { service = begun.service; first = first_in H.Kept.first begun.records; records = known_in H.Kept.kept begun.records })) }
     ensures err { IfErr result (IsNoBeginning (R.file_at rt.now) asked.now.history asked.now.profile) }
 {

@@ -8,14 +8,14 @@ ghost use Rattle.restarts.specs.Exporting.{IsExport};
 ghost use Rattle.restarts.specs.Listing.{listing};
 ghost use Rattle.streams.specs.Streams.{Known};
 
-use crate::histories::{history_failure, restore_failure};
+use crate::histories::{history_failure, is_there, restore_failure};
 use kept_records::{OpenFault, Record, Records, Stores};
 use omaha_arguments::{HistoryAction, HistoryAsked};
 use omaha_commands::{Failure, HistoryFault, print};
 use restarts::{count_editions, export, list, records_until};
 use std::alloc::Global;
 use std::thread::Threads;
-use streams::{Disk, ReadFailure, WriteWhole};
+use streams::{Disk, WriteWhole};
 use values::Text;
 
 // The highest number of an edition: 2^53.
@@ -131,22 +131,14 @@ fn found_in<R: Threads + AllocGlobal, K: Records + Drop>(
     }
 }
 
-// Whether there is a regular file at a path that can be read. An open makes the file that isn't there.
-fn is_there<R: Disk + AllocGlobal>(rt: &R, path: &Text) -> bool {
-    match rt.read_file(rt.alloc(), path.as_str(), 0) {
-        Err(ReadFailure::Broken) => false,
-        _ => true,
-    }
-}
-
 // What is printed of a history.
 fn find<R: Disk + Threads + AllocGlobal, H: Stores>(
     rt: &R,
     stores: &H,
     asked: &HistoryAsked,
 ) -> Result<Vec<u8>, Failure>
-    ensures ok { IfOk result (λ text. IsFoundIn asked.now (Ok text.items)) }
-    ensures err { IfErr result (λ failure. IsFoundIn asked.now (Err failure)) }
+    ensures ok { IfOk result (λ text. IsFoundIn (H.found stores.now) asked.now (Ok text.items)) }
+    ensures err { IfErr result (λ failure. IsFoundIn (H.found stores.now) asked.now (Err failure)) }
 {
     if !is_there(rt, &asked.path) {
         let fault = HistoryFault::Open(OpenFault::Unopened);
@@ -167,7 +159,7 @@ pub fn print_history<R: Disk + Threads + AllocGlobal, H: Stores, W: WriteWhole>(
     asked: &HistoryAsked,
     writer: &mut W,
 ) -> Result<(), Failure>
-    ensures { (input : Known) → PrintsHistory asked.now
+    ensures { (input : Known) → PrintsHistory (H.found stores.now) asked.now
         (record { input = input; output = W.output writer.old })
         (record { input = input; output = W.output writer.new }) result }
 {

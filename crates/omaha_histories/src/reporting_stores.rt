@@ -74,6 +74,8 @@ impl<K: Records> Records for ReportedRecords<'_, K> {
 impl<'a, H: Stores> Stores for ReportingStores<'a, H> {
     type Kept = ReportedRecords<'a, H::Kept>;
 
+    ghost found = { λ reporting. H.found reporting.stores };
+
     fn open_records(
         &self,
         path: &str,

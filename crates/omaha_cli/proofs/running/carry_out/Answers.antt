@@ -10,7 +10,7 @@ pub returns-in-Ok-obey-clause-ends : goal.returns-in-Ok-obey-clause-ends
 returns-in-Ok-obey-clause-ends g c =
     let old : Streams = record { input = g.I.ReadWhole.input c.args.reader.now; output = g.W.WriteWhole.output c.args.writer.now } in
     let new : Streams = record { input = g.I.ReadWhole.input c.obey.new.reader; output = g.W.WriteWhole.output c.obey.new.writer } in
-    let world : World = record { files = g.R.Disk.file_at c.args.rt.now; storage = g.R.Folders.storage c.args.rt.now; edges = g.S.System.edges c.args.system.now; replies = g.R.Connector.replies c.args.rt.now; operated = g.R.Connector.operated c.args.rt.now } in
+    let world : World = record { files = g.R.Disk.file_at c.args.rt.now; storage = g.R.Folders.storage c.args.rt.now; stored = g.H.Stores.found c.args.stores.now; edges = g.S.System.edges c.args.system.now; replies = g.R.Connector.replies c.args.rt.now; operated = g.R.Connector.operated c.args.rt.now } in
     let P : Command → Type 0 = λ command. Does world command old new (Ok tt) in
     (c.in-Ok.ensures.command.0, subst P c.in-Ok.ensures.command.1 c.in-Ok-obey.ensures.does)
 

@@ -5,7 +5,7 @@ use Rattle.omaha_histories.proofs.reading_histories.print_history.Goals as goal
 pub returns-in-Ok : goal.returns-in-Ok
 returns-in-Ok g c = λ input. record {
   found = Ok c.as_slice.result.now;
-  is = subst (λ (text : List ℕ). IsFoundIn c.args.asked.now (Ok text)) (sym c.as_slice.ensures.value) c.in-Ok.ensures.ok;
+  is = subst (λ (text : List ℕ). IsFoundIn (g.H.Stores.found c.args.stores.now) c.args.asked.now (Ok text)) (sym c.as_slice.ensures.value) c.in-Ok.ensures.ok;
   printed = c.print.ensures input;
 }
 
