@@ -3,4 +3,5 @@ pub mod Holdings
 pub mod Logs
 pub mod Causes
 pub mod Openings
+pub mod Files
 pub mod Laws

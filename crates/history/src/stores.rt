@@ -9,8 +9,10 @@ ghost use Rattle.history.specs.Openings.{IsOpenedAt};
 
 use crate::causes::open_fault_of;
 use crate::history::History;
-use kept_records::{OpenFault, Record, Stores};
+use kept_records::{AppendFault, Kind, OpenFault, ReadFault, Record, Records, Stores};
 use sqlite::{Connection, FileFrom, FileStore, Start, Wary};
+use std::alloc::Global;
+use std::marker::Model;
 use std::rt::HostRuntime;
 
 // rule: Opened history
@@ -37,6 +39,53 @@ pub fn open_at<S: Start>(
     }
 }
 
+/// A history in a file of the system.
+///
+/// Contracts see the records that it is known to hold and the number of the first one, and nothing of the database. So
+/// whoever names this type proves nothing again of the types below it.
+pub struct FileHistory {
+    history: History<FileStore<FileFrom<Wary>>>,
+}
+
+// Written out, so that no caller proves again how each part is dropped.
+impl Drop for FileHistory {
+    fn drop(self) {
+        let FileHistory { history: _ } = self;
+    }
+}
+
+impl Model for FileHistory {
+    ghost use Rattle.history.specs.Files.{FileLog, file_log_code};
+
+    ghost Value = { FileLog };
+
+    ghost coded = { file_log_code };
+
+    ghost view = { λ h. record { first = h.history.first; kept = h.history.kept } };
+}
+
+impl Records for FileHistory {
+    ghost kept = { λ file. file.kept };
+
+    ghost first = { λ file. file.first };
+
+    fn first(&self) -> u64 {
+        self.history.first()
+    }
+
+    fn append(&mut self, alloc: Global, kind: Kind, bytes: &[u8]) -> Result<(), AppendFault> {
+        self.history.append(alloc, kind, bytes)
+    }
+
+    fn next(&mut self, alloc: Global) -> Result<Option<Record>, ReadFault> {
+        self.history.next(alloc)
+    }
+
+    fn compact(&mut self, alloc: Global, number: u64, bytes: &[u8]) -> Result<(), AppendFault> {
+        self.history.compact(alloc, number, bytes)
+    }
+}
+
 /// Histories in files of the system, by their paths.
 #[derive(Clone, Copy)]
 pub struct HistoryFiles<'a> {
@@ -45,7 +94,7 @@ pub struct HistoryFiles<'a> {
 }
 
 impl Stores for HistoryFiles<'_> {
-    type Kept = History<FileStore<FileFrom<Wary>>>;
+    type Kept = FileHistory;
 
     ghost use Rattle.std.specs.Prelude.{⊤};
 
@@ -55,7 +104,8 @@ impl Stores for HistoryFiles<'_> {
         &self,
         path: &str,
         limit: u64,
-    ) -> Result<(History<FileStore<FileFrom<Wary>>>, Vec<Record>), OpenFault> {
-        open_at(self.rt, path, limit, Wary)
+    ) -> Result<(FileHistory, Vec<Record>), OpenFault> {
+        let (history, records) = open_at(self.rt, path, limit, Wary)?;
+        Ok((FileHistory { history }, records))
     }
 }
