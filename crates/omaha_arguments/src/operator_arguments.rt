@@ -13,7 +13,8 @@ use values::Text;
 
 const TO: &str = "The operator's address of the server, such as 127.0.0.1:8081";
 
-const SCRIPT: &str = "The script: a TOML file of at most 262144 bytes";
+const SCRIPT: &str =
+    "The script: a TOML file of at most 262144 bytes, or - for standard input";
 
 const PUBLISH: &str = "Publishes a script to a running server.";
 
@@ -35,6 +36,7 @@ server's reply:
 
 If the command fails, it prints one line on standard error.
   omaha: file F     F can't be read
+  omaha: read       standard input failed
   omaha: net ADDR   the server can't be reached at ADDR, or its reply isn't whole
   omaha: write      standard output failed
   omaha: memory     out of memory

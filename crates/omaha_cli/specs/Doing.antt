@@ -27,8 +27,7 @@ Does world (command.Explain code) old new result = Explains code old new result
 Does world (command.History asked) old new result = PrintsHistory world.stored asked old new result
 Does world (command.Serve serve) old new result = ServesOn world.files world.stored world.edges serve old new result
 Does world (command.Walk walk) old new result = WalksOn world.replies walk old new result
-Does world (command.Publish asked) old new result =
-    Publishes world.files world.operated asked old.output new.output result × (new.input ≡ old.input)
+Does world (command.Publish asked) old new result = Publishes world.files world.operated asked old new result
 Does world (command.Raise asked) old new result =
     Raises world.operated asked old.output new.output result × (new.input ≡ old.input)
 Does world (command.Dump to) old new result =

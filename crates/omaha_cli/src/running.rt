@@ -130,7 +130,7 @@ fn obey<
         Command::Explain(code) => explain_code(rt.alloc(), code, writer),
         Command::Serve(asked) => serve_profile(rt, system, stores, asked, writer, errors),
         Command::Walk(asked) => walk_on(rt.alloc(), rt, asked, writer),
-        Command::Publish(asked) => publish_on(rt, rt.alloc(), asked, writer),
+        Command::Publish(asked) => publish_on(rt, rt.alloc(), asked, reader, writer),
         Command::Raise(asked) => raise_on(rt, rt.alloc(), asked, writer),
         Command::Dump(to) => dump_on(rt, rt.alloc(), to, writer),
         Command::History(asked) => print_history(rt, stores, asked, writer),

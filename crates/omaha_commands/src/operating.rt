@@ -1,13 +1,13 @@
 // The commands of an operator: `publish`, `raise` and `dump`.
 
-ghost use Rattle.std.specs.Prelude.{IfErr, IfOk, Ok, Err};
-ghost use Rattle.omaha_commands.specs.Operating.{Calls, Dumps, IsRead, PrintsReply, Publishes, Raises};
+ghost use Rattle.std.specs.Prelude.{◌≡◌, IfErr, IfOk, Ok, Err};
+ghost use Rattle.omaha_commands.specs.Operating.{Calls, Dumps, IsRead, IsScript, PrintsReply, Publishes, Raises, is_input};
 
 use crate::failure::Failure;
 use crate::profile::MAX_PROFILE;
 use omaha_arguments::{Publication, Raise};
 use std::alloc::Global;
-use streams::{Disk, ReadFailure, WriteWhole};
+use streams::{Disk, ReadFailure, ReadWhole, WriteWhole};
 use update_client::{Connector, LinkFault, Reply};
 use values::Text;
 
@@ -20,6 +20,33 @@ fn read_file<R: Disk>(rt: &R, alloc: Global, path: &Text) -> Result<Vec<u8>, Fai
         Ok(bytes) => Ok(bytes),
         Err(ReadFailure::Memory) => Err(Failure::Memory),
         Err(_) => Err(Failure::File(path.clone()?)),
+    }
+}
+
+// Whether a path means the standard input.
+fn is_input(path: &str) -> bool
+    ensures { result ≡ is_input path.now }
+{
+    path == "-"
+}
+
+// rule: Script to publish
+// Reads a script: the file at a path, or the reader if the path is `-`.
+fn read_script<R: Disk, I: ReadWhole>(
+    rt: &R,
+    alloc: Global,
+    path: &Text,
+    reader: &mut I,
+) -> Result<Vec<u8>, Failure>
+    ensures ok { IfOk result (λ bytes. IsScript (R.file_at rt.now) path.now (I.input reader.old) (I.input reader.new) (Ok bytes.items)) }
+    ensures err { IfErr result (λ failure. IsScript (R.file_at rt.now) path.now (I.input reader.old) (I.input reader.new) (Err failure)) }
+{
+    if !is_input(path.as_str()) {
+        return read_file(rt, alloc, path);
+    }
+    match reader.read_whole(alloc, MAX_PROFILE) {
+        Ok(bytes) => Ok(bytes),
+        Err(failure) => Err(Failure::from(failure)),
     }
 }
 
@@ -52,19 +79,23 @@ fn call<R: Connector, W: WriteWhole>(
     }
 }
 
-/// Posts a script's file to an operator's listener, as it is, and prints the reply.
+/// Posts a script to an operator's listener, as it is, and prints the reply. The script is a file, or what the reader has
+/// if its path is `-`.
 ///
-/// Fails with the file, then with `Net` if the listener can't be reached or sends no whole reply; each time nothing is
-/// written. Fails with `Declined` after a reply with another status than 200, and with the writer.
-pub fn publish_on<R: Disk + Connector, W: WriteWhole>(
+/// Fails with the file or the reader, then with `Net` if the listener can't be reached or sends no whole reply; each time
+/// nothing is written. Fails with `Declined` after a reply with another status than 200, and with the writer.
+pub fn publish_on<R: Disk + Connector, I: ReadWhole, W: WriteWhole>(
     rt: &R,
     alloc: Global,
     asked: &Publication,
+    reader: &mut I,
     writer: &mut W,
 ) -> Result<(), Failure>
-    ensures { Publishes (R.file_at rt.now) (R.operated rt.now) asked.now (W.output writer.old) (W.output writer.new) result }
+    ensures { Publishes (R.file_at rt.now) (R.operated rt.now) asked.now
+        (record { input = I.input reader.old; output = W.output writer.old })
+        (record { input = I.input reader.new; output = W.output writer.new }) result }
 {
-    match read_file(rt, alloc, &asked.script) {
+    match read_script(rt, alloc, &asked.script, reader) {
         Ok(script) => call(rt, alloc, &asked.to, script.as_slice(), writer),
         Err(failure) => Err(failure),
     }

@@ -1,0 +1,117 @@
+// Every byte of a server's connections, over ports in memory.
+
+use crate::rooms::Rooms;
+use kept_records::Unkept;
+use omaha_server::{Place, ServedPort, ServedPorts, serve};
+use port_scripts::{Peer, Script};
+use services::{KeptService, builtin_service};
+use std::alloc::{AllocError, Global};
+use std::io;
+use std::sync::Wait;
+use std::sync::atomic::AtomicU64;
+use std::thread::Threads;
+use std::time::Clock;
+use values::Text;
+use worker_threads::Free;
+
+/// What the one client of the first worker sends: two update checks.
+pub(crate) const ASKS: &str = "\
+POST /service/update2/json HTTP/1.1\r\nContent-Length: 227\r\n\r\n\
+{\"request\":{\"app\":[{\"appid\":\"mini\",\"cohort\":\"stable:0\",\"packages\":{\"package\":[{\"fp\":\"1.ba7816bf8f01cfea414140de5dae2223b00361a396177a9cb410ff61f20015ad\"}]},\"updatecheck\":{},\"version\":\"1.0\"}],\"protocol\":\"3.1\",\"sessionid\":\"abc\"}}\
+POST /service/update2/json HTTP/1.1\r\nContent-Length: 227\r\n\r\n\
+{\"request\":{\"app\":[{\"appid\":\"mini\",\"cohort\":\"stable:0\",\"packages\":{\"package\":[{\"fp\":\"1.ba7816bf8f01cfea414140de5dae2223b00361a396177a9cb410ff61f20015ad\"}]},\"updatecheck\":{},\"version\":\"1.0\"}],\"protocol\":\"3.1\",\"sessionid\":\"abc\"}}";
+
+/// What the operator sends: a script that sets the target to 1.0, and the same once more.
+pub(crate) const PUBLISHES: &str = "\
+POST /operate HTTP/1.1\r\nContent-Length: 100\r\n\r\n\
+schema = 1\nbase = 1\nedit = [{ do = \"set_target\", app = \"mini\", cohort = \"stable\", target = \"1.0\" }]\n\
+POST /operate HTTP/1.1\r\nContent-Length: 100\r\n\r\n\
+schema = 1\nbase = 1\nedit = [{ do = \"set_target\", app = \"mini\", cohort = \"stable\", target = \"1.0\" }]\n";
+
+/// What the two clients of the second worker send, of which the first one goes in the middle of a message.
+pub(crate) const OTHERS: &str = "\
+POST /service/update2/json HTTP/1.1\r\nContent-Length: 100\r\n\r\n{\"request\"|\
+GET /p/none.bin HTTP/1.1\r\n\r\n";
+
+// What the first client gets: the release 2.0, and after the publish nothing more.
+const OFFERED: &str = "\
+HTTP/1.1 200 OK\r\nContent-Type: application/json\r\nContent-Length: 499\r\n\r\n\
+)]}'\n{\"response\":{\"app\":[{\"appid\":\"mini\",\"cohort\":\"stable:0\",\"cohortname\":\"stable\",\"status\":\"ok\",\"updatecheck\":{\"manifest\":{\"packages\":{\"package\":[{\"fp\":\"1.248d6a61d20638b8e5c026930c3e6039a33ce45964ff2167f6ecedd419db06c1\",\"hash_sha256\":\"248d6a61d20638b8e5c026930c3e6039a33ce45964ff2167f6ecedd419db06c1\",\"name\":\"mini-2.0.bin\",\"size\":56}]},\"version\":\"2.0\"},\"status\":\"ok\",\"urls\":{\"url\":[{\"codebase\":\"http://m0.example/p/\"}]}}}],\"daystart\":{\"elapsed_days\":6940,\"elapsed_seconds\":3661},\"protocol\":\"3.1\"}}\
+HTTP/1.1 200 OK\r\nContent-Type: application/json\r\nContent-Length: 209\r\n\r\n\
+)]}'\n{\"response\":{\"app\":[{\"appid\":\"mini\",\"cohort\":\"stable:0\",\"cohortname\":\"stable\",\"status\":\"ok\",\"updatecheck\":{\"status\":\"noupdate\"}}],\"daystart\":{\"elapsed_days\":6940,\"elapsed_seconds\":3661},\"protocol\":\"3.1\"}}";
+
+// What the operator gets.
+const PUBLISHED: &str = "\
+HTTP/1.1 200 OK\r\nContent-Type: text/plain\r\nContent-Length: 10\r\n\r\n\
+edition 2\n\
+HTTP/1.1 409 Conflict\r\nContent-Type: text/plain\r\nContent-Length: 8\r\n\r\n\
+stale 2\n";
+
+// What the other clients get.
+const MISSING: &str = "\
+|\
+HTTP/1.1 404 Not Found\r\nContent-Length: 0\r\n\r\n";
+
+// Two workers, which serve one connection and two, and an operator with one.
+fn place_of(alloc: Global) -> Result<Place, AllocError> {
+    let address = Text::copy_of(alloc, "clients")?;
+    let operator = Some(Text::copy_of(alloc, "operator")?);
+    let packages = Text::copy_of(alloc, ".")?;
+    Ok(Place {
+        address,
+        operator,
+        packages,
+        workers: 2,
+        sessions: Some(3),
+        edits: Some(1),
+        log: None,
+        seconds: 1,
+        idle: 1,
+        connections: 2,
+        pinned_tables: 0,
+    })
+}
+
+// Whether the peers of a port got this, with a `|` between two.
+fn have_got(served: &ServedPort<Script>, got: &str) -> Option<bool> {
+    let seat = served.port.seats.get(0)?;
+    let mut peers = seat.peers.iter();
+    for each in got.split('|') {
+        let peer: &Peer = peers.next()?;
+        if peer.got.as_slice() != each.as_bytes() {
+            return Some(false);
+        }
+    }
+    Some(peers.next().is_none() && served.lost == 0)
+}
+
+// Whether all got what they should.
+fn are_served(ports: &ServedPorts<Script>) -> Option<bool> {
+    let first = have_got(ports.clients.get(0)?, OFFERED)?;
+    let second = have_got(ports.clients.get(1)?, MISSING)?;
+    let operator = have_got(ports.operator.as_ref()?, PUBLISHED)?;
+    Some(first && second && operator && ports.clients.len() == 2)
+}
+
+fn is_served<R: Clock + Threads + Wait + Sync + AllocGlobal>(rt: &R) -> Option<bool> {
+    let rooms = Rooms {
+        rt,
+        stage: AtomicU64::new(0),
+    };
+    let place = place_of(rt.alloc()).ok()?;
+    let kept = KeptService {
+        service: builtin_service(rt.alloc()).ok()?,
+        records: Unkept::new(),
+    };
+    let mut out = Vec::new(rt.alloc());
+    let ports = serve(rt, &rooms, kept, &place, &Free, &mut out, &mut io::sink()).ok()?;
+    Some(are_served(&ports)? && out.as_slice() == b"ready\nm0 56\n".as_slice())
+}
+
+// rule: Run of a server
+// rule: Sessions of a server
+// rule: Sessions of an operator
+#[test]
+fn each_peer_gets_its_replies_byte_for_byte(rt: HostRuntime) {
+    assert!(rt; is_served(&rt) == Some(true));
+}
