@@ -4,12 +4,15 @@
     bench/http.py [--omaha PATH] [--seconds N] [--workers N ..] [--connections N ..] [--runs N] [--releases N ..]
                   [--publishes N] [--only PART ..]
 
-It needs `wrk`; nginx is left out if it is not installed. It prints four tables; `--only` names those to print.
+It needs `wrk`; nginx is left out if it is not installed. It prints five tables; `--only` names those to print.
 
 `files`: a profile of one app with a package of 1 KiB and one of 64 MiB is served, and how many update checks and
 downloads there were a second, over one connection that is kept open. nginx, with one worker, sends a fixed reply of
 the same length for the update checks, and the same files. `sha256` is how fast `sha256sum` reads the large package:
 omaha hashes what it sends. Last comes the server's peak memory.
+
+`downloads`: the same large package over 16 connections at once by 4 workers, in MB a second, and how fast four
+`sha256sum` at once read it.
 
 `workers`: update checks a second of that app with each number of workers, over as many connections, or over as many
 as `--connections` says for each number; `to 1` is by how many times they are more than those of the first number;
@@ -44,7 +47,7 @@ import time
 
 import generate
 
-PARTS = ("files", "workers", "publishes", "memory")
+PARTS = ("files", "downloads", "workers", "publishes", "memory")
 SIZES = {"small.bin": 1 << 10, "large.bin": 64 << 20}
 PATH = "/service/update2/json"
 TICKS = os.sysconf("SC_CLK_TCK")
@@ -227,7 +230,7 @@ def nginx(folder, workers, length):
 
 def run_wrk(port, path, seconds, connections=1, script=None):
     """Requests a second, how many there were, and the 99th percentile of their latency in microseconds."""
-    words = ["wrk", f"-t{min(connections, 2)}", f"-c{connections}", f"-d{seconds}s", "--latency"]
+    words = ["wrk", f"-t{min(connections, 2)}", f"-c{connections}", f"-d{seconds}s", "--latency", "--timeout", "60s"]
     words += ["-s", str(script)] if script else []
     ran = subprocess.run([*words, f"http://127.0.0.1:{port}{path}"], capture_output=True, text=True, check=True)
     if "Non-2xx" in ran.stdout or "Socket errors" in ran.stdout:
@@ -261,10 +264,27 @@ def print_files(program, folder, script, body, seconds):
     with nginx(folder, 1, length) as server:
         if server:
             measure_files("nginx", server, script, seconds)
-    start = time.perf_counter()
-    subprocess.run(["sha256sum", folder / "packages/large.bin"], check=True, stdout=subprocess.DEVNULL)
-    print(f"{'sha256':8}{SIZES['large.bin'] / 1e6 / (time.perf_counter() - start):48,.0f}")
+    print(f"{'sha256':8}{hash_rate(folder / 'packages/large.bin', 1):48,.0f}")
     print(f"peak memory of omaha: {peak:.1f} MiB\n", flush=True)
+
+
+def hash_rate(path, count):
+    """How many MB a second so many `sha256sum` at once read of a file."""
+    start = time.perf_counter()
+    hashing = [subprocess.Popen(["sha256sum", path], stdout=subprocess.DEVNULL) for _ in range(count)]
+    for process in hashing:
+        process.wait()
+    return count * SIZES["large.bin"] / 1e6 / (time.perf_counter() - start)
+
+
+def print_downloads(program, folder, given):
+    print(f"{'':8}workers  connections  64 MiB, MB/s     to")
+    hashed = max(hash_rate(folder / "packages/large.bin", 4) for _ in range(given.runs))
+    with omaha(program, folder, "profile.toml", 4) as server:
+        rate = max(run_wrk(server.port, "/p/large.bin", given.seconds, 16)[0] for _ in range(given.runs))
+    sent = rate * SIZES["large.bin"] / 1e6
+    print(f"{'omaha':8}{4:7}{16:13}{sent:14,.0f}{sent / hashed:7.2f}")
+    print(f"{'sha256':8}{4:7}{'':13}{hashed:14,.0f}\n", flush=True)
 
 
 def measure_checks(server, script, seconds, connections):
@@ -403,6 +423,8 @@ def main():
         script = write_lua(folder, body)
         if "files" in given.only:
             print_files(given.omaha, folder, script, body, given.seconds)
+        if "downloads" in given.only:
+            print_downloads(given.omaha, folder, given)
         if "workers" in given.only:
             print_workers(given.omaha, folder, script, body, given)
         if "publishes" in given.only:
