@@ -166,12 +166,15 @@ pub(crate) fn open(alloc: Global, disk: Disk, found: &mut Found) -> Option<Fragi
     }
 }
 
+// Whether the statements run.
+fn runs(conn: &mut Connection<FileStore<Fused>>, sql: &str) -> bool {
+    conn.execute_batch(sql).is_ok()
+}
+
 /// Returns the files of a database that these two statements make; `None` if one fails.
 pub(crate) fn made_by(alloc: Global, table: &str, rest: &str) -> Option<Disk> {
     let mut conn = connect(alloc, Disk::new(alloc, u64::MAX, u64::MAX))?;
-    let runs = conn.execute_batch(table).is_ok() && conn.execute_batch(rest).is_ok();
-    match conn.close_files() {
-        Ok(files) => runs.then_some(Disk { files }),
-        Err(_) => None,
-    }
+    let runs = runs(&mut conn, table) && runs(&mut conn, rest);
+    let files = conn.close_files().ok()?;
+    runs.then_some(Disk { files })
 }
