@@ -1,6 +1,6 @@
 // What there is to say of the lines of a server's operator and of reports, by their first words.
 
-pub(crate) const LINES: [(&str, &str); 15] = [
+pub(crate) const LINES: [(&str, &str); 17] = [
     (
         "edition",
         "edition N
@@ -125,6 +125,24 @@ Found in: a package's line of `check --packages`, and a file of `describe`.
 The file can't be opened, or reading it failed.
 Usual cause: A missing permission.
 Remedy: Try `head FILE` as the user that the server has.
+",
+    ),
+    (
+        "script",
+        "script CODE
+Found in: the output of `review --script`.
+The script is invalid, as the code says; nothing is reviewed.
+Usual cause: See the code: `omaha explain CODE`.
+Remedy: Correct the script, and review it again.
+",
+    ),
+    (
+        "stuck",
+        "stuck N
+Found in: the output of `review --strict`.
+N releases are stuck, or newly stuck by the script: no packages lead their clients to the target.
+Usual cause: A withdrawn target, a stone that can't be reached, a floor, or a target below a release.
+Remedy: `omaha review F` prints each of them with its reason, and `omaha review --help` explains the reasons.
 ",
     ),
     (

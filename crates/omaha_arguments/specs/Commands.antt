@@ -10,6 +10,7 @@ use Rattle.omaha_arguments.specs.HistoryArguments.{asked_in, faults_of_history, 
 use Rattle.omaha_arguments.specs.OperatorArguments.{dump_app, dump_in, publication_in, publish_app, raise_app, raise_in}
 use Rattle.omaha_arguments.specs.Options.{number_in, option_named, strings_in, workers_in}
 use Rattle.omaha_arguments.specs.ReportArguments.{certify_app, check_app, comparison_in, describe_app, explain_app, faults_of_check, faults_of_report, report_in, verify_app}
+use Rattle.omaha_arguments.specs.ReviewArguments.{review_app, review_in}
 use Rattle.omaha_arguments.specs.ServeArguments.{faults_of_serve, serve_app, serve_in}
 use Rattle.omaha_arguments.specs.WalkArguments.{faults_of_walk, walk_app, walk_in}
 use Rattle.omaha_arguments.specs.declared.command.Command.{Command}
@@ -38,10 +39,12 @@ omaha_app =
     (with_subcommand
     (with_subcommand
     (with_subcommand
+    (with_subcommand
     (with_subcommand (with_subcommand (with_subcommand plain_app serve_app.top) publish_app.top) raise_app.top)
     dump_app.top)
     history_app.top)
     check_app.top)
+    review_app.top)
     walk_app.top)
     describe_app.top)
     certify_app.top)
@@ -89,7 +92,8 @@ command_in name options =
     else (if bytes_eq name (codes "walk") then command.Walk (walk_in options)
     else (if bytes_eq name (codes "describe") then command.Describe (strings_in (codes "FILE") options)
     else (if bytes_eq name (codes "check") then check_in options
-    else command.Report (report_in name 1 options))))))))))
+    else (if bytes_eq name (codes "review") then command.Review (review_in options)
+    else command.Report (report_in name 1 options)))))))))))
 
 -- what is wrong with the options of the command of a name
 abbrev pub faults_in : List ℕ → List Row → Kinds
@@ -103,7 +107,8 @@ faults_in name options =
     else (if bytes_eq name (codes "explain") then []
     else (if bytes_eq name (codes "walk") then faults_of_walk options
     else (if bytes_eq name (codes "describe") then []
-    else (if bytes_eq name (codes "check") then faults_of_check options else faults_of_report name options)))))))))
+    else (if bytes_eq name (codes "check") then faults_of_check options
+    else (if bytes_eq name (codes "review") then [] else faults_of_report name options))))))))))
 
 -- rule: Arguments of the command line
 -- what the arguments ask for

@@ -4,5 +4,6 @@ pub mod HistoryArguments
 pub mod OperatorArguments
 pub mod Options
 pub mod ReportArguments
+pub mod ReviewArguments
 pub mod ServeArguments
 pub mod WalkArguments

@@ -53,6 +53,7 @@ abbrev pub IsAskable : Command → Type 0
 IsAskable (command.Once once) = ⊤
 IsAskable (command.Report report) = ⊤
 IsAskable (command.Compare comparison) = ⊤
+IsAskable (command.Review review) = ⊤
 IsAskable (command.Describe paths) = ⊤
 IsAskable (command.Explain code) = ⊤
 IsAskable (command.Serve serve) = ⊤

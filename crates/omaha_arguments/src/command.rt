@@ -12,6 +12,8 @@ pub enum Command {
     Report(Report),
     /// To compare a profile's packages with their files.
     Compare(Comparison),
+    /// To review a profile, or what a script changes of it.
+    Review(Review),
     /// To describe the files of these paths.
     Describe(Items<Text>),
     /// To explain a code that the program prints, or to list them all.
@@ -121,6 +123,19 @@ pub struct Comparison {
     pub packages: Text,
     /// How many threads make the tables: 1 to 8.
     pub workers: usize,
+}
+
+/// What the command `review` is asked to do.
+#[derive(Drop)]
+pub struct Review {
+    /// The path of the profile.
+    pub profile: Text,
+    /// The path of the script whose changes are reviewed, or `None` to review the profile.
+    pub script: Option<Text>,
+    /// Whether each stuck release is printed, not just the first 40 of a track.
+    pub all: bool,
+    /// Whether the command fails if a release is stuck or, with a script, newly stuck.
+    pub strict: bool,
 }
 
 /// What the command `walk` is asked to do. What isn't given is empty.

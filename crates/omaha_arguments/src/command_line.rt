@@ -20,6 +20,7 @@ use crate::report_arguments::{
     certify_command, check_command, describe_command, explain_command, read_comparison,
     read_report, read_workers, verify_command,
 };
+use crate::review_arguments::{read_review, review_command};
 use crate::serve_arguments::{read_serve, serve_command};
 use crate::walk_arguments::{read_walk, walk_command};
 use clap::{ArgMatches, Error};
@@ -67,6 +68,7 @@ fn omaha_command<'a>(alloc: Global) -> Making<'a>
     let program = with_command(program, dump_command(alloc));
     let program = with_command(program, history_command(alloc));
     let program = with_command(program, check_command(alloc));
+    let program = with_command(program, review_command(alloc));
     let program = with_command(program, walk_command(alloc));
     let program = with_command(program, describe_command(alloc));
     let program = with_command(program, certify_command(alloc));
@@ -123,6 +125,9 @@ fn read_command(alloc: Global, name: &str, matches: &ArgMatches<'_>) -> Result<C
     }
     if name == "check" {
         return read_check(alloc, matches);
+    }
+    if name == "review" {
+        return Ok(Command::Review(read_review(alloc, matches)?));
     }
     Ok(Command::Report(read_report(alloc, name, 1, matches)?))
 }

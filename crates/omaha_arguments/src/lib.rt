@@ -3,8 +3,8 @@
 //! `read_arguments` reads them with `clap` and gives a `Command`, or why there is none: the help or the
 //! version was asked for, or they are invalid. What they mean is said by `specs/Commands.antt` and, for the
 //! commands that report on a profile, `specs/ReportArguments.antt`; for `serve`, `specs/ServeArguments.antt`; for
-//! `publish`, `raise` and `dump`, `specs/OperatorArguments.antt`; for `history`, `specs/HistoryArguments.antt`; for `walk`, `specs/WalkArguments.antt`. How they are
-//! rejected is said by `specs/Errors.antt`.
+//! `publish`, `raise` and `dump`, `specs/OperatorArguments.antt`; for `history`, `specs/HistoryArguments.antt`; for `review`, `specs/ReviewArguments.antt`; for `walk`,
+//! `specs/WalkArguments.antt`. How they are rejected is said by `specs/Errors.antt`.
 //!
 //! It opens no file and carries nothing out.
 
@@ -18,12 +18,13 @@ mod once_arguments;
 mod operator_arguments;
 mod options;
 mod report_arguments;
+mod review_arguments;
 mod serve_arguments;
 mod walk_arguments;
 
 pub use crate::command::{
     Command, Comparison, HistoryAction, HistoryAsked, Once, Publication, Question, Raise, Report,
-    Serve, Walk,
+    Review, Serve, Walk,
 };
 pub use crate::command_line::read_arguments;
 pub use crate::error::ArgumentError;

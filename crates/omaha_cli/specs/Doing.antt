@@ -8,6 +8,7 @@ use Rattle.omaha_histories.specs.Histories.{PrintsHistory}
 use Rattle.omaha_once.specs.Once.{Responds}
 use Rattle.omaha_commands.specs.Operating.{Dumps, Publishes, Raises}
 use Rattle.omaha_commands.specs.Reports.{Reports}
+use Rattle.omaha_commands.specs.Reviewing.{Reviews}
 use Rattle.omaha_cli.specs.Serving.{ServesOn}
 use Rattle.omaha_commands.specs.Streams.{Streams}
 use Rattle.omaha_commands.specs.Walking.{WalksOn}
@@ -16,11 +17,12 @@ use Rattle.omaha_arguments.specs.declared.command.Command.{Command}
 use Rattle.omaha_arguments.specs.declared.command.Command.TheVariants as command
 use Rattle.omaha_commands.specs.declared.failure.Failure.{Failure}
 
--- a reply to a request, a report on a profile or on its packages, descriptions of files, the explanation of a code, what
+-- a reply to a request, a report on a profile or on its packages, a review, descriptions of files, the explanation of a code, what
 -- a history has, a server, a walk, or a call of an operator's listener
 abbrev pub Does : World → Command → Streams → Streams → Result (Unit {0}) Failure → Type 0
 Does world (command.Once once) old new result = Responds world.files once old new result
 Does world (command.Report report) old new result = Reports world.files report old new result
+Does world (command.Review asked) old new result = Reviews world.files asked old new result
 Does world (command.Compare asked) old new result = Compares world.files world.storage asked old new result
 Does world (command.Describe paths) old new result = PrintsDescriptions world.storage paths old new result
 Does world (command.Explain code) old new result = Explains code old new result

@@ -11,7 +11,7 @@ use kept_records::Stores;
 use omaha_arguments::{ArgumentError, Command, read_arguments};
 use omaha_commands::{
     Failure, compare_on, describe_files, dump_on, explain_code, publish_on, raise_on, report_on,
-    walk_on,
+    review_on, walk_on,
 };
 use omaha_histories::print_history;
 use omaha_once::respond;
@@ -126,6 +126,7 @@ fn obey<
         Command::Once(once) => respond(rt, once, reader, writer),
         Command::Report(asked) => report_on(rt, asked, writer),
         Command::Compare(asked) => compare_on(rt, asked, writer),
+        Command::Review(asked) => review_on(rt, asked, writer),
         Command::Describe(paths) => describe_files(rt.alloc(), rt, paths.as_slice(), writer),
         Command::Explain(code) => explain_code(rt.alloc(), code, writer),
         Command::Serve(asked) => serve_profile(rt, system, stores, asked, writer, errors),
@@ -199,7 +200,7 @@ fn report<F: WriteWhole>(alloc: Global, ending: &Ending, errors: &mut F)
 /// those of `system`, and histories those of `stores`.
 ///
 /// Without arguments, or with `once` and its options, it does what `respond` does; with `check`, `certify` or
-/// `verify` what `report_on` does; with `check F --packages DIR` it compares packages with files, with `describe`
+/// `verify` what `report_on` does, with `review` what `review_on` does; with `check F --packages DIR` it compares packages with files, with `describe`
 /// it describes files; with `history` it reads a history; with `serve` it serves until its last session; with `walk` it walks along a server's
 /// offers; with `publish`, `raise` and `dump` it calls an operator's listener. It returns 0 if the command did that, or
 /// the help or the version was printed; 1 if the command failed, after one line on `errors`, or none if that listener

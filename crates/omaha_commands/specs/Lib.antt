@@ -7,5 +7,6 @@ pub mod Operating
 pub mod Profiles
 pub mod Rejections
 pub mod Reports
+pub mod Reviewing
 pub mod Streams
 pub mod Walking

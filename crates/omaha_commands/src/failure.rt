@@ -30,6 +30,14 @@ pub enum Failure {
     Profile(ProfileFault),
     /// An edit of the profile was rejected.
     Edit(Refused),
+    /// The script of a review is invalid.
+    Script(ProfileFault),
+    /// The script of a review is written for another edition than this.
+    Stale(u64),
+    /// There is no room for the edition of a script.
+    HistoryFull,
+    /// A strict review found so many releases that are stuck, or newly stuck.
+    Stuck(u128),
     /// The input could not be read to its end.
     Read,
     /// The input has over 262144 bytes; it prints as `Read` does.
@@ -81,6 +89,10 @@ impl fmt::Display for Failure {
             Failure::Packages(count) => write!(f, "packages {count}"),
             Failure::Profile(fault) => write!(f, "{fault}"),
             Failure::Edit(refused) => write!(f, "{refused}"),
+            Failure::Script(fault) => write!(f, "script {fault}"),
+            Failure::Stale(number) => write!(f, "stale {number}"),
+            Failure::HistoryFull => write!(f, "history full"),
+            Failure::Stuck(count) => write!(f, "stuck {count}"),
             Failure::Read => write!(f, "read"),
             Failure::TooLong => write!(f, "read"),
             Failure::Request(fault) => write!(f, "{fault}"),

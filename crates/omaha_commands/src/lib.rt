@@ -1,7 +1,7 @@
 //! The commands of `omaha` that serve nothing.
 //!
 //! `read_service` and `open_service` make a service of a profile: read `specs/Profiles.antt`. `report_on` does `check`,
-//! `certify` and `verify`: read `specs/Reports.antt`; `compare_on` is `check` with a folder of packages, and
+//! `certify` and `verify`: read `specs/Reports.antt`; `review_on` is `review`: read `specs/Reviewing.antt`; `compare_on` is `check` with a folder of packages, and
 //! `describe_files` describes files, by `package_files`: read `specs/Comparing.antt` and `specs/Describing.antt`.
 //! `explain_code` prints what `explanations` says of a code. `walk_on` is walked by `update_client`: read
 //! `specs/Walking.antt`; `publish_on`, `raise_on` and `dump_on` post by it: read `specs/Operating.antt`. `print` writes
@@ -20,6 +20,7 @@ mod operating;
 mod printing;
 mod profile;
 mod reporting;
+mod reviewing;
 mod walking;
 
 pub use crate::comparing::compare_on;
@@ -31,4 +32,5 @@ pub use crate::operating::{dump_on, publish_on, raise_on};
 pub use crate::printing::print;
 pub use crate::profile::{open_service, read_named, read_service, service_in};
 pub use crate::reporting::report_on;
+pub use crate::reviewing::review_on;
 pub use crate::walking::walk_on;

@@ -1,11 +1,13 @@
 //! Worked rows of tables of prices: made and checked by several threads, and kept by editions; and of plans of clients
-//! with pins.
+//! with pins; and reviews of small catalogues.
 //!
-//! It has tests alone, so that `par_tables`, `reports`, `editions` and `replies` are proved once. Catalogues are made
+//! It has tests alone, so that `par_tables`, `reports`, `reviews`, `editions` and `replies` are proved once. Catalogues are made
 //! of scripts.
 
 #![tactic(auto)]
 
+#[cfg(test)]
+mod changed;
 #[cfg(test)]
 mod kept;
 #[cfg(test)]
@@ -14,3 +16,5 @@ mod out_of_memory_tests;
 mod parallel;
 #[cfg(test)]
 mod plans;
+#[cfg(test)]
+mod reviewed;

@@ -4,6 +4,7 @@ use Rattle.omaha_arguments.proofs.command_line.omaha_command.Goals as goal
 pub returns : goal.returns
 returns c =
     c.with_command.ensures _ _ refl
+    (c.with_command-program-12.ensures _ _ refl
     (c.with_command-program-11.ensures _ _ refl
     (c.with_command-program-10.ensures _ _ refl
     (c.with_command-program-9.ensures _ _ refl
@@ -20,6 +21,7 @@ returns c =
     c.dump_command.ensures)
     c.history_command.ensures)
     c.check_command.ensures)
+    c.review_command.ensures)
     c.walk_command.ensures)
     c.describe_command.ensures)
     c.certify_command.ensures)

@@ -1,0 +1,83 @@
+// The arguments of the command `review`, as `clap` reads them.
+
+ghost use Rattle.std.specs.Prelude.{◌≡◌, IfOk};
+ghost use Rattle.clap.specs.Words.{found_of, rows_of};
+ghost use Rattle.omaha_arguments.specs.Options.{IsMade};
+ghost use Rattle.omaha_arguments.specs.ReviewArguments.{review_app, review_in};
+
+use crate::command::Review;
+use crate::options::{
+    Making, flag_in, optional_string, string_in, titled, with_flag, with_option, with_wanted,
+};
+use clap::ArgMatches;
+use std::alloc::{AllocError, Global};
+use values::Text;
+
+const REVIEW: &str = "Prints which clients of a profile are stuck and why, or what a script changes.";
+
+const SCRIPT: &str = "The script whose changes are printed [default: the profile is reviewed]";
+
+const ALL: &str = "Print all stuck releases [default: at most 40 of a track]";
+
+const STRICT: &str = "Fail if a release is stuck; with --script, if one is newly stuck";
+
+const AFTER_REVIEW: &str =
+    "A release is stuck if no packages lead its clients to the target. Each line names a track by the
+app, the cohort, the lane and whether clients allow a downgrade:
+  track   mini stable held no: target 3.0, 4 releases, 1 stuck
+  stuck   mini stable held no: 4.0, above the target without a downgrade
+  largest mini stable held no: 500 bytes from 1.0
+  new     mini stable held no: 1400 bytes
+  4 tracks, 16 releases, 2 stuck
+`largest` is the release whose clients download most, `new` is for clients without a release.
+
+The reason is the first rule without which the release wouldn't be stuck:
+  the target is withdrawn              put another target, or take the withdrawal back
+  the target is closed to the cohort   the target's audience leaves the cohort out
+  a stone can't be reached             a stone is withdrawn, closed to the cohort or below its floor
+  below a floor                        nothing leads up to the floor of a release
+  above the target without a downgrade the cohort or the clients allow no downgrade
+  several rules                        no rule alone is the reason
+
+With --script it prints only what the script changes; its base is 1:
+  stuck   mini stable target no: 1.0, the target is withdrawn     newly stuck; these come first
+  larger  mini stable target no: 1.0, 750 bytes to 800 bytes      more bytes up to the target
+  smaller mini stable target no: 1.0, 750 bytes to 350 bytes      fewer bytes
+  other   mini stable target no: 2.0, 450 bytes to 450 bytes      another first package
+  freed   mini stable held yes: 4.0, stuck to 1400 bytes          it was stuck
+  4 tracks, 16 releases, 3 changed, 1 newly stuck
+
+With --strict it prints the same, and then `omaha: stuck N` on standard error if N releases are
+stuck or, with --script, newly stuck.
+
+Exit status: 0 if the review was printed, 1 if --strict found a stuck release or the command failed,
+2 if the arguments are invalid.
+
+Examples:
+  omaha review profile.toml
+  omaha review profile.toml --script stage.toml --strict";
+
+pub(crate) fn review_command<'a>(alloc: Global) -> Making<'a>
+    ensures { IsMade review_app result }
+{
+    let command = titled(alloc, "review", REVIEW, AFTER_REVIEW);
+    let command = with_wanted(alloc, command, "F", "The profile");
+    let command = with_option(alloc, command, "script", "S", SCRIPT);
+    let command = with_flag(alloc, command, "all", ALL);
+    with_flag(alloc, command, "strict", STRICT)
+}
+
+// rule: Arguments of a review
+/// Reads the arguments of `review`.
+pub(crate) fn read_review(alloc: Global, matches: &ArgMatches<'_>) -> Result<Review, AllocError>
+    ensures { IfOk result (λ review. review ≡ review_in (rows_of (found_of matches.now))) }
+{
+    let profile = Text::copy_of(alloc, string_in(matches, "F"))?;
+    let script = optional_string(alloc, matches, "script")?;
+    Ok(Review {
+        profile,
+        script,
+        all: flag_in(matches, "all"),
+        strict: flag_in(matches, "strict"),
+    })
+}

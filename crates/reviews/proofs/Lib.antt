@@ -1,0 +1,9 @@
+mod ChainLemmas
+mod ChangeLemmas
+mod LargestLemmas
+mod LiftLemmas
+mod ListLemmas
+mod PinLemmas
+mod ReasonLemmas
+mod ReviewLemmas
+mod RouteLemmas

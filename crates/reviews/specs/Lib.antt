@@ -1,0 +1,10 @@
+pub mod ChangeLines
+pub mod Changes
+pub mod Largest
+pub mod Lifts
+pub mod Lines
+pub mod Reasons
+pub mod ReviewLines
+pub mod Reviews
+pub mod Routes
+pub mod Tracks

@@ -1,0 +1,56 @@
+-- A track as it would be without one of the rules that may leave its clients stuck; this project's profile.
+use Rattle.std.specs.Prelude.{ℕ, ◌&&◌, not, Bool, true, false, if◌then◌else◌, List, [], map, None}
+use Rattle.std.specs.Option.{option_map_or}
+use Rattle.version.specs.Versions.{zero_version}
+use Rattle.records.specs.Lookups.{is_release}
+use Rattle.records.specs.declared.content.App.{App}
+use Rattle.records.specs.declared.content.Cohort.{Cohort}
+use Rattle.records.specs.declared.content.Release.{Release}
+use Rattle.payload_graph.specs.Chains.{target_index}
+use Rattle.payload_graph.specs.Net.{version_of_index}
+use Rattle.payload_graph.specs.declared.payload.TrackKey.{TrackKey}
+use Rattle.reviews.specs.declared.cause.Cause.{Cause}
+use Rattle.reviews.specs.declared.cause.Cause.TheVariants.{Withdrawn, Audience, Stone, Floor, Downgrade}
+
+-- the version of a track's target; none if it has no target
+abbrev pub target_version : App → TrackKey → List ℕ
+target_version app key = option_map_or (version_of_index app.releases) (target_index app key) []
+
+-- a release without a rule: the target isn't withdrawn; the target is open to all; it is no stone; it has no floor
+abbrev pub lifted_release : Cause → List ℕ → Release → Release
+lifted_release Withdrawn target release =
+    record release { withdrawn = release.withdrawn && not (is_release target release) }
+lifted_release Audience target release =
+    record release { audience = if is_release target release then None else release.audience }
+lifted_release Stone target release = record release { stone = false }
+lifted_release Floor target release = record release { floor = zero_version }
+lifted_release Downgrade target release = release
+
+-- a cohort without a rule: it allows downgrades
+abbrev pub lifted_cohort : Cause → Cohort → Cohort
+lifted_cohort Downgrade cohort = record cohort { rollback = true }
+lifted_cohort Withdrawn cohort = cohort
+lifted_cohort Audience cohort = cohort
+lifted_cohort Stone cohort = cohort
+lifted_cohort Floor cohort = cohort
+
+-- a track's clients without a rule: they allow downgrades
+abbrev pub lifted_key : Cause → TrackKey → TrackKey
+lifted_key Downgrade key = record key { rollback = true }
+lifted_key Withdrawn key = key
+lifted_key Audience key = key
+lifted_key Stone key = key
+lifted_key Floor key = key
+
+-- the releases of an app without a rule, by the version of a track's target
+abbrev pub lifted_releases : Cause → List ℕ → List Release → List Release
+lifted_releases cause target releases = map (lifted_release cause target) releases
+
+-- rule: Lifted rule
+-- an app without one of the rules of a track
+abbrev pub lifted : Cause → App → TrackKey → App
+lifted cause app key =
+    record app {
+      cohorts = map (lifted_cohort cause) app.cohorts;
+      releases = lifted_releases cause (target_version app key) app.releases;
+    }

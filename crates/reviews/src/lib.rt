@@ -1,0 +1,35 @@
+//! Reviews: which clients of a catalogue are stuck and why, and what a change makes of them.
+//!
+//! A `TrackReview` says of a track with a target where the clients at each release are, its `Outcome`: at the target,
+//! before a chain of the least sum, or stuck for a `Reason`. `review_catalogue` makes one for each track. A reason
+//! is the first of the rules, the `Cause`s, without which the release would have a chain. `changes` compares the reviews
+//! of two catalogues. `write_review` and `write_changes` write them as lines. Read `specs/Reviews.antt` for what a review
+//! says, `specs/Reasons.antt` for reasons, `specs/Lifts.antt` for tracks without a rule and `specs/Changes.antt` for
+//! changes; `specs/Routes.antt` has the ways by which a track without a rule is searched, `specs/ReviewLines.antt` and
+//! `specs/ChangeLines.antt` the lines.
+//!
+//! It reads no file, prints nothing, and decides no offer.
+
+#![tactic(auto)]
+
+mod cause;
+mod change;
+mod change_lines;
+mod largest;
+mod lifting;
+mod line;
+mod reasons;
+mod review;
+mod review_lines;
+mod roads;
+mod outcome;
+mod stuck;
+
+pub use crate::cause::{Cause, Reason};
+pub use crate::change::{Change, Clients, Reviewed, changes};
+pub use crate::change_lines::{newly_stuck_total, write_changes};
+pub use crate::largest::Largest;
+pub use crate::review::{TrackReview, review_catalogue};
+pub use crate::review_lines::write_review;
+pub use crate::outcome::Outcome;
+pub use crate::stuck::stuck_total;
