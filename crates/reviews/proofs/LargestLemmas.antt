@@ -1,5 +1,5 @@
 -- The largest sum, beside that of one release more.
-use Rattle.std.proofs.Common.{◌≡◌, ℕ, ◌+◌, ◌<◌, ◌≤◌, inl, inr, true, false, List, leb, Option, None, Some, sym, ap, ◌∙◌, subst, arith}
+use Rattle.std.proofs.Common.{◌≡◌, ℕ, ◌+◌, ◌<◌, ◌≤◌, inl, inr, List, leb, Option, None, Some, sym, ap, ◌∙◌, arith}
 use Rattle.std.proofs.lemmas.Bool.{cases_eq, cond_both, leb-false, leb-true}
 use Rattle.reviews.specs.Largest.{IsLargestBefore, IsLargestOf, larger_of, sum_at}
 use Rattle.reviews.specs.declared.largest.Largest.{Largest}

@@ -1,5 +1,5 @@
 -- A track without one of its rules: its releases are those of before by version, and its target is the same.
-use Rattle.std.proofs.Common.{◌≡◌, ℕ, ◌+◌, ◌<◌, ◌&&◌, not, Bool, true, false, cond, List, [], ◌∷◌, get_or, length, ltb, map, Option, None, Some, refl, sym, ap, ◌∙◌, subst, arith}
+use Rattle.std.proofs.Common.{◌≡◌, ℕ, ◌+◌, ◌<◌, ◌&&◌, not, Bool, cond, List, [], ◌∷◌, get_or, length, ltb, map, Option, None, Some, refl, sym, ap, ◌∙◌, subst, arith}
 use Rattle.std.specs.List.{enumerate_from, list_all, position, position_or_len, prefix_len, slice_get}
 use Rattle.std.specs.Option.{option_and_then, option_map, option_map_or}
 use Rattle.std.proofs.lemmas.List.{length-map}
@@ -15,14 +15,13 @@ use Rattle.records.specs.Validity.{is_release_below}
 use Rattle.records.specs.declared.content.App.{App}
 use Rattle.records.specs.declared.content.Cohort.{Cohort}
 use Rattle.records.specs.declared.content.Release.{Release}
-use Rattle.cohorts.specs.Offers.{is_offered, pinned_target, target_of, track_target}
+use Rattle.cohorts.specs.Offers.{is_offered, target_of, track_target}
 use Rattle.cohorts.specs.declared.pin.Pin.{Pin}
 use Rattle.cohorts.specs.declared.pin.Pin.TheVariants as pin
 use Rattle.cohorts.specs.declared.track.Lane.{Lane}
 use Rattle.cohorts.specs.declared.track.Lane.TheVariants.{Target, Held}
 use Rattle.payload_graph.specs.Chains.{cohort_target, target_index}
 use Rattle.payload_graph.specs.Net.{door_of, doors_of, version_of_index}
-use Rattle.payload_graph.specs.declared.door.Door.{Door}
 use Rattle.payload_graph.specs.declared.payload.TrackKey.{TrackKey}
 use Rattle.payload_graph.specs.Laws.{IsTrack}
 use Rattle.reviews.proofs.ChainLemmas.{numbered_door}

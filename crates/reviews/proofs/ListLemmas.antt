@@ -1,5 +1,5 @@
 -- Tests of lists that were filtered or mapped.
-use Rattle.std.proofs.Common.{◌≡◌, ℕ, ◌+◌, ◌&&◌, ◌||◌, Bool, true, false, cond, List, [], ◌∷◌, map, refl, sym, ap, ◌∙◌, subst}
+use Rattle.std.proofs.Common.{◌≡◌, ℕ, ◌+◌, ◌&&◌, ◌||◌, Bool, true, false, cond, List, [], ◌∷◌, map, refl, ap}
 use Rattle.std.specs.List.{enumerate_from, filter, list_any}
 
 -- some item of a list that was filtered and then mapped passes a test

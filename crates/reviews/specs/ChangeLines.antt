@@ -4,7 +4,7 @@ use Rattle.std.specs.List.{count_by, flat_map}
 use Rattle.std.specs.Option.{option_map_or}
 use Rattle.records.specs.declared.content.App.{App}
 use Rattle.reviews.specs.Lines.{line_string, spelled_at, stuck_release, stuck_word, track_string}
-use Rattle.reviews.specs.ReviewLines.{is_stuck, release_total}
+use Rattle.reviews.specs.ReviewLines.{is_stuck, totals_string}
 use Rattle.reviews.specs.declared.change.Change.{Change}
 use Rattle.reviews.specs.declared.review.TrackReview.{TrackReview}
 use Rattle.reviews.specs.declared.outcome.Outcome.{Outcome}
@@ -78,8 +78,8 @@ offer_lines apps changes = flat_map (line_by offer_line apps) changes
 -- newly stuck
 abbrev pub change_counts : List TrackReview → List Change → List ℕ
 change_counts reviews changes =
-    decimal (length reviews) ++ (codes " tracks, " ++ (decimal (release_total reviews) ++ (codes " releases, "
-    ++ (decimal (length changes) ++ (codes " changed, " ++ (decimal (newly_stuck_total changes) ++ codes " newly stuck\n"))))))
+    totals_string reviews ++ (codes ", " ++ (decimal (length changes) ++ (codes " changed, "
+    ++ (decimal (newly_stuck_total changes) ++ codes " newly stuck\n"))))
 
 -- rule: Printed change
 -- first the newly stuck releases, then the other changed ones, in the order of changes, and the line of counts; by the

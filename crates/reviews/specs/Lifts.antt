@@ -1,5 +1,5 @@
 -- A track as it would be without one of the rules that may leave its clients stuck; this project's profile.
-use Rattle.std.specs.Prelude.{ℕ, ◌&&◌, not, Bool, true, false, if◌then◌else◌, List, [], map, None}
+use Rattle.std.specs.Prelude.{ℕ, ◌&&◌, not, true, false, if◌then◌else◌, List, [], map, None}
 use Rattle.std.specs.Option.{option_map_or}
 use Rattle.version.specs.Versions.{zero_version}
 use Rattle.records.specs.Lookups.{is_release}

@@ -39,6 +39,11 @@ clients_on key = record { app = key.app; cohort = key.cohort; lane = key.lane; r
 abbrev pub release_total : List TrackReview → ℕ
 release_total reviews = sum_by (λ (review : TrackReview). length review.outcomes.items) reviews
 
+-- how many tracks there are, and how many releases they have
+abbrev pub totals_string : List TrackReview → List ℕ
+totals_string reviews =
+    codes "total   " ++ (decimal (length reviews) ++ (codes " tracks, " ++ (decimal (release_total reviews) ++ codes " releases")))
+
 -- rule: Number of stuck releases
 -- how many releases are stuck, one for each track on which it is stuck
 abbrev pub stuck_total : List TrackReview → ℕ
@@ -66,7 +71,7 @@ stuck_part app track limit stuck = stuck_lines app track (take limit stuck) ++ m
 -- the largest of the least sums of a track's releases
 abbrev pub largest_string : App → Option Largest → List ℕ
 largest_string app None = codes "none"
-largest_string app (Some best) = decimal best.sum ++ (codes " bytes from " ++ spelled_at app best.from)
+largest_string app (Some best) = spelled_at app best.from ++ (codes ", " ++ (decimal best.sum ++ codes " bytes"))
 
 -- what clients outside of all releases download, from version 0
 abbrev pub newcomers_string : Quote → List ℕ
@@ -96,8 +101,7 @@ all_lines apps limit reviews = flat_map (track_lines apps limit) reviews
 -- how many tracks there are, how many releases they have, and how many of these are stuck
 abbrev pub review_counts : List TrackReview → List ℕ
 review_counts reviews =
-    decimal (length reviews) ++ (codes " tracks, " ++ (decimal (release_total reviews) ++ (codes " releases, "
-    ++ (decimal (stuck_total reviews) ++ codes " stuck\n"))))
+    totals_string reviews ++ (codes ", " ++ (decimal (stuck_total reviews) ++ codes " stuck\n"))
 
 -- rule: Printed review
 -- the lines of each track, in their order, with at most so many stuck releases each, and the line of counts

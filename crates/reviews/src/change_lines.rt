@@ -8,7 +8,7 @@ use crate::change::{Change, Reviewed};
 use crate::line::{find_app, push_line, spelled_at, stuck_release, track_string};
 use crate::review::TrackReview;
 use crate::outcome::Outcome;
-use crate::stuck::{is_stuck, release_total};
+use crate::stuck::{is_stuck, totals_string};
 use catalogue::{App, Catalogue};
 use std::alloc::{AllocError, Global};
 
@@ -179,11 +179,11 @@ fn change_counts(
 ) -> Result<String, AllocError>
     ensures { IfOk result (λ counts. string_bytes counts ≡ change_counts reviews.now changes.now) }
 {
-    let tracks = reviews.len();
-    let releases = release_total(reviews);
+    let totals = totals_string(alloc, reviews)?;
+    let named = totals.as_str();
     let changed = changes.len();
     let stuck = newly_stuck_total(changes);
-    format!(in alloc; "{tracks} tracks, {releases} releases, {changed} changed, {stuck} newly stuck\n")
+    format!(in alloc; "{named}, {changed} changed, {stuck} newly stuck\n")
 }
 
 // rule: Printed change

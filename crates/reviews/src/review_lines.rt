@@ -7,7 +7,7 @@ use crate::change::Clients;
 use crate::largest::Largest;
 use crate::line::{find_app, push_line, spelled_at, stuck_release, track_string};
 use crate::review::TrackReview;
-use crate::stuck::{StuckRelease, count_stuck, first_of, release_total, stuck_of, stuck_total};
+use crate::stuck::{StuckRelease, count_stuck, first_of, stuck_of, stuck_total, totals_string};
 use catalogue::{App, Catalogue};
 use payload_graph::TrackKey;
 use quotes::Quote;
@@ -88,7 +88,7 @@ fn largest_string(
         Some(best) => {
             let sum = best.sum;
             let from = spelled_at(app, best.from);
-            format!(in alloc; "{sum} bytes from {from}")
+            format!(in alloc; "{from}, {sum} bytes")
         }
     }
 }
@@ -145,10 +145,10 @@ fn push_track(
 fn review_counts(alloc: Global, reviews: &[TrackReview]) -> Result<String, AllocError>
     ensures { IfOk result (λ counts. string_bytes counts ≡ review_counts reviews.now) }
 {
-    let tracks = reviews.len();
-    let releases = release_total(reviews);
+    let totals = totals_string(alloc, reviews)?;
+    let named = totals.as_str();
     let stuck = stuck_total(reviews);
-    format!(in alloc; "{tracks} tracks, {releases} releases, {stuck} stuck\n")
+    format!(in alloc; "{named}, {stuck} stuck\n")
 }
 
 fn push_tracks(

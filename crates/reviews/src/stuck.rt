@@ -1,8 +1,8 @@
 //! The stuck releases of a track, and of all tracks.
 
-ghost use Rattle.std.specs.Prelude.{◌≡◌, IfOk, filter_map, length, sum_by, take};
+ghost use Rattle.std.specs.Prelude.{◌≡◌, IfOk, filter_map, string_bytes, take};
 ghost use Rattle.std.specs.List.{count_by, enumerate_from};
-ghost use Rattle.reviews.specs.ReviewLines.{is_stuck, stuck_at, stuck_of, stuck_total, release_total};
+ghost use Rattle.reviews.specs.ReviewLines.{is_stuck, stuck_at, stuck_of, release_total, stuck_total, totals_string};
 
 use crate::cause::Reason;
 use crate::review::TrackReview;
@@ -69,8 +69,8 @@ pub(crate) fn count_stuck(outcomes: &[Outcome]) -> usize
     outcomes.iter().filter(|outcome| is_stuck(outcome)).count()
 }
 
-/// How many releases all tracks have, one for each track that it is on.
-pub(crate) fn release_total(reviews: &[TrackReview]) -> u128
+// How many releases all tracks have, one for each track that it is on.
+fn release_total(reviews: &[TrackReview]) -> u128
     ensures { result ≡ release_total reviews.now }
 {
     let mut total: u128 = 0;
@@ -78,6 +78,15 @@ pub(crate) fn release_total(reviews: &[TrackReview]) -> u128
         total += review.outcomes.len() as u128;
     }
     total
+}
+
+/// Says how many tracks there are, and how many releases they have.
+pub(crate) fn totals_string(alloc: Global, reviews: &[TrackReview]) -> Result<String, AllocError>
+    ensures { IfOk result (λ totals. string_bytes totals ≡ totals_string reviews.now) }
+{
+    let tracks = reviews.len();
+    let releases = release_total(reviews);
+    format!(in alloc; "total   {tracks} tracks, {releases} releases")
 }
 
 // rule: Number of stuck releases

@@ -35,15 +35,15 @@ fn lacking(alloc: Global, row: &str) -> &'static str {
 }
 
 // Edits after those of the script, a bar, and lines that are printed of what they change.
-const CHANGES: &str = r#"{ do = "set_withdrawn", app = "demo", version = "4.0", on = true }|stuck   demo stable target no: 1.0, the target is withdrawn;stuck   demo stable target no: 2.0, the target is withdrawn;stuck   demo stable target no: 3.0, the target is withdrawn;4 tracks, 16 releases, 3 changed, 3 newly stuck
-{ do = "set_withdrawn", app = "demo", version = "3.0", on = true }|larger  demo stable target no: 1.0, 750 bytes to 800 bytes;larger  demo stable target no: 2.0, 450 bytes to 500 bytes;stuck   demo stable held no: 1.0, the target is withdrawn;stuck   demo beta target yes: 4.0, the target is withdrawn;4 tracks, 16 releases, 9 changed, 7 newly stuck
-{ do = "set_stone", app = "demo", version = "2.0", on = false }|smaller demo stable target no: 1.0, 750 bytes to 350 bytes;smaller demo stable held no: 1.0, 500 bytes to 100 bytes;smaller demo beta target yes: 4.0, 1400 bytes to 1100 bytes;4 tracks, 16 releases, 5 changed, 0 newly stuck
-{ do = "set_rollback", app = "demo", cohort = "beta", on = false }|stuck   demo beta target yes: 4.0, above the target without a downgrade;3 tracks, 12 releases, 1 changed, 1 newly stuck
-{ do = "set_rollback", app = "demo", cohort = "stable", on = true }|freed   demo stable held yes: 4.0, stuck to 1400 bytes;6 tracks, 24 releases, 1 changed, 0 newly stuck
-{ do = "set_target", app = "demo", cohort = "stable", target = "3.0", held = "3.0" }|stuck   demo stable target no: 4.0, above the target without a downgrade;smaller demo stable target no: 3.0, 250 bytes to 0 bytes;smaller demo stable target no: 1.0, 750 bytes to 500 bytes;4 tracks, 16 releases, 4 changed, 1 newly stuck
-{ do = "add_release", app = "demo", version = "5.0", name = "demo-5.0.bin", size = 7, sha256 = "5555555555555555555555555555555555555555555555555555555555555555" }|4 tracks, 20 releases, 0 changed, 0 newly stuck
-{ do = "add_release", app = "demo", version = "5.0", name = "demo-5.0.bin", size = 7, sha256 = "5555555555555555555555555555555555555555555555555555555555555555" }, { do = "set_target", app = "demo", cohort = "stable", target = "5.0", held = "3.0" }|smaller demo stable target no: 1.0, 750 bytes to 307 bytes;smaller demo stable target no: 2.0, 450 bytes to 7 bytes;larger  demo stable target no: 4.0, 0 bytes to 7 bytes;4 tracks, 20 releases, 4 changed, 0 newly stuck
-{ do = "set_share", app = "demo", cohort = "stable", share = 500 }|4 tracks, 16 releases, 0 changed, 0 newly stuck"#;
+const CHANGES: &str = r#"{ do = "set_withdrawn", app = "demo", version = "4.0", on = true }|stuck   demo stable target no: 1.0, the target is withdrawn;stuck   demo stable target no: 2.0, the target is withdrawn;stuck   demo stable target no: 3.0, the target is withdrawn;total   4 tracks, 16 releases, 3 changed, 3 newly stuck
+{ do = "set_withdrawn", app = "demo", version = "3.0", on = true }|larger  demo stable target no: 1.0, 750 bytes to 800 bytes;larger  demo stable target no: 2.0, 450 bytes to 500 bytes;stuck   demo stable held no: 1.0, the target is withdrawn;stuck   demo beta target yes: 4.0, the target is withdrawn;total   4 tracks, 16 releases, 9 changed, 7 newly stuck
+{ do = "set_stone", app = "demo", version = "2.0", on = false }|smaller demo stable target no: 1.0, 750 bytes to 350 bytes;smaller demo stable held no: 1.0, 500 bytes to 100 bytes;smaller demo beta target yes: 4.0, 1400 bytes to 1100 bytes;total   4 tracks, 16 releases, 5 changed, 0 newly stuck
+{ do = "set_rollback", app = "demo", cohort = "beta", on = false }|stuck   demo beta target yes: 4.0, above the target without a downgrade;total   3 tracks, 12 releases, 1 changed, 1 newly stuck
+{ do = "set_rollback", app = "demo", cohort = "stable", on = true }|freed   demo stable held yes: 4.0, stuck to 1400 bytes;total   6 tracks, 24 releases, 1 changed, 0 newly stuck
+{ do = "set_target", app = "demo", cohort = "stable", target = "3.0", held = "3.0" }|stuck   demo stable target no: 4.0, above the target without a downgrade;smaller demo stable target no: 3.0, 250 bytes to 0 bytes;smaller demo stable target no: 1.0, 750 bytes to 500 bytes;total   4 tracks, 16 releases, 4 changed, 1 newly stuck
+{ do = "add_release", app = "demo", version = "5.0", name = "demo-5.0.bin", size = 7, sha256 = "5555555555555555555555555555555555555555555555555555555555555555" }|total   4 tracks, 20 releases, 0 changed, 0 newly stuck
+{ do = "add_release", app = "demo", version = "5.0", name = "demo-5.0.bin", size = 7, sha256 = "5555555555555555555555555555555555555555555555555555555555555555" }, { do = "set_target", app = "demo", cohort = "stable", target = "5.0", held = "3.0" }|smaller demo stable target no: 1.0, 750 bytes to 307 bytes;smaller demo stable target no: 2.0, 450 bytes to 7 bytes;larger  demo stable target no: 4.0, 0 bytes to 7 bytes;total   4 tracks, 20 releases, 4 changed, 0 newly stuck
+{ do = "set_share", app = "demo", cohort = "stable", share = 500 }|total   4 tracks, 16 releases, 0 changed, 0 newly stuck"#;
 
 // rule: Review of a change
 // rule: Changed release
@@ -67,7 +67,7 @@ const TIE_BROKEN: &str = r#"{ do = "set_floor", app = "demo", version = "4.0", f
 fn other_first_payload_of_as_many_bytes_is_a_change(rt: HostRuntime) {
     let (changes, text) =
         printed(rt.alloc(), fixtures::TIED, TIE_BROKEN).expect(&rt, "a review of a change");
-    let wanted = "other   demo stable target no: 2.0, 450 bytes to 450 bytes;4 tracks, 16 releases, 1 changed, 0 newly stuck\n";
+    let wanted = "other   demo stable target no: 2.0, 450 bytes to 450 bytes;total   4 tracks, 16 releases, 1 changed, 0 newly stuck\n";
     assert!(rt; str::from_utf8(text.as_slice()).unwrap_or("").lines().count() == 2);
     assert!(rt; has_lines(text.as_slice(), wanted.trim_end()));
     assert!(rt; newly_stuck_total(changes.as_slice()) == 0);
@@ -83,7 +83,7 @@ stuck   demo beta target yes: 2.0, the target is withdrawn
 stuck   demo beta target yes: 4.0, the target is withdrawn
 larger  demo stable target no: 1.0, 750 bytes to 800 bytes
 larger  demo stable target no: 2.0, 450 bytes to 500 bytes
-4 tracks, 16 releases, 9 changed, 7 newly stuck
+total   4 tracks, 16 releases, 9 changed, 7 newly stuck
 ";
 
 // rule: Printed change

@@ -1,4 +1,4 @@
-use Rattle.std.proofs.Common.{◌≡◌, false, [], sym, ap, ◌∙◌}
+use Rattle.std.proofs.Common.{◌≡◌, false, sym, ap, ◌∙◌}
 use Rattle.std.specs.List.{list_any}
 use Rattle.reviews.specs.Reviews.{is_unpriced}
 use Rattle.reviews.proofs.ReviewLemmas.{Explains-priced, net_in-there}

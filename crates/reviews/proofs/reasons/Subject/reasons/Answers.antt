@@ -1,6 +1,6 @@
 use Rattle.std.proofs.Common.{◌≡◌, List, length, replicate, [], ◌∷◌, sym, subst, rules}
 use Rattle.reviews.specs.Reasons.{AreFirst}
-use Rattle.reviews.specs.declared.cause.Cause.TheVariants.{Withdrawn, Audience, Stone, Floor, Downgrade}
+use Rattle.reviews.specs.declared.cause.Cause.TheVariants.{Audience, Stone, Floor, Downgrade}
 use Rattle.reviews.specs.declared.cause.Reason.{Reason}
 use Rattle.reviews.specs.declared.cause.Reason.TheVariants.{Several}
 use Rattle.reviews.proofs.ReasonLemmas.{AreFirst-none}

@@ -1,4 +1,4 @@
-use Rattle.std.proofs.Common.{◌≡◌, ◌+◌, ◌-◌, length, set, List, Bool, sym, ap, ◌∙◌, subst, arith, length-set}
+use Rattle.std.proofs.Common.{◌≡◌, ◌+◌, ◌-◌, set, sym, ◌∙◌, subst, arith, length-set}
 use Rattle.reviews.specs.Routes.{AreRouted, net_of_roads}
 use Rattle.reviews.proofs.RouteLemmas.{AreRouted-below}
 use Rattle.reviews.proofs.roads.Roads.flag_below.Goals as goal
