@@ -13,8 +13,7 @@ use values::Text;
 
 const TO: &str = "The operator's address of the server, such as 127.0.0.1:8081";
 
-const SCRIPT: &str =
-    "The script: a TOML file of at most 262144 bytes, or - for standard input";
+const SCRIPT: &str = "The script: a TOML file of at most 262144 bytes, or - for standard input";
 
 const PUBLISH: &str = "Publishes a script to a running server.";
 

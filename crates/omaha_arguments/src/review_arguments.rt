@@ -13,7 +13,8 @@ use clap::ArgMatches;
 use std::alloc::{AllocError, Global};
 use values::Text;
 
-const REVIEW: &str = "Prints which clients of a profile are stuck and why, or what a script changes.";
+const REVIEW: &str =
+    "Prints which clients of a profile are stuck and why, or what a script changes.";
 
 const SCRIPT: &str = "The script whose changes are printed [default: the profile is reviewed]";
 

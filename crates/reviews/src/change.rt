@@ -7,8 +7,8 @@ ghost use Rattle.records.specs.Validity.{is_release_below};
 ghost use Rattle.reviews.specs.Changes.{are_same_clients, change_at, change_by, changes_between, changes_of, changes_of_pair, changes_to, clients_of, has_downgrades, is_changed, is_same_form, is_same_lane, is_same_lane_of, is_same_payload, is_same_version, is_served, version_to};
 ghost use Rattle.reviews.specs.declared.review.TrackReview.{TrackReview};
 
-use crate::review::TrackReview;
 use crate::outcome::Outcome;
+use crate::review::TrackReview;
 use catalogue::{App, Catalogue};
 use cohorts::Lane;
 use payload_graph::{Payload, TrackKey};

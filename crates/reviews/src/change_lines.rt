@@ -6,8 +6,8 @@ ghost use Rattle.reviews.specs.ChangeLines.{bytes_of, change_counts, change_fact
 
 use crate::change::{Change, Reviewed};
 use crate::line::{find_app, push_line, spelled_at, stuck_release, track_string};
-use crate::review::TrackReview;
 use crate::outcome::Outcome;
+use crate::review::TrackReview;
 use crate::stuck::{is_stuck, totals_string};
 use catalogue::{App, Catalogue};
 use std::alloc::{AllocError, Global};
@@ -24,7 +24,10 @@ fn is_newly_stuck(change: &Change) -> bool
 pub fn newly_stuck_total(changes: &[Change]) -> usize
     ensures { result ≡ newly_stuck_total changes.now }
 {
-    changes.iter().filter(|change| is_newly_stuck(change)).count()
+    changes
+        .iter()
+        .filter(|change| is_newly_stuck(change))
+        .count()
 }
 
 fn bytes_of(outcome: &Outcome) -> u64

@@ -11,8 +11,8 @@ ghost use Rattle.reviews.specs.Tracks.{IsTrackOf};
 
 use crate::cause::Reason;
 use crate::largest::{Largest, find_largest};
-use crate::reasons::Subject;
 use crate::outcome::{Outcome, outcome_by};
+use crate::reasons::Subject;
 use catalogue::Catalogue;
 use cohorts::track_target;
 use payload_graph::{Place, TrackKey};

@@ -76,11 +76,7 @@ fn push_stuck_part(
     push_more(alloc, text, track, stuck.len().saturating_sub(limit))
 }
 
-fn largest_string(
-    alloc: Global,
-    app: &App,
-    largest: Option<Largest>,
-) -> Result<String, AllocError>
+fn largest_string(alloc: Global, app: &App, largest: Option<Largest>) -> Result<String, AllocError>
     ensures { IfOk result (λ says. string_bytes says ≡ largest_string app.now largest) }
 {
     match largest {

@@ -5,8 +5,8 @@ ghost use Rattle.std.specs.List.{count_by, enumerate_from};
 ghost use Rattle.reviews.specs.ReviewLines.{is_stuck, stuck_at, stuck_of, release_total, stuck_total, totals_string};
 
 use crate::cause::Reason;
-use crate::review::TrackReview;
 use crate::outcome::Outcome;
+use crate::review::TrackReview;
 use std::alloc::{AllocError, Global};
 
 /// A release of which clients are stuck.
@@ -31,10 +31,7 @@ fn stuck_at(release: usize, outcome: &Outcome) -> Option<StuckRelease>
 }
 
 /// The stuck releases of a track, by ascending version.
-pub(crate) fn stuck_of(
-    alloc: Global,
-    outcomes: &[Outcome],
-) -> Result<Vec<StuckRelease>, AllocError>
+pub(crate) fn stuck_of(alloc: Global, outcomes: &[Outcome]) -> Result<Vec<StuckRelease>, AllocError>
     ensures { IfOk result (λ stuck. stuck.items ≡ stuck_of outcomes.now) }
 {
     outcomes

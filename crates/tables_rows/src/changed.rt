@@ -20,7 +20,10 @@ fn printed(
     let before = reviewed_of(alloc, catalogue_of_script(alloc, script, "")?)?;
     let after = reviewed_of(alloc, catalogue_of_script(alloc, script, edits)?)?;
     let changes = keep(alloc, changes(alloc, &before, &after).ok()?)?;
-    let text = keep(alloc, write_changes(alloc, &after, changes.as_slice()).ok()?)?;
+    let text = keep(
+        alloc,
+        write_changes(alloc, &after, changes.as_slice()).ok()?,
+    )?;
     Some((changes, text))
 }
 
@@ -35,7 +38,8 @@ fn lacking(alloc: Global, row: &str) -> &'static str {
 }
 
 // Edits after those of the script, a bar, and lines that are printed of what they change.
-const CHANGES: &str = r#"{ do = "set_withdrawn", app = "demo", version = "4.0", on = true }|stuck   demo stable target no: 1.0, the target is withdrawn;stuck   demo stable target no: 2.0, the target is withdrawn;stuck   demo stable target no: 3.0, the target is withdrawn;total   4 tracks, 16 releases, 3 changed, 3 newly stuck
+const CHANGES: &str =
+    r#"{ do = "set_withdrawn", app = "demo", version = "4.0", on = true }|stuck   demo stable target no: 1.0, the target is withdrawn;stuck   demo stable target no: 2.0, the target is withdrawn;stuck   demo stable target no: 3.0, the target is withdrawn;total   4 tracks, 16 releases, 3 changed, 3 newly stuck
 { do = "set_withdrawn", app = "demo", version = "3.0", on = true }|larger  demo stable target no: 1.0, 750 bytes to 800 bytes;larger  demo stable target no: 2.0, 450 bytes to 500 bytes;stuck   demo stable held no: 1.0, the target is withdrawn;stuck   demo beta target yes: 4.0, the target is withdrawn;total   4 tracks, 16 releases, 9 changed, 7 newly stuck
 { do = "set_stone", app = "demo", version = "2.0", on = false }|smaller demo stable target no: 1.0, 750 bytes to 350 bytes;smaller demo stable held no: 1.0, 500 bytes to 100 bytes;smaller demo beta target yes: 4.0, 1400 bytes to 1100 bytes;total   4 tracks, 16 releases, 5 changed, 0 newly stuck
 { do = "set_rollback", app = "demo", cohort = "beta", on = false }|stuck   demo beta target yes: 4.0, above the target without a downgrade;total   3 tracks, 12 releases, 1 changed, 1 newly stuck
@@ -65,10 +69,19 @@ const TIE_BROKEN: &str = r#"{ do = "set_floor", app = "demo", version = "4.0", f
 // rule: Printed change
 #[test]
 fn other_first_payload_of_as_many_bytes_is_a_change(rt: HostRuntime) {
-    let (changes, text) =
-        printed(rt.alloc(), fixtures::TIED, TIE_BROKEN).expect(&rt, "a review of a change");
-    let wanted = "other   demo stable target no: 2.0, 450 bytes to 450 bytes;total   4 tracks, 16 releases, 1 changed, 0 newly stuck\n";
-    assert!(rt; str::from_utf8(text.as_slice()).unwrap_or("").lines().count() == 2);
+    let (changes, text) = printed(rt.alloc(), fixtures::TIED, TIE_BROKEN).expect(
+        &rt,
+        "a review of a change",
+    );
+    let wanted =
+        "other   demo stable target no: 2.0, 450 bytes to 450 bytes;total   4 tracks, 16 releases, 1 changed, 0 newly stuck\n";
+    assert!(rt;
+        str::from_utf8(text.as_slice())
+            .unwrap_or("")
+            .lines()
+            .count()
+            == 2
+    );
     assert!(rt; has_lines(text.as_slice(), wanted.trim_end()));
     assert!(rt; newly_stuck_total(changes.as_slice()) == 0);
 }

@@ -12,7 +12,10 @@ pub(crate) fn reviews_of(
     catalogue: &Catalogue,
 ) -> Option<&'static Vec<TrackReview>> {
     let tables = keep(alloc, tables(alloc, catalogue).ok()?)?;
-    keep(alloc, review_catalogue(alloc, catalogue, tables.as_slice()).ok()?)
+    keep(
+        alloc,
+        review_catalogue(alloc, catalogue, tables.as_slice()).ok()?,
+    )
 }
 
 // What is printed of a script's catalogue, with at most so many stuck releases of a track.
@@ -71,7 +74,8 @@ fn prints_each_track_of_a_catalogue(rt: HostRuntime) {
 }
 
 // Edits after those of the script, a bar, and lines that are printed.
-const REASONS: &str = r#"{ do = "set_withdrawn", app = "demo", version = "4.0", on = true }|track   demo stable target no: target 4.0, 4 releases, 3 stuck;stuck   demo stable target no: 1.0, the target is withdrawn;stuck   demo stable target no: 2.0, the target is withdrawn;stuck   demo stable target no: 3.0, the target is withdrawn;largest demo stable target no: none;new     demo stable target no: stuck;total   4 tracks, 16 releases, 5 stuck
+const REASONS: &str =
+    r#"{ do = "set_withdrawn", app = "demo", version = "4.0", on = true }|track   demo stable target no: target 4.0, 4 releases, 3 stuck;stuck   demo stable target no: 1.0, the target is withdrawn;stuck   demo stable target no: 2.0, the target is withdrawn;stuck   demo stable target no: 3.0, the target is withdrawn;largest demo stable target no: none;new     demo stable target no: stuck;total   4 tracks, 16 releases, 5 stuck
 { do = "set_audience", app = "demo", version = "2.0", cohorts = ["beta"] }|track   demo stable target no: target 4.0, 4 releases, 1 stuck;stuck   demo stable target no: 1.0, a stone can't be reached;largest demo stable target no: 2.0, 450 bytes;stuck   demo stable held no: 1.0, a stone can't be reached;track   demo beta target no: target 3.0, 4 releases, 1 stuck
 { do = "set_withdrawn", app = "demo", version = "2.0", on = true }|stuck   demo stable target no: 1.0, a stone can't be reached;new     demo stable target no: stuck
 { do = "set_audience", app = "demo", version = "4.0", cohorts = ["beta"] }|track   demo stable target no: target 4.0, 4 releases, 3 stuck;stuck   demo stable target no: 1.0, the target is closed to the cohort;stuck   demo stable target no: 3.0, the target is closed to the cohort;new     demo stable target no: stuck
@@ -98,16 +102,21 @@ fn reports_each_stuck_release_with_its_reason(rt: HostRuntime) {
     }
 }
 
-const WITHDRAWN: &str =
-    r#"{ do = "set_withdrawn", app = "demo", version = "4.0", on = true }"#;
+const WITHDRAWN: &str = r#"{ do = "set_withdrawn", app = "demo", version = "4.0", on = true }"#;
 
 // rule: Lines of a track
 #[test]
 fn counts_the_stuck_releases_past_the_limit(rt: HostRuntime) {
     let text = printed(rt.alloc(), WITHDRAWN, 1).expect(&rt, "a review");
-    let wanted = "stuck   demo stable target no: 1.0, the target is withdrawn;stuck   demo stable target no: 2 more";
+    let wanted =
+        "stuck   demo stable target no: 1.0, the target is withdrawn;stuck   demo stable target no: 2 more";
     assert!(rt; has_lines(text.as_slice(), wanted));
-    assert!(rt; !has_lines(text.as_slice(), "stuck   demo stable target no: 2.0, the target is withdrawn"));
+    assert!(rt;
+        !has_lines(
+            text.as_slice(),
+            "stuck   demo stable target no: 2.0, the target is withdrawn"
+        )
+    );
     let text = printed(rt.alloc(), WITHDRAWN, 2).expect(&rt, "a review");
     assert!(rt; has_lines(text.as_slice(), "stuck   demo stable target no: 1 more"));
 }
