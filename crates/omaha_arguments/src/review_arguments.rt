@@ -27,9 +27,9 @@ const AFTER_REVIEW: &str =
 app, the cohort, the lane and whether clients allow a downgrade:
   track   mini stable held no: target 3.0, 4 releases, 1 stuck
   stuck   mini stable held no: 4.0, above the target without a downgrade
-  largest mini stable held no: 500 bytes from 1.0
+  largest mini stable held no: 1.0, 500 bytes
   new     mini stable held no: 1400 bytes
-  4 tracks, 16 releases, 2 stuck
+  total   4 tracks, 16 releases, 2 stuck
 `largest` is the release whose clients download most, `new` is for clients without a release.
 
 The reason is the first rule without which the release wouldn't be stuck:
@@ -46,7 +46,7 @@ With --script it prints only what the script changes; its base is 1:
   smaller mini stable target no: 1.0, 750 bytes to 350 bytes      fewer bytes
   other   mini stable target no: 2.0, 450 bytes to 450 bytes      another first package
   freed   mini stable held yes: 4.0, stuck to 1400 bytes          it was stuck
-  4 tracks, 16 releases, 3 changed, 1 newly stuck
+  total   4 tracks, 16 releases, 3 changed, 1 newly stuck
 
 With --strict it prints the same, and then `omaha: stuck N` on standard error if N releases are
 stuck or, with --script, newly stuck.
