@@ -6,7 +6,7 @@ use Rattle.serve_rows.specs.NewScripts.{IsNewScript}
 use Rattle.serve_rows.proofs.rooms.open_all.Goals as goal
 
 pub loop-each-preserved : goal.loop-each-preserved
-loop-each-preserved g c =
+loop-each-preserved c =
     let (terms, new) = c.loop-each.invariant in
     let ports = c.loop-each.ports.items in
     let port = c.in-Some.port in

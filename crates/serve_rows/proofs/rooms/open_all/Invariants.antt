@@ -4,5 +4,5 @@ use Rattle.serve_rows.specs.NewScripts.{IsNewScript}
 use Rattle.serve_rows.proofs.rooms.open_all.Given as goal
 
 abbrev pub invariant-loop-each : goal.invariant-loop-each
-invariant-loop-each g l =
+invariant-loop-each l =
     (map (λ port. port.terms) l.ports.items ≡ take l.each-index l.terms) × All IsNewScript l.ports.items
