@@ -153,9 +153,14 @@ def posted(path, body):
 
 
 class Serving:
-    """A server with two workers and an operator; a message that it rejects since memory ran out is sent again."""
+    """A server with two workers and an operator; a message that it rejects since memory ran out is sent again.
+
+    A script may then be kept whose edition is due. Sent again, it is stale.
+    """
 
     name = "serve, with publish, raise and dump"
+    # the lines that standard error may have, whatever the server then does, and the options beside those of all
+    lines, more = (b"",), ()
     messages = [
         ("clients", posted(b"/service/update2/json", UPDATE)),
         ("clients", b"GET /p/mini-1.0.bin HTTP/1.1\r\nConnection: close\r\n\r\n"),
@@ -177,7 +182,7 @@ class Serving:
         self.left = {"clients": 6, "operator": 6}
         words = [program, "serve", "--profile", "live.toml", "--packages", "packages", "--workers", "2", "--timeout", "1"]
         words += ["--listen", f"127.0.0.1:{ports['clients']}", "--operator", f"127.0.0.1:{ports['operator']}"]
-        words += ["--sessions", str(self.left["clients"]), "--edits", str(self.left["operator"]), "--log", "log"]
+        words += ["--sessions", str(self.left["clients"]), "--edits", str(self.left["operator"]), "--log", "log", *self.more]
         process = subprocess.Popen(words, cwd=self.folder, stdout=subprocess.PIPE, stderr=subprocess.PIPE, **shim.start)
         try:
             return self.judge(process, ports)
@@ -191,7 +196,7 @@ class Serving:
         """What is wrong with a run, `None` if nothing is."""
         if process.stdout.readline() != b"ready\n":
             ended = process.communicate(timeout=LIMIT)[1], process.returncode
-            return None if self.wanted and ended == (b"omaha: memory\n", 1) else f"before ready: {ended}"
+            return None if self.wanted and ended[0] in (b"omaha: memory\n", *self.lines[1:]) and ended[1] == 1 else f"before ready: {ended}"
         failed, replies = 0, []
         for to, message in self.messages:
             reply = self.send(ports, to, message)
@@ -199,12 +204,17 @@ class Serving:
                 if reply and (reply[0] not in (200, 500) or (reply[0] == 200 and not reply[2])):
                     return f"message {len(replies)}: {reply!r:.200}"
                 failed, reply = failed + 1, self.send(ports, to, message)
+                reply = self.settled(reply, len(replies))
             replies.append(reply)
         for to, port in ports.items():
             for _ in range(self.left[to]):
                 with contextlib.suppress(ConnectionRefusedError):
                     server.Connection(port).socket.close()
         return self.judge_end(process, replies)
+
+    def settled(self, reply, number):
+        """The reply to a message that was sent again: that to a script whose edition was due counts as the first one."""
+        return self.wanted[number] if number == 2 and reply == (409, b"stale 2\n", False) else reply
 
     def send(self, ports, to, message):
         """The status of the reply, its body, and whether that is a part; `None` without a reply."""
@@ -236,7 +246,30 @@ class Serving:
         # a reply that was rejected may have been granted before, once
         extra = (total or 0) - self.total
         is_total = extra in (0, 1960, 2600, 3480, 188, 235)
-        return None if (process.returncode, errors, is_total) == (0, b"", True) else f"end: {process.returncode} {output} {errors}"
+        if process.returncode != 0 or not is_total or errors not in self.lines:
+            return f"end: {process.returncode} {output} {errors}"
+        return None
+
+
+class Keeping(Serving):
+    """The same with a history."""
+
+    name = "serve with a history, publish, raise and dump"
+    lines = (b"", b"omaha: history kept.db: out of memory\n", b"omaha: history kept.db: closed by an earlier failure\n")
+    more = ("--history", "kept.db")
+
+    def once(self, program, shim):
+        for path in self.folder.glob("kept.db*"):
+            path.unlink()
+        return super().once(program, shim)
+
+
+class Reading(Command):
+    """A command that reads a history, and may name it in its failure."""
+
+    def fails(self, status, output, errors):
+        lines = (b"omaha: memory\n", f"omaha: history {self.words[-1]}: out of memory\n".encode())
+        return status == 1 and output == b"" and errors in lines
 
 
 def commands():
@@ -254,7 +287,24 @@ def commands():
         Command("check, with packages", ["check", str(EXAMPLES / "mini.toml"), "--packages", packages]),
         Command("describe", ["describe", f"{packages}/mini-1.0.bin", f"{packages}/mini-2.0.bin"]),
         Command("explain", ["explain"]),
+        Command("review", ["review", chains]),
+        Command("review, with a script", ["review", str(EXAMPLES / "live.toml"), "--script", str(EXAMPLES / "scripts" / "stage.toml")]),
     ]
+
+
+def readings(program, folder):
+    """The commands that read a history, of a server that published a script and raised a budget."""
+    path, port, operator = str(pathlib.Path(folder, "read.db")), server.free_port(), server.free_port()
+    words = ["--profile", str(EXAMPLES / "live.toml"), "--packages", str(EXAMPLES / "packages"), "--history", path]
+    words += ["--listen", f"127.0.0.1:{port}", "--operator", f"127.0.0.1:{operator}"]
+    with subprocess.Popen([program, "serve", *words], stdout=subprocess.PIPE) as process:
+        process.stdout.readline()
+        for message in (SCRIPT, b"raise m0 2000000000000"):
+            with Connection(operator) as connection:
+                connection.send(posted(b"/operate", message))
+                connection.read()
+        process.kill()
+    return [Reading("history", ["history", path]), Reading("history, exported", ["history", "export", path])]
 
 
 def calls(port, operator, script):
@@ -329,7 +379,9 @@ def main():
         library = built(folder)
         with serving(arguments.program, folder) as called:
             tests = [test for crate in CRATES for test in tests_of(crate)]
-            swept = [*tests, *commands(), *called, Serving(folder)]
+            kept = pathlib.Path(folder, "kept")
+            kept.mkdir()
+            swept = [*tests, *commands(), *readings(arguments.program, folder), *called, Serving(folder), Keeping(kept)]
             chosen = [it for it in swept if not arguments.names or any(it.name.startswith(name) for name in arguments.names)]
             wrong = sum(sweep(library, arguments.program, it) for it in chosen)
     print(f"{len(chosen)} sweeps, {wrong} wrong")
