@@ -85,6 +85,16 @@ def is_listened_on(port):
         return made.connect_ex(("127.0.0.1", int(port))) == 0
 
 
+def left_after(seconds, ports):
+    """The ports that are still listened on after so many seconds: a server that was ended needs a moment."""
+    until = time.monotonic() + seconds
+    while left := [port for port in ports if is_listened_on(port)]:
+        if time.monotonic() > until:
+            return left
+        time.sleep(0.05)
+    return []
+
+
 def wait_for(port):
     for _ in range(200):
         if is_listened_on(port):
@@ -139,7 +149,7 @@ def main():
             front.terminate()
             servers.terminate()
             expect("the end of the servers", servers.wait(timeout=10), 143)
-            expect("servers that are left", [port for port in ports[1:] if is_listened_on(port)], [])
+            expect("servers that are left", left_after(5, ports[1:]), [])
             front.wait()
     if failures:
         sys.exit(f"cluster: {len(failures)} differ")
