@@ -86,7 +86,7 @@ def is_listened_on(port):
 
 
 def left_after(seconds, ports):
-    """The ports that are still listened on after so many seconds: a server that was ended needs a moment."""
+    """The ports that are still listened on after so many seconds: a server that was ended needs some time."""
     until = time.monotonic() + seconds
     while left := [port for port in ports if is_listened_on(port)]:
         if time.monotonic() > until:
