@@ -71,7 +71,7 @@ cluster:
 	tests/cluster.py
 
 install:
-	@echo "proves the libraries of the program, $(JOBS) side by side; half an hour on four processors the first time"
+	@echo "proves the libraries of the program, $(JOBS) side by side; less than an hour on four processors the first time"
 	cd crates/omaha && rt all check --jobs $(JOBS)
 	cd crates/omaha && rt run < stdin
 	install -d $(DESTDIR)$(PREFIX)/bin

@@ -2,7 +2,7 @@
 // else unless a call was in doubt.
 
 use crate::calls::are_records;
-use crate::disks::{Disk, Found, Fragile, open};
+use crate::disks::{Found, Fragile, crashed, empty_files, open};
 use kept_records::{AppendFault, Cause, Kind, Record, Records};
 use std::alloc::Global;
 
@@ -62,9 +62,9 @@ fn are_after(found: &[Record], outcome: Outcome) -> bool {
 // lost what they stored, or if the history could not be opened.
 fn run(alloc: Global, log_calls: u64) -> Option<usize> {
     let mut found = Found::new(alloc);
-    let mut history = open(alloc, Disk::new(alloc, log_calls, u64::MAX), &mut found)?;
+    let mut history = open(alloc, empty_files(alloc, log_calls, u64::MAX), &mut found)?;
     let outcome = call_all(&mut history, alloc);
-    let _again = open(alloc, history.crash(), &mut found)?;
+    let _again = open(alloc, crashed(history), &mut found)?;
     let outcome = outcome?;
     are_after(&found.records, outcome).then_some(outcome.done)
 }
