@@ -11,6 +11,7 @@ use Rattle.omaha_arguments.specs.OperatorArguments.{dump_app, dump_in, publicati
 use Rattle.omaha_arguments.specs.Options.{number_in, option_named, strings_in, workers_in}
 use Rattle.omaha_arguments.specs.ReportArguments.{certify_app, check_app, comparison_in, describe_app, explain_app, faults_of_check, faults_of_report, report_in, verify_app}
 use Rattle.omaha_arguments.specs.ReviewArguments.{review_app, review_in}
+use Rattle.omaha_arguments.specs.ScriptArguments.{faults_of_script, script_app, script_in}
 use Rattle.omaha_arguments.specs.ServeArguments.{faults_of_serve, serve_app, serve_in}
 use Rattle.omaha_arguments.specs.WalkArguments.{faults_of_walk, walk_app, walk_in}
 use Rattle.omaha_arguments.specs.declared.command.Command.{Command}
@@ -40,7 +41,9 @@ omaha_app =
     (with_subcommand
     (with_subcommand
     (with_subcommand
-    (with_subcommand (with_subcommand (with_subcommand plain_app serve_app.top) publish_app.top) raise_app.top)
+    (with_subcommand
+    (with_subcommand (with_subcommand (with_subcommand plain_app serve_app.top) publish_app.top) script_app.top)
+    raise_app.top)
     dump_app.top)
     history_app.top)
     check_app.top)
@@ -85,6 +88,7 @@ command_in name options =
     if bytes_eq name (codes "once") then command.Once (once_in options)
     else (if bytes_eq name (codes "serve") then command.Serve (serve_in options)
     else (if bytes_eq name (codes "publish") then command.Publish (publication_in options)
+    else (if bytes_eq name (codes "script") then command.Script (script_in options)
     else (if bytes_eq name (codes "raise") then command.Raise (raise_in options)
     else (if bytes_eq name (codes "dump") then command.Dump (dump_in options)
     else (if bytes_eq name (codes "history") then command.History (asked_in options)
@@ -93,7 +97,7 @@ command_in name options =
     else (if bytes_eq name (codes "describe") then command.Describe (strings_in (codes "FILE") options)
     else (if bytes_eq name (codes "check") then check_in options
     else (if bytes_eq name (codes "review") then command.Review (review_in options)
-    else command.Report (report_in name 1 options)))))))))))
+    else command.Report (report_in name 1 options))))))))))))
 
 -- what is wrong with the options of the command of a name
 abbrev pub faults_in : List ℕ → List Row → Kinds
@@ -101,6 +105,7 @@ faults_in name options =
     if bytes_eq name (codes "once") then faults_of_once options
     else (if bytes_eq name (codes "serve") then faults_of_serve options
     else (if bytes_eq name (codes "publish") then []
+    else (if bytes_eq name (codes "script") then faults_of_script options
     else (if bytes_eq name (codes "raise") then []
     else (if bytes_eq name (codes "dump") then []
     else (if bytes_eq name (codes "history") then faults_of_history options
@@ -108,7 +113,7 @@ faults_in name options =
     else (if bytes_eq name (codes "walk") then faults_of_walk options
     else (if bytes_eq name (codes "describe") then []
     else (if bytes_eq name (codes "check") then faults_of_check options
-    else (if bytes_eq name (codes "review") then [] else faults_of_report name options))))))))))
+    else (if bytes_eq name (codes "review") then [] else faults_of_report name options)))))))))))
 
 -- rule: Arguments of the command line
 -- what the arguments ask for

@@ -5,5 +5,6 @@ pub mod OperatorArguments
 pub mod Options
 pub mod ReportArguments
 pub mod ReviewArguments
+pub mod ScriptArguments
 pub mod ServeArguments
 pub mod WalkArguments

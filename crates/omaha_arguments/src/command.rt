@@ -24,6 +24,8 @@ pub enum Command {
     Walk(Walk),
     /// To publish a script to a running server.
     Publish(Publication),
+    /// To print a script.
+    Script(Script),
     /// To raise a mirror's budget on a running server.
     Raise(Raise),
     /// To print the profile that a running server has published: its operator's listener, as `HOST:PORT`.
@@ -101,6 +103,15 @@ pub struct Publication {
     pub to: Text,
     /// The path of the script.
     pub script: Text,
+}
+
+/// What the command `script` is asked to do.
+#[derive(Drop)]
+pub struct Script {
+    /// The number of the edition that the script is written for.
+    pub base: u64,
+    /// What its edits do, and their keys with their values, as they were given.
+    pub words: Items<Text>,
 }
 
 /// What the command `raise` is asked to do.

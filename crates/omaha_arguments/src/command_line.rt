@@ -21,6 +21,7 @@ use crate::report_arguments::{
     read_report, read_workers, verify_command,
 };
 use crate::review_arguments::{read_review, review_command};
+use crate::script_arguments::{read_script, script_command};
 use crate::serve_arguments::{read_serve, serve_command};
 use crate::walk_arguments::{read_walk, walk_command};
 use clap::{ArgMatches, Error};
@@ -64,6 +65,7 @@ fn omaha_command<'a>(alloc: Global) -> Making<'a>
     let program = plain_command(alloc);
     let program = with_command(program, serve_command(alloc));
     let program = with_command(program, publish_command(alloc));
+    let program = with_command(program, script_command(alloc));
     let program = with_command(program, raise_command(alloc));
     let program = with_command(program, dump_command(alloc));
     let program = with_command(program, history_command(alloc));
@@ -104,6 +106,9 @@ fn read_command(alloc: Global, name: &str, matches: &ArgMatches<'_>) -> Result<C
     }
     if name == "publish" {
         return Ok(Command::Publish(read_publication(alloc, matches)?));
+    }
+    if name == "script" {
+        return Ok(Command::Script(read_script(alloc, matches)?));
     }
     if name == "raise" {
         return Ok(Command::Raise(read_raise(alloc, matches)?));

@@ -3,7 +3,8 @@
 //! `read_arguments` reads them with `clap` and gives a `Command`, or why there is none: the help or the
 //! version was asked for, or they are invalid. What they mean is said by `specs/Commands.antt` and, for the
 //! commands that report on a profile, `specs/ReportArguments.antt`; for `serve`, `specs/ServeArguments.antt`; for
-//! `publish`, `raise` and `dump`, `specs/OperatorArguments.antt`; for `history`, `specs/HistoryArguments.antt`; for `review`, `specs/ReviewArguments.antt`; for `walk`,
+//! `publish`, `raise` and `dump`, `specs/OperatorArguments.antt`; for `script`, `specs/ScriptArguments.antt`; for
+//! `history`, `specs/HistoryArguments.antt`; for `review`, `specs/ReviewArguments.antt`; for `walk`,
 //! `specs/WalkArguments.antt`. How they are rejected is said by `specs/Errors.antt`.
 //!
 //! It opens no file and carries nothing out.
@@ -19,12 +20,13 @@ mod operator_arguments;
 mod options;
 mod report_arguments;
 mod review_arguments;
+mod script_arguments;
 mod serve_arguments;
 mod walk_arguments;
 
 pub use crate::command::{
     Command, Comparison, HistoryAction, HistoryAsked, Once, Publication, Question, Raise, Report,
-    Review, Serve, Walk,
+    Review, Script, Serve, Walk,
 };
 pub use crate::command_line::read_arguments;
 pub use crate::error::ArgumentError;

@@ -9,6 +9,7 @@ use Rattle.omaha_once.specs.Once.{Responds}
 use Rattle.omaha_commands.specs.Operating.{Dumps, Publishes, Raises}
 use Rattle.omaha_commands.specs.Reports.{Reports}
 use Rattle.omaha_commands.specs.Reviewing.{Reviews}
+use Rattle.omaha_commands.specs.Scripting.{PrintsScript}
 use Rattle.omaha_cli.specs.Serving.{ServesOn}
 use Rattle.omaha_commands.specs.Streams.{Streams}
 use Rattle.omaha_commands.specs.Walking.{WalksOn}
@@ -17,8 +18,8 @@ use Rattle.omaha_arguments.specs.declared.command.Command.{Command}
 use Rattle.omaha_arguments.specs.declared.command.Command.TheVariants as command
 use Rattle.omaha_commands.specs.declared.failure.Failure.{Failure}
 
--- a reply to a request, a report on a profile or on its packages, a review, descriptions of files, the explanation of a code, what
--- a history has, a server, a walk, or a call of an operator's listener
+-- a reply to a request, a report on a profile or on its packages, a review, descriptions of files, the explanation of a
+-- code, a script, what a history has, a server, a walk, or a call of an operator's listener
 abbrev pub Does : World → Command → Streams → Streams → Result (Unit {0}) Failure → Type 0
 Does world (command.Once once) old new result = Responds world.files once old new result
 Does world (command.Report report) old new result = Reports world.files report old new result
@@ -30,6 +31,7 @@ Does world (command.History asked) old new result = PrintsHistory world.stored a
 Does world (command.Serve serve) old new result = ServesOn world.files world.stored world.edges serve old new result
 Does world (command.Walk walk) old new result = WalksOn world.replies walk old new result
 Does world (command.Publish asked) old new result = Publishes world.files world.operated asked old new result
+Does world (command.Script asked) old new result = PrintsScript asked old new result
 Does world (command.Raise asked) old new result =
     Raises world.operated asked old.output new.output result × (new.input ≡ old.input)
 Does world (command.Dump to) old new result =

@@ -10,8 +10,8 @@ use http_ports::Port;
 use kept_records::Stores;
 use omaha_arguments::{ArgumentError, Command, read_arguments};
 use omaha_commands::{
-    Failure, compare_on, describe_files, dump_on, explain_code, publish_on, raise_on, report_on,
-    review_on, walk_on,
+    Failure, compare_on, describe_files, dump_on, explain_code, print_script, publish_on, raise_on,
+    report_on, review_on, walk_on,
 };
 use omaha_histories::print_history;
 use omaha_once::respond;
@@ -132,6 +132,7 @@ fn obey<
         Command::Serve(asked) => serve_profile(rt, system, stores, asked, writer, errors),
         Command::Walk(asked) => walk_on(rt.alloc(), rt, asked, writer),
         Command::Publish(asked) => publish_on(rt, rt.alloc(), asked, reader, writer),
+        Command::Script(asked) => print_script(rt.alloc(), asked, writer),
         Command::Raise(asked) => raise_on(rt, rt.alloc(), asked, writer),
         Command::Dump(to) => dump_on(rt, rt.alloc(), to, writer),
         Command::History(asked) => print_history(rt, stores, asked, writer),
@@ -200,12 +201,12 @@ fn report<F: WriteWhole>(alloc: Global, ending: &Ending, errors: &mut F)
 /// those of `system`, and histories those of `stores`.
 ///
 /// Without arguments, or with `once` and its options, it does what `respond` does; with `check`, `certify` or
-/// `verify` what `report_on` does, with `review` what `review_on` does; with `check F --packages DIR` it compares packages with files, with `describe`
-/// it describes files; with `history` it reads a history; with `serve` it serves until its last session; with `walk` it walks along a server's
-/// offers; with `publish`, `raise` and `dump` it calls an operator's listener. It returns 0 if the command did that, or
-/// the help or the version was printed; 1 if the command failed, after one line on `errors`, or none if that listener
-/// declined; and 2 if the arguments are invalid, after `clap`'s message on `errors`. With `--log -` a server also logs
-/// its replies there.
+/// `verify` what `report_on` does, with `review` what `review_on` does; with `check F --packages DIR` it compares
+/// packages with files, with `describe` it describes files; with `script` it prints a script; with `history` it reads a
+/// history; with `serve` it serves until its last session; with `walk` it walks along a server's offers; with `publish`,
+/// `raise` and `dump` it calls an operator's listener. It returns 0 if the command did that, or the help or the version
+/// was printed; 1 if the command failed, after one line on `errors`, or none if that listener declined; and 2 if the
+/// arguments are invalid, after `clap`'s message on `errors`. With `--log -` a server also logs its replies there.
 pub fn run<
     P: Port + Send + Drop,
     S: System<P> + Sync,

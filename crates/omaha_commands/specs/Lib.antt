@@ -8,5 +8,6 @@ pub mod Profiles
 pub mod Rejections
 pub mod Reports
 pub mod Reviewing
+pub mod Scripting
 pub mod Streams
 pub mod Walking

@@ -1,8 +1,9 @@
 //! The commands of `omaha` that serve nothing.
 //!
 //! `read_service` and `open_service` make a service of a profile: read `specs/Profiles.antt`. `report_on` does `check`,
-//! `certify` and `verify`: read `specs/Reports.antt`; `review_on` is `review`: read `specs/Reviewing.antt`; `compare_on` is `check` with a folder of packages, and
-//! `describe_files` describes files, by `package_files`: read `specs/Comparing.antt` and `specs/Describing.antt`.
+//! `certify` and `verify`: read `specs/Reports.antt`; `review_on` is `review`: read `specs/Reviewing.antt`;
+//! `compare_on` is `check` with a folder of packages, and `describe_files` describes files, by `package_files`: read
+//! `specs/Comparing.antt` and `specs/Describing.antt`. `print_script` is `script`: read `specs/Scripting.antt`.
 //! `explain_code` prints what `explanations` says of a code. `walk_on` is walked by `update_client`: read
 //! `specs/Walking.antt`; `publish_on`, `raise_on` and `dump_on` post by it: read `specs/Operating.antt`. `print` writes
 //! what a command found. A `Failure` is why a command fails, and a `HistoryFault` what is wrong with a history.
@@ -21,6 +22,7 @@ mod printing;
 mod profile;
 mod reporting;
 mod reviewing;
+mod scripting;
 mod walking;
 
 pub use crate::comparing::compare_on;
@@ -33,4 +35,5 @@ pub use crate::printing::print;
 pub use crate::profile::{open_service, read_named, read_service, service_in};
 pub use crate::reporting::report_on;
 pub use crate::reviewing::review_on;
+pub use crate::scripting::print_script;
 pub use crate::walking::walk_on;

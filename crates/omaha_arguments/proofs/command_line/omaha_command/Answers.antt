@@ -4,6 +4,7 @@ use Rattle.omaha_arguments.proofs.command_line.omaha_command.Goals as goal
 pub returns : goal.returns
 returns c =
     c.with_command.ensures _ _ refl
+    (c.with_command-program-13.ensures _ _ refl
     (c.with_command-program-12.ensures _ _ refl
     (c.with_command-program-11.ensures _ _ refl
     (c.with_command-program-10.ensures _ _ refl
@@ -17,6 +18,7 @@ returns c =
     (c.with_command-program-2.ensures _ _ refl
     (c.with_command-program.ensures _ _ refl c.plain_command-program.ensures c.serve_command.ensures)
     c.publish_command.ensures)
+    c.script_command.ensures)
     c.raise_command.ensures)
     c.dump_command.ensures)
     c.history_command.ensures)

@@ -1,0 +1,88 @@
+// The arguments of the command `script`, as `clap` reads them.
+
+ghost use Rattle.std.specs.Prelude.{◌≡◌, IfOk};
+ghost use Rattle.clap.specs.Words.{FailsBy, found_of, kind_of, rows_of};
+ghost use Rattle.omaha_arguments.specs.Options.{IsMade};
+ghost use Rattle.omaha_arguments.specs.ScriptArguments.{base_in, faults_of_script, script_app, script_in};
+
+use crate::command::Script;
+use crate::options::{
+    Making, number_in, strings_in, titled, with_wanted_list, with_wanted_option,
+};
+use clap::error::ErrorKind;
+use clap::{ArgMatches, Error};
+use std::alloc::{AllocError, Global};
+
+const SCRIPT: &str = "Prints the script of some edits, as `publish` takes it.";
+
+const BASE: &str = "The number of the edition that the script is written for";
+
+const WORDS: &str = "What an edit does, and then its keys with their values: KEY=VALUE";
+
+const AFTER_SCRIPT: &str = "A word without `=` begins an edit, and each word KEY=VALUE after it is one of its keys:
+  add_app        app default
+  add_cohort     app cohort
+  add_release    app version name size sha256
+  add_diff       app from to name size sha256
+  set_target     app cohort [target] [held]
+  set_share      app cohort share
+  set_open       app cohort on
+  set_rollback   app cohort on
+  set_stone      app version on
+  set_withdrawn  app version on
+  set_audience   app version [cohorts]
+  set_floor      app version floor
+`on` is true or false, and `cohorts` is names with commas between them. docs/PROFILE.md describes
+the keys. A word `--` may stand between two edits.
+
+If the command fails, it prints one line on standard error.
+  omaha: script F3 BadEntry edit[0].share   the edit has no such key, lacks it, or it has another type
+  omaha: script F1 NotToml                  a key is there twice, or N is 2^63 or more
+  omaha: write                              standard output failed
+  omaha: memory                             out of memory
+What the edits say is checked by the server: see `omaha publish` and `omaha review`.
+
+Exit status: 0 if the script was printed, 1 if the command failed, 2 if the arguments are invalid.
+
+Example: a tenth of the clients of a cohort get its target.
+  omaha script --base 5 set_share app=editor cohort=stable share=100 |
+    omaha publish --to 127.0.0.1:8081 -";
+
+pub(crate) fn script_command<'a>(alloc: Global) -> Making<'a>
+    ensures { IsMade script_app result }
+{
+    let command = titled(alloc, "script", SCRIPT, AFTER_SCRIPT);
+    let command = with_wanted_option(alloc, command, "base", "N", BASE);
+    with_wanted_list(alloc, command, "WORD", WORDS)
+}
+
+// The number of `--base`.
+fn base_in(matches: &ArgMatches<'_>) -> Option<u64>
+    ensures { result ≡ base_in (rows_of (found_of matches.now)) }
+{
+    number_in(matches, "base", 1)
+}
+
+// The error for a `--base` that is no number, built like the errors of `clap`.
+fn invalid_base(alloc: Global) -> Result<Error, AllocError>
+    ensures { IfOk result (λ error. kind_of error ≡ ErrorKind.ValueValidation) }
+{
+    let mut command = script_command(alloc)?.bin_name("omaha script")?;
+    command.error(
+        ErrorKind::ValueValidation,
+        "N is a decimal number below 2^64",
+    )
+}
+
+// rule: Arguments of a script
+/// Reads the arguments of `script`.
+pub(crate) fn read_script(alloc: Global, matches: &ArgMatches<'_>) -> Result<Script, Error>
+    ensures faults { FailsBy (faults_of_script (rows_of (found_of matches.now))) result }
+    ensures script { IfOk result (λ script. script ≡ script_in (rows_of (found_of matches.now))) }
+{
+    let Some(base) = base_in(matches) else {
+        return Err(invalid_base(alloc)?);
+    };
+    let words = strings_in(alloc, matches, "WORD")?;
+    Ok(Script { base, words })
+}
