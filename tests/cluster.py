@@ -119,7 +119,7 @@ def main():
         environment = {**os.environ, **names, "PATH": f"{folder}:{os.environ['PATH']}"}
         how = {"cwd": folder, "env": environment, "stdout": subprocess.PIPE, "text": True}
         servers = subprocess.Popen(["./start.sh", "live.toml", EXAMPLES / "packages"], start_new_session=True, **how)
-        front = subprocess.Popen([nginx, "-p", folder, "-c", at / "nginx.conf", "-g", f"daemon off; pid {folder}/pid; error_log {folder}/errors;"])
+        front = subprocess.Popen([nginx, "-p", folder, "-c", at / "nginx.conf", "-e", at / "nginx.log", "-g", "daemon off;"])
         try:
             expect("ready", [servers.stdout.readline() for _ in range(3)], ["ready\n"] * 3)
             wait_for(ports[0])
