@@ -1,9 +1,8 @@
 // A disk that stops at each of its calls in turn: what a call that succeeded has stored is there afterwards, and nothing
 // else unless a call was in doubt.
 
-use crate::calls::are_records;
-use crate::disks::{Found, Fragile, crashed, empty_files, open};
-use kept_records::{AppendFault, Cause, Kind, Record, Records};
+use history_disks::{Disk, DiskHistory, Found, are_records};
+use kept_records::{AppendFault, Cause, Kind, Record};
 use std::alloc::Global;
 
 // The records after so many calls.
@@ -17,17 +16,17 @@ struct Outcome {
 }
 
 // Three appends, and then a compaction.
-fn call(history: &mut Fragile, alloc: Global, number: usize) -> Result<(), AppendFault> {
+fn call(history: &mut DiskHistory, alloc: Global, number: usize) -> Result<(), AppendFault> {
     match number {
         0 => history.append(alloc, Kind::Profile, b"A"),
         1 => history.append(alloc, Kind::Script, b"B"),
         2 => history.append(alloc, Kind::Raise, b"C"),
-        _ => history.compact(alloc, 7, b"Z"),
+        _ => history.compact(alloc, b"Z"),
     }
 }
 
 // Makes the calls until one fails; `None` if its cause isn't the disk, or if a closed history takes one more.
-fn call_all(history: &mut Fragile, alloc: Global) -> Option<Outcome> {
+fn call_all(history: &mut DiskHistory, alloc: Global) -> Option<Outcome> {
     for done in 0..4 {
         let in_doubt = match call(history, alloc, done) {
             Ok(()) => continue,
@@ -62,9 +61,10 @@ fn are_after(found: &[Record], outcome: Outcome) -> bool {
 // lost what they stored, or if the history could not be opened.
 fn run(alloc: Global, log_calls: u64) -> Option<usize> {
     let mut found = Found::new(alloc);
-    let mut history = open(alloc, empty_files(alloc, log_calls, u64::MAX), &mut found)?;
+    let disk = Disk::empty(alloc, log_calls, u64::MAX);
+    let mut history = DiskHistory::open(alloc, disk, &mut found)?;
     let outcome = call_all(&mut history, alloc);
-    let _again = open(alloc, crashed(history), &mut found)?;
+    let _again = DiskHistory::open(alloc, history.crash(), &mut found)?;
     let outcome = outcome?;
     are_after(&found.records, outcome).then_some(outcome.done)
 }

@@ -1,9 +1,7 @@
 // Histories in files of a disk in memory.
 
-use crate::calls::{are_records, follows};
-use crate::disks::{Found, Fused, connect, empty_files, open};
-use kept_records::{OpenFault, Records};
-use sqlite::{Connection, FileStore, Files};
+use history_disks::{Disk, DiskHistory, Found, are_records};
+use kept_records::OpenFault;
 use std::alloc::Global;
 
 // The calls on a new history; the number of the first record and the records that the next open finds.
@@ -15,24 +13,24 @@ c3:Y=ok c5:Z=ok | 5 | p:Z
 p:ABCDE=ok s:FGHIJK=full s:FGHIJ=ok r:K=full c2:ABCDEFGHIJK=full c2:ABCDEFGHIJ=ok | 2 | p:ABCDEFGHIJ";
 
 // Makes the calls of a row on a new history, and closes it.
-fn live(alloc: Global, calls: &str) -> Option<Files<Fused>> {
-    let files = empty_files(alloc, u64::MAX, u64::MAX);
-    let mut history = open(alloc, files, &mut Found::new(alloc))?;
-    let follows = follows(&mut history, alloc, calls) == Some(true);
-    let files = history.close().ok()?;
-    follows.then_some(files)
+fn live(alloc: Global, calls: &str) -> Option<Disk> {
+    let disk = Disk::empty(alloc, u64::MAX, u64::MAX);
+    let mut history = DiskHistory::open(alloc, disk, &mut Found::new(alloc))?;
+    let follows = history.follows(alloc, calls) == Some(true);
+    let disk = history.close()?;
+    follows.then_some(disk)
 }
 
-// The number of the first record of the history in two files.
-fn first_of(alloc: Global, files: Files<Fused>, found: &mut Found) -> Option<u64> {
-    let history = open(alloc, files, found)?;
+// The number of the first record of the history on a disk.
+fn first_of(alloc: Global, disk: Disk, found: &mut Found) -> Option<u64> {
+    let history = DiskHistory::open(alloc, disk, found)?;
     Some(history.first())
 }
 
-// Whether the next open of the files finds these records, from this number on.
-fn is_found(alloc: Global, files: Files<Fused>, first: &str, words: &str) -> Option<bool> {
+// Whether the next open of the disk finds these records, from this number on.
+fn is_found(alloc: Global, disk: Disk, first: &str, words: &str) -> Option<bool> {
     let mut found = Found::new(alloc);
-    let number = first_of(alloc, files, &mut found);
+    let number = first_of(alloc, disk, &mut found);
     Some(number == first.trim().parse().ok() && are_records(&found.records, words))
 }
 
@@ -69,27 +67,14 @@ R INSERT INTO record VALUES (1, 4, x'41')";
 const TABLE: &str =
     "CREATE TABLE record (number INTEGER PRIMARY KEY, kind INTEGER NOT NULL, bytes BLOB NOT NULL) STRICT";
 
-// Whether the statements run.
-fn runs(conn: &mut Connection<FileStore<Fused>>, sql: &str) -> bool {
-    conn.execute_batch(sql).is_ok()
-}
-
-// The files of a database that these statements make.
-fn made(alloc: Global, table: &str, rest: &str) -> Option<Files<Fused>> {
-    let mut conn = connect(alloc, empty_files(alloc, u64::MAX, u64::MAX))?;
-    let runs = runs(&mut conn, table) && runs(&mut conn, rest);
-    let files = conn.close_files().ok()?;
-    runs.then_some(files)
-}
-
 // Whether the next open rejects what the statements of a row make.
 fn is_foreign(alloc: Global, row: &str) -> Option<bool> {
-    let files = match row.strip_prefix("R ") {
-        Some(rest) => made(alloc, TABLE, rest)?,
-        None => made(alloc, row, "")?,
+    let disk = match row.strip_prefix("R ") {
+        Some(rest) => Disk::made(alloc, TABLE, rest)?,
+        None => Disk::made(alloc, row, "")?,
     };
     let mut found = Found::new(alloc);
-    let is_open = open(alloc, files, &mut found).is_some();
+    let is_open = DiskHistory::open(alloc, disk, &mut found).is_some();
     Some(!is_open && found.fault == Some(OpenFault::Foreign))
 }
 

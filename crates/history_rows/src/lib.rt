@@ -7,11 +7,7 @@
 #![tactic(auto)]
 
 #[cfg(test)]
-mod calls;
-#[cfg(test)]
 mod crash_tests;
-#[cfg(test)]
-mod disks;
 #[cfg(test)]
 mod file_tests;
 #[cfg(test)]

@@ -1,5 +1,5 @@
 -- The text of a script that words make; this project's format.
-use Rattle.std.specs.Prelude.{ℕ, ◌==◌, if◌then◌else◌, Bool, List, ◌∷◌, [], ◌++◌, codes, decimal, length, nat_lt, Result, Ok}
+use Rattle.std.specs.Prelude.{ℕ, ◌==◌, if◌then◌else◌, Bool, List, [], ◌++◌, codes, decimal, length, nat_lt, Result, Ok}
 use Rattle.std.specs.List.{after_first, before_first, flat_map, position_or_len}
 use Rattle.std.specs.Str.{bytes_eq}
 use Rattle.toml_writer.specs.Text.{key_text, string_text}

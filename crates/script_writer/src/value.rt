@@ -4,7 +4,7 @@ ghost use Rattle.std.specs.Prelude.{◌≡◌, ◌++◌, OnOk, Some};
 ghost use Rattle.std.specs.Char.{is_ascii_digit};
 ghost use Rattle.std.specs.List.{list_all};
 ghost use Rattle.toml_writer.specs.Text.{key_text, string_text};
-ghost use Rattle.script_writer.specs.Values.{are_names, is_bare, is_flag, is_natural, is_plain, is_separator, list_string, name_bytes, value_string};
+ghost use Rattle.script_writer.specs.Values.{are_names, is_bare, is_flag, is_natural, is_plain, list_string, name_bytes, value_string};
 
 use std::alloc::{AllocError, Global};
 use std::fmt;
@@ -38,11 +38,17 @@ impl fmt::Display for Key<'_> {
     }
 }
 
+fn are_digits(value: &str) -> bool
+    ensures { result ≡ list_all is_ascii_digit value.now }
+{
+    value.as_bytes().iter().all(|byte| byte.is_ascii_digit())
+}
+
 // Whether a value is decimal digits, at least one.
 fn is_natural(value: &str) -> bool
     ensures { result ≡ is_natural value.now }
 {
-    !value.is_empty() && value.as_bytes().iter().all(|byte| byte.is_ascii_digit())
+    !value.is_empty() && are_digits(value)
 }
 
 fn is_flag(value: &str) -> bool
@@ -68,11 +74,17 @@ fn is_plain(byte: u8) -> bool
     byte.is_ascii_graphic() && byte != b'"' && byte != b'\\'
 }
 
+fn are_plain(value: &str) -> bool
+    ensures { result ≡ list_all is_plain value.now }
+{
+    value.as_bytes().iter().all(|byte| is_plain(*byte))
+}
+
 // Whether a key's value is a list of names.
 fn are_names(key: &str, value: &str) -> bool
     ensures { result ≡ are_names key.now value.now }
 {
-    key == "cohorts" && value.as_bytes().iter().all(|byte| is_plain(*byte))
+    key == "cohorts" && are_plain(value)
 }
 
 // Adds a byte of a list of names: a comma is between two of them.
