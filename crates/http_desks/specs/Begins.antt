@@ -5,7 +5,7 @@ use Rattle.std.specs.Io.KnownBytes.{Appends}
 use Rattle.http_desks.specs.Calls.{Call, Leads}
 use Rattle.http_desks.specs.Downloads.{Downloads, Reads}
 use Rattle.http_desks.specs.Replies.{Answers, Writes, fetch_handled, fetch_reply, reply_to}
-use Rattle.http_desks.specs.Uses.{Asked, Broken, Fetch, Fetched, IsFetch, Mismatched, Misused, Nowhere, Read, Unknown, Untaken, Use, calls_of}
+use Rattle.http_desks.specs.Uses.{Asked, Barred, Broken, Fetch, Fetched, IsFetch, Mismatched, Misused, Nowhere, Read, Unknown, Untaken, Use, calls_of}
 use Rattle.http_desks.specs.declared.answering.Begun.{Begun}
 use Rattle.http_desks.specs.declared.answering.Begun.TheVariants as begun
 use Rattle.http_desks.specs.declared.answering.Handled.{Handled}
@@ -35,6 +35,7 @@ IsHeadAlone size (Broken blocks) = blocks ≡ []
 abbrev pub IsAtOnce : Use → Type 0
 IsAtOnce Nowhere = ⊤
 IsAtOnce Misused = ⊤
+IsAtOnce Barred = ⊤
 IsAtOnce (Asked moment answer) = ⊤
 IsAtOnce (Unknown name) = ⊤
 IsAtOnce (Untaken name declared) = ⊤

@@ -16,7 +16,7 @@ use Rattle.http_desks.specs.declared.desk.DeskStatus.TheVariants as answered
 use Rattle.http_desks.specs.declared.desk.Off.{Off as Reason}
 use Rattle.values.specs.declared.declared.Declared.{Declared}
 use Rattle.http_desks.specs.Calls.{Call, Leads}
-use Rattle.http_desks.specs.Uses.{Fetch, Mismatched, Read, Broken, IsFetch, Use, Nowhere, Misused, Asked, Unknown, Untaken, Fetched, calls_of}
+use Rattle.http_desks.specs.Uses.{Fetch, Mismatched, Read, Broken, IsFetch, Use, Nowhere, Misused, Barred, Asked, Unknown, Untaken, Fetched, calls_of}
 
 -- the status of the reply
 abbrev pub status_of : DeskStatus → Status
@@ -62,6 +62,7 @@ fetch_reply declared closes fetch =
 abbrev pub reply_to : List ℕ → Bool → Use → List ℕ
 reply_to kind closes Nowhere = empty_reply status.NotFound None closes
 reply_to kind closes Misused = empty_reply status.MethodNotAllowed (Some allow.Post) closes
+reply_to kind closes Barred = empty_reply status.Forbidden None closes
 reply_to kind closes (Asked moment answer) = answer_reply kind closes answer
 reply_to kind closes (Unknown name) = empty_reply status.NotFound None closes
 reply_to kind closes (Untaken name declared) = empty_reply status.MethodNotAllowed (Some allow.Get) closes
@@ -80,6 +81,7 @@ handled_of (Asked moment (Ok answer)) = Some Answered
 handled_of (Fetched name declared fetch) = fetch_handled declared.hash fetch
 handled_of Nowhere = Some Answered
 handled_of Misused = Some Answered
+handled_of Barred = Some Answered
 handled_of (Unknown name) = Some Answered
 handled_of (Untaken name declared) = Some Answered
 

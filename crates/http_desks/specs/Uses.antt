@@ -1,17 +1,34 @@
 -- What becomes of a whole message; this project's profile.
-use Rattle.std.specs.Prelude.{◌≡◌, ◌≢◌, ◌≤◌, ℕ, List, [], ◌∷◌, length, Option, None, Some, Result, if◌then◌else◌, bytes_eq, codes}
+use Rattle.std.specs.Prelude.{◌≡◌, ◌≢◌, ◌≤◌, ℕ, Bool, true, false, not, List, [], ◌∷◌, length, Option, None, Some, Result, if◌then◌else◌, bytes_eq, codes}
 use Rattle.http_heads.specs.Targets.{package_in, path_in}
 use Rattle.http_desks.specs.Downloads.{IsRead, Reads, ReadsFrom, full_blocks}
 use Rattle.http_desks.specs.declared.desk.DeskStatus.{DeskStatus}
 use Rattle.http_desks.specs.declared.desk.Off.{Off}
 use Rattle.values.specs.declared.declared.Declared.{Declared}
 use Rattle.http_desks.specs.declared.method.Method.{Method}
-use Rattle.http_desks.specs.declared.method.Method.TheVariants.{Get, Post, Other}
+use Rattle.http_desks.specs.declared.method.Method.TheVariants.{Get, Post, BrowserPost, Other}
 use Rattle.http_desks.specs.Calls.{Call, Asks, Looks}
 
--- the method of this name; case matters
-abbrev pub method_of : List ℕ → Method
-method_of name = if bytes_eq name (codes "GET") then Get else (if bytes_eq name (codes "POST") then Post else Other)
+-- a POST, which a browser sends or not
+abbrev pub post_of : Bool → Method
+post_of browser = if browser then BrowserPost else Post
+
+-- the method of this name, by whether a browser sends the message; case matters
+abbrev pub method_of : List ℕ → Bool → Method
+method_of name browser =
+    if bytes_eq name (codes "GET") then Get else (if bytes_eq name (codes "POST") then post_of browser else Other)
+
+-- rule: Desk that no browser asks
+-- the desk of the operator's path; browsers may ask any other
+abbrev pub is_operators : List ℕ → Bool
+is_operators path = bytes_eq path (codes "/operate")
+
+-- the desk of this path is asked for a message of this method
+abbrev pub is_asked : List ℕ → Method → Bool
+is_asked path Get = false
+is_asked path Post = true
+is_asked path BrowserPost = not (is_operators path)
+is_asked path Other = false
 
 -- what a target names
 pub data Route : Type 0 where
@@ -36,11 +53,12 @@ pub data Fetch : Type 0 where
   Broken : List (List ℕ) → Fetch
 
 -- what becomes of a message: its target names nothing; it has another method than POST at the desk;
--- the desk was asked at this timestamp, and this was returned; no package has the name; it
--- has another method than GET at a package; or the package is sent
+-- a browser sends it to a desk that no browser asks; the desk was asked at this timestamp, and this was
+-- returned; no package has the name; it has another method than GET at a package; or the package is sent
 pub data Use : Type 0 where
   Nowhere : Use
   Misused : Use
+  Barred : Use
   Asked : ℕ → Result (DeskStatus × List ℕ) Off → Use
   Unknown : List ℕ → Use
   Untaken : List ℕ → Declared → Use
@@ -50,6 +68,7 @@ pub data Use : Type 0 where
 abbrev pub calls_of : List ℕ → Use → List Call
 calls_of body Nowhere = []
 calls_of body Misused = []
+calls_of body Barred = []
 calls_of body (Asked moment answer) = Asks body moment answer ∷ []
 calls_of body (Unknown name) = Looks name None ∷ []
 calls_of body (Untaken name declared) = Looks name (Some declared) ∷ []
@@ -67,9 +86,12 @@ IsFetch sizes reads size (Broken blocks) =
 abbrev pub IsUse :
     List ℕ → (ℕ → Type 0) → (List ℕ → Option ℕ → Type 0) → (List ℕ → Reads) → Method → List ℕ → Use → Type 0
 IsUse path tells sizes reads method target Nowhere = route_of path target ≡ Elsewhere
-IsUse path tells sizes reads method target Misused = (route_of path target ≡ AtDesk) × (method ≢ Post)
+IsUse path tells sizes reads method target Misused =
+    (route_of path target ≡ AtDesk) × (method ≢ Post) × (method ≢ BrowserPost)
+IsUse path tells sizes reads method target Barred =
+    (route_of path target ≡ AtDesk) × (method ≡ BrowserPost) × (is_operators path ≡ true)
 IsUse path tells sizes reads method target (Asked moment answer) =
-    (route_of path target ≡ AtDesk) × (method ≡ Post) × tells moment
+    (route_of path target ≡ AtDesk) × (is_asked path method ≡ true) × tells moment
 IsUse path tells sizes reads method target (Unknown name) = route_of path target ≡ AtPackage name
 IsUse path tells sizes reads method target (Untaken name declared) =
     (route_of path target ≡ AtPackage name) × (method ≢ Get)
@@ -81,6 +103,7 @@ abbrev pub IsAsked : (ℕ → Type 0) → Use → Type 0
 IsAsked tells (Asked moment answer) = tells moment
 IsAsked tells Nowhere = ⊥
 IsAsked tells Misused = ⊥
+IsAsked tells Barred = ⊥
 IsAsked tells (Unknown name) = ⊥
 IsAsked tells (Untaken name declared) = ⊥
 IsAsked tells (Fetched name declared fetch) = ⊥
@@ -93,4 +116,5 @@ IsRouted sizes reads method path (Fetched name declared fetch) =
     (name ≡ path) × (method ≡ Get) × IsFetch sizes reads declared.size fetch
 IsRouted sizes reads method path Nowhere = ⊥
 IsRouted sizes reads method path Misused = ⊥
+IsRouted sizes reads method path Barred = ⊥
 IsRouted sizes reads method path (Asked moment answer) = ⊥

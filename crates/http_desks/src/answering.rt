@@ -2,7 +2,7 @@ ghost use Rattle.std.specs.Prelude.{◌≡◌, ◌+◌, ℕ, length, Some, is_ok
 ghost use Rattle.http_desks.specs.declared.answering.Handled.TheVariants.{Answered};
 ghost use Rattle.http_desks.specs.Begins.{Begins, done_of};
 ghost use Rattle.http_desks.specs.Replies.{Answers, Writes, empty_reply, kind_for};
-ghost use Rattle.http_desks.specs.Uses.{IsAsked, IsRouted, IsUse};
+ghost use Rattle.http_desks.specs.Uses.{IsAsked, IsRouted, IsUse, is_operators};
 
 use crate::clock::Clock;
 use crate::desk::Desk;
@@ -151,6 +151,14 @@ fn deny<W: Sink>(
     }
 }
 
+// rule: Desk that no browser asks
+// Whether a desk of this path is the operator's.
+fn is_operators(path: &[u8]) -> bool
+    ensures { result ≡ is_operators path.now }
+{
+    path == b"/operate".as_slice()
+}
+
 // rule: Route of a message
 // rule: Use of a message
 // rule: Reply that is begun
@@ -176,7 +184,12 @@ pub fn begin<'a, W: Sink, D: Desk, Z: Packages + Clock>(
     let path = path_of(request.target);
     if path == desk.path().as_bytes() {
         return done(match request.method {
-            Method::Post => ask(sink, block, desk, site, request.body, request.closes),
+            Method::BrowserPost if is_operators(path) => {
+                deny(sink, block, Status::Forbidden, None, request.closes)
+            }
+            Method::Post | Method::BrowserPost => {
+                ask(sink, block, desk, site, request.body, request.closes)
+            }
             _ => deny(
                 sink,
                 block,
@@ -195,9 +208,9 @@ pub fn begin<'a, W: Sink, D: Desk, Z: Packages + Clock>(
 /// Writes the reply to a message, and returns how it came out.
 ///
 /// 404 if the target names neither the desk nor a package that the desk knows; 405 if the method is
-/// another; the desk's reply, or 500 if the desk is off; or the package. `block` has 65536 bytes.
-/// The packages and the time are those of the site. A failure finds a first part of the reply
-/// written, and not all.
+/// another; 403 if a browser posts to the operator's desk; the desk's reply, or 500 if the desk is
+/// off; or the package. `block` has 65536 bytes. The packages and the time are those of the site. A
+/// failure finds a first part of the reply written, and not all.
 pub fn answer<W: Sink, D: Desk, Z: Packages + Clock>(
     sink: &mut W,
     block: &mut [u8],

@@ -8,19 +8,25 @@ pub enum Method {
     Get,
     /// POST, for a desk.
     Post,
+    /// POST of a browser, for a desk that browsers may ask.
+    BrowserPost,
     /// Any other.
     Other,
 }
 
 impl Method {
-    /// Returns the method of this name; case matters.
-    pub fn of(name: &[u8]) -> Method
-        ensures { result ≡ method_of name.now }
+    /// Returns the method of this name, by whether a browser sends the message; case matters.
+    pub fn of(name: &[u8], is_browsers: bool) -> Method
+        ensures { result ≡ method_of name.now is_browsers }
     {
         if name == b"GET".as_slice() {
             Method::Get
         } else if name == b"POST".as_slice() {
-            Method::Post
+            if is_browsers {
+                Method::BrowserPost
+            } else {
+                Method::Post
+            }
         } else {
             Method::Other
         }

@@ -11,6 +11,7 @@ use Rattle.http_heads.specs.declared.reply.Allow.TheVariants as allow
 unfoldable pub status_line : Status → List ℕ
 status_line status.Success = codes "HTTP/1.1 200 OK\r\n"
 status_line status.BadRequest = codes "HTTP/1.1 400 Bad Request\r\n"
+status_line status.Forbidden = codes "HTTP/1.1 403 Forbidden\r\n"
 status_line status.NotFound = codes "HTTP/1.1 404 Not Found\r\n"
 status_line status.MethodNotAllowed = codes "HTTP/1.1 405 Method Not Allowed\r\n"
 status_line status.Conflict = codes "HTTP/1.1 409 Conflict\r\n"

@@ -1,8 +1,9 @@
 //! What the head of a request says of its message, and the head of a reply.
 //!
 //! `framing` gives the length of the body, or the status that rejects the message; `wants_close`
-//! whether the connection ends after the reply; `path_of` and `package_name` what the target names.
-//! A `ReplyHead` is what a reply's head says. Read `specs/Framing.antt`, `specs/Closing.antt`,
+//! whether the connection ends after the reply; `is_from_browser` whether a browser sends the
+//! message; `path_of` and `package_name` what the target names. A `ReplyHead` is what a reply's head
+//! says. Read `specs/Framing.antt`, `specs/Closing.antt`, `specs/Browsers.antt`,
 //! `specs/Targets.antt` and `specs/Replies.antt`.
 //!
 //! It does not parse a head: that is the kit's `httparse`. It does not read or write.
@@ -10,6 +11,7 @@
 #![tactic(auto)]
 
 mod body_length;
+mod browser;
 mod closing;
 mod field;
 mod reply;
@@ -17,6 +19,7 @@ mod status;
 mod target;
 
 pub use crate::body_length::{MAX_BODY, framing};
+pub use crate::browser::is_from_browser;
 pub use crate::closing::wants_close;
 pub use crate::reply::{Allow, ReplyHead, allow_field, last_field};
 pub use crate::status::Status;

@@ -8,6 +8,8 @@ pub enum Status {
     Success,
     /// 400: the message is malformed.
     BadRequest,
+    /// 403: no browser may ask the desk.
+    Forbidden,
     /// 404: nothing has this path.
     NotFound,
     /// 405: the path takes another method.
@@ -38,6 +40,7 @@ impl Status {
         match self {
             Status::Success => "HTTP/1.1 200 OK\r\n",
             Status::BadRequest => "HTTP/1.1 400 Bad Request\r\n",
+            Status::Forbidden => "HTTP/1.1 403 Forbidden\r\n",
             Status::NotFound => "HTTP/1.1 404 Not Found\r\n",
             Status::MethodNotAllowed => "HTTP/1.1 405 Method Not Allowed\r\n",
             Status::Conflict => "HTTP/1.1 409 Conflict\r\n",

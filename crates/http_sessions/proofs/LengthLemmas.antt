@@ -9,12 +9,14 @@ use Rattle.httparse.specs.Grammar.{RequestHead}
 use Rattle.httparse.specs.Spans.{IsRequestAt, header_bytes, name_and_value, span_bytes}
 use Rattle.httparse.specs.declared.spans.HeaderSpan.{HeaderSpan}
 use Rattle.httparse.specs.declared.spans.RequestSpans.{RequestSpans}
+use Rattle.http_heads.specs.Browsers.{is_from_browser}
 use Rattle.http_heads.specs.Closing.{closes_after}
 use Rattle.http_heads.specs.Fields.{Pair, is_named, values_named}
 use Rattle.http_heads.specs.Framing.{framing_of, is_number, length_by, length_in}
 use Rattle.http_heads.specs.declared.status.Status.{Status}
 use Rattle.http_heads.specs.declared.status.Status.TheVariants as status
-use Rattle.http_sessions.specs.Messages.{asks_close, fields_of, message_length}
+use Rattle.http_desks.specs.Uses.{method_of}
+use Rattle.http_sessions.specs.Messages.{asks_close, fields_of, message_length, method_in}
 
 number_bound :
     (number small : Bool) (value n : ℕ) →
@@ -112,3 +114,13 @@ pub plan_closes :
 plan_closes bytes places spans head at =
     ap (λ (minor : ℕ). closes_after minor (map (header_bytes bytes) (take spans.headers places))) at.version
     ∙ ap (closes_after head.minor) at.fields
+
+-- the method, by whether a browser sends the message
+pub plan_method :
+    (bytes method : List ℕ) (places : List HeaderSpan) (spans : RequestSpans) (head : RequestHead) →
+    IsRequestAt bytes places spans head →
+    method ≡ span_bytes bytes spans.method →
+    method_of method (is_from_browser (map (header_bytes bytes) (take spans.headers places))) ≡ method_in head
+plan_method bytes method places spans head at named =
+    ap (λ (name : List ℕ). method_of name (is_from_browser (map (header_bytes bytes) (take spans.headers places)))) (named ∙ at.method)
+    ∙ ap (λ (fields : List Pair). method_of head.method (is_from_browser fields)) at.fields

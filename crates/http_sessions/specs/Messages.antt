@@ -3,6 +3,7 @@
 use Rattle.std.specs.Prelude.{◌≡◌, ◌≤◌, ℕ, Bool, ◌||◌, false, List, ◌++◌, length, map, Some, Result, Ok, Err, if◌then◌else◌, nat_le}
 use Rattle.httparse.specs.Grammar.{IsRequestHead, ReadsRequest, RequestHead, print_request}
 use Rattle.httparse.specs.Spans.{name_and_value}
+use Rattle.http_heads.specs.Browsers.{is_from_browser}
 use Rattle.http_heads.specs.Closing.{closes_after}
 use Rattle.http_heads.specs.Fields.{Pair}
 use Rattle.http_heads.specs.Framing.{framing_of}
@@ -34,6 +35,10 @@ unfoldable pub message_length : RequestHead → Result ℕ Status
 message_length head =
     if nat_le (length head.fields) 64 then framing_of head.method (fields_of head) else Err status.BadRequest
 
+-- the method, by whether a browser sends the message
+abbrev pub method_in : RequestHead → Method
+method_in head = method_of head.method (is_from_browser (fields_of head))
+
 -- the head asks for the end of the connection
 abbrev pub asks_close : RequestHead → Bool
 asks_close head = closes_after head.minor (fields_of head)
@@ -51,7 +56,7 @@ pub record IsExchange (IsFit : Method → List ℕ → Use → Type 0) (e : Exch
   pub head : IsRequestHead e.head
   pub short : length (print_request e.head) ≤ 16384
   pub framed : message_length e.head ≡ Ok (length e.body)
-  pub fits : IsFit (method_of e.head.method) e.head.target e.used
+  pub fits : IsFit (method_in e.head) e.head.target e.used
 
 -- the connection goes on after it: no end was asked for, and the reply is whole
 pub record IsOpen (IsFit : Method → List ℕ → Use → Type 0) (e : Exchange) : Type 0 where

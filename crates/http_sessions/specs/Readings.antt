@@ -6,20 +6,19 @@ use Rattle.http_heads.specs.declared.status.Status.{Status}
 use Rattle.http_heads.specs.declared.status.Status.TheVariants as status
 use Rattle.http_wire.specs.Heads.{IsLongHead, IsPartOfHead}
 use Rattle.values.specs.declared.failed.Failed.{Failed}
-use Rattle.http_desks.specs.Uses.{method_of}
 use Rattle.http_sessions.specs.declared.foreseeing.Foreseen.{Foreseen}
 use Rattle.http_sessions.specs.declared.foreseeing.Found.{Found}
 use Rattle.http_sessions.specs.declared.foreseeing.Foreseen.TheVariants as foreseen
 use Rattle.http_sessions.specs.declared.message.Message.{Message}
 use Rattle.http_sessions.specs.declared.message.Message.TheVariants.{Whole, Rejected, Ended}
 use Rattle.http_sessions.specs.declared.message.Plan.{Plan}
-use Rattle.http_sessions.specs.Messages.{BeginsWith, asks_close, message_length}
+use Rattle.http_sessions.specs.Messages.{BeginsWith, asks_close, message_length, method_in}
 use Rattle.http_sessions.specs.Stops.{IsPartOfBody, end_with}
 
 -- what the head says of its message
 abbrev pub IsPlanOf : RequestHead → Result Plan Status → Type 0
 IsPlanOf head (Ok plan) =
-    (message_length head ≡ Ok plan.size) × (plan.method ≡ method_of head.method) × (plan.closes ≡ asks_close head)
+    (message_length head ≡ Ok plan.size) × (plan.method ≡ method_in head) × (plan.closes ≡ asks_close head)
 IsPlanOf head (Err why) = message_length head ≡ Err why
 
 -- the bytes are a message of this plan, and others, which wait
@@ -51,7 +50,7 @@ pub record IsFound (bytes : List ℕ) (found : Found) : Type 0 where
   pub valid : IsRequestHead head
   pub short : length (print_request head) ≤ 16384
   pub framed : message_length head ≡ Ok (length found.request.body.now)
-  pub method : found.request.method ≡ method_of head.method
+  pub method : found.request.method ≡ method_in head
   pub target : found.request.target.now ≡ head.target
   pub closes : found.request.closes ≡ asks_close head
   pub whole : bytes ≡ (print_request head ++ found.request.body.now) ++ after
