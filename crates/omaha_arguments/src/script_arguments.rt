@@ -33,7 +33,7 @@ const AFTER_SCRIPT: &str = "A word without `=` begins an edit, and each word KEY
   set_audience   app version [cohorts]
   set_floor      app version floor
 `on` is true or false, and `cohorts` is names with commas between them. docs/PROFILE.md describes
-the keys. A word `--` may stand between two edits.
+the keys. A word `--` may be between two edits.
 
 If the command fails, it prints one line on standard error.
   omaha: script F3 BadEntry edit[0].share   the edit has no such key, lacks it, or it has another type

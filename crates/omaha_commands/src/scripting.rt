@@ -25,7 +25,7 @@ fn script_of(alloc: Global, asked: &Script) -> Result<Vec<u8>, Failure>
 }
 
 // rule: Printed script
-/// Prints the script of words.
+/// Prints the script that is typed.
 ///
 /// Fails with the fault that the script would have, and prints nothing then. If the writer fails, a first part is
 /// printed, and not all of it.

@@ -1,4 +1,4 @@
--- The text of a script that words make; this project's format.
+-- The bytes of a script that an operator types; this project's format.
 use Rattle.std.specs.Prelude.{ℕ, ◌==◌, if◌then◌else◌, Bool, List, [], ◌++◌, codes, decimal, length, nat_lt, Result, Ok}
 use Rattle.std.specs.List.{after_first, before_first, flat_map, position_or_len}
 use Rattle.std.specs.Str.{bytes_eq}
@@ -38,11 +38,11 @@ words_string words = flat_map word_string words
 abbrev pub head_string : ℕ → List ℕ
 head_string base = codes "schema = 2\nbase = " ++ (decimal base ++ codes "\n")
 
--- the text of a script that words make
+-- the bytes of what is typed
 abbrev pub script_string : ℕ → List (List ℕ) → List ℕ
 script_string base words = head_string base ++ words_string words
 
--- rule: Script of words
--- the text, if it is read as a script; else the fault of reading it
+-- rule: Typed script
+-- the bytes, if they are read as a script; else the fault of reading them
 abbrev pub script_written : ℕ → List (List ℕ) → Result (List ℕ) ProfileFault
 script_written base words = script_of_bytes (script_string base words) >>= λ script. Ok (script_string base words)

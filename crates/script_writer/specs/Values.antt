@@ -18,7 +18,7 @@ is_bare key value =
     if bytes_eq key (codes "size") || bytes_eq key (codes "share") then is_natural value
     else (bytes_eq key (codes "on") && is_flag value)
 
--- the byte stands for itself between quotes: visible, and neither a quote nor a backslash
+-- the byte is the same between quotes: visible, and neither a quote nor a backslash
 abbrev pub is_plain : ℕ → Bool
 is_plain byte = is_ascii_graphic byte && not (byte == 34) && not (byte == 92)
 

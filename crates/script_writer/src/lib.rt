@@ -1,4 +1,4 @@
-//! Scripts that are written from words, as an operator types them.
+//! Scripts that an operator types, written as TOML.
 //!
 //! `write_script` makes the TOML document of a script: a word without `=` begins an edit, and each word `KEY=VALUE` after
 //! it is one of its keys. Read `specs/Lines.antt`. What it returns is read by `profile_toml::read_script`, so words that

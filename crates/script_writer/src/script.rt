@@ -1,4 +1,4 @@
-//! Scripts of words.
+//! Typed scripts.
 
 ghost use Rattle.std.specs.Prelude.{◌≡◌, ◌++◌, IfOk, OnOk, string_bytes};
 ghost use Rattle.values.specs.Reading.{Reads};
@@ -33,7 +33,7 @@ fn write_lines(alloc: Global, base: u64, words: &[Text]) -> Result<Vec<u8>, Allo
     Ok(text)
 }
 
-// rule: Script of words
+// rule: Typed script
 /// Writes a script of schema 2 for the edition of number `base`.
 ///
 /// A word without `=` is the `do` of the next edit, and each word `KEY=VALUE` one of its keys. The value of `size` and of

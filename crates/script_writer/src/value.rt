@@ -67,7 +67,7 @@ fn is_bare(key: &str, value: &str) -> bool
     key == "on" && is_flag(value)
 }
 
-// Whether a byte stands for itself between quotes.
+// Whether a byte is the same between quotes.
 fn is_plain(byte: u8) -> bool
     ensures { result ≡ is_plain byte }
 {
