@@ -24,6 +24,11 @@ pub enum OpenError {
 }
 
 impl From<AllocError> for OpenError {
+    ghost use Rattle.std.specs.Prelude.{◌≡◌};
+    ghost use Rattle.systems.specs.declared.system.OpenError.TheVariants.{Memory};
+
+    ghost from_gives = { λ _ error. error ≡ Memory };
+
     fn from(_refused: AllocError) -> OpenError {
         OpenError::Memory
     }
