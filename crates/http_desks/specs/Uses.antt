@@ -19,15 +19,11 @@ method_of name browser =
     if bytes_eq name (codes "GET") then Get else (if bytes_eq name (codes "POST") then post_of browser else Other)
 
 -- rule: Desk that no browser asks
--- the desk of the operator's path; browsers may ask any other
-abbrev pub is_operators : List ℕ → Bool
-is_operators path = bytes_eq path (codes "/operate")
-
--- the desk of this path is asked for a message of this method
+-- the desk of this path is asked for a message of this method; no browser asks the operator's
 abbrev pub is_asked : List ℕ → Method → Bool
 is_asked path Get = false
 is_asked path Post = true
-is_asked path BrowserPost = not (is_operators path)
+is_asked path BrowserPost = not (bytes_eq path (codes "/operate"))
 is_asked path Other = false
 
 -- what a target names
@@ -87,9 +83,9 @@ abbrev pub IsUse :
     List ℕ → (ℕ → Type 0) → (List ℕ → Option ℕ → Type 0) → (List ℕ → Reads) → Method → List ℕ → Use → Type 0
 IsUse path tells sizes reads method target Nowhere = route_of path target ≡ Elsewhere
 IsUse path tells sizes reads method target Misused =
-    (route_of path target ≡ AtDesk) × (method ≢ Post) × (method ≢ BrowserPost)
+    (route_of path target ≡ AtDesk) × (is_asked path method ≡ false) × (method ≢ BrowserPost)
 IsUse path tells sizes reads method target Barred =
-    (route_of path target ≡ AtDesk) × (method ≡ BrowserPost) × (is_operators path ≡ true)
+    (route_of path target ≡ AtDesk) × (is_asked path method ≡ false) × (method ≡ BrowserPost)
 IsUse path tells sizes reads method target (Asked moment answer) =
     (route_of path target ≡ AtDesk) × (is_asked path method ≡ true) × tells moment
 IsUse path tells sizes reads method target (Unknown name) = route_of path target ≡ AtPackage name

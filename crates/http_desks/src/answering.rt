@@ -2,7 +2,7 @@ ghost use Rattle.std.specs.Prelude.{◌≡◌, ◌+◌, ℕ, length, Some, is_ok
 ghost use Rattle.http_desks.specs.declared.answering.Handled.TheVariants.{Answered};
 ghost use Rattle.http_desks.specs.Begins.{Begins, done_of};
 ghost use Rattle.http_desks.specs.Replies.{Answers, Writes, empty_reply, kind_for};
-ghost use Rattle.http_desks.specs.Uses.{IsAsked, IsRouted, IsUse, is_operators};
+ghost use Rattle.http_desks.specs.Uses.{IsAsked, IsRouted, IsUse, is_asked};
 
 use crate::clock::Clock;
 use crate::desk::Desk;
@@ -152,11 +152,15 @@ fn deny<W: Sink>(
 }
 
 // rule: Desk that no browser asks
-// Whether a desk of this path is the operator's.
-fn is_operators(path: &[u8]) -> bool
-    ensures { result ≡ is_operators path.now }
+// Whether the desk of this path is asked for a message of this method: no browser asks the operator's.
+fn is_asked(path: &[u8], method: Method) -> bool
+    ensures { result ≡ is_asked path.now method }
 {
-    path == b"/operate".as_slice()
+    match method {
+        Method::Post => true,
+        Method::BrowserPost => path != b"/operate".as_slice(),
+        Method::Get | Method::Other => false,
+    }
 }
 
 // rule: Route of a message
@@ -183,13 +187,11 @@ pub fn begin<'a, W: Sink, D: Desk, Z: Packages + Clock>(
 {
     let path = path_of(request.target);
     if path == desk.path().as_bytes() {
+        if is_asked(path, request.method) {
+            return done(ask(sink, block, desk, site, request.body, request.closes));
+        }
         return done(match request.method {
-            Method::BrowserPost if is_operators(path) => {
-                deny(sink, block, Status::Forbidden, None, request.closes)
-            }
-            Method::Post | Method::BrowserPost => {
-                ask(sink, block, desk, site, request.body, request.closes)
-            }
+            Method::BrowserPost => deny(sink, block, Status::Forbidden, None, request.closes),
             _ => deny(
                 sink,
                 block,
