@@ -22,10 +22,11 @@ module _ (nearer : EdgesLeadNearer) (fulls : FullsLeadNearer) (are_sized : Edges
   below zero within settled = settled
   below (suc left) within (rows, settled) =
       let row = best rows (edges_from net left) in
-      below left (omega arith)
-      (
+      let step : suc left ≡ left + 1 = omega arith in
+      below left (omega arith) (
         set rows left row.0,
-        AreSettled-below nearer fulls are_sized net graph rows left row.0 (omega arith) settled row.1,
+        AreSettled-below nearer fulls are_sized net graph rows left row.0 (omega arith)
+            (subst (λ (n : ℕ). AreSettled net rows n (net.target + 1)) step settled) row.1,
       )
 
   -- and up from it, if so many are left above
@@ -33,8 +34,7 @@ module _ (nearer : EdgesLeadNearer) (fulls : FullsLeadNearer) (are_sized : Edges
   above zero from past all settled = subst (Rows 0) (let same : from ≡ length net.doors = omega arith in same) settled
   above (suc left) from past all (rows, settled) =
       let row = best rows (edges_from net from) in
-      above left (from + 1) (omega arith) (omega arith)
-      (
+      above left (from + 1) (omega arith) (omega arith) (
         set rows from row.0,
         AreSettled-above nearer fulls are_sized net graph rows from row.0 past (omega arith) settled row.1,
       )
