@@ -128,10 +128,9 @@ module _ (mirrors : List Mirror) (service : Service) (index : ℕ) (worker : Wor
   }
 
   -- the replies of a worker whose last job ended without one
-  sent-none : (job : Job) (new : Worker) → new.ended ≡ worker.ended ++ record { job = job; rendered = None } ∷ [] →
-      sent_in new ≡ sent ++ []
-  sent-none job new is =
-      ap (flat_map sent_for) is ∙ flat-push sent_for worker.ended (record { job = job; rendered = None })
+  sent-none : (job : Job) → flat_map sent_for (worker.ended ++ record { job = job; rendered = None } ∷ []) ≡ sent ++ []
+  sent-none job =
+      flat-push sent_for worker.ended (record { job = job; rendered = None })
       ∙ ap (λ (all : List Sent). all ++ []) between.sent
 
   module _ (history : History) (enters : Enters before.sight history after.sight) (published : history ≡ service.history)
@@ -152,7 +151,7 @@ module _ (mirrors : List Mirror) (service : Service) (index : ℕ) (worker : Wor
             ∙ looks mirrors service.history service.workers index worker there worker.seen worker.ended worker.share
             service.books)
             refl seen-now (λ mirror. refl)
-            (sent-none (record { number = count; pending = None }) _ refl) (asked ∙ sym (append-nil before.asks));
+            (sent-none (record { number = count; pending = None })) (asked ∙ sym (append-nil before.asks));
       }
 
       -- the content of what is published
@@ -194,7 +193,7 @@ module _ (mirrors : List Mirror) (service : Service) (index : ℕ) (worker : Wor
                         outcomes = map (λ (ask : Ask). ask.1) asks;
                         tried = 0;
                       });
-                    }) _ refl)
+                    }))
                     asked;
               }
 
@@ -233,7 +232,7 @@ module _ (mirrors : List Mirror) (service : Service) (index : ℕ) (worker : Wor
                     worker.share service.books request has.tables plan has.certified has.chosen some asks rest parts named
                     has-room moment
                     (eq-eqb (length own.outcomes) (length (bytes_asked plan))
-                    (length-map (λ (ask : Ask). ask.1) asks ∙ sym all)))
+                    (length-map asks (λ (ask : Ask). ask.1) ∙ sym all)))
                     refl seen-now (λ mirror. refl)
                     (flat-push sent_for worker.ended job
                     ∙ ap (λ (old : List Sent). old ++ sent_for job) between.sent
@@ -263,7 +262,7 @@ module _ (mirrors : List Mirror) (service : Service) (index : ℕ) (worker : Wor
           replied request reply.plan reply.planned asks []
           (sym are.sizes ∙ sym (append-nil (map (λ (ask : Ask). ask.0) asks)))
           are.named reply.asked.asked room reply.outcomes moment text
-          (ap (λ (sizes : List ℕ). length sizes) (sym are.sizes) ∙ length-map (λ (ask : Ask). ask.0) asks)
+          (ap (λ (sizes : List ℕ). length sizes) (sym are.sizes) ∙ length-map asks (λ (ask : Ask). ask.0))
           are.by_app reply.written
 
       -- memory ran out

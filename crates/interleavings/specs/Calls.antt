@@ -97,11 +97,11 @@ sent_in worker = flat_map sent_for worker.ended
 
 -- a worker of the machine between two calls: it has no job, it has seen as many batches as its view, each of its shares is
 -- what the mirror granted of its asks, and it sent these replies
-pub record IsBetween (progress : Progress) (sent : List Sent) (worker : Worker) : Type 0 where
+pub record IsBetween (progress : Progress) (replies : List Sent) (worker : Worker) : Type 0 where
   pub idle : worker.job ≡ None
   pub seen : worker.seen ≡ progress.sight.seen
   pub shares : (mirror : ℕ) → worker.share mirror ≡ granted_at mirror progress.asks
-  pub sent : sent_in worker ≡ sent
+  pub sent : sent_in worker ≡ replies
 
 -- if the view entered anything, that is what is published
 abbrev pub EntersPublished : History → Progress → Progress → Type 0
