@@ -287,6 +287,8 @@ def commands():
         Command("check, with packages", ["check", str(EXAMPLES / "mini.toml"), "--packages", packages]),
         Command("describe", ["describe", f"{packages}/mini-1.0.bin", f"{packages}/mini-2.0.bin"]),
         Command("explain", ["explain"]),
+        Command("script", ["script", "--base", "1", "set_share", "app=demo", "cohort=stable", "share=100", "--", "set_audience", "app=demo", "version=1.0", "cohorts=stable,beta"]),
+        Command("script, no script", ["script", "--base", "1", "set_share", "app=demo", "share=a"], b"", 1),
         Command("review", ["review", chains]),
         Command("review, with a script", ["review", str(EXAMPLES / "live.toml"), "--script", str(EXAMPLES / "scripts" / "stage.toml")]),
     ]
