@@ -10,6 +10,7 @@
 
 #![tactic(auto)]
 
+mod drained;
 mod lingering;
 mod passing;
 mod port;

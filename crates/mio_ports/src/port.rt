@@ -1,6 +1,7 @@
 ghost use Rattle.std.specs.Prelude.{◌≡◌, ◌≤◌, ℕ, [], IfSome, vec_len};
 ghost use Rattle.port_books.specs.Books.{accepted_in};
 
+use crate::drained::DrainedList;
 use crate::lingering::LingeringList;
 use crate::times::Times;
 use crate::waiting_list::WaitingList;
@@ -51,6 +52,8 @@ pub struct MioPort<'a, R: Wait> {
     pub(crate) is_due: bool,
     pub(crate) looked: usize,
     pub(crate) lingering: LingeringList,
+    // the slots at which nothing is to be read
+    pub(crate) drained: DrainedList,
     ghost few: { accepted ≤ terms.limit },
     ghost sized: { vec_len book.places ≡ terms.capacity },
     ghost counted: { accepted ≡ accepted_in book.moves },
@@ -92,6 +95,7 @@ impl<'a, R: Wait + Net + Clock + AllocGlobal> MioPort<'a, R> {
         let peers = addresses(alloc, slots).ok()?;
         let times = Times::new(alloc, slots).ok()?;
         let lingering = LingeringList::new(alloc).ok()?;
+        let drained = DrainedList::new(alloc, slots).ok()?;
         let events = Events::with_capacity(alloc, EVENTS).ok()?;
         let poll = Poll::new(rt).ok()?;
         let start = Instant::now(rt).ok()?;
@@ -118,6 +122,7 @@ impl<'a, R: Wait + Net + Clock + AllocGlobal> MioPort<'a, R> {
             is_due: false,
             looked: slots,
             lingering,
+            drained,
         })
     }
 }

@@ -129,6 +129,7 @@ impl<R: Wait + Clock> MioPort<'_, R> {
         match self.accept_at(slot) {
             Some(stream) => {
                 self.times.accepted(slot);
+                self.drained.accepted(slot);
                 self.book.accept(slot, stream);
                 self.accepted = accepted;
                 Some(Event::Accepted(slot))

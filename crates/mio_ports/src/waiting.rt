@@ -55,6 +55,7 @@ impl<R: Wait + Clock> MioPort<'_, R> {
                 self.knocks = true;
             } else {
                 self.ready.push(token);
+                self.drained.reported(token, event.is_read_closed());
             }
         }
         self.turns = self.ready.len();
@@ -104,10 +105,17 @@ impl<R: Wait + Clock> Port for MioPort<'_, R> {
     }
 
     fn read(&mut self, slot: usize, into: &mut [u8]) -> Received {
-        let received = read_stream(self.book.stream(slot), into);
+        let received = if self.drained.has(slot) {
+            Received::Nothing
+        } else {
+            read_stream(self.book.stream(slot), into)
+        };
         note_read(&mut self.book, slot, into, received);
-        if let Received::Bytes(_) = received {
+        if let Received::Bytes(count) = received {
             self.times.read(slot);
+            if count < into.len() {
+                self.drained.read(slot);
+            }
         }
         received
     }
