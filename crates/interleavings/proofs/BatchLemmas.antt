@@ -1,12 +1,12 @@
 -- The tasks of a service's workers are done by events, batch by batch.
-use Rattle.std.proofs.Common.{◌≡◌, ℕ, zero, suc, ◌+◌, ◌<◌, ◌≤◌, ◌⊎◌, inl, inr, List, [], ◌∷◌, ◌++◌, length, map, None, refl, sym, ap, ap₂, ◌∙◌, append_assoc, subst, arith}
+use Rattle.std.proofs.Common.{◌≡◌, ℕ, zero, suc, ◌+◌, ◌<◌, ◌≤◌, inl, inr, List, [], ◌∷◌, ◌++◌, length, map, None, refl, sym, ap, ap₂, ◌∙◌, append_assoc, subst, arith}
 use Rattle.std.specs.List.{AllByRecursion, AllZip, sum_by}
 use Rattle.std.proofs.lemmas.List.{append-nil}
 use Rattle.catalogue.specs.declared.edit.Edit.{Edit}
 use Rattle.catalogue_laws.specs.Histories.{History}
 use Rattle.mirror_ledger.specs.Asks.{granted_at}
 use Rattle.publisher.specs.Beginnings.{StartsWith}
-use Rattle.publisher.specs.Sights.{Allows, Sight}
+use Rattle.publisher.specs.Sights.{Sight}
 use Rattle.records.specs.declared.mirror.Mirror.{Mirror}
 use Rattle.service_desks.specs.Workers.{Progress}
 use Rattle.interleavings.specs.Calls.{EntersPublished, HaveRoom, IsBetween, IsWork, Sent, WorkerCallsAreEvents, events_of, sent_by, sent_in}

@@ -1,6 +1,6 @@
 -- Logs that are of no run.
-use Rattle.std.proofs.Common.{◌≡◌, ℕ, List, [], ◌∷◌, length, take, refl, sym, ap, ◌∙◌, subst}
-use Rattle.std.specs.List.{AllZip, slice_get}
+use Rattle.std.proofs.Common.{◌≡◌, ℕ, List, [], ◌∷◌, length, take, refl, ap, ◌∙◌}
+use Rattle.std.specs.List.{AllZip}
 use Rattle.std.specs.Prelude.{slice_index}
 use Rattle.catalogue_laws.specs.Histories.{History}
 use Rattle.mirror_ledger.specs.Asks.{Ask}

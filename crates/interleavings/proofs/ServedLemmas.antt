@@ -1,25 +1,22 @@
 -- Each run of a service is a run of the machine: all raises first, then batch by batch the calls of each worker.
-use Rattle.std.proofs.Common.{◌≡◌, ℕ, zero, suc, ◌+◌, ◌<◌, ◌≤◌, true, false, Bool, List, [], ◌∷◌, ◌++◌, length, map, replicate, take, All, Option, None, Some, refl, sym, ap, ap₂, ◌∙◌, append_assoc, subst, arith}
+use Rattle.std.proofs.Common.{◌≡◌, ℕ, zero, suc, ◌+◌, ◌<◌, ◌≤◌, true, false, List, [], ◌∷◌, ◌++◌, length, map, replicate, take, Option, None, refl, sym, ap, ap₂, ◌∙◌, subst, arith}
 use Rattle.std.specs.List.{AllByRecursion, AllZip, flat_map, sum_by}
 use Rattle.std.specs.Prelude.{slice_index}
 use Rattle.std.proofs.lemmas.Bool.{false≢true}
-use Rattle.std.proofs.lemmas.List.{append-nil}
 use Rattle.std.proofs.lemmas.List.Elements.{All-from_recursion, recursion_from_All}
 use Rattle.std.proofs.lemmas.List.Sums.{sum_by-cons}
-use Rattle.catalogue.specs.declared.edit.Edit.{Edit}
 use Rattle.catalogue_laws.specs.Histories.{History}
-use Rattle.editions.specs.Editions.{Continues}
 use Rattle.http_desks.specs.Calls.{Call, Leads}
 use Rattle.mirror_ledger.specs.Asks.{Ask, granted_at}
 use Rattle.mirror_ledger.specs.Budgets.{Account}
-use Rattle.mirror_ledger.specs.Named.{budget_at, totals_of}
+use Rattle.mirror_ledger.specs.Named.{budget_at}
 use Rattle.mirror_ledger.specs.Tills.{granted_by}
-use Rattle.publisher.specs.Sights.{Allows, fresh}
+use Rattle.publisher.specs.Sights.{fresh}
 use Rattle.records.specs.declared.mirror.Mirror.{Mirror}
 use Rattle.service_desks.specs.Operators.{IsCall as IsOperatorCall}
 use Rattle.service_desks.specs.States.{State, Store}
 use Rattle.service_desks.specs.Workers.{IsCall, Progress}
-use Rattle.interleavings.specs.Calls.{IsBetween, Sent, WorkerCallsAreEvents, sent_by, sent_in}
+use Rattle.interleavings.specs.Calls.{Sent, WorkerCallsAreEvents, sent_by}
 use Rattle.interleavings.specs.Events.{Drop, Enter, Event, Grant, Learn, Plan, Publish, Raise, Reject, Render, happens, run, service_after}
 use Rattle.interleavings.specs.Jobs.{Worker, new_worker}
 use Rattle.interleavings.specs.Served.{IsInterleaved, IsLogged, IsServed, IsWorked, Log, RunsAreInterleavings}

@@ -1,6 +1,6 @@
 -- A service in which one worker is in the place of another, and what the events of that worker make of it.
-use Rattle.std.proofs.Common.{◌≡◌, ℕ, zero, suc, ◌+◌, ◌<◌, ◌≤◌, ◌&&◌, Bool, true, false, cond, eqb, ltb, leb, List, [], ◌∷◌, ◌++◌, length, map, Option, None, Some, refl, sym, ap, ◌∙◌, append_assoc, subst, arith}
-use Rattle.std.specs.List.{AllByRecursion, slice_get, sum_by}
+use Rattle.std.proofs.Common.{◌≡◌, ℕ, zero, suc, ◌+◌, ◌<◌, ◌≤◌, ◌&&◌, Bool, true, false, cond, eqb, ltb, List, [], ◌∷◌, ◌++◌, length, map, Option, None, Some, refl, sym, ap, ◌∙◌, append_assoc, arith}
+use Rattle.std.specs.List.{AllByRecursion, slice_get}
 use Rattle.std.specs.Option.{option_map_or}
 use Rattle.std.proofs.lemmas.Bool.{and_from, cond-false, cond-true, eq-eqb, le-leb, lt-ltb, ne_eqb}
 use Rattle.std.proofs.lemmas.List.{append-nil, length-append}
@@ -14,8 +14,8 @@ use Rattle.records.specs.declared.mirror.Mirror.{Mirror}
 use Rattle.replies.specs.declared.choices.Choice.{Choice}
 use Rattle.interleavings.specs.Calls.{ask_events, asks_events, rejections}
 use Rattle.interleavings.specs.Events.{Grant, Reject, asks, decided, granted, happens, moved, rejected, run}
-use Rattle.interleavings.specs.Jobs.{EndedJob, Job, Pending, Worker, bytes_asked}
-use Rattle.interleavings.specs.Moves.{after_grant, after_rejection, asks_next, is_asking, with_outcome, with_pending}
+use Rattle.interleavings.specs.Jobs.{EndedJob, Pending, Worker, bytes_asked}
+use Rattle.interleavings.specs.Moves.{after_grant, after_rejection, is_asking, with_outcome, with_pending}
 use Rattle.interleavings.specs.Services.{Service, changed_at, has_room, with_grant}
 use Rattle.interleavings.proofs.KeptLemmas.{IsNamed}
 use Rattle.interleavings.proofs.PlaceLemmas.{slice_get-seam}

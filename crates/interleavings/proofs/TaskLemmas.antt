@@ -1,5 +1,5 @@
 -- What is left to do for the workers of a service, and that it can be done by events, batch by batch.
-use Rattle.std.proofs.Common.{◌≡◌, ℕ, zero, suc, ◌+◌, ◌<◌, ◌≤◌, ◌⊎◌, inl, inr, Bool, true, false, eqb, List, [], ◌∷◌, ◌++◌, length, map, Option, None, Some, refl, sym, ap, ◌∙◌, append_assoc, subst, arith}
+use Rattle.std.proofs.Common.{◌≡◌, ℕ, zero, suc, ◌+◌, ◌<◌, ◌≤◌, ◌⊎◌, inl, inr, List, [], ◌∷◌, ◌++◌, length, map, None, Some, refl, sym, ap, ◌∙◌, append_assoc, subst, arith}
 use Rattle.std.specs.List.{AllByRecursion, AllZip, flat_map, slice_get, sum_by}
 use Rattle.std.proofs.lemmas.Bool.{cases_lt, cond_both}
 use Rattle.std.proofs.lemmas.List.{append-nil, length-append}
@@ -9,20 +9,15 @@ use Rattle.catalogue.specs.declared.edit.Edit.{Edit}
 use Rattle.catalogue_laws.specs.Histories.{History}
 use Rattle.http_desks.specs.Calls.{Call}
 use Rattle.mirror_ledger.specs.Asks.{granted_at}
-use Rattle.mirror_ledger.specs.Budgets.{Account}
 use Rattle.publisher.specs.Beginnings.{StartsWith}
-use Rattle.publisher.specs.Sights.{Allows, Sight}
+use Rattle.publisher.specs.Sights.{Allows}
 use Rattle.records.specs.declared.mirror.Mirror.{Mirror}
-use Rattle.service_desks.specs.Entries.{Enters}
 use Rattle.service_desks.specs.Workers.{IsCall, Progress}
-use Rattle.interleavings.specs.Calls.{EntersPublished, HaveRoom, IsBetween, IsWork, Sent, WorkerCallsAreEvents, events_of, sent_by, sent_in}
-use Rattle.interleavings.specs.Events.{Event, Publish, happens, run}
+use Rattle.interleavings.specs.Calls.{IsBetween, Sent, sent_by, sent_in}
+use Rattle.interleavings.specs.Events.{Event, happens, run}
 use Rattle.interleavings.specs.Jobs.{Worker}
-use Rattle.interleavings.specs.Laws.{worker_at}
 use Rattle.interleavings.specs.Services.{Service, changed_at, is_published, published}
-use Rattle.interleavings.proofs.ListLemmas.{all-at, all-changed, all-weaker}
-use Rattle.interleavings.proofs.ProgressLemmas.{LeadsOn, allowed-before, entered-begins, granted-more, leads-on, same-beginning, seen-more, seen-within, shorter}
-use Rattle.interleavings.proofs.RunLemmas.{run-append}
+use Rattle.interleavings.proofs.ProgressLemmas.{allowed-before, granted-more, leads-on, seen-more, shorter}
 
 -- a call, and what it led to
 pub record Round : Type 0 where

@@ -1,6 +1,6 @@
 -- The calls of a worker's desk as events.
-use Rattle.std.proofs.Common.{◌≡◌, ℕ, ◌+◌, ◌<◌, ◌≤◌, ◌⊎◌, inl, inr, true, eqb, List, [], ◌∷◌, ◌++◌, length, map, take, Option, None, Some, Result, Ok, Err, refl, sym, ap, ◌∙◌, append_assoc, subst, arith}
-use Rattle.std.specs.List.{AllByRecursion, flat_map, slice_get, sum_by}
+use Rattle.std.proofs.Common.{◌≡◌, ℕ, ◌+◌, ◌<◌, ◌≤◌, inl, inr, List, [], ◌∷◌, ◌++◌, length, map, take, Option, None, Some, Result, Ok, Err, refl, sym, ap, ◌∙◌, append_assoc, subst, arith}
+use Rattle.std.specs.List.{AllByRecursion, flat_map}
 use Rattle.std.proofs.Math.Seq.{take-append_seam}
 use Rattle.std.proofs.lemmas.Bool.{eq-eqb}
 use Rattle.std.proofs.lemmas.List.{append-nil, length-map}
@@ -11,33 +11,29 @@ use Rattle.editions.specs.Editions.{content_of}
 use Rattle.http_desks.specs.Calls.{Asks, Call, Looks}
 use Rattle.http_desks.specs.declared.desk.DeskStatus.{DeskStatus}
 use Rattle.http_desks.specs.declared.desk.DeskStatus.TheVariants as status
-use Rattle.http_desks.specs.declared.desk.Off.{Off}
 use Rattle.http_desks.specs.declared.desk.Off.TheVariants as off
 use Rattle.mirror_ledger.specs.Asks.{Ask, booked, granted_at}
 use Rattle.mirror_ledger.specs.Budgets.{Account}
 use Rattle.omaha_json.specs.ReplyWriting.{reply_bytes}
-use Rattle.omaha_json.specs.RequestReading.{request_of_bytes}
 use Rattle.omaha_json.specs.declared.fault.RequestFault.{RequestFault}
-use Rattle.omaha_json.specs.declared.reply.Reply.{Reply}
 use Rattle.omaha_json.specs.declared.request.Request.{Request}
 use Rattle.publisher.specs.Sights.{Sight}
 use Rattle.records.specs.declared.content.App.{App}
 use Rattle.records.specs.declared.mirror.Mirror.{Mirror}
 use Rattle.replies.specs.Plans.{IsPlan, payloads_of}
-use Rattle.replies.specs.Replies.{AreOutcomes, reply_of}
+use Rattle.replies.specs.Replies.{reply_of}
 use Rattle.replies.specs.declared.choices.Choice.{Choice}
 use Rattle.service_desks.specs.Answering.{HasBegun, IsReply}
-use Rattle.service_desks.specs.Asking.{AsksFirst, AsksFor, asks_of}
+use Rattle.service_desks.specs.Asking.{AsksFirst, asks_of}
 use Rattle.service_desks.specs.Entries.{Enters, FindsNoEntry}
-use Rattle.service_desks.specs.Workers.{Finds, HasStatus, IsAnswer, IsCall, Progress, Replies, stock_of}
+use Rattle.service_desks.specs.Workers.{HasStatus, IsCall, Progress, stock_of}
 use Rattle.interleavings.specs.Calls.{Break, EntersPublished, HaveRoom, IsAfterCall, IsBetween, IsWork, Look, Nothing, Reply as Replied, Sent, WorkerCallsAreEvents, events_of, sent_by, sent_for, sent_in, sent_to, sent_with}
-use Rattle.interleavings.specs.Choices.{are_certified, choices_of}
 use Rattle.interleavings.specs.Events.{happens, run}
-use Rattle.interleavings.specs.Jobs.{EndedJob, Job, Pending, Worker, bytes_asked, is_decided, outcomes_by_app, outcomes_of}
+use Rattle.interleavings.specs.Jobs.{EndedJob, Job, Pending, Worker, bytes_asked, outcomes_by_app}
 use Rattle.interleavings.specs.Laws.{worker_at}
 use Rattle.interleavings.specs.Moves.{rendered_at, reply_by}
-use Rattle.interleavings.specs.Services.{Service, changed_at, content_at}
-use Rattle.interleavings.proofs.CallLemmas.{AreAsks, AreAsks-plan, breaks, entered_job, idle, looks, pending, planned_job, replies, with_job, with_reply}
+use Rattle.interleavings.specs.Services.{Service, content_at}
+use Rattle.interleavings.proofs.CallLemmas.{AreAsks-plan, breaks, idle, looks, pending, replies}
 use Rattle.interleavings.proofs.KeptLemmas.{IsNamed}
 use Rattle.interleavings.proofs.RowLemmas.{HasRows, PlansHaveRows}
 use Rattle.interleavings.proofs.StateLemmas.{books_after, books_after-budget, books_after-is, changed-own, share_after, share_after-is, state}

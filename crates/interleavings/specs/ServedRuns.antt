@@ -1,7 +1,5 @@
 -- Calls and a run of a service, worked by hand as events; and logs that are of no run.
-use Rattle.std.specs.Prelude.{◌≡◌, ℕ, List, [], ◌∷◌, ◌++◌, codes, map, Option, None, Some}
-use Rattle.http_desks.specs.Calls.{Call}
-use Rattle.records.specs.declared.mirror.Mirror.{Mirror}
+use Rattle.std.specs.Prelude.{◌≡◌, ℕ, List, [], ◌∷◌, ◌++◌, codes, map, None, Some}
 use Rattle.service_desks.specs.States.{State, Store}
 use Rattle.interleavings.specs.Calls.{Break, Look, Nothing, Reply, Sent, Work, events_of, sent_in}
 use Rattle.interleavings.specs.Events.{Drop, Enter, Event, Grant, Plan, Publish, Raise, Reject, Render, happens, service_after}
