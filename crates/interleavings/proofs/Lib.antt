@@ -8,7 +8,7 @@ mod HeadlineLemmas
 mod KeptLemmas
 mod LawLemmas
 mod ListLemmas
-mod LogLemmas
+mod ProceedingsLemmas
 mod MoveLemmas
 mod OperatorLemmas
 mod PendingLemmas

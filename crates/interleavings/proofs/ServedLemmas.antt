@@ -19,7 +19,7 @@ use Rattle.service_desks.specs.Workers.{IsCall, Progress}
 use Rattle.interleavings.specs.Calls.{Sent, WorkerCallsAreEvents, sent_by}
 use Rattle.interleavings.specs.Events.{Drop, Enter, Event, Grant, Learn, Plan, Publish, Raise, Reject, Render, happens, run, service_after}
 use Rattle.interleavings.specs.Jobs.{Worker, new_worker}
-use Rattle.interleavings.specs.Served.{IsInterleaved, IsLogged, IsServed, IsWorked, Log, RunsAreInterleavings}
+use Rattle.interleavings.specs.Served.{IsInterleaved, IsDone, IsServed, IsWorked, Proceedings, RunsAreInterleavings}
 use Rattle.interleavings.specs.Services.{Service, opened, opened_book, present, with_budget, with_budgets_of}
 use Rattle.interleavings.specs.Ties.{IsDueAfter, is_of_operator, state_of}
 use Rattle.interleavings.proofs.BatchLemmas.{IsAtTask, left_of, serves}
@@ -219,20 +219,20 @@ total-at granted (suc (suc (suc zero))) (suc (suc (suc index))) below few = absu
 total-at granted (suc (suc (suc (suc count)))) (suc (suc (suc zero))) below few = refl
 total-at granted (suc (suc (suc (suc count)))) (suc (suc (suc (suc index)))) below few = absurd (omega arith)
 
-module _ (calls : WorkerCallsAreEvents) (mirrors : List Mirror) (start : History) (kept : Store) (log : Log) (left : State)
-    (served : IsServed mirrors start kept log left) where
+module _ (calls : WorkerCallsAreEvents) (mirrors : List Mirror) (start : History) (kept : Store) (proceedings : Proceedings) (left : State)
+    (served : IsServed mirrors start kept proceedings left) where
   abbrev opening : Service
-  opening = opened mirrors start (length log.workers)
+  opening = opened mirrors start (length proceedings.workers)
 
   begun : state_of mirrors opening kept ≡ record { mirrors = mirrors; history = start; store = kept }
   begun = ap (λ (ms : List Mirror). record { mirrors = ms; history = start; store = kept }) (present-opened mirrors)
 
   own : HasEvents mirrors opening left
   own =
-      operated mirrors log.operator opening kept left
+      operated mirrors proceedings.operator opening kept left
       (subst (λ (due : Option History). IsDueAfter start (record { first = kept.first; records = kept.records; due = due }))
       (sym served.due) tt)
-      (subst (λ (s : State). Leads IsOperatorCall s log.operator left) (sym begun) served.operated)
+      (subst (λ (s : State). Leads IsOperatorCall s proceedings.operator left) (sym begun) served.operated)
 
   abbrev books : ℕ → Account
   books = books_by (opened_book mirrors) own.events
@@ -256,14 +256,14 @@ module _ (calls : WorkerCallsAreEvents) (mirrors : List Mirror) (start : History
   presents =
       sym (ap (λ (s : Service). present mirrors s) all-published) ∙ ap (λ (s : State). s.mirrors) own.leaves
 
-  has : HasTasks mirrors start left.history log.workers served.asks
-  has = tasks-of mirrors start left.history log.workers served.asks served.worked
+  has : HasTasks mirrors start left.history proceedings.workers served.asks
+  has = tasks-of mirrors start left.history proceedings.workers served.asks served.worked
 
   long : length left.mirrors ≡ length mirrors
   long = ap (λ (ms : List Mirror). length ms) (sym presents) ∙ length-present books mirrors
 
-  -- a total of the log
-  total : (mirror : ℕ) → mirror < length mirrors → granted_by served.asks mirror ≡ slice_index log.totals mirror
+  -- a total of the proceedings
+  total : (mirror : ℕ) → mirror < length mirrors → granted_by served.asks mirror ≡ slice_index proceedings.totals mirror
   total mirror below =
       let few = served.few in
       let same = long in
@@ -295,17 +295,17 @@ module _ (calls : WorkerCallsAreEvents) (mirrors : List Mirror) (start : History
   done : HasDone mirrors left.history has.tasks raised_first
   done = serves mirrors left.history served.some calls (left_of has.tasks given + 1) raised_first has.tasks given (omega arith) serving
 
-  after : service_after happens mirrors start (length log.workers) (raises_in own.events ++ done.events) ≡ done.last
+  after : service_after happens mirrors start (length proceedings.workers) (raises_in own.events ++ done.events) ≡ done.last
   after =
       run-append happens mirrors (raises_in own.events) done.events opening
       ∙ ap (λ (s : Service). run happens mirrors s done.events) (raised mirrors own.events opening own.own)
       ∙ done.leads
 
-  interleaved : IsInterleaved mirrors start log left
+  interleaved : IsInterleaved mirrors start proceedings left
   interleaved = record {
     events = raises_in own.events ++ done.events;
-    logged =
-        subst (IsLogged mirrors log left) (sym after)
+    done =
+        subst (IsDone mirrors proceedings left) (sym after)
         (record {
           published = done.history;
           raised =
@@ -317,4 +317,4 @@ module _ (calls : WorkerCallsAreEvents) (mirrors : List Mirror) (start : History
   }
 
 pub runs_are_interleavings : WorkerCallsAreEvents → RunsAreInterleavings
-runs_are_interleavings calls mirrors start kept log left served = interleaved calls mirrors start kept log left served
+runs_are_interleavings calls mirrors start kept proceedings left served = interleaved calls mirrors start kept proceedings left served

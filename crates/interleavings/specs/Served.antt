@@ -15,8 +15,8 @@ use Rattle.interleavings.specs.Events.{Event, happens, service_after}
 use Rattle.interleavings.specs.Jobs.{Worker}
 use Rattle.interleavings.specs.Services.{Service, present}
 
--- what passed at a service: the calls of each worker's desk, those of the operator's desk, and the totals
-pub record Log : Type 0 where
+-- the proceedings of a service: the calls of each worker's desk, those of the operator's desk, and the totals
+pub record Proceedings : Type 0 where
   pub workers : List (List Call)
   pub operator : List Call
   pub totals : List ℕ
@@ -31,32 +31,33 @@ pub record IsWorked (mirrors : List Mirror) (start left : History) (calls : List
 -- rule: Run of a service
 -- one to four mirrors; an operator's calls led from a history, of which nothing was due, to what is left; each worker
 -- worked; and the totals are the sums of what the workers asked for, within the budgets that are left
-pub record IsServed (mirrors : List Mirror) (start : History) (kept : Store) (log : Log) (left : State) : Type 0 where
+pub record IsServed (mirrors : List Mirror) (start : History) (kept : Store) (proceedings : Proceedings)
+    (left : State) : Type 0 where
   pub some : 1 ≤ length mirrors
   pub few : length mirrors ≤ 4
   pub due : kept.due ≡ None
-  pub operated : Leads IsOperatorCall (record { mirrors = mirrors; history = start; store = kept }) log.operator left
+  pub operated : Leads IsOperatorCall (record { mirrors = mirrors; history = start; store = kept }) proceedings.operator left
   pub asks : List (List Ask)
-  pub worked : AllZip (IsWorked mirrors start left.history) log.workers asks
-  pub summed : AreTotalsOf left.mirrors asks log.totals
+  pub worked : AllZip (IsWorked mirrors start left.history) proceedings.workers asks
+  pub summed : AreTotalsOf left.mirrors asks proceedings.totals
 
 -- a service of the machine after events: what the operator left is published, and the present mirrors are those that it
 -- left; each worker sent the replies of its calls, in order, and no others, and has no job; and each mirror's total is
--- that of the log
-pub record IsLogged (mirrors : List Mirror) (log : Log) (left : State) (service : Service) : Type 0 where
+-- that of the proceedings
+pub record IsDone (mirrors : List Mirror) (proceedings : Proceedings) (left : State) (service : Service) : Type 0 where
   pub published : service.history ≡ left.history
   pub raised : present mirrors service ≡ left.mirrors
-  pub sent : map sent_in service.workers ≡ map (flat_map sent_by) log.workers
+  pub sent : map sent_in service.workers ≡ map (flat_map sent_by) proceedings.workers
   pub idle : All (λ (worker : Worker). worker.job ≡ None) service.workers
-  pub totals : (mirror : ℕ) → mirror < length mirrors → (service.books mirror).total ≡ slice_index log.totals mirror
+  pub totals : (mirror : ℕ) → mirror < length mirrors → (service.books mirror).total ≡ slice_index proceedings.totals mirror
 
 -- a run of the machine since it opened comes to that
-pub record IsInterleaved (mirrors : List Mirror) (start : History) (log : Log) (left : State) : Type 0 where
+pub record IsInterleaved (mirrors : List Mirror) (start : History) (proceedings : Proceedings) (left : State) : Type 0 where
   pub events : List Event
-  pub logged : IsLogged mirrors log left (service_after happens mirrors start (length log.workers) events)
+  pub done : IsDone mirrors proceedings left (service_after happens mirrors start (length proceedings.workers) events)
 
 -- each run of a service is a run of the machine
 abbrev pub RunsAreInterleavings : Type 0
 RunsAreInterleavings =
-    (mirrors : List Mirror) (start : History) (kept : Store) (log : Log) (left : State) →
-    IsServed mirrors start kept log left → IsInterleaved mirrors start log left
+    (mirrors : List Mirror) (start : History) (kept : Store) (proceedings : Proceedings) (left : State) →
+    IsServed mirrors start kept proceedings left → IsInterleaved mirrors start proceedings left

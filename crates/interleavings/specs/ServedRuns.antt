@@ -6,7 +6,7 @@ use Rattle.interleavings.specs.Events.{Drop, Enter, Event, Grant, Plan, Publish,
 use Rattle.interleavings.specs.Jobs.{Worker}
 use Rattle.interleavings.specs.LargerRuns.{ask_of, asking, offers_in, two_apps, two_mirrors}
 use Rattle.interleavings.specs.Runs.{begins, dropped, outcomes_in, replied, shares_in, small_batch, small_mirrors, small_request, small_rows, small_run, withdrawal}
-use Rattle.interleavings.specs.Served.{IsServed, Log}
+use Rattle.interleavings.specs.Served.{IsServed, Proceedings}
 use Rattle.interleavings.specs.Services.{Service}
 
 -- the first mirror rejects the bytes of the first app, and both reject those of the second one
@@ -71,7 +71,7 @@ pub record RunWorked : Type 0 where
   pub budget : (worked_run.books 0).budget ≡ 6
 
 -- a worker that was called for nothing, and a total that nobody asked for
-abbrev pub made_up : Log
+abbrev pub made_up : Proceedings
 made_up = record { workers = [] ∷ []; operator = []; totals = 3 ∷ [] }
 
 -- an operator that was called for nothing, and a batch that it left
@@ -82,13 +82,13 @@ left_unpublished state = record {
   store = state.store;
 }
 
-abbrev pub idle_log : Log
-idle_log = record { workers = [] ∷ []; operator = []; totals = 0 ∷ [] }
+abbrev pub idle_proceedings : Proceedings
+idle_proceedings = record { workers = [] ∷ []; operator = []; totals = 0 ∷ [] }
 
 -- such logs are of no run
-pub record LogsRejected : Type 0 where
+pub record ProceedingsRejected : Type 0 where
   pub made_up_totals :
       (kept : Store) (left : State) → ¬ (IsServed small_mirrors (small_batch ∷ []) kept made_up left)
   pub unpublished :
       (kept : Store) (state : State) →
-      ¬ (IsServed small_mirrors (small_batch ∷ []) kept idle_log (left_unpublished state))
+      ¬ (IsServed small_mirrors (small_batch ∷ []) kept idle_proceedings (left_unpublished state))

@@ -10,7 +10,7 @@ ghost use Rattle.interleavings.specs.Requests.{RepliesAreToGivenRequests};
 ghost use Rattle.interleavings.specs.Restart.{DumpsAreProfiles, OperatorsOnlyRaise, RestartsKeepReplies, ServicesOpenAgain};
 ghost use Rattle.interleavings.specs.Runs.{BudgetEnds, BudgetRaised, DropAfterGrant, FailedConditions, PublishBetween, RejectedWithRoom, StalePublish};
 ghost use Rattle.interleavings.specs.Served.{RunsAreInterleavings};
-ghost use Rattle.interleavings.specs.ServedRuns.{CallsWorked, LogsRejected, RunWorked};
+ghost use Rattle.interleavings.specs.ServedRuns.{CallsWorked, ProceedingsRejected, RunWorked};
 ghost use Rattle.interleavings.specs.Ties.{AnswersAreOfPending, FullBooksReject, FullIsNotPublished, GrantsAreBooked, NextIsPublished, OperatorCallsAreEvents, PressPublishes, RaisesAreEvents, RaisesByNameAreEvents, RejectedIsNotPublished, RoomIsTested, ScriptsArePublished, WorkersReplyByOneHistory};
 ghost use Rattle.interleavings.specs.Wrong.{EntriesBreak, GrantsBreak, PlansAndRepliesBreak, PublishesBreak, RequestsBreak};
 
@@ -182,8 +182,7 @@ pub fn worker_calls()
 
 // rule: Run of a service
 /// States that each run of a service is a run of the machine: there is a list of events after which what the operator left
-/// is published, each worker sent the replies of its calls, in order, and no others, and each mirror's total is that of the
-/// log.
+/// is published, each worker sent the replies of its calls, in order, and no others, and each mirror's total is the one given.
 ///
 /// The run is given by the calls of each worker's desk and of the operator's desk, each by itself, and by the totals; each
 /// worker's view may in the end enter what the operator left. In the list all raises come first, and then batch by batch
@@ -218,12 +217,12 @@ pub fn larger_runs()
 {}
 
 /// Shows calls and a run of a service, worked by hand as events: two workers and an operator, a rejected ask, a raise, a publish
-/// between two replies of one worker, and a look-up. A log whose totals are made up, or whose operator left a batch without
-/// a call, is of no run.
+/// between two replies of one worker, and a look-up. Proceedings whose totals are made up, or whose operator left a batch
+/// without a call, are of no run.
 pub fn served_runs()
     ensures calls { CallsWorked }
     ensures run { RunWorked }
-    ensures rejected { LogsRejected }
+    ensures rejected { ProceedingsRejected }
 {}
 
 /// Shows machines that are wrong in one event each, with the law that each of them breaks.

@@ -9,7 +9,7 @@ use Rattle.service_desks.specs.States.{State, Store}
 use Rattle.service_desks.specs.Workers.{Progress}
 use Rattle.interleavings.specs.Runs.{small_batch, small_mirrors}
 use Rattle.interleavings.specs.Served.{IsServed, IsWorked}
-use Rattle.interleavings.specs.ServedRuns.{idle_log, left_unpublished, made_up}
+use Rattle.interleavings.specs.ServedRuns.{idle_proceedings, left_unpublished, made_up}
 use Rattle.interleavings.proofs.WrongLemmas.{apart}
 
 -- who is called for nothing asks for nothing
@@ -31,6 +31,6 @@ made_up_totals kept left served =
     apart 3 0 refl (total ∙ none)
 
 pub unpublished : (kept : Store) (state : State) →
-    ¬ (IsServed small_mirrors (small_batch ∷ []) kept idle_log (left_unpublished state))
+    ¬ (IsServed small_mirrors (small_batch ∷ []) kept idle_proceedings (left_unpublished state))
 unpublished kept state served =
     apart 2 1 refl (ap (λ (s : State). length s.history) served.operated)
