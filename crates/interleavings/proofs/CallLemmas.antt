@@ -51,7 +51,8 @@ AreAsks-plan mirrors (Some choice ∷ plan) (outcome ∷ outcomes) decided =
     }
 
 module _ (mirrors : List Mirror) (history : History) (workers : List Worker) (index : ℕ) (old : Worker)
-    (there : slice_get workers index ≡ Some old) (seen : ℕ) (ended : List EndedJob) (share : ℕ → ℕ) (books : ℕ → Account)
+    (there : slice_get workers index ≡ Some old) (seen : ℕ) (ended : List EndedJob) (share : ℕ → ℕ)
+    (books : ℕ → Account)
   where
     abbrev count : ℕ
     count = length history
@@ -136,7 +137,8 @@ module _ (mirrors : List Mirror) (history : History) (workers : List Worker) (in
         asks-all last =
             run-append happens mirrors (asks_events mirrors index asks) (last ∷ []) (at (asking []) books)
             ∙ ap (λ (s : Service). happens mirrors s last)
-            (asked mirrors history workers index old there request plan count count ended some asks [] rest [] share books
+            (asked mirrors history workers index old there request plan count count ended some asks [] rest [] share
+            books
             parts refl named room)
 
         pub breaks :

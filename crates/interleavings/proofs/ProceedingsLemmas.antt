@@ -27,7 +27,8 @@ made_up_totals kept left served =
     let none = none-asked left.history served.asks served.worked in
     let total : 3 ≡ granted_by served.asks 0 =
     ap (λ (ts : List ℕ). slice_index ts 0) served.summed.sums
-    ∙ ap (λ ms. slice_index (take (length ms) (granted_by served.asks 0 ∷ granted_by served.asks 1 ∷ granted_by served.asks 2 ∷ granted_by served.asks 3 ∷ [])) 0) start in
+    ∙ ap (λ ms. slice_index (take (length ms) (granted_by served.asks 0 ∷ granted_by served.asks 1 ∷
+    granted_by served.asks 2 ∷ granted_by served.asks 3 ∷ [])) 0) start in
     apart 3 0 refl (total ∙ none)
 
 pub unpublished : (kept : Store) (state : State) →

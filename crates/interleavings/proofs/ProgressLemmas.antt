@@ -25,7 +25,8 @@ starts-through now middle old (more, later) (rest, first) = (
   later ∙ ap (λ (h : History). h ++ more) first ∙ append_assoc old rest more,
 )
 
-goes-through : (now middle : History) (heard : List History) → StartsWith now middle → GoesOn middle heard → GoesOn now heard
+goes-through : (now middle : History) (heard : List History) → StartsWith now middle → GoesOn middle heard →
+    GoesOn now heard
 goes-through now middle [] later goes = tt
 goes-through now middle (first ∷ others) later goes =
     (starts-through now middle first later goes.0, goes-through now middle others later goes.1)

@@ -57,7 +57,8 @@ operated mirrors (call ∷ calls) service store left due (next, called, leads) =
       events = step.events ++ rest.events;
       own = all-append IsOwn step.events rest.events (recursion_from_All IsOwn step.events step.own) rest.own;
       leaves =
-          ap (λ (s : Service). state_of mirrors s left.store) (run-append happens mirrors step.events rest.events service)
+          ap (λ (s : Service). state_of mirrors s left.store)
+          (run-append happens mirrors step.events rest.events service)
           ∙ rest.leaves;
     }
 
@@ -118,7 +119,8 @@ published-too mirrors (Render worker moment ∷ events) service own = absurd (fa
 published-too mirrors (Drop worker ∷ events) service own = absurd (false≢true own.0)
 
 -- nothing is granted by a raise
-total-kept : (event : Event) (books : ℕ → Account) (mirror : ℕ) → (books_of event books mirror).total ≡ (books mirror).total
+total-kept : (event : Event) (books : ℕ → Account) (mirror : ℕ) →
+    (books_of event books mirror).total ≡ (books mirror).total
 total-kept (Raise raised bytes) books mirror = refl
 total-kept (Publish known batch) books mirror = refl
 total-kept (Enter worker) books mirror = refl
@@ -132,7 +134,8 @@ total-kept (Drop worker) books mirror = refl
 totals-kept : (events : List Event) (books : ℕ → Account) (mirror : ℕ) →
     (books_by books events mirror).total ≡ (books mirror).total
 totals-kept [] books mirror = refl
-totals-kept (event ∷ events) books mirror = totals-kept events (books_of event books) mirror ∙ total-kept event books mirror
+totals-kept (event ∷ events) books mirror = totals-kept events (books_of event books) mirror
+    ∙ total-kept event books mirror
 
 -- the calls of a worker with what each led to
 record HasRounds (mirrors : List Mirror) (now : Progress) (calls : List Call) (left : Progress) : Type 0 where
@@ -152,7 +155,8 @@ rounds-of mirrors now (call ∷ calls) left (next, called, leads) =
     }
 
 -- the workers' tasks when the service opens
-record HasTasks (mirrors : List Mirror) (start left : History) (workers : List (List Call)) (asks : List (List Ask)) : Type 0 where
+record HasTasks (mirrors : List Mirror) (start left : History) (workers : List (List Call))
+    (asks : List (List Ask)) : Type 0 where
   tasks : List Task
   each : AllByRecursion (IsTask mirrors left (length start)) tasks
   wholes : map (λ (task : Task). task.whole) tasks ≡ map (flat_map sent_by) workers
@@ -219,7 +223,8 @@ total-at granted (suc (suc (suc zero))) (suc (suc (suc index))) below few = absu
 total-at granted (suc (suc (suc (suc count)))) (suc (suc (suc zero))) below few = refl
 total-at granted (suc (suc (suc (suc count)))) (suc (suc (suc (suc index)))) below few = absurd (omega arith)
 
-module _ (calls : WorkerCallsAreEvents) (mirrors : List Mirror) (start : History) (kept : Store) (proceedings : Proceedings) (left : State)
+module _ (calls : WorkerCallsAreEvents) (mirrors : List Mirror) (start : History) (kept : Store)
+    (proceedings : Proceedings) (left : State)
     (served : IsServed mirrors start kept proceedings left) where
   abbrev opening : Service
   opening = opened mirrors start (length proceedings.workers)
@@ -230,7 +235,8 @@ module _ (calls : WorkerCallsAreEvents) (mirrors : List Mirror) (start : History
   own : HasEvents mirrors opening left
   own =
       operated mirrors proceedings.operator opening kept left
-      (subst (λ (due : Option History). IsDueAfter start (record { first = kept.first; records = kept.records; due = due }))
+      (subst (λ (due : Option History). IsDueAfter start
+      (record { first = kept.first; records = kept.records; due = due }))
       (sym served.due) tt)
       (subst (λ (s : State). Leads IsOperatorCall s proceedings.operator left) (sym begun) served.operated)
 
@@ -276,7 +282,8 @@ module _ (calls : WorkerCallsAreEvents) (mirrors : List Mirror) (start : History
       let sum = has.granted mirror in
       let sums = total mirror below in
       let low = served.summed.within mirror (omega arith) in
-      let budget = ap (λ (ms : List Mirror). budget_at ms mirror) (sym presents) ∙ budget_at-present books mirrors mirror below in
+      let budget = ap (λ (ms : List Mirror). budget_at ms mirror) (sym presents)
+      ∙ budget_at-present books mirrors mirror below in
       omega arith
 
   serving : IsServing mirrors left.history has.tasks given raised_first
@@ -293,9 +300,11 @@ module _ (calls : WorkerCallsAreEvents) (mirrors : List Mirror) (start : History
   }
 
   done : HasDone mirrors left.history has.tasks raised_first
-  done = serves mirrors left.history served.some calls (left_of has.tasks given + 1) raised_first has.tasks given (omega arith) serving
+  done = serves mirrors left.history served.some calls (left_of has.tasks given + 1) raised_first has.tasks given
+      (omega arith) serving
 
-  after : service_after happens mirrors start (length proceedings.workers) (raises_in own.events ++ done.events) ≡ done.last
+  after : service_after happens mirrors start (length proceedings.workers)
+      (raises_in own.events ++ done.events) ≡ done.last
   after =
       run-append happens mirrors (raises_in own.events) done.events opening
       ∙ ap (λ (s : Service). run happens mirrors s done.events) (raised mirrors own.events opening own.own)
@@ -317,4 +326,5 @@ module _ (calls : WorkerCallsAreEvents) (mirrors : List Mirror) (start : History
   }
 
 pub runs_are_interleavings : WorkerCallsAreEvents → RunsAreInterleavings
-runs_are_interleavings calls mirrors start kept proceedings left served = interleaved calls mirrors start kept proceedings left served
+runs_are_interleavings calls mirrors start kept proceedings left served = interleaved calls mirrors start kept
+    proceedings left served

@@ -54,7 +54,8 @@ flat-push : {A B : Type 0} (f : A → List B) (items : List A) (new : A) →
     flat_map f (items ++ new ∷ []) ≡ flat_map f items ++ f new
 flat-push f [] new = append-nil (f new)
 flat-push {A} {B} f (item ∷ items) new =
-    ap (λ (rest : List B). f item ++ rest) (flat-push f items new) ∙ sym (append_assoc (f item) (flat_map f items) (f new))
+    ap (λ (rest : List B). f item ++ rest) (flat-push f items new)
+    ∙ sym (append_assoc (f item) (flat_map f items) (f new))
 
 -- the first items of a list, as many as there are
 take-all : {A : Type 0} (items : List A) → take (length items) items ≡ items
@@ -129,7 +130,8 @@ module _ (mirrors : List Mirror) (service : Service) (index : ℕ) (worker : Wor
       flat-push sent_for worker.ended (record { job = job; rendered = None })
       ∙ ap (λ (all : List Sent). all ++ []) between.sent
 
-  module _ (history : History) (enters : Enters before.sight history after.sight) (published : history ≡ service.history)
+  module _ (history : History) (enters : Enters before.sight history after.sight)
+      (published : history ≡ service.history)
     where
       abbrev count : ℕ
       count = length service.history
@@ -154,7 +156,8 @@ module _ (mirrors : List Mirror) (service : Service) (index : ℕ) (worker : Wor
       same-content : content_of history ≡ content_at service.history count
       same-content = ap content_of (published ∙ sym (take-all service.history))
 
-      module _ (request : Request) (plan : List (Option Choice)) (planned : IsPlan (content_of history) request plan) where
+      module _ (request : Request) (plan : List (Option Choice))
+          (planned : IsPlan (content_of history) request plan) where
         has : HasRows (take count service.history) request plan
         has = rows (take count service.history) request plan
             (subst (λ (apps : List App). IsPlan apps request plan) same-content planned)
@@ -178,7 +181,8 @@ module _ (mirrors : List Mirror) (service : Service) (index : ℕ) (worker : Wor
                     left-by _ asks [] (run happens mirrors service events)
                     (ap (λ (s : Service). run happens mirrors s events) begins
                     ∙ breaks mirrors service.history service.workers index worker there worker.seen worker.ended
-                    worker.share service.books request has.tables plan has.certified has.chosen some asks rest parts named
+                    worker.share service.books request has.tables plan has.certified has.chosen some asks rest parts
+                    named
                     has-room)
                     refl seen-now (λ mirror. refl)
                     (sent-none (record {
@@ -213,7 +217,8 @@ module _ (mirrors : List Mirror) (service : Service) (index : ℕ) (worker : Wor
               } in
               let bytes : reply_bytes (reply_by mirrors (content_at service.history count) moment own) ≡ text =
               sym (written
-              ∙ ap (λ (apps : List App). reply_bytes (reply_of apps request (payloads_of plan) outcomes mirrors moment)) same-content
+              ∙ ap (λ (apps : List App).
+              reply_bytes (reply_of apps request (payloads_of plan) outcomes mirrors moment)) same-content
               ∙ ap
               (λ (os : List (Option ℕ)). reply_bytes
               (reply_of (content_at service.history count) request (payloads_of plan) os mirrors moment))
@@ -225,7 +230,8 @@ module _ (mirrors : List Mirror) (service : Service) (index : ℕ) (worker : Wor
                     (run happens mirrors service events)
                     (ap (λ (s : Service). run happens mirrors s events) begins
                     ∙ replies mirrors service.history service.workers index worker there worker.seen worker.ended
-                    worker.share service.books request has.tables plan has.certified has.chosen some asks rest parts named
+                    worker.share service.books request has.tables plan has.certified has.chosen some asks rest parts
+                    named
                     has-room moment
                     (eq-eqb (length own.outcomes) (length (bytes_asked plan))
                     (length-map asks (λ (ask : Ask). ask.1) ∙ sym all)))
@@ -271,7 +277,8 @@ module _ (mirrors : List Mirror) (service : Service) (index : ℕ) (worker : Wor
   unseen old new (inl same) = ap (λ (s : Sight). s.seen) same
   unseen old new (inr lost) = lost.1
 
-  module _ (published : EntersPublished service.history before after) (room : HaveRoom mirrors service before after) where
+  module _ (published : EntersPublished service.history before after)
+      (room : HaveRoom mirrors service before after) where
     -- all is as it was
     same-progress : after ≡ before → IsDone []
     same-progress same =
@@ -287,7 +294,8 @@ module _ (mirrors : List Mirror) (service : Service) (index : ℕ) (worker : Wor
     by_status input moment status.UnprocessableContent text never = absurd never
 
     by_call : (call : Call) → IsCall mirrors before call after → IsDone (sent_by call)
-    by_call (Looks name found) (inl (history, enters, is), asked) = looked history enters (published history enters) asked
+    by_call (Looks name found) (inl (history, enters, is), asked) = looked history enters
+        (published history enters) asked
     by_call (Looks name found) (inr (none, is), asked) = nothing asked (unseen before.sight after.sight none)
     by_call (Asks input moment (Ok answer)) called = by_status input moment answer.0 answer.1 called
     by_call (Asks input moment (Err off.Memory)) (inl same) = same-progress same
@@ -297,5 +305,5 @@ module _ (mirrors : List Mirror) (service : Service) (index : ℕ) (worker : Wor
         nothing asked (unseen before.sight after.sight none)
 
 pub worker_calls_are_events : PlansHaveRows → WorkerCallsAreEvents
-worker_calls_are_events rows mirrors service index worker before after sent call some there between called published room =
-    by_call mirrors service index worker before after sent some there between rows published room call called
+worker_calls_are_events rows mirrors service index worker before after sent call some there between called own room =
+    by_call mirrors service index worker before after sent some there between rows own room call called

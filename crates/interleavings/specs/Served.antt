@@ -21,12 +21,13 @@ pub record Proceedings : Type 0 where
   pub operator : List Call
   pub totals : List ℕ
 
--- a worker began with a view of a history, and had asked for nothing; its calls led it to these asks; and its view, as it
--- is then, may enter what the operator left
+-- a worker began with a view of a history, and had asked for nothing; its calls led it to these asks; and its view, as
+-- it is then, may enter what the operator left
 pub record IsWorked (mirrors : List Mirror) (start left : History) (calls : List Call) (asks : List Ask) : Type 0 where
   pub sight : Sight
   pub allowed : Allows sight left
-  pub leads : Leads (IsCall mirrors) (record { sight = fresh start; asks = [] }) calls (record { sight = sight; asks = asks })
+  pub leads : Leads (IsCall mirrors) (record { sight = fresh start; asks = [] }) calls
+      (record { sight = sight; asks = asks })
 
 -- rule: Run of a service
 -- one to four mirrors; an operator's calls led from a history, of which nothing was due, to what is left; each worker
@@ -36,7 +37,8 @@ pub record IsServed (mirrors : List Mirror) (start : History) (kept : Store) (pr
   pub some : 1 ≤ length mirrors
   pub few : length mirrors ≤ 4
   pub due : kept.due ≡ None
-  pub operated : Leads IsOperatorCall (record { mirrors = mirrors; history = start; store = kept }) proceedings.operator left
+  pub operated : Leads IsOperatorCall (record { mirrors = mirrors; history = start; store = kept })
+      proceedings.operator left
   pub asks : List (List Ask)
   pub worked : AllZip (IsWorked mirrors start left.history) proceedings.workers asks
   pub summed : AreTotalsOf left.mirrors asks proceedings.totals
@@ -49,10 +51,12 @@ pub record IsDone (mirrors : List Mirror) (proceedings : Proceedings) (left : St
   pub raised : present mirrors service ≡ left.mirrors
   pub sent : map sent_in service.workers ≡ map (flat_map sent_by) proceedings.workers
   pub idle : All (λ (worker : Worker). worker.job ≡ None) service.workers
-  pub totals : (mirror : ℕ) → mirror < length mirrors → (service.books mirror).total ≡ slice_index proceedings.totals mirror
+  pub totals : (mirror : ℕ) → mirror < length mirrors →
+      (service.books mirror).total ≡ slice_index proceedings.totals mirror
 
 -- a run of the machine since it opened comes to that
-pub record IsInterleaved (mirrors : List Mirror) (start : History) (proceedings : Proceedings) (left : State) : Type 0 where
+pub record IsInterleaved (mirrors : List Mirror) (start : History) (proceedings : Proceedings)
+    (left : State) : Type 0 where
   pub events : List Event
   pub done : IsDone mirrors proceedings left (service_after happens mirrors start (length proceedings.workers) events)
 

@@ -40,8 +40,8 @@ pub record CallsWorked : Type 0 where
   pub first : (rejected_run.books 0).total ≡ 0
   pub second : (rejected_run.books 1).total ≡ 3
 
--- two workers and an operator: the budget is raised, worker 0 replies, the release is withdrawn between its two replies,
--- and worker 1 looks a package up, after it asked for 3 bytes in vain
+-- two workers and an operator: the budget is raised, worker 0 replies, the release is withdrawn between its two
+-- replies, and worker 1 looks a package up, after it asked for 3 bytes in vain
 abbrev pub worked_events : List Event
 worked_events =
     Raise 0 6

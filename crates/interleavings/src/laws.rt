@@ -164,12 +164,12 @@ pub fn certified()
 }
 
 // rule: Events of a call
-/// States that each call of a worker's desk is a list of events, if its view enters what is published and each mirror has
-/// room for what it granted.
+/// States that each call of a worker's desk is a list of events, if its view enters what is published and each mirror
+/// has room for what it granted.
 ///
-/// A look-up enters and drops its job. A request that is replied to enters, plans, asks the mirrors and renders; if memory
-/// runs out, it drops its job after some of the asks. Other calls are no event. The events change that worker alone, and the
-/// books by what it asked for; it then has sent what it had, and what the call sent.
+/// A look-up enters and drops its job. A request that is replied to enters, plans, asks the mirrors and renders; if
+/// memory runs out, it drops its job after some of the asks. Other calls are no event. The events change that worker
+/// alone, and the books by what it asked for; it then has sent what it had, and what the call sent.
 pub fn worker_calls()
     ensures { WorkerCallsAreEvents }
 {
@@ -181,12 +181,13 @@ pub fn worker_calls()
 }
 
 // rule: Run of a service
-/// States that each run of a service is a run of the machine: there is a list of events after which what the operator left
-/// is published, each worker sent the replies of its calls, in order, and no others, and each mirror's total is the one given.
+/// States that each run of a service is a run of the machine: there is a list of events after which what the operator
+/// left is published, each worker sent the replies of its calls, in order, and no others, and each mirror's total is
+/// the one given.
 ///
-/// The run is given by the calls of each worker's desk and of the operator's desk, each by itself, and by the totals; each
-/// worker's view may in the end enter what the operator left. In the list all raises come first, and then batch by batch
-/// the calls of the workers that entered it.
+/// The run is given by the calls of each worker's desk and of the operator's desk, each by itself, and by the totals;
+/// each worker's view may in the end enter what the operator left. In the list all raises come first, and then batch by
+/// batch the calls of the workers that entered it.
 pub fn runs_are_interleavings()
     ensures { RunsAreInterleavings }
 {
@@ -216,9 +217,9 @@ pub fn larger_runs()
     ensures heard { HeardOfABatch }
 {}
 
-/// Shows calls and a run of a service, worked by hand as events: two workers and an operator, a rejected ask, a raise, a publish
-/// between two replies of one worker, and a look-up. Proceedings whose totals are made up, or whose operator left a batch
-/// without a call, are of no run.
+/// Shows calls and a run of a service, worked by hand as events: two workers and an operator, a rejected ask, a raise,
+/// a publish between two replies of one worker, and a look-up. Proceedings whose totals are made up, or whose operator
+/// left a batch without a call, are of no run.
 pub fn served_runs()
     ensures calls { CallsWorked }
     ensures run { RunWorked }
