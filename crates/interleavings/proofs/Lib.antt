@@ -20,6 +20,7 @@ mod RequestLemmas
 mod RestartLemmas
 mod RowLemmas
 mod RunLemmas
+mod SentLemmas
 mod ServedLemmas
 mod StateLemmas
 mod TaskLemmas

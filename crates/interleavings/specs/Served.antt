@@ -1,19 +1,23 @@
 -- What a server's workers and its operator did, each by itself; and that it is a run of the machine.
-use Rattle.std.specs.Prelude.{◌≡◌, ℕ, ◌≤◌, ◌<◌, All, List, [], flat_map, length, map, None, slice_index}
+use Rattle.std.specs.Prelude.{◌≡◌, ℕ, ◌≤◌, ◌<◌, All, List, [], flat_map, length, map, take, Option, None, slice_index}
 use Rattle.std.specs.List.{AllZip}
-use Rattle.catalogue_laws.specs.Histories.{History}
+use Rattle.catalogue_laws.specs.Histories.{History, LeadsTo}
 use Rattle.http_desks.specs.Calls.{Call, Leads}
 use Rattle.mirror_ledger.specs.Asks.{Ask}
 use Rattle.mirror_ledger.specs.Tills.{AreTotalsOf}
+use Rattle.omaha_json.specs.ReplyWriting.{reply_bytes}
+use Rattle.omaha_json.specs.declared.reply.Reply.{Reply}
 use Rattle.publisher.specs.Sights.{Allows, Sight, fresh}
 use Rattle.records.specs.declared.mirror.Mirror.{Mirror}
+use Rattle.replies.specs.declared.choices.Choice.{Choice}
 use Rattle.service_desks.specs.Operators.{IsCall as IsOperatorCall}
 use Rattle.service_desks.specs.States.{State, Store}
 use Rattle.service_desks.specs.Workers.{IsCall}
-use Rattle.interleavings.specs.Calls.{sent_by, sent_in}
+use Rattle.interleavings.specs.Calls.{Sent, sent_by, sent_in}
 use Rattle.interleavings.specs.Events.{Event, happens, service_after}
 use Rattle.interleavings.specs.Jobs.{Worker}
-use Rattle.interleavings.specs.Services.{Service, present}
+use Rattle.interleavings.specs.Laws.{IsAcceptedHistory, IsReplyOf}
+use Rattle.interleavings.specs.Services.{Service, content_at, present}
 
 -- the proceedings of a service: the calls of each worker's desk, those of the operator's desk, and the totals
 pub record Proceedings : Type 0 where
@@ -65,3 +69,24 @@ abbrev pub RunsAreInterleavings : Type 0
 RunsAreInterleavings =
     (mirrors : List Mirror) (start : History) (kept : Store) (proceedings : Proceedings) (left : State) →
     IsServed mirrors start kept proceedings left → IsInterleaved mirrors start proceedings left
+
+-- a reply that was sent is that of one published catalogue: to its request at its time, by a plan and outcomes, and by
+-- the first batches of a history, of some number
+pub record IsOfPublished (mirrors : List Mirror) (history : History) (sent : Sent) : Type 0 where
+  pub number : ℕ
+  pub some : 1 ≤ number
+  pub published : number ≤ length history
+  pub led : LeadsTo (take number history) (content_at history number)
+  pub plan : List (Option Choice)
+  pub outcomes : List (Option ℕ)
+  pub reply : Reply
+  pub is : IsReplyOf (content_at history number) mirrors sent.request plan outcomes sent.moment reply
+  pub written : sent.text ≡ reply_bytes reply
+
+-- each reply of each worker of a run is, by the history that the operator left, if the run began with an accepted one
+abbrev pub ServedRepliesArePublished : Type 0
+ServedRepliesArePublished =
+    (mirrors : List Mirror) (start : History) (kept : Store) (proceedings : Proceedings) (left : State) →
+    IsAcceptedHistory start →
+    IsServed mirrors start kept proceedings left →
+    All (λ (calls : List Call). All (IsOfPublished mirrors left.history) (flat_map sent_by calls)) proceedings.workers

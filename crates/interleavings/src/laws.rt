@@ -9,7 +9,7 @@ ghost use Rattle.interleavings.specs.Laws.{BatchesArePublishedInTurn, BatchesAre
 ghost use Rattle.interleavings.specs.Requests.{RepliesAreToGivenRequests};
 ghost use Rattle.interleavings.specs.Restart.{DumpsAreProfiles, OperatorsOnlyRaise, RestartsKeepReplies, ServicesOpenAgain};
 ghost use Rattle.interleavings.specs.Runs.{BudgetEnds, BudgetRaised, DropAfterGrant, FailedConditions, PublishBetween, RejectedWithRoom, StalePublish};
-ghost use Rattle.interleavings.specs.Served.{RunsAreInterleavings};
+ghost use Rattle.interleavings.specs.Served.{RunsAreInterleavings, ServedRepliesArePublished};
 ghost use Rattle.interleavings.specs.ServedRuns.{CallsWorked, ProceedingsRejected, RunWorked};
 ghost use Rattle.interleavings.specs.Ties.{AnswersAreOfPending, FullBooksReject, FullIsNotPublished, GrantsAreBooked, NextIsPublished, OperatorCallsAreEvents, PressPublishes, RaisesAreEvents, RaisesByNameAreEvents, RejectedIsNotPublished, RoomIsTested, ScriptsArePublished, WorkersReplyByOneHistory};
 ghost use Rattle.interleavings.specs.Wrong.{EntriesBreak, GrantsBreak, PlansAndRepliesBreak, PublishesBreak, RequestsBreak};
@@ -192,6 +192,15 @@ pub fn runs_are_interleavings()
     ensures { RunsAreInterleavings }
 {
     crate::laws::worker_calls();
+}
+
+/// States that each reply of each worker of a run is that of one published catalogue: of the first batches of the history
+/// that the operator left, of some number, by a plan of chains of the least sum and what the mirrors granted for it.
+pub fn served_replies()
+    ensures { ServedRepliesArePublished }
+{
+    crate::laws::runs_are_interleavings();
+    crate::laws::every_interleaving();
 }
 
 /// Shows small runs, worked by hand: a publish between the plan of one worker and its reply, a dropped job, a publisher
