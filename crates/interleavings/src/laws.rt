@@ -136,7 +136,7 @@ pub fn restart()
 /// The helpers say what is published, whether a book has room, which book it is after a grant or a raise, and what the
 /// reply of a job is. A raise by a name from the present mirrors is the event `Raise` of that mirror, or none; and each
 /// call of the operator's desk, from what is published and the present mirrors, is one event `Publish` or `Raise`, or
-/// none. The events `Enter`, `Learn` and `Drop` have no such law, and none says that a worker's call is one whole event.
+/// none. The calls of a worker's desk are lists of events by `worker_calls`; the event `Learn` has no such law.
 pub fn ties()
     ensures next { NextIsPublished }
     ensures rejected { RejectedIsNotPublished }
