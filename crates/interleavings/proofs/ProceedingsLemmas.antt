@@ -1,16 +1,69 @@
--- Logs that are of no run.
-use Rattle.std.proofs.Common.{◌≡◌, ℕ, List, [], ◌∷◌, length, take, refl, ap, ◌∙◌}
+-- Proceedings that are of a run, and some that are of none.
+use Rattle.std.proofs.Common.{◌≡◌, ℕ, zero, suc, ◌<◌, ◌≤◌, inl, List, [], ◌∷◌, length, take, None, refl, sym, ap, ◌∙◌, arith}
 use Rattle.std.specs.List.{AllZip}
-use Rattle.std.specs.Prelude.{slice_index}
-use Rattle.catalogue_laws.specs.Histories.{History}
+use Rattle.std.specs.Prelude.{codes, slice_index}
+use Rattle.hex.proofs.OnLiterals.{hex_on_literals}
+use Rattle.catalogue_laws.specs.Histories.{History, LeadsTo}
+use Rattle.cohorts.specs.CohortTexts.{parsed}
+use Rattle.editions.specs.Editions.{content_of}
 use Rattle.mirror_ledger.specs.Asks.{Ask}
+use Rattle.mirror_ledger.specs.Named.{budget_at}
 use Rattle.mirror_ledger.specs.Tills.{granted_by}
+use Rattle.publisher.specs.Sights.{Allows, fresh}
+use Rattle.records.specs.Forms.{hash_of}
+use Rattle.records.specs.Lookups.{declared_of}
 use Rattle.service_desks.specs.States.{State, Store}
 use Rattle.service_desks.specs.Workers.{Progress}
 use Rattle.interleavings.specs.Runs.{small_batch, small_mirrors}
 use Rattle.interleavings.specs.Served.{IsServed, IsWorked}
-use Rattle.interleavings.specs.ServedRuns.{idle_proceedings, left_unpublished, made_up}
+use Rattle.interleavings.specs.ServedRuns.{LookedUp, idle_proceedings, left_unpublished, made_up}
+use Rattle.version.specs.Versions as version
 use Rattle.interleavings.proofs.WrongLemmas.{apart}
+
+-- the small history is accepted
+small-leads : LeadsTo (small_batch ∷ []) (content_of (small_batch ∷ []))
+unfolding hex_on_literals version.version_of version.components_of version.lenient_version_of hash_of parsed
+small-leads = refl
+
+unknown-name : declared_of (content_of (small_batch ∷ [])) (codes "none") ≡ None
+unfolding hex_on_literals version.version_of version.components_of version.lenient_version_of hash_of parsed
+unknown-name = refl
+
+none-within : (index : ℕ) → index < 1 → slice_index (0 ∷ []) index ≤ budget_at small_mirrors index
+none-within zero below = omega arith
+none-within (suc index) below = absurd (omega arith)
+
+pub looked_up : LookedUp
+looked_up first records =
+    let history = small_batch ∷ [] in
+    let allows : Allows (fresh history) history = (refl, (([], refl), tt)) in
+    record {
+      some = omega arith;
+      few = omega arith;
+      due = refl;
+      operated = refl;
+      asks = [] ∷ [];
+      worked = (
+        record {
+          sight = fresh history;
+          allowed = allows;
+          leads = (
+            record { sight = fresh history; asks = [] },
+            (
+              inl (
+                history,
+                record { accepted = small-leads; allowed = allows; risen = omega arith; left = refl },
+                sym unknown-name,
+              ),
+              refl,
+            ),
+            refl,
+          );
+        },
+        tt,
+      );
+      summed = record { sums = refl; within = none-within };
+    }
 
 -- who is called for nothing asks for nothing
 none-asked : (left : History) (asks : List (List Ask)) →

@@ -1,6 +1,8 @@
--- Calls and a run of a service, worked by hand as events; and logs that are of no run.
+-- Calls and a run of a service, worked by hand as events; proceedings that are of a run, and some that are of none.
 use Rattle.std.specs.Prelude.{◌≡◌, ℕ, List, [], ◌∷◌, ◌++◌, codes, map, None, Some}
-use Rattle.service_desks.specs.States.{State, Store}
+use Rattle.http_desks.specs.Calls.{Looks}
+use Rattle.kept_records.specs.declared.record.Record.{Record}
+use Rattle.service_desks.specs.States.{State, Store, store}
 use Rattle.interleavings.specs.Calls.{Break, Look, Nothing, Reply, Sent, Work, events_of, sent_in}
 use Rattle.interleavings.specs.Events.{Drop, Enter, Event, Grant, Plan, Publish, Raise, Reject, Render, happens, service_after}
 use Rattle.interleavings.specs.Jobs.{Worker}
@@ -70,6 +72,17 @@ pub record RunWorked : Type 0 where
   pub total : (worked_run.books 0).total ≡ 3
   pub budget : (worked_run.books 0).budget ≡ 6
 
+-- a worker that looked a package up, which no release has
+abbrev pub looked_up : Proceedings
+looked_up = record { workers = (Looks (codes "none") None ∷ []) ∷ []; operator = []; totals = 0 ∷ [] }
+
+-- its run, without a call of the operator
+abbrev pub LookedUp : Type 0
+LookedUp =
+    (first : ℕ) (records : List Record) →
+    IsServed small_mirrors (small_batch ∷ []) (store first records None) looked_up
+    (record { mirrors = small_mirrors; history = small_batch ∷ []; store = store first records None })
+
 -- a worker that was called for nothing, and a total that nobody asked for
 abbrev pub made_up : Proceedings
 made_up = record { workers = [] ∷ []; operator = []; totals = 3 ∷ [] }
@@ -85,7 +98,7 @@ left_unpublished state = record {
 abbrev pub idle_proceedings : Proceedings
 idle_proceedings = record { workers = [] ∷ []; operator = []; totals = 0 ∷ [] }
 
--- such logs are of no run
+-- such proceedings are of no run
 pub record ProceedingsRejected : Type 0 where
   pub made_up_totals :
       (kept : Store) (left : State) → ¬ (IsServed small_mirrors (small_batch ∷ []) kept made_up left)

@@ -10,7 +10,7 @@ ghost use Rattle.interleavings.specs.Requests.{RepliesAreToGivenRequests};
 ghost use Rattle.interleavings.specs.Restart.{DumpsAreProfiles, OperatorsOnlyRaise, RestartsKeepReplies, ServicesOpenAgain};
 ghost use Rattle.interleavings.specs.Runs.{BudgetEnds, BudgetRaised, DropAfterGrant, FailedConditions, PublishBetween, RejectedWithRoom, StalePublish};
 ghost use Rattle.interleavings.specs.Served.{RunsAreInterleavings, ServedRepliesArePublished};
-ghost use Rattle.interleavings.specs.ServedRuns.{CallsWorked, ProceedingsRejected, RunWorked};
+ghost use Rattle.interleavings.specs.ServedRuns.{CallsWorked, LookedUp, ProceedingsRejected, RunWorked};
 ghost use Rattle.interleavings.specs.Ties.{AnswersAreOfPending, FullBooksReject, FullIsNotPublished, GrantsAreBooked, NextIsPublished, OperatorCallsAreEvents, PressPublishes, RaisesAreEvents, RaisesByNameAreEvents, RejectedIsNotPublished, RoomIsTested, ScriptsArePublished, WorkersReplyByOneHistory};
 ghost use Rattle.interleavings.specs.Wrong.{EntriesBreak, GrantsBreak, PlansAndRepliesBreak, PublishesBreak, RequestsBreak};
 
@@ -227,11 +227,12 @@ pub fn larger_runs()
 {}
 
 /// Shows calls and a run of a service, worked by hand as events: two workers and an operator, a rejected ask, a raise,
-/// a publish between two replies of one worker, and a look-up. Proceedings whose totals are made up, or whose operator
-/// left a batch without a call, are of no run.
+/// a publish between two replies of one worker, and a look-up. The proceedings of a look-up are of a run. Those whose
+/// totals are made up, or whose operator left a batch without a call, are of none.
 pub fn served_runs()
     ensures calls { CallsWorked }
     ensures run { RunWorked }
+    ensures held { LookedUp }
     ensures rejected { ProceedingsRejected }
 {}
 
