@@ -186,8 +186,8 @@ pub fn worker_calls()
 /// the one given.
 ///
 /// The run is given by the calls of each worker's desk and of the operator's desk, each by itself, and by the totals;
-/// each worker's view may in the end enter what the operator left. In the list all raises come first, and then batch by
-/// batch the calls of the workers that entered it.
+/// each worker's view may in the end enter what the operator left. No clause says more of the list. That of the proof has
+/// all raises first, and then batch by batch the calls of the workers that entered it.
 pub fn runs_are_interleavings()
     ensures { RunsAreInterleavings }
 {

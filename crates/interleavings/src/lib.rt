@@ -8,7 +8,7 @@
 //! `specs/Calls.antt` the calls of a worker's desk as lists of events, and `specs/Served.antt` all that a service did as one
 //! list.
 //!
-//! It says nothing of time: in that list only each worker's own calls are in their order. Nor does it say that anything
+//! It says nothing of time: in that list only each worker's own replies are in their order. Nor does it say that anything
 //! happens: that a worker comes on, or soon sees what is published. Nothing has a law for `Learn`.
 
 #![tactic(auto)]
