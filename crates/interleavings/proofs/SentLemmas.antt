@@ -40,7 +40,8 @@ module _ (mirrors : List Mirror) (history : History) where
   published-job : (ended : EndedJob) → EndsWell mirrors history ended → Published (sent_for ended)
   published-job ended well = by_reply ended.rendered well
     where
-      by_reply : (rendered : Option Rendered) → EndsWell mirrors history (record { job = ended.job; rendered = rendered }) →
+      by_reply : (rendered : Option Rendered) →
+          EndsWell mirrors history (record { job = ended.job; rendered = rendered }) →
           Published (sent_for (record { job = ended.job; rendered = rendered }))
       by_reply None well = tt
       by_reply (Some rendered) well =
@@ -71,7 +72,8 @@ module _ (mirrors : List Mirror) (history : History) where
   published-worker : (worker : Worker) → All (EndsWell mirrors history) worker.ended → Published (sent_in worker)
   published-worker worker well =
       all-flat (IsOfPublished mirrors history) sent_for worker.ended
-      (all-weaker (EndsWell mirrors history) (λ (ended : EndedJob). Published (sent_for ended)) worker.ended published-job
+      (all-weaker (EndsWell mirrors history) (λ (ended : EndedJob). Published (sent_for ended)) worker.ended
+      published-job
       (recursion_from_All (EndsWell mirrors history) worker.ended well))
 
 pub served_replies_are_published :
@@ -83,7 +85,8 @@ served_replies_are_published runs replies mirrors start kept proceedings left ac
     (λ (h : History). All (λ (worker : Worker). All (EndsWell mirrors h) worker.ended) workers) run.done.published
     (replies mirrors start (length proceedings.workers) run.events accepted) in
     let each = all-weaker (λ (worker : Worker). All (EndsWell mirrors left.history) worker.ended)
-    (λ (worker : Worker). Published mirrors left.history (sent_in worker)) workers (published-worker mirrors left.history)
+    (λ (worker : Worker). Published mirrors left.history (sent_in worker)) workers
+    (published-worker mirrors left.history)
     (recursion_from_All (λ (worker : Worker). All (EndsWell mirrors left.history) worker.ended) workers well) in
     let all = subst (AllByRecursion (Published mirrors left.history)) run.done.sent
     (all-mapped (Published mirrors left.history) sent_in workers each) in

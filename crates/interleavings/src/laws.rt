@@ -186,16 +186,17 @@ pub fn worker_calls()
 /// the one given.
 ///
 /// The run is given by the calls of each worker's desk and of the operator's desk, each by itself, and by the totals;
-/// each worker's view may in the end enter what the operator left. No clause says more of the list. That of the proof has
-/// all raises first, and then batch by batch the calls of the workers that entered it.
+/// each worker's view may in the end enter what the operator left. No clause says more of the list. That of the proof
+/// has all raises first, and then batch by batch the calls of the workers that entered it.
 pub fn runs_are_interleavings()
     ensures { RunsAreInterleavings }
 {
     crate::laws::worker_calls();
 }
 
-/// States that each reply of each worker of a run is that of one published catalogue: of the first batches of the history
-/// that the operator left, of some number, by a plan of chains of the least sum and what the mirrors granted for it.
+/// States that each reply of each worker of a run is that of one published catalogue: of the first batches of the
+/// history that the operator left, of some number, by a plan of chains of the least sum and what the mirrors granted
+/// for it.
 pub fn served_replies()
     ensures { ServedRepliesArePublished }
 {
