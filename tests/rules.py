@@ -47,7 +47,7 @@ NO_MUTANT = {
     "Quote by rows": "a law's, and no code of this repository",
     "Reply to an ask": "its parts are rules of their own",
     "Restart": "a law, and no code of this repository",
-    "Run of a service": "a law; `laws::served_runs` has logs that are of no run",
+    "Run of a service": "a law; `laws::served_runs` has proceedings that are of none",
     "Service": "a law's, and no code of this repository",
     "Status of an update check": "its parts are rules of their own",
     "Statuses of every interleaving": "a law, and no code of this repository",

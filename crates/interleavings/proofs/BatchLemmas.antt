@@ -1,12 +1,12 @@
 -- The tasks of a service's workers are done by events, batch by batch.
-use Rattle.std.proofs.Common.{◌≡◌, ℕ, zero, suc, ◌+◌, ◌<◌, ◌≤◌, ◌⊎◌, inl, inr, List, [], ◌∷◌, ◌++◌, length, map, None, refl, sym, ap, ap₂, ◌∙◌, append_assoc, subst, arith}
+use Rattle.std.proofs.Common.{◌≡◌, ℕ, zero, suc, ◌+◌, ◌<◌, ◌≤◌, inl, inr, List, [], ◌∷◌, ◌++◌, length, map, None, refl, sym, ap, ap₂, ◌∙◌, append_assoc, subst, arith}
 use Rattle.std.specs.List.{AllByRecursion, AllZip, sum_by}
 use Rattle.std.proofs.lemmas.List.{append-nil}
 use Rattle.catalogue.specs.declared.edit.Edit.{Edit}
 use Rattle.catalogue_laws.specs.Histories.{History}
 use Rattle.mirror_ledger.specs.Asks.{granted_at}
 use Rattle.publisher.specs.Beginnings.{StartsWith}
-use Rattle.publisher.specs.Sights.{Allows, Sight}
+use Rattle.publisher.specs.Sights.{Sight}
 use Rattle.records.specs.declared.mirror.Mirror.{Mirror}
 use Rattle.service_desks.specs.Workers.{Progress}
 use Rattle.interleavings.specs.Calls.{EntersPublished, HaveRoom, IsBetween, IsWork, Sent, WorkerCallsAreEvents, events_of, sent_by, sent_in}
@@ -65,13 +65,15 @@ module _ (mirrors : List Mirror) (all : History) where
           (allowed-now mirrors all round.after rest task.left chain.1 is.allowed) (omega arith) in
           absurd (omega arith)
 
-  all-ended : (number : ℕ) → number ≡ length all → (tasks : List Task) → AllByRecursion (IsTask mirrors all number) tasks →
+  all-ended : (number : ℕ) → number ≡ length all → (tasks : List Task) →
+      AllByRecursion (IsTask mirrors all number) tasks →
       AllByRecursion (IsLater number) tasks → AllByRecursion IsEnded tasks
   all-ended number whole [] each later = tt
   all-ended number whole (task ∷ tasks) each later =
       (ended number whole task each.0 later.0, all-ended number whole tasks each.1 later.1)
 
-  sent-all : (tasks : List Task) (workers : List Worker) → AllZip IsAtTask tasks workers → AllByRecursion IsEnded tasks →
+  sent-all : (tasks : List Task) (workers : List Worker) → AllZip IsAtTask tasks workers →
+      AllByRecursion IsEnded tasks →
       map sent_in workers ≡ map (λ (task : Task). task.whole) tasks
   sent-all [] [] zipped ends = refl
   sent-all [] (worker ∷ workers) zipped ends = absurd zipped
@@ -209,7 +211,8 @@ module _ (mirrors : List Mirror) (all : History) where
       next-serving = record {
         workers =
             subst (λ (ws : List Worker). AllZip IsAtTask new_tasks ws) (sym work.leads.workers)
-            (zip-both IsAtTask new work.leads.worker ready.index tasks service.workers work.leads.between serving.workers);
+            (zip-both IsAtTask new work.leads.worker ready.index tasks service.workers work.leads.between
+            serving.workers);
         totals = λ mirror.
             let after = work.leads.totals mirror in
             let total = serving.totals mirror in
@@ -228,7 +231,8 @@ module _ (mirrors : List Mirror) (all : History) where
 
       fewer : left_of new_tasks given + 1 ≡ left_of tasks given
       fewer =
-          let balance = sum-balance (λ (task : Task). length task.rounds) new ready.task ready.index tasks ready.there in
+          let balance = sum-balance (λ (task : Task). length task.rounds) new ready.task ready.index tasks ready.there
+          in
           let long = ap (λ (rs : List Round). length rs) ready.is in
           omega arith
 
@@ -267,9 +271,11 @@ module _ (mirrors : List Mirror) (all : History) where
 
     done-batch : HasDone mirrors all tasks longer → HasDone mirrors all tasks service
     done-batch done =
-        then-done service longer (Publish batch.0 batch.1 ∷ []) tasks tasks refl refl (λ mirror. refl) (λ mirror. refl) done
+        then-done service longer (Publish batch.0 batch.1 ∷ []) tasks tasks refl refl (λ mirror. refl)
+        (λ mirror. refl) done
 
-  pub serves : 1 ≤ length mirrors → WorkerCallsAreEvents → (fuel : ℕ) (service : Service) (tasks : List Task) (given : Given) →
+  pub serves : 1 ≤ length mirrors → WorkerCallsAreEvents → (fuel : ℕ) (service : Service) (tasks : List Task)
+      (given : Given) →
       left_of tasks given < fuel → IsServing mirrors all tasks given service → HasDone mirrors all tasks service
   serves some calls zero service tasks given short serving = absurd (omega arith)
   serves some calls (suc fuel) service tasks [] short serving = elim (look (length service.history) tasks) [

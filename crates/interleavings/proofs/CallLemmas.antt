@@ -1,10 +1,8 @@
 -- What the events of each work lead to, from a service in which the worker has no job.
-use Rattle.std.proofs.Common.{◌≡◌, ℕ, ◌+◌, ◌<◌, ◌≤◌, ◌&&◌, true, eqb, List, [], ◌∷◌, ◌++◌, length, map, Option, None, Some, refl, sym, ap, ◌∙◌, subst}
+use Rattle.std.proofs.Common.{◌≡◌, ℕ, ◌+◌, ◌<◌, ◌≤◌, ◌&&◌, true, List, [], ◌∷◌, ◌++◌, length, map, Option, None, Some, refl, ap, ◌∙◌}
 use Rattle.std.specs.List.{AllByRecursion, slice_get}
-use Rattle.std.specs.Option.{is_none, option_map_or}
-use Rattle.std.proofs.lemmas.Bool.{and_from, cond-true, eq-eqb, false≢true}
-use Rattle.std.proofs.lemmas.List.{append-nil, length-map}
-use Rattle.std.proofs.lemmas.List.Elements.{filter_map-append}
+use Rattle.std.specs.Option.{is_none}
+use Rattle.std.proofs.lemmas.Bool.{and_from, cond-true, false≢true}
 use Rattle.catalogue_laws.specs.Histories.{History}
 use Rattle.mirror_ledger.specs.Asks.{Ask, granted_at}
 use Rattle.mirror_ledger.specs.Budgets.{Account}
@@ -19,10 +17,10 @@ use Rattle.interleavings.specs.Choices.{Tables, are_certified, choices_of}
 use Rattle.interleavings.specs.Events.{Drop, Enter, Event, Plan, Render, happens, run}
 use Rattle.interleavings.specs.Jobs.{EndedJob, Job, Pending, Worker, bytes_asked, is_decided, outcomes_by_app}
 use Rattle.interleavings.specs.Moves.{after_drop, after_entry, after_plan, after_rendering, begun, rendered_at, without_job}
-use Rattle.interleavings.specs.Services.{Service, changed_at, content_at}
+use Rattle.interleavings.specs.Services.{Service, content_at}
 use Rattle.interleavings.proofs.KeptLemmas.{IsNamed}
 use Rattle.interleavings.proofs.RunLemmas.{run-append}
-use Rattle.interleavings.proofs.StateLemmas.{asked, books_after, busy, moves, outcomes_in, pending_with, share_after, sizes_in, state}
+use Rattle.interleavings.proofs.StateLemmas.{asked, books_after, moves, share_after, state}
 
 -- the asks of a plan: their bytes, their outcomes by app, and whom they name
 pub record AreAsks (mirrors : List Mirror) (plan : List (Option Choice)) (outcomes : List (Option ℕ)) : Type 0 where
@@ -53,7 +51,8 @@ AreAsks-plan mirrors (Some choice ∷ plan) (outcome ∷ outcomes) decided =
     }
 
 module _ (mirrors : List Mirror) (history : History) (workers : List Worker) (index : ℕ) (old : Worker)
-    (there : slice_get workers index ≡ Some old) (seen : ℕ) (ended : List EndedJob) (share : ℕ → ℕ) (books : ℕ → Account)
+    (there : slice_get workers index ≡ Some old) (seen : ℕ) (ended : List EndedJob) (share : ℕ → ℕ)
+    (books : ℕ → Account)
   where
     abbrev count : ℕ
     count = length history
@@ -138,7 +137,8 @@ module _ (mirrors : List Mirror) (history : History) (workers : List Worker) (in
         asks-all last =
             run-append happens mirrors (asks_events mirrors index asks) (last ∷ []) (at (asking []) books)
             ∙ ap (λ (s : Service). happens mirrors s last)
-            (asked mirrors history workers index old there request plan count count ended some asks [] rest [] share books
+            (asked mirrors history workers index old there request plan count count ended some asks [] rest [] share
+            books
             parts refl named room)
 
         pub breaks :

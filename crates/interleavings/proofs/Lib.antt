@@ -8,7 +8,7 @@ mod HeadlineLemmas
 mod KeptLemmas
 mod LawLemmas
 mod ListLemmas
-mod LogLemmas
+mod ProceedingsLemmas
 mod MoveLemmas
 mod OperatorLemmas
 mod PendingLemmas
@@ -20,6 +20,7 @@ mod RequestLemmas
 mod RestartLemmas
 mod RowLemmas
 mod RunLemmas
+mod SentLemmas
 mod ServedLemmas
 mod StateLemmas
 mod TaskLemmas

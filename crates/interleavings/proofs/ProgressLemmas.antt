@@ -1,22 +1,21 @@
 -- What the calls of a worker's desk come to: what its view has seen, what it asked for, and what it may still enter.
-use Rattle.std.proofs.Common.{◌≡◌, ℕ, ◌+◌, ◌≤◌, ◌⊎◌, inl, inr, Bool, true, false, List, [], ◌∷◌, ◌++◌, length, map, take, Option, None, Some, Result, Ok, Err, refl, sym, ap, ◌∙◌, append_assoc, subst, arith}
+use Rattle.std.proofs.Common.{◌≡◌, ℕ, ◌+◌, ◌≤◌, ◌⊎◌, inl, inr, true, false, List, [], ◌∷◌, ◌++◌, length, take, Ok, Err, sym, ap, ◌∙◌, append_assoc, subst, arith}
 use Rattle.std.proofs.Math.Seq.{take-append_seam}
 use Rattle.std.proofs.lemmas.Bool.{false≢true}
 use Rattle.std.proofs.lemmas.List.{append-nil, length-append}
 use Rattle.catalogue_laws.specs.Histories.{History}
-use Rattle.http_desks.specs.Calls.{Asks, Call, Leads, Looks}
+use Rattle.http_desks.specs.Calls.{Asks, Call, Looks}
 use Rattle.http_desks.specs.declared.desk.DeskStatus.{DeskStatus}
 use Rattle.http_desks.specs.declared.desk.DeskStatus.TheVariants as status
 use Rattle.http_desks.specs.declared.desk.Off.TheVariants as off
 use Rattle.mirror_ledger.specs.Asks.{Ask, granted_at}
 use Rattle.publisher.specs.Beginnings.{StartsWith}
 use Rattle.publisher.specs.Heard.{GoesOn}
-use Rattle.publisher.specs.Sights.{Allows, Sight, fresh}
+use Rattle.publisher.specs.Sights.{Allows, Sight}
 use Rattle.records.specs.declared.mirror.Mirror.{Mirror}
-use Rattle.service_desks.specs.Answering.{HasBegun}
 use Rattle.service_desks.specs.Asking.{asks_of}
 use Rattle.service_desks.specs.Entries.{Enters, FindsNoEntry}
-use Rattle.service_desks.specs.Workers.{HasStatus, IsCall, Progress, stock_of}
+use Rattle.service_desks.specs.Workers.{HasStatus, IsCall, Progress}
 use Rattle.interleavings.proofs.WorkerLemmas.{granted-append}
 
 -- a history that begins with one that begins with another
@@ -26,7 +25,8 @@ starts-through now middle old (more, later) (rest, first) = (
   later ∙ ap (λ (h : History). h ++ more) first ∙ append_assoc old rest more,
 )
 
-goes-through : (now middle : History) (heard : List History) → StartsWith now middle → GoesOn middle heard → GoesOn now heard
+goes-through : (now middle : History) (heard : List History) → StartsWith now middle → GoesOn middle heard →
+    GoesOn now heard
 goes-through now middle [] later goes = tt
 goes-through now middle (first ∷ others) later goes =
     (starts-through now middle first later goes.0, goes-through now middle others later goes.1)

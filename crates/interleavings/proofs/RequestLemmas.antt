@@ -5,7 +5,6 @@ use Rattle.std.specs.List.{slice_get}
 use Rattle.std.proofs.lemmas.Bool.{cond_both}
 use Rattle.std.proofs.lemmas.List.{append-nil}
 use Rattle.std.proofs.lemmas.Option.{IfSome_then, none-some, same_Some}
-use Rattle.catalogue.specs.declared.edit.Edit.{Edit}
 use Rattle.mirror_ledger.specs.Asks.{booked}
 use Rattle.records.specs.declared.mirror.Mirror.{Mirror}
 use Rattle.interleavings.specs.Entries.{Course, JobsGoByWhatIsPublished}

@@ -25,7 +25,8 @@ use Rattle.interleavings.proofs.KeptLemmas.{IsValid-content}
 use Rattle.interleavings.proofs.PlanLemmas.{passed-AreCertified}
 
 -- a test that holds of all items
-all-pass : {A : Type 0} (test : A → Bool) → ((item : A) → test item ≡ true) → (items : List A) → list_all test items ≡ true
+all-pass : {A : Type 0} (test : A → Bool) → ((item : A) → test item ≡ true) → (items : List A) →
+    list_all test items ≡ true
 all-pass test holds [] = refl
 all-pass test holds (item ∷ items) = and_from (test item) (list_all test items) (holds item) (all-pass test holds items)
 

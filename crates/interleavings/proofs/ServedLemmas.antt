@@ -1,28 +1,25 @@
 -- Each run of a service is a run of the machine: all raises first, then batch by batch the calls of each worker.
-use Rattle.std.proofs.Common.{◌≡◌, ℕ, zero, suc, ◌+◌, ◌<◌, ◌≤◌, true, false, Bool, List, [], ◌∷◌, ◌++◌, length, map, replicate, take, All, Option, None, Some, refl, sym, ap, ap₂, ◌∙◌, append_assoc, subst, arith}
+use Rattle.std.proofs.Common.{◌≡◌, ℕ, zero, suc, ◌+◌, ◌<◌, ◌≤◌, true, false, List, [], ◌∷◌, ◌++◌, length, map, replicate, take, Option, None, refl, sym, ap, ap₂, ◌∙◌, subst, arith}
 use Rattle.std.specs.List.{AllByRecursion, AllZip, flat_map, sum_by}
 use Rattle.std.specs.Prelude.{slice_index}
 use Rattle.std.proofs.lemmas.Bool.{false≢true}
-use Rattle.std.proofs.lemmas.List.{append-nil}
 use Rattle.std.proofs.lemmas.List.Elements.{All-from_recursion, recursion_from_All}
 use Rattle.std.proofs.lemmas.List.Sums.{sum_by-cons}
-use Rattle.catalogue.specs.declared.edit.Edit.{Edit}
 use Rattle.catalogue_laws.specs.Histories.{History}
-use Rattle.editions.specs.Editions.{Continues}
 use Rattle.http_desks.specs.Calls.{Call, Leads}
 use Rattle.mirror_ledger.specs.Asks.{Ask, granted_at}
 use Rattle.mirror_ledger.specs.Budgets.{Account}
-use Rattle.mirror_ledger.specs.Named.{budget_at, totals_of}
+use Rattle.mirror_ledger.specs.Named.{budget_at}
 use Rattle.mirror_ledger.specs.Tills.{granted_by}
-use Rattle.publisher.specs.Sights.{Allows, fresh}
+use Rattle.publisher.specs.Sights.{fresh}
 use Rattle.records.specs.declared.mirror.Mirror.{Mirror}
 use Rattle.service_desks.specs.Operators.{IsCall as IsOperatorCall}
 use Rattle.service_desks.specs.States.{State, Store}
 use Rattle.service_desks.specs.Workers.{IsCall, Progress}
-use Rattle.interleavings.specs.Calls.{IsBetween, Sent, WorkerCallsAreEvents, sent_by, sent_in}
+use Rattle.interleavings.specs.Calls.{Sent, WorkerCallsAreEvents, sent_by}
 use Rattle.interleavings.specs.Events.{Drop, Enter, Event, Grant, Learn, Plan, Publish, Raise, Reject, Render, happens, run, service_after}
 use Rattle.interleavings.specs.Jobs.{Worker, new_worker}
-use Rattle.interleavings.specs.Served.{IsInterleaved, IsLogged, IsServed, IsWorked, Log, RunsAreInterleavings}
+use Rattle.interleavings.specs.Served.{IsInterleaved, IsDone, IsServed, IsWorked, Proceedings, RunsAreInterleavings}
 use Rattle.interleavings.specs.Services.{Service, opened, opened_book, present, with_budget, with_budgets_of}
 use Rattle.interleavings.specs.Ties.{IsDueAfter, is_of_operator, state_of}
 use Rattle.interleavings.proofs.BatchLemmas.{IsAtTask, left_of, serves}
@@ -60,7 +57,8 @@ operated mirrors (call ∷ calls) service store left due (next, called, leads) =
       events = step.events ++ rest.events;
       own = all-append IsOwn step.events rest.events (recursion_from_All IsOwn step.events step.own) rest.own;
       leaves =
-          ap (λ (s : Service). state_of mirrors s left.store) (run-append happens mirrors step.events rest.events service)
+          ap (λ (s : Service). state_of mirrors s left.store)
+          (run-append happens mirrors step.events rest.events service)
           ∙ rest.leaves;
     }
 
@@ -121,7 +119,8 @@ published-too mirrors (Render worker moment ∷ events) service own = absurd (fa
 published-too mirrors (Drop worker ∷ events) service own = absurd (false≢true own.0)
 
 -- nothing is granted by a raise
-total-kept : (event : Event) (books : ℕ → Account) (mirror : ℕ) → (books_of event books mirror).total ≡ (books mirror).total
+total-kept : (event : Event) (books : ℕ → Account) (mirror : ℕ) →
+    (books_of event books mirror).total ≡ (books mirror).total
 total-kept (Raise raised bytes) books mirror = refl
 total-kept (Publish known batch) books mirror = refl
 total-kept (Enter worker) books mirror = refl
@@ -135,7 +134,8 @@ total-kept (Drop worker) books mirror = refl
 totals-kept : (events : List Event) (books : ℕ → Account) (mirror : ℕ) →
     (books_by books events mirror).total ≡ (books mirror).total
 totals-kept [] books mirror = refl
-totals-kept (event ∷ events) books mirror = totals-kept events (books_of event books) mirror ∙ total-kept event books mirror
+totals-kept (event ∷ events) books mirror = totals-kept events (books_of event books) mirror
+    ∙ total-kept event books mirror
 
 -- the calls of a worker with what each led to
 record HasRounds (mirrors : List Mirror) (now : Progress) (calls : List Call) (left : Progress) : Type 0 where
@@ -155,7 +155,8 @@ rounds-of mirrors now (call ∷ calls) left (next, called, leads) =
     }
 
 -- the workers' tasks when the service opens
-record HasTasks (mirrors : List Mirror) (start left : History) (workers : List (List Call)) (asks : List (List Ask)) : Type 0 where
+record HasTasks (mirrors : List Mirror) (start left : History) (workers : List (List Call))
+    (asks : List (List Ask)) : Type 0 where
   tasks : List Task
   each : AllByRecursion (IsTask mirrors left (length start)) tasks
   wholes : map (λ (task : Task). task.whole) tasks ≡ map (flat_map sent_by) workers
@@ -222,20 +223,22 @@ total-at granted (suc (suc (suc zero))) (suc (suc (suc index))) below few = absu
 total-at granted (suc (suc (suc (suc count)))) (suc (suc (suc zero))) below few = refl
 total-at granted (suc (suc (suc (suc count)))) (suc (suc (suc (suc index)))) below few = absurd (omega arith)
 
-module _ (calls : WorkerCallsAreEvents) (mirrors : List Mirror) (start : History) (kept : Store) (log : Log) (left : State)
-    (served : IsServed mirrors start kept log left) where
+module _ (calls : WorkerCallsAreEvents) (mirrors : List Mirror) (start : History) (kept : Store)
+    (proceedings : Proceedings) (left : State)
+    (served : IsServed mirrors start kept proceedings left) where
   abbrev opening : Service
-  opening = opened mirrors start (length log.workers)
+  opening = opened mirrors start (length proceedings.workers)
 
   begun : state_of mirrors opening kept ≡ record { mirrors = mirrors; history = start; store = kept }
   begun = ap (λ (ms : List Mirror). record { mirrors = ms; history = start; store = kept }) (present-opened mirrors)
 
   own : HasEvents mirrors opening left
   own =
-      operated mirrors log.operator opening kept left
-      (subst (λ (due : Option History). IsDueAfter start (record { first = kept.first; records = kept.records; due = due }))
+      operated mirrors proceedings.operator opening kept left
+      (subst (λ (due : Option History). IsDueAfter start
+      (record { first = kept.first; records = kept.records; due = due }))
       (sym served.due) tt)
-      (subst (λ (s : State). Leads IsOperatorCall s log.operator left) (sym begun) served.operated)
+      (subst (λ (s : State). Leads IsOperatorCall s proceedings.operator left) (sym begun) served.operated)
 
   abbrev books : ℕ → Account
   books = books_by (opened_book mirrors) own.events
@@ -259,14 +262,14 @@ module _ (calls : WorkerCallsAreEvents) (mirrors : List Mirror) (start : History
   presents =
       sym (ap (λ (s : Service). present mirrors s) all-published) ∙ ap (λ (s : State). s.mirrors) own.leaves
 
-  has : HasTasks mirrors start left.history log.workers served.asks
-  has = tasks-of mirrors start left.history log.workers served.asks served.worked
+  has : HasTasks mirrors start left.history proceedings.workers served.asks
+  has = tasks-of mirrors start left.history proceedings.workers served.asks served.worked
 
   long : length left.mirrors ≡ length mirrors
   long = ap (λ (ms : List Mirror). length ms) (sym presents) ∙ length-present books mirrors
 
-  -- a total of the log
-  total : (mirror : ℕ) → mirror < length mirrors → granted_by served.asks mirror ≡ slice_index log.totals mirror
+  -- a total of the proceedings
+  total : (mirror : ℕ) → mirror < length mirrors → granted_by served.asks mirror ≡ slice_index proceedings.totals mirror
   total mirror below =
       let few = served.few in
       let same = long in
@@ -279,7 +282,8 @@ module _ (calls : WorkerCallsAreEvents) (mirrors : List Mirror) (start : History
       let sum = has.granted mirror in
       let sums = total mirror below in
       let low = served.summed.within mirror (omega arith) in
-      let budget = ap (λ (ms : List Mirror). budget_at ms mirror) (sym presents) ∙ budget_at-present books mirrors mirror below in
+      let budget = ap (λ (ms : List Mirror). budget_at ms mirror) (sym presents)
+      ∙ budget_at-present books mirrors mirror below in
       omega arith
 
   serving : IsServing mirrors left.history has.tasks given raised_first
@@ -296,19 +300,21 @@ module _ (calls : WorkerCallsAreEvents) (mirrors : List Mirror) (start : History
   }
 
   done : HasDone mirrors left.history has.tasks raised_first
-  done = serves mirrors left.history served.some calls (left_of has.tasks given + 1) raised_first has.tasks given (omega arith) serving
+  done = serves mirrors left.history served.some calls (left_of has.tasks given + 1) raised_first has.tasks given
+      (omega arith) serving
 
-  after : service_after happens mirrors start (length log.workers) (raises_in own.events ++ done.events) ≡ done.last
+  after : service_after happens mirrors start (length proceedings.workers)
+      (raises_in own.events ++ done.events) ≡ done.last
   after =
       run-append happens mirrors (raises_in own.events) done.events opening
       ∙ ap (λ (s : Service). run happens mirrors s done.events) (raised mirrors own.events opening own.own)
       ∙ done.leads
 
-  interleaved : IsInterleaved mirrors start log left
+  interleaved : IsInterleaved mirrors start proceedings left
   interleaved = record {
     events = raises_in own.events ++ done.events;
-    logged =
-        subst (IsLogged mirrors log left) (sym after)
+    done =
+        subst (IsDone mirrors proceedings left) (sym after)
         (record {
           published = done.history;
           raised =
@@ -320,4 +326,5 @@ module _ (calls : WorkerCallsAreEvents) (mirrors : List Mirror) (start : History
   }
 
 pub runs_are_interleavings : WorkerCallsAreEvents → RunsAreInterleavings
-runs_are_interleavings calls mirrors start kept log left served = interleaved calls mirrors start kept log left served
+runs_are_interleavings calls mirrors start kept proceedings left served = interleaved calls mirrors start kept
+    proceedings left served

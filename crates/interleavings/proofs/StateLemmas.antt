@@ -1,6 +1,6 @@
 -- A service in which one worker is in the place of another, and what the events of that worker make of it.
-use Rattle.std.proofs.Common.{◌≡◌, ℕ, zero, suc, ◌+◌, ◌<◌, ◌≤◌, ◌&&◌, Bool, true, false, cond, eqb, ltb, leb, List, [], ◌∷◌, ◌++◌, length, map, Option, None, Some, refl, sym, ap, ◌∙◌, append_assoc, subst, arith}
-use Rattle.std.specs.List.{AllByRecursion, slice_get, sum_by}
+use Rattle.std.proofs.Common.{◌≡◌, ℕ, zero, suc, ◌+◌, ◌<◌, ◌≤◌, ◌&&◌, Bool, true, false, cond, eqb, ltb, List, [], ◌∷◌, ◌++◌, length, map, Option, None, Some, refl, sym, ap, ◌∙◌, append_assoc, arith}
+use Rattle.std.specs.List.{AllByRecursion, slice_get}
 use Rattle.std.specs.Option.{option_map_or}
 use Rattle.std.proofs.lemmas.Bool.{and_from, cond-false, cond-true, eq-eqb, le-leb, lt-ltb, ne_eqb}
 use Rattle.std.proofs.lemmas.List.{append-nil, length-append}
@@ -14,8 +14,8 @@ use Rattle.records.specs.declared.mirror.Mirror.{Mirror}
 use Rattle.replies.specs.declared.choices.Choice.{Choice}
 use Rattle.interleavings.specs.Calls.{ask_events, asks_events, rejections}
 use Rattle.interleavings.specs.Events.{Grant, Reject, asks, decided, granted, happens, moved, rejected, run}
-use Rattle.interleavings.specs.Jobs.{EndedJob, Job, Pending, Worker, bytes_asked}
-use Rattle.interleavings.specs.Moves.{after_grant, after_rejection, asks_next, is_asking, with_outcome, with_pending}
+use Rattle.interleavings.specs.Jobs.{EndedJob, Pending, Worker, bytes_asked}
+use Rattle.interleavings.specs.Moves.{after_grant, after_rejection, is_asking, with_outcome, with_pending}
 use Rattle.interleavings.specs.Services.{Service, changed_at, has_room, with_grant}
 use Rattle.interleavings.proofs.KeptLemmas.{IsNamed}
 use Rattle.interleavings.proofs.PlaceLemmas.{slice_get-seam}
@@ -24,7 +24,8 @@ use Rattle.interleavings.proofs.RunLemmas.{run-append}
 -- an item that was put at an index, and is changed
 changed-twice :
     {A : Type 0} (change : A → A) (item : A) (index : ℕ) (items : List A) →
-    changed_at index change (changed_at index (λ (old : A). item) items) ≡ changed_at index (λ (old : A). change item) items
+    changed_at index change (changed_at index (λ (old : A). item) items)
+    ≡ changed_at index (λ (old : A). change item) items
 changed-twice change item index [] = refl
 changed-twice change item zero (first ∷ items) = refl
 changed-twice {A} change item (suc index) (first ∷ items) =
@@ -138,7 +139,13 @@ module _ (mirrors : List Mirror) (history : History) (workers : List Worker) (in
 
     abbrev pub busy : (ℕ → ℕ) → Pending → Worker
     busy share pending =
-        record { seen = seen; job = Some (record { number = number; pending = Some pending }); ended = ended; share = share }
+        record {
+          seen = seen;
+          job = Some (record { number = number; pending = Some pending });
+          ended = ended;
+          share
+              = share;
+        }
 
     module _ (share : ℕ → ℕ) (books : ℕ → Account) (outcomes : List (Option ℕ)) (bytes : ℕ)
         (next : slice_get (bytes_asked choices) (length outcomes) ≡ Some bytes) where
@@ -149,7 +156,8 @@ module _ (mirrors : List Mirror) (history : History) (workers : List Worker) (in
       is-asked mirror within =
           ap (λ (o : Option Worker). option_map_or (is_asking mirrors mirror bytes) o false)
           (there-changed (busy share (pending_with outcomes mirror)) old index workers there)
-          ∙ and_from (option_map_or (λ (size : ℕ). eqb size bytes) (slice_get (bytes_asked choices) (length outcomes)) false)
+          ∙ and_from (option_map_or (λ (size : ℕ). eqb size bytes)
+          (slice_get (bytes_asked choices) (length outcomes)) false)
           (eqb mirror mirror && ltb mirror (length mirrors))
           (ap (λ (o : Option ℕ). option_map_or (λ (size : ℕ). eqb size bytes) o false) next ∙ eq-eqb bytes bytes refl)
           (and_from (eqb mirror mirror) (ltb mirror (length mirrors)) (eq-eqb mirror mirror refl)
@@ -206,7 +214,8 @@ module _ (mirrors : List Mirror) (history : History) (workers : List Worker) (in
           ≡ state (busy (share_by share bytes (Some mirror)) (pending_with (outcomes ++ Some mirror ∷ []) 0))
           (books_by books bytes (Some mirror))
       grants mirror within room =
-          cond-true (asks mirrors (trying mirror) index mirror bytes) (decided mirrors index mirror bytes (trying mirror))
+          cond-true (asks mirrors (trying mirror) index mirror bytes)
+          (decided mirrors index mirror bytes (trying mirror))
           (trying mirror) (is-asked mirror within)
           ∙ cond-true (has_room (books mirror) bytes) (granted index mirror bytes (trying mirror))
           (rejected mirrors index mirror (trying mirror))
@@ -217,7 +226,8 @@ module _ (mirrors : List Mirror) (history : History) (workers : List Worker) (in
 
       -- one ask
       asked-once : (outcome : Option ℕ) → 1 ≤ length mirrors → IsNamed mirrors outcome →
-          ((mirror : ℕ) → mirror < length mirrors → (books mirror).total + booked mirror bytes outcome ≤ (books mirror).budget) →
+          ((mirror : ℕ) → mirror < length mirrors → (books mirror).total + booked mirror bytes outcome
+          ≤ (books mirror).budget) →
           run happens mirrors (trying 0) (ask_events mirrors index bytes outcome)
           ≡ state (busy (share_by share bytes outcome) (pending_with (outcomes ++ outcome ∷ []) 0))
           (books_by books bytes outcome)
@@ -243,9 +253,11 @@ module _ (mirrors : List Mirror) (history : History) (workers : List Worker) (in
           (asks : List Ask) (before rest : List ℕ) (outcomes : List (Option ℕ)) (share : ℕ → ℕ) (books : ℕ → Account) →
           bytes_asked choices ≡ before ++ (sizes_in asks ++ rest) → length outcomes ≡ length before →
           AllByRecursion (λ (ask : Ask). IsNamed mirrors ask.1) asks →
-          ((mirror : ℕ) → mirror < length mirrors → (books mirror).total + granted_at mirror asks ≤ (books mirror).budget) →
+          ((mirror : ℕ) → mirror < length mirrors → (books mirror).total + granted_at mirror asks
+          ≤ (books mirror).budget) →
           run happens mirrors (state (busy share (pending_with outcomes 0)) books) (asks_events mirrors index asks)
-          ≡ state (busy (share_after share asks) (pending_with (outcomes ++ outcomes_in asks) 0)) (books_after books asks)
+          ≡ state (busy (share_after share asks) (pending_with (outcomes ++ outcomes_in asks) 0))
+          (books_after books asks)
       asked [] before rest outcomes share books parts sized named room =
           ap (λ (os : List (Option ℕ)). state (busy share (pending_with os 0)) books) (sym (append-nil outcomes))
       asked (ask ∷ asks) before rest outcomes share books parts sized named room =

@@ -1,5 +1,5 @@
 -- What is left to do for the workers of a service, and that it can be done by events, batch by batch.
-use Rattle.std.proofs.Common.{◌≡◌, ℕ, zero, suc, ◌+◌, ◌<◌, ◌≤◌, ◌⊎◌, inl, inr, Bool, true, false, eqb, List, [], ◌∷◌, ◌++◌, length, map, Option, None, Some, refl, sym, ap, ◌∙◌, append_assoc, subst, arith}
+use Rattle.std.proofs.Common.{◌≡◌, ℕ, zero, suc, ◌+◌, ◌<◌, ◌≤◌, ◌⊎◌, inl, inr, List, [], ◌∷◌, ◌++◌, length, map, None, Some, refl, sym, ap, ◌∙◌, append_assoc, subst, arith}
 use Rattle.std.specs.List.{AllByRecursion, AllZip, flat_map, slice_get, sum_by}
 use Rattle.std.proofs.lemmas.Bool.{cases_lt, cond_both}
 use Rattle.std.proofs.lemmas.List.{append-nil, length-append}
@@ -9,20 +9,15 @@ use Rattle.catalogue.specs.declared.edit.Edit.{Edit}
 use Rattle.catalogue_laws.specs.Histories.{History}
 use Rattle.http_desks.specs.Calls.{Call}
 use Rattle.mirror_ledger.specs.Asks.{granted_at}
-use Rattle.mirror_ledger.specs.Budgets.{Account}
 use Rattle.publisher.specs.Beginnings.{StartsWith}
-use Rattle.publisher.specs.Sights.{Allows, Sight}
+use Rattle.publisher.specs.Sights.{Allows}
 use Rattle.records.specs.declared.mirror.Mirror.{Mirror}
-use Rattle.service_desks.specs.Entries.{Enters}
 use Rattle.service_desks.specs.Workers.{IsCall, Progress}
-use Rattle.interleavings.specs.Calls.{EntersPublished, HaveRoom, IsBetween, IsWork, Sent, WorkerCallsAreEvents, events_of, sent_by, sent_in}
-use Rattle.interleavings.specs.Events.{Event, Publish, happens, run}
+use Rattle.interleavings.specs.Calls.{IsBetween, Sent, sent_by, sent_in}
+use Rattle.interleavings.specs.Events.{Event, happens, run}
 use Rattle.interleavings.specs.Jobs.{Worker}
-use Rattle.interleavings.specs.Laws.{worker_at}
 use Rattle.interleavings.specs.Services.{Service, changed_at, is_published, published}
-use Rattle.interleavings.proofs.ListLemmas.{all-at, all-changed, all-weaker}
-use Rattle.interleavings.proofs.ProgressLemmas.{LeadsOn, allowed-before, entered-begins, granted-more, leads-on, same-beginning, seen-more, seen-within, shorter}
-use Rattle.interleavings.proofs.RunLemmas.{run-append}
+use Rattle.interleavings.proofs.ProgressLemmas.{allowed-before, granted-more, leads-on, seen-more, shorter}
 
 -- a call, and what it led to
 pub record Round : Type 0 where
@@ -31,7 +26,8 @@ pub record Round : Type 0 where
 
 abbrev pub Chain : List Mirror → Progress → List Round → Progress → Type 0
 Chain mirrors now [] left = left ≡ now
-Chain mirrors now (round ∷ rounds) left = IsCall mirrors now round.call round.after × Chain mirrors round.after rounds left
+Chain mirrors now (round ∷ rounds) left = IsCall mirrors now round.call round.after × Chain mirrors round.after rounds
+    left
 
 -- the replies of some calls
 abbrev pub sent_by_all : List Round → List Sent
@@ -87,7 +83,8 @@ from-now mirrors number now (round ∷ rounds) left chain low =
     omega arith
 
 -- more batches are published
-pub IsTask-longer : (mirrors : List Mirror) (all : History) (number longer : ℕ) → number ≤ longer → longer ≤ number + 1 →
+pub IsTask-longer : (mirrors : List Mirror) (all : History) (number longer : ℕ) → number ≤ longer →
+    longer ≤ number + 1 →
     (task : Task) → IsLater number task → IsTask mirrors all number task → IsTask mirrors all longer task
 IsTask-longer mirrors all number longer less most task later is =
     let low = is.low in
@@ -133,7 +130,8 @@ look-further number task tasks later (inr all) = inr (later, all)
 
 look-here : (number : ℕ) (task : Task) (tasks : List Task) (rounds : List Round) → task.rounds ≡ rounds →
     Looked number tasks → Looked number (task ∷ tasks)
-look-here number task tasks [] is others = look-further number task tasks (subst (IsFrom (number + 1)) (sym is) tt) others
+look-here number task tasks [] is others = look-further number task tasks
+    (subst (IsFrom (number + 1)) (sym is) tt) others
 look-here number task tasks (round ∷ rest) is others = elim (cases_lt number round.after.sight.seen) [
   | inl more ↦
       let past : number + 1 ≤ round.after.sight.seen = omega arith in
@@ -162,7 +160,8 @@ sum-balance part new old (suc index) (item ∷ items) there =
     let before = sum_by-cons part item items in
     omega arith
 
-pub sum-less : {A : Type 0} (part other : A → ℕ) (items : List A) → AllByRecursion (λ (item : A). part item ≤ other item) items →
+pub sum-less : {A : Type 0} (part other : A → ℕ) (items : List A) →
+    AllByRecursion (λ (item : A). part item ≤ other item) items →
     sum_by part items ≤ sum_by other items
 sum-less part other [] all = omega arith
 sum-less part other (item ∷ items) all =
@@ -172,7 +171,8 @@ sum-less part other (item ∷ items) all =
     let two = sum_by-cons other item items in
     omega arith
 
-pub sum-same : {A : Type 0} (part other : A → ℕ) (items : List A) → AllByRecursion (λ (item : A). part item ≡ other item) items →
+pub sum-same : {A : Type 0} (part other : A → ℕ) (items : List A) →
+    AllByRecursion (λ (item : A). part item ≡ other item) items →
     sum_by part items ≡ sum_by other items
 sum-same part other [] all = refl
 sum-same part other (item ∷ items) all =
@@ -183,7 +183,8 @@ sum-same part other (item ∷ items) all =
     omega arith
 
 -- what is read of the changed item is as before
-pub map-changed : {A B : Type 0} (read : A → B) (new old : A) (index : ℕ) (items : List A) → slice_get items index ≡ Some old →
+pub map-changed : {A B : Type 0} (read : A → B) (new old : A) (index : ℕ) (items : List A) →
+    slice_get items index ≡ Some old →
     read new ≡ read old → map read (changed_at index (λ (a : A). new) items) ≡ map read items
 map-changed read new old index [] there same = refl
 map-changed {A} {B} read new old zero (item ∷ items) there same =
@@ -227,7 +228,8 @@ shown history (given ∷ more) = shown (published history given.0 given.1) more
 starts-same : (history : History) → StartsWith history history
 starts-same history = ([], sym (append-nil history))
 
-starts-published : (history : History) (known : ℕ) (batch : List Edit) → StartsWith (published history known batch) history
+starts-published : (history : History) (known : ℕ) (batch : List Edit) →
+    StartsWith (published history known batch) history
 starts-published history known batch =
     cond_both (is_published history known batch) (history ++ batch ∷ []) history (λ (h : History). StartsWith h history)
     (λ taken. (batch ∷ [], refl)) (λ none. starts-same history)
@@ -235,7 +237,8 @@ starts-published history known batch =
 pub length-published : (history : History) (known : ℕ) (batch : List Edit) →
     length (published history known batch) ≤ length history + 1
 length-published history known batch =
-    cond_both (is_published history known batch) (history ++ batch ∷ []) history (λ (h : History). length h ≤ length history + 1)
+    cond_both (is_published history known batch) (history ++ batch ∷ []) history
+    (λ (h : History). length h ≤ length history + 1)
     (λ taken. let long = length-append history (batch ∷ []) in omega arith) (λ none. omega arith)
 
 pub shorter-published : (history : History) (known : ℕ) (batch : List Edit) →
@@ -258,7 +261,8 @@ abbrev pub granted_in_all : ℕ → Task → ℕ
 granted_in_all mirror task = granted_at mirror task.left.asks
 
 -- a service whose workers are at their tasks
-pub record IsServing (mirrors : List Mirror) (all : History) (tasks : List Task) (given : Given) (service : Service) : Type 0 where
+pub record IsServing (mirrors : List Mirror) (all : History) (tasks : List Task) (given : Given)
+    (service : Service) : Type 0 where
   pub workers : AllZip (λ (task : Task) (worker : Worker). IsBetween task.now task.sent worker) tasks service.workers
   pub totals : (mirror : ℕ) → (service.books mirror).total ≡ sum_by (granted_so_far mirror) tasks
   pub within :

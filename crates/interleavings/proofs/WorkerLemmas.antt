@@ -1,6 +1,6 @@
 -- The calls of a worker's desk as events.
-use Rattle.std.proofs.Common.{◌≡◌, ℕ, ◌+◌, ◌<◌, ◌≤◌, ◌⊎◌, inl, inr, true, eqb, List, [], ◌∷◌, ◌++◌, length, map, take, Option, None, Some, Result, Ok, Err, refl, sym, ap, ◌∙◌, append_assoc, subst, arith}
-use Rattle.std.specs.List.{AllByRecursion, flat_map, slice_get, sum_by}
+use Rattle.std.proofs.Common.{◌≡◌, ℕ, ◌+◌, ◌<◌, ◌≤◌, inl, inr, List, [], ◌∷◌, ◌++◌, length, map, take, Option, None, Some, Result, Ok, Err, refl, sym, ap, ◌∙◌, append_assoc, subst, arith}
+use Rattle.std.specs.List.{AllByRecursion, flat_map}
 use Rattle.std.proofs.Math.Seq.{take-append_seam}
 use Rattle.std.proofs.lemmas.Bool.{eq-eqb}
 use Rattle.std.proofs.lemmas.List.{append-nil, length-map}
@@ -11,33 +11,29 @@ use Rattle.editions.specs.Editions.{content_of}
 use Rattle.http_desks.specs.Calls.{Asks, Call, Looks}
 use Rattle.http_desks.specs.declared.desk.DeskStatus.{DeskStatus}
 use Rattle.http_desks.specs.declared.desk.DeskStatus.TheVariants as status
-use Rattle.http_desks.specs.declared.desk.Off.{Off}
 use Rattle.http_desks.specs.declared.desk.Off.TheVariants as off
 use Rattle.mirror_ledger.specs.Asks.{Ask, booked, granted_at}
 use Rattle.mirror_ledger.specs.Budgets.{Account}
 use Rattle.omaha_json.specs.ReplyWriting.{reply_bytes}
-use Rattle.omaha_json.specs.RequestReading.{request_of_bytes}
 use Rattle.omaha_json.specs.declared.fault.RequestFault.{RequestFault}
-use Rattle.omaha_json.specs.declared.reply.Reply.{Reply}
 use Rattle.omaha_json.specs.declared.request.Request.{Request}
 use Rattle.publisher.specs.Sights.{Sight}
 use Rattle.records.specs.declared.content.App.{App}
 use Rattle.records.specs.declared.mirror.Mirror.{Mirror}
 use Rattle.replies.specs.Plans.{IsPlan, payloads_of}
-use Rattle.replies.specs.Replies.{AreOutcomes, reply_of}
+use Rattle.replies.specs.Replies.{reply_of}
 use Rattle.replies.specs.declared.choices.Choice.{Choice}
 use Rattle.service_desks.specs.Answering.{HasBegun, IsReply}
-use Rattle.service_desks.specs.Asking.{AsksFirst, AsksFor, asks_of}
+use Rattle.service_desks.specs.Asking.{AsksFirst, asks_of}
 use Rattle.service_desks.specs.Entries.{Enters, FindsNoEntry}
-use Rattle.service_desks.specs.Workers.{Finds, HasStatus, IsAnswer, IsCall, Progress, Replies, stock_of}
+use Rattle.service_desks.specs.Workers.{HasStatus, IsCall, Progress, stock_of}
 use Rattle.interleavings.specs.Calls.{Break, EntersPublished, HaveRoom, IsAfterCall, IsBetween, IsWork, Look, Nothing, Reply as Replied, Sent, WorkerCallsAreEvents, events_of, sent_by, sent_for, sent_in, sent_to, sent_with}
-use Rattle.interleavings.specs.Choices.{are_certified, choices_of}
 use Rattle.interleavings.specs.Events.{happens, run}
-use Rattle.interleavings.specs.Jobs.{EndedJob, Job, Pending, Worker, bytes_asked, is_decided, outcomes_by_app, outcomes_of}
+use Rattle.interleavings.specs.Jobs.{EndedJob, Job, Pending, Worker, bytes_asked, outcomes_by_app}
 use Rattle.interleavings.specs.Laws.{worker_at}
 use Rattle.interleavings.specs.Moves.{rendered_at, reply_by}
-use Rattle.interleavings.specs.Services.{Service, changed_at, content_at}
-use Rattle.interleavings.proofs.CallLemmas.{AreAsks, AreAsks-plan, breaks, entered_job, idle, looks, pending, planned_job, replies, with_job, with_reply}
+use Rattle.interleavings.specs.Services.{Service, content_at}
+use Rattle.interleavings.proofs.CallLemmas.{AreAsks-plan, breaks, idle, looks, pending, replies}
 use Rattle.interleavings.proofs.KeptLemmas.{IsNamed}
 use Rattle.interleavings.proofs.RowLemmas.{HasRows, PlansHaveRows}
 use Rattle.interleavings.proofs.StateLemmas.{books_after, books_after-budget, books_after-is, changed-own, share_after, share_after-is, state}
@@ -58,7 +54,8 @@ flat-push : {A B : Type 0} (f : A → List B) (items : List A) (new : A) →
     flat_map f (items ++ new ∷ []) ≡ flat_map f items ++ f new
 flat-push f [] new = append-nil (f new)
 flat-push {A} {B} f (item ∷ items) new =
-    ap (λ (rest : List B). f item ++ rest) (flat-push f items new) ∙ sym (append_assoc (f item) (flat_map f items) (f new))
+    ap (λ (rest : List B). f item ++ rest) (flat-push f items new)
+    ∙ sym (append_assoc (f item) (flat_map f items) (f new))
 
 -- the first items of a list, as many as there are
 take-all : {A : Type 0} (items : List A) → take (length items) items ≡ items
@@ -133,7 +130,8 @@ module _ (mirrors : List Mirror) (service : Service) (index : ℕ) (worker : Wor
       flat-push sent_for worker.ended (record { job = job; rendered = None })
       ∙ ap (λ (all : List Sent). all ++ []) between.sent
 
-  module _ (history : History) (enters : Enters before.sight history after.sight) (published : history ≡ service.history)
+  module _ (history : History) (enters : Enters before.sight history after.sight)
+      (published : history ≡ service.history)
     where
       abbrev count : ℕ
       count = length service.history
@@ -158,7 +156,8 @@ module _ (mirrors : List Mirror) (service : Service) (index : ℕ) (worker : Wor
       same-content : content_of history ≡ content_at service.history count
       same-content = ap content_of (published ∙ sym (take-all service.history))
 
-      module _ (request : Request) (plan : List (Option Choice)) (planned : IsPlan (content_of history) request plan) where
+      module _ (request : Request) (plan : List (Option Choice))
+          (planned : IsPlan (content_of history) request plan) where
         has : HasRows (take count service.history) request plan
         has = rows (take count service.history) request plan
             (subst (λ (apps : List App). IsPlan apps request plan) same-content planned)
@@ -182,7 +181,8 @@ module _ (mirrors : List Mirror) (service : Service) (index : ℕ) (worker : Wor
                     left-by _ asks [] (run happens mirrors service events)
                     (ap (λ (s : Service). run happens mirrors s events) begins
                     ∙ breaks mirrors service.history service.workers index worker there worker.seen worker.ended
-                    worker.share service.books request has.tables plan has.certified has.chosen some asks rest parts named
+                    worker.share service.books request has.tables plan has.certified has.chosen some asks rest parts
+                    named
                     has-room)
                     refl seen-now (λ mirror. refl)
                     (sent-none (record {
@@ -217,7 +217,8 @@ module _ (mirrors : List Mirror) (service : Service) (index : ℕ) (worker : Wor
               } in
               let bytes : reply_bytes (reply_by mirrors (content_at service.history count) moment own) ≡ text =
               sym (written
-              ∙ ap (λ (apps : List App). reply_bytes (reply_of apps request (payloads_of plan) outcomes mirrors moment)) same-content
+              ∙ ap (λ (apps : List App).
+              reply_bytes (reply_of apps request (payloads_of plan) outcomes mirrors moment)) same-content
               ∙ ap
               (λ (os : List (Option ℕ)). reply_bytes
               (reply_of (content_at service.history count) request (payloads_of plan) os mirrors moment))
@@ -229,7 +230,8 @@ module _ (mirrors : List Mirror) (service : Service) (index : ℕ) (worker : Wor
                     (run happens mirrors service events)
                     (ap (λ (s : Service). run happens mirrors s events) begins
                     ∙ replies mirrors service.history service.workers index worker there worker.seen worker.ended
-                    worker.share service.books request has.tables plan has.certified has.chosen some asks rest parts named
+                    worker.share service.books request has.tables plan has.certified has.chosen some asks rest parts
+                    named
                     has-room moment
                     (eq-eqb (length own.outcomes) (length (bytes_asked plan))
                     (length-map asks (λ (ask : Ask). ask.1) ∙ sym all)))
@@ -275,7 +277,8 @@ module _ (mirrors : List Mirror) (service : Service) (index : ℕ) (worker : Wor
   unseen old new (inl same) = ap (λ (s : Sight). s.seen) same
   unseen old new (inr lost) = lost.1
 
-  module _ (published : EntersPublished service.history before after) (room : HaveRoom mirrors service before after) where
+  module _ (published : EntersPublished service.history before after)
+      (room : HaveRoom mirrors service before after) where
     -- all is as it was
     same-progress : after ≡ before → IsDone []
     same-progress same =
@@ -291,7 +294,8 @@ module _ (mirrors : List Mirror) (service : Service) (index : ℕ) (worker : Wor
     by_status input moment status.UnprocessableContent text never = absurd never
 
     by_call : (call : Call) → IsCall mirrors before call after → IsDone (sent_by call)
-    by_call (Looks name found) (inl (history, enters, is), asked) = looked history enters (published history enters) asked
+    by_call (Looks name found) (inl (history, enters, is), asked) = looked history enters
+        (published history enters) asked
     by_call (Looks name found) (inr (none, is), asked) = nothing asked (unseen before.sight after.sight none)
     by_call (Asks input moment (Ok answer)) called = by_status input moment answer.0 answer.1 called
     by_call (Asks input moment (Err off.Memory)) (inl same) = same-progress same
@@ -301,5 +305,5 @@ module _ (mirrors : List Mirror) (service : Service) (index : ℕ) (worker : Wor
         nothing asked (unseen before.sight after.sight none)
 
 pub worker_calls_are_events : PlansHaveRows → WorkerCallsAreEvents
-worker_calls_are_events rows mirrors service index worker before after sent call some there between called published room =
-    by_call mirrors service index worker before after sent some there between rows published room call called
+worker_calls_are_events rows mirrors service index worker before after sent call some there between called own room =
+    by_call mirrors service index worker before after sent some there between rows own room call called

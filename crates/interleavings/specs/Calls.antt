@@ -1,4 +1,5 @@
--- The calls of a worker's desk as lists of events: what leads from one state of a worker to the next, with what it sent.
+-- The calls of a worker's desk as lists of events: what leads from one state of a worker to the next, with what it
+-- sent.
 use Rattle.std.specs.Prelude.{◌≡◌, ℕ, zero, suc, ◌+◌, ◌≤◌, ◌<◌, List, [], ◌∷◌, ◌++◌, flat_map, length, Option, None, Some, Result, Ok, Err}
 use Rattle.std.specs.Option.{option_map_or}
 use Rattle.catalogue_laws.specs.Histories.{History}
@@ -7,7 +8,6 @@ use Rattle.http_desks.specs.declared.desk.DeskStatus.{DeskStatus}
 use Rattle.http_desks.specs.declared.desk.DeskStatus.TheVariants as status
 use Rattle.http_desks.specs.declared.desk.Off.{Off}
 use Rattle.mirror_ledger.specs.Asks.{Ask, granted_at}
-use Rattle.mirror_ledger.specs.Budgets.{Account}
 use Rattle.omaha_json.specs.ReplyWriting.{reply_bytes}
 use Rattle.omaha_json.specs.RequestReading.{request_of_bytes}
 use Rattle.omaha_json.specs.declared.fault.RequestFault.{RequestFault}
@@ -95,8 +95,8 @@ sent_for ended =
 abbrev pub sent_in : Worker → List Sent
 sent_in worker = flat_map sent_for worker.ended
 
--- a worker of the machine between two calls: it has no job, it has seen as many batches as its view, each of its shares is
--- what the mirror granted of its asks, and it sent these replies
+-- a worker of the machine between two calls: it has no job, it has seen as many batches as its view, each of its shares
+-- is what the mirror granted of its asks, and it sent these replies
 pub record IsBetween (progress : Progress) (replies : List Sent) (worker : Worker) : Type 0 where
   pub idle : worker.job ≡ None
   pub seen : worker.seen ≡ progress.sight.seen
@@ -117,7 +117,8 @@ HaveRoom mirrors service before after =
 
 -- a service after a call of the worker at an index: that worker alone is another one, it sent what the call sent and
 -- nothing else, and the mirrors granted what the call asked for and nothing else
-pub record IsAfterCall (service : Service) (index : ℕ) (before after : Progress) (sent : List Sent) (left : Service) : Type 0 where
+pub record IsAfterCall (service : Service) (index : ℕ) (before after : Progress) (sent : List Sent)
+    (left : Service) : Type 0 where
   pub worker : Worker
   pub history : left.history ≡ service.history
   pub workers : left.workers ≡ changed_at index (λ (old : Worker). worker) service.workers
@@ -129,7 +130,8 @@ pub record IsAfterCall (service : Service) (index : ℕ) (before after : Progres
       ≡ (service.books mirror).total + granted_at mirror after.asks
 
 -- the call is the events of some work
-pub record IsWork (mirrors : List Mirror) (service : Service) (index : ℕ) (before after : Progress) (sent : List Sent) : Type 0 where
+pub record IsWork (mirrors : List Mirror) (service : Service) (index : ℕ) (before after : Progress)
+    (sent : List Sent) : Type 0 where
   pub work : Work
   pub leads : IsAfterCall service index before after sent (run happens mirrors service (events_of mirrors index work))
 

@@ -205,4 +205,5 @@ PlansAreByPrices =
 -- for each request there are certified rows by the content of each history
 abbrev pub RequestsHaveRows : Type 0
 RequestsHaveRows =
-    (history : History) (request : Request) → (tables : Tables) × (are_certified (content_of history) request tables ≡ true)
+    (history : History) (request : Request) → (tables : Tables) ×
+    (are_certified (content_of history) request tables ≡ true)

@@ -1,14 +1,14 @@
--- Calls and a run of a service, worked by hand as events; and logs that are of no run.
-use Rattle.std.specs.Prelude.{◌≡◌, ℕ, List, [], ◌∷◌, ◌++◌, codes, map, Option, None, Some}
-use Rattle.http_desks.specs.Calls.{Call}
-use Rattle.records.specs.declared.mirror.Mirror.{Mirror}
-use Rattle.service_desks.specs.States.{State, Store}
+-- Calls and a run of a service, worked by hand as events; proceedings that are of a run, and some that are of none.
+use Rattle.std.specs.Prelude.{◌≡◌, ℕ, List, [], ◌∷◌, ◌++◌, codes, map, None, Some}
+use Rattle.http_desks.specs.Calls.{Looks}
+use Rattle.kept_records.specs.declared.record.Record.{Record}
+use Rattle.service_desks.specs.States.{State, Store, store}
 use Rattle.interleavings.specs.Calls.{Break, Look, Nothing, Reply, Sent, Work, events_of, sent_in}
 use Rattle.interleavings.specs.Events.{Drop, Enter, Event, Grant, Plan, Publish, Raise, Reject, Render, happens, service_after}
 use Rattle.interleavings.specs.Jobs.{Worker}
 use Rattle.interleavings.specs.LargerRuns.{ask_of, asking, offers_in, two_apps, two_mirrors}
 use Rattle.interleavings.specs.Runs.{begins, dropped, outcomes_in, replied, shares_in, small_batch, small_mirrors, small_request, small_rows, small_run, withdrawal}
-use Rattle.interleavings.specs.Served.{IsServed, Log}
+use Rattle.interleavings.specs.Served.{IsServed, Proceedings}
 use Rattle.interleavings.specs.Services.{Service}
 
 -- the first mirror rejects the bytes of the first app, and both reject those of the second one
@@ -42,8 +42,8 @@ pub record CallsWorked : Type 0 where
   pub first : (rejected_run.books 0).total ≡ 0
   pub second : (rejected_run.books 1).total ≡ 3
 
--- two workers and an operator: the budget is raised, worker 0 replies, the release is withdrawn between its two replies,
--- and worker 1 looks a package up, after it asked for 3 bytes in vain
+-- two workers and an operator: the budget is raised, worker 0 replies, the release is withdrawn between its two
+-- replies, and worker 1 looks a package up, after it asked for 3 bytes in vain
 abbrev pub worked_events : List Event
 worked_events =
     Raise 0 6
@@ -72,8 +72,19 @@ pub record RunWorked : Type 0 where
   pub total : (worked_run.books 0).total ≡ 3
   pub budget : (worked_run.books 0).budget ≡ 6
 
+-- a worker that looked a package up, which no release has
+abbrev pub looked_up : Proceedings
+looked_up = record { workers = (Looks (codes "none") None ∷ []) ∷ []; operator = []; totals = 0 ∷ [] }
+
+-- its run, without a call of the operator
+abbrev pub LookedUp : Type 0
+LookedUp =
+    (first : ℕ) (records : List Record) →
+    IsServed small_mirrors (small_batch ∷ []) (store first records None) looked_up
+    (record { mirrors = small_mirrors; history = small_batch ∷ []; store = store first records None })
+
 -- a worker that was called for nothing, and a total that nobody asked for
-abbrev pub made_up : Log
+abbrev pub made_up : Proceedings
 made_up = record { workers = [] ∷ []; operator = []; totals = 3 ∷ [] }
 
 -- an operator that was called for nothing, and a batch that it left
@@ -84,13 +95,13 @@ left_unpublished state = record {
   store = state.store;
 }
 
-abbrev pub idle_log : Log
-idle_log = record { workers = [] ∷ []; operator = []; totals = 0 ∷ [] }
+abbrev pub idle_proceedings : Proceedings
+idle_proceedings = record { workers = [] ∷ []; operator = []; totals = 0 ∷ [] }
 
--- such logs are of no run
-pub record LogsRejected : Type 0 where
+-- such proceedings are of no run
+pub record ProceedingsRejected : Type 0 where
   pub made_up_totals :
       (kept : Store) (left : State) → ¬ (IsServed small_mirrors (small_batch ∷ []) kept made_up left)
   pub unpublished :
       (kept : Store) (state : State) →
-      ¬ (IsServed small_mirrors (small_batch ∷ []) kept idle_log (left_unpublished state))
+      ¬ (IsServed small_mirrors (small_batch ∷ []) kept idle_proceedings (left_unpublished state))

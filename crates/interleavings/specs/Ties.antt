@@ -1,5 +1,5 @@
 -- What the contracts of the program's functions say by helpers of events: `published`, `has_room`, `with_grant`,
--- `with_budget` and `IsReplyOf`; and by events, what the operator's calls say. `Enter`, `Learn` and `Drop` have no law.
+-- `with_budget` and `IsReplyOf`; and by events, what the operator's calls say. `Calls` has those of a worker's desk.
 use Rattle.std.specs.Prelude.{◌≡◌, ◌<◌, ◌≤◌, ◌⊎◌, ◌↔◌, ◌+◌, ◌-◌, ℕ, All, Bool, true, false, IfSome, List, ◌++◌, length, Option, option_to_list, Result, Ok, Err}
 use Rattle.catalogue.specs.declared.edit.Edit.{Edit}
 use Rattle.catalogue.specs.declared.fault.Refused.{Refused}

@@ -9,8 +9,8 @@ ghost use Rattle.interleavings.specs.Laws.{BatchesArePublishedInTurn, BatchesAre
 ghost use Rattle.interleavings.specs.Requests.{RepliesAreToGivenRequests};
 ghost use Rattle.interleavings.specs.Restart.{DumpsAreProfiles, OperatorsOnlyRaise, RestartsKeepReplies, ServicesOpenAgain};
 ghost use Rattle.interleavings.specs.Runs.{BudgetEnds, BudgetRaised, DropAfterGrant, FailedConditions, PublishBetween, RejectedWithRoom, StalePublish};
-ghost use Rattle.interleavings.specs.Served.{RunsAreInterleavings};
-ghost use Rattle.interleavings.specs.ServedRuns.{CallsWorked, LogsRejected, RunWorked};
+ghost use Rattle.interleavings.specs.Served.{RunsAreInterleavings, ServedRepliesArePublished};
+ghost use Rattle.interleavings.specs.ServedRuns.{CallsWorked, LookedUp, ProceedingsRejected, RunWorked};
 ghost use Rattle.interleavings.specs.Ties.{AnswersAreOfPending, FullBooksReject, FullIsNotPublished, GrantsAreBooked, NextIsPublished, OperatorCallsAreEvents, PressPublishes, RaisesAreEvents, RaisesByNameAreEvents, RejectedIsNotPublished, RoomIsTested, ScriptsArePublished, WorkersReplyByOneHistory};
 ghost use Rattle.interleavings.specs.Wrong.{EntriesBreak, GrantsBreak, PlansAndRepliesBreak, PublishesBreak, RequestsBreak};
 
@@ -136,7 +136,7 @@ pub fn restart()
 /// The helpers say what is published, whether a book has room, which book it is after a grant or a raise, and what the
 /// reply of a job is. A raise by a name from the present mirrors is the event `Raise` of that mirror, or none; and each
 /// call of the operator's desk, from what is published and the present mirrors, is one event `Publish` or `Raise`, or
-/// none. The events `Enter`, `Learn` and `Drop` have no such law, and none says that a worker's call is one whole event.
+/// none. The calls of a worker's desk are lists of events by `worker_calls`; the event `Learn` has no such law.
 pub fn ties()
     ensures next { NextIsPublished }
     ensures rejected { RejectedIsNotPublished }
@@ -164,12 +164,12 @@ pub fn certified()
 }
 
 // rule: Events of a call
-/// States that each call of a worker's desk is a list of events, if its view enters what is published and each mirror has
-/// room for what it granted.
+/// States that each call of a worker's desk is a list of events, if its view enters what is published and each mirror
+/// has room for what it granted.
 ///
-/// A look-up enters and drops its job. A request that is replied to enters, plans, asks the mirrors and renders; if memory
-/// runs out, it drops its job after some of the asks. Other calls are no event. The events change that worker alone, and the
-/// books by what it asked for; it then has sent what it had, and what the call sent.
+/// A look-up enters and drops its job. A request that is replied to enters, plans, asks the mirrors and renders; if
+/// memory runs out, it drops its job after some of the asks. Other calls are no event. The events change that worker
+/// alone, and the books by what it asked for; it then has sent what it had, and what the call sent.
 pub fn worker_calls()
     ensures { WorkerCallsAreEvents }
 {
@@ -181,17 +181,27 @@ pub fn worker_calls()
 }
 
 // rule: Run of a service
-/// States that each run of a service is a run of the machine: there is a list of events after which what the operator left
-/// is published, each worker sent the replies of its calls, in order, and no others, and each mirror's total is that of the
-/// log.
+/// States that each run of a service is a run of the machine: there is a list of events after which what the operator
+/// left is published, each worker sent the replies of its calls, in order, and no others, and each mirror's total is
+/// the one given.
 ///
-/// The run is given by the calls of each worker's desk and of the operator's desk, each by itself, and by the totals; each
-/// worker's view may in the end enter what the operator left. In the list all raises come first, and then batch by batch
-/// the calls of the workers that entered it.
+/// The run is given by the calls of each worker's desk and of the operator's desk, each by itself, and by the totals;
+/// each worker's view may in the end enter what the operator left. No clause says more of the list. That of the proof
+/// has all raises first, and then batch by batch the calls of the workers that entered it.
 pub fn runs_are_interleavings()
     ensures { RunsAreInterleavings }
 {
     crate::laws::worker_calls();
+}
+
+/// States that each reply of each worker of a run is that of one published catalogue: of the first batches of the
+/// history that the operator left, of some number, by a plan of chains of the least sum and what the mirrors granted
+/// for it.
+pub fn served_replies()
+    ensures { ServedRepliesArePublished }
+{
+    crate::laws::runs_are_interleavings();
+    crate::laws::every_interleaving();
 }
 
 /// Shows small runs, worked by hand: a publish between the plan of one worker and its reply, a dropped job, a publisher
@@ -217,13 +227,14 @@ pub fn larger_runs()
     ensures heard { HeardOfABatch }
 {}
 
-/// Shows calls and a run of a service, worked by hand as events: two workers and an operator, a rejected ask, a raise, a publish
-/// between two replies of one worker, and a look-up. A log whose totals are made up, or whose operator left a batch without
-/// a call, is of no run.
+/// Shows calls and a run of a service, worked by hand as events: two workers and an operator, a rejected ask, a raise,
+/// a publish between two replies of one worker, and a look-up. The proceedings of a look-up are of a run. Those whose
+/// totals are made up, or whose operator left a batch without a call, are of none.
 pub fn served_runs()
     ensures calls { CallsWorked }
     ensures run { RunWorked }
-    ensures rejected { LogsRejected }
+    ensures held { LookedUp }
+    ensures rejected { ProceedingsRejected }
 {}
 
 /// Shows machines that are wrong in one event each, with the law that each of them breaks.

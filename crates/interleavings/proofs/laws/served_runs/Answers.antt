@@ -3,7 +3,7 @@ use Rattle.hex.proofs.OnLiterals.{hex_on_literals}
 use Rattle.cohorts.specs.CohortTexts.{parsed}
 use Rattle.records.specs.Forms.{hash_of}
 use Rattle.version.specs.Versions as version
-use Rattle.interleavings.proofs.LogLemmas.{made_up_totals, unpublished}
+use Rattle.interleavings.proofs.ProceedingsLemmas.{looked_up, made_up_totals, unpublished}
 use Rattle.interleavings.proofs.laws.served_runs.Goals as goal
 
 pub returns : goal.returns
@@ -28,5 +28,6 @@ returns c =
         total = refl;
         budget = refl;
       };
+      held = looked_up;
       rejected = record { made_up_totals = made_up_totals; unpublished = unpublished };
     }
