@@ -3,12 +3,12 @@
 ghost use Rattle.std.specs.Prelude.{◌≡◌, codes, IfOk, is_some};
 ghost use Rattle.clap.specs.Words.{FailsBy, first_of, found_of, kind_of, rows_of};
 ghost use Rattle.omaha_arguments.specs.Options.{IsMade};
-ghost use Rattle.omaha_arguments.specs.ServeArguments.{connections_in, connections_of, faults_of_serve, is_named, limit_in, limit_of, seconds_in, seconds_of, serve_app, serve_in};
+ghost use Rattle.omaha_arguments.specs.ServeArguments.{connections_in, connections_of, faults_of_serve, is_loopback, is_named, is_operator_allowed, limit_in, limit_of, seconds_in, seconds_of, serve_app, serve_in};
 
 use crate::command::Serve;
 use crate::options::{
-    Making, number_in, number_of, optional_string, string_in, titled, with_option,
-    with_wanted_option, workers_in,
+    Making, flag_in, number_in, number_of, optional_string, string_in, titled, with_flag,
+    with_option, with_wanted_option, workers_in,
 };
 use clap::error::ErrorKind;
 use clap::{ArgMatches, Error};
@@ -28,6 +28,8 @@ const PACKAGES: &str = "The folder of the packages, each under its name in the c
 const LISTEN: &str = "The address and port to listen on, such as 127.0.0.1:8080";
 
 const OPERATOR: &str = "The operator's address, such as 127.0.0.1:8081 [default: none]";
+
+const ANYWHERE: &str = "The operator's address may be other than of the loopback";
 
 const WORKERS: &str = "How many threads serve clients, 1 to 8 [default: 1]";
 
@@ -52,7 +54,8 @@ client holds up another. If as many are connected as may be, the one that has wa
 between two messages is closed for the next. An operator may
 `POST /operate` to the operator's address meanwhile: a script is published as the next edition,
 `raise NAME BUDGET` raises a mirror's budget, and `dump` gets the profile of what is published.
-Anybody who reaches that address may publish and raise, so keep it on the loopback. After the last
+Any program that reaches that address may publish and raise, so it must be 127.x.x.x:PORT or
+[::1]:PORT, unless --operator-anywhere is given; a page in a browser may not. After the last
 session it prints one line for each mirror: its name, and how many bytes it was granted.
 
 With --history each script and each raise is kept in that file before it takes effect and is
@@ -89,6 +92,7 @@ pub(crate) fn serve_command<'a>(alloc: Global) -> Making<'a>
     let command = with_wanted_option(alloc, command, "packages", "DIR", PACKAGES);
     let command = with_wanted_option(alloc, command, "listen", "ADDR", LISTEN);
     let command = with_option(alloc, command, "operator", "ADDR", OPERATOR);
+    let command = with_flag(alloc, command, "operator-anywhere", ANYWHERE);
     let command = with_option(alloc, command, "workers", "N", WORKERS);
     let command = with_option(alloc, command, "sessions", "K", SESSIONS);
     let command = with_option(alloc, command, "edits", "M", EDITS);
@@ -213,6 +217,37 @@ fn missing_profile(alloc: Global) -> Result<Error, AllocError>
     )
 }
 
+// Whether an address begins as those of the loopback.
+fn is_loopback(address: &str) -> bool
+    ensures { result ≡ is_loopback address.now }
+{
+    let bytes = address.as_bytes();
+    bytes.starts_with(b"127.") || bytes.starts_with(b"[::1]:")
+}
+
+// rule: Address of an operator
+// Whether the operator's address, if there is one, is of the loopback or may be any.
+fn is_operator_allowed(matches: &ArgMatches<'_>) -> bool
+    ensures { result ≡ is_operator_allowed (rows_of (found_of matches.now)) }
+{
+    let may_be_any = flag_in(matches, "operator-anywhere");
+    match matches.get_str("operator") {
+        None => true,
+        Some(address) => may_be_any || is_loopback(address),
+    }
+}
+
+// The error of an operator's address that others reach, built like the errors of `clap`.
+fn open_operator(alloc: Global) -> Result<Error, AllocError>
+    ensures { IfOk result (λ error. kind_of error ≡ ErrorKind.MissingRequiredArgument) }
+{
+    let mut command = serve_command(alloc)?.bin_name("omaha serve")?;
+    command.error(
+        ErrorKind::MissingRequiredArgument,
+        "whoever reaches the operator's address may publish: name 127.0.0.1:PORT or [::1]:PORT, or add --operator-anywhere",
+    )
+}
+
 // rule: Options of the server
 /// Reads the options of `serve`.
 pub(crate) fn read_serve(alloc: Global, matches: &ArgMatches<'_>) -> Result<Serve, Error>
@@ -239,6 +274,9 @@ pub(crate) fn read_serve(alloc: Global, matches: &ArgMatches<'_>) -> Result<Serv
     };
     if !is_named(matches) {
         return Err(missing_profile(alloc)?);
+    }
+    if !is_operator_allowed(matches) {
+        return Err(open_operator(alloc)?);
     }
     Ok(Serve {
         profile: optional_string(alloc, matches, "profile")?,
