@@ -15,7 +15,7 @@ use Rattle.price_cert.specs.Rules.{adds_up, costs, is_named, is_next, is_same_ki
 use Rattle.price_cert.specs.declared.row.Row.{Row}
 use Rattle.price_cert.specs.declared.row.Row.TheVariants.{Nothing, End, Price}
 use Rattle.price_cert.proofs.BetterLemmas.{behind-improved, behind-others}
-use Rattle.price_cert.specs.Best.{IsBest, improved, improved_by, is_no_better, is_better, names_one, taken}
+use Rattle.price_cert.specs.Best.{IsBest, ListsHaveBest, improved, improved_by, is_no_better, is_better, names_one, taken}
 
 -- a test that follows from another one
 pub list_all-follows :
@@ -118,6 +118,13 @@ pub IsBest-front :
     (rows : List Row) (edges : List Edge) (edge : Edge) (row : Row) →
     IsBest rows edges row → IsBest rows (edge ∷ edges) (improved rows row edge)
 IsBest-front rows edges edge row best = IsBest-more rows edges edge (edge ∷ edges) (IsWith-front edges edge) row best
+
+-- each list of payloads has a best one, or none
+pub lists_have_best : ListsHaveBest
+lists_have_best rows [] = (Nothing, IsBest-nothing rows)
+lists_have_best rows (edge ∷ edges) =
+    let (row, best) = lists_have_best rows edges in
+    (improved rows row edge, IsBest-front rows edges edge row best)
 
 pub IsBest-back :
     (rows : List Row) (edges : List Edge) (edge : Edge) (row : Row) →

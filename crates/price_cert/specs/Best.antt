@@ -120,3 +120,7 @@ pub record IsBestTable (net : Net) (rows : List Row) : Type 0 where
 -- such a table is certified
 abbrev pub BestTablesAreCertified : Type 0
 BestTablesAreCertified = (net : Net) (rows : List Row) → IsBestTable net rows → AreCertified net rows
+
+-- each list of payloads has a row that names its best one, or has nothing
+abbrev pub ListsHaveBest : Type 0
+ListsHaveBest = (rows : List Row) (edges : List Edge) → (row : Row) × IsBest rows edges row

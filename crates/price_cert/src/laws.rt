@@ -1,6 +1,6 @@
 //! What holds of all certified tables, each law as a clause of a function.
 
-ghost use Rattle.price_cert.specs.Best.{BestTablesAreCertified};
+ghost use Rattle.price_cert.specs.Best.{BestTablesAreCertified, ListsHaveBest};
 ghost use Rattle.price_cert.specs.Examples.{ExampleIsWorked};
 ghost use Rattle.price_cert.specs.Laws.{CertifiedPricesAreLeast, CertifiedPricesAreSmall, CertifiedTablesAreOne, PairsDecideBounds};
 
@@ -23,6 +23,11 @@ pub fn small()
 /// States that a table whose rows name the best payloads of their releases is certified.
 pub fn best()
     ensures { BestTablesAreCertified }
+{}
+
+/// States that each list of payloads has a best one by a table, or none that leads to a priced release.
+pub fn best_payloads()
+    ensures { ListsHaveBest }
 {}
 
 /// States that a graph has one certified table, whoever made it.

@@ -1,4 +1,5 @@
 mod FillLemmas
 mod ListLemmas
 mod SettledLemmas
+mod TableLemmas
 mod WriteLemmas

@@ -11,6 +11,7 @@
 #![tactic(auto)]
 
 mod filling;
+pub mod laws;
 mod table;
 
 pub use crate::table::solve;
