@@ -16,7 +16,7 @@ use Rattle.quotes.specs.ByRows.{CertifiedRowsQuote}
 use Rattle.records.specs.declared.content.App.{App}
 use Rattle.records.specs.declared.mirror.Mirror.{Mirror}
 use Rattle.theorems.specs.Laws.{TrackGraphsAreGraphs}
-use Rattle.interleavings.specs.Events.{Drop, Enter, Event, Grant, Learn, Plan, Publish, Raise, Render, asks, decided, granted, happens, moved}
+use Rattle.interleavings.specs.Events.{Drop, Enter, Event, Grant, Learn, Plan, Publish, Raise, Reject, Render, asks, decided, granted, happens, moved, rejected}
 use Rattle.interleavings.specs.Jobs.{Worker}
 use Rattle.interleavings.specs.Laws.{batch_given, budget_after}
 use Rattle.interleavings.specs.Moves.{after_drop, after_entry, after_grant, after_news, after_plan, after_rejection, after_rendering, is_asking, with_pending}
@@ -150,17 +150,17 @@ module _ (mirrors : List Mirror) (service : Service) (keeps : Keeps mirrors serv
         budgets = λ mirror. refl;
       }
 
-  -- or has no room for them
-  refuses :
-      (index refusing bytes : ℕ) → asks mirrors service index refusing bytes ≡ true →
-      IsStep mirrors (Grant index refusing bytes) service
-      (moved index (with_pending (after_rejection mirrors refusing)) service)
-  refuses index refusing bytes asking =
-      let found = Passes-option_map_or (is_asking mirrors refusing bytes) (slice_get service.workers index) asking in
-      moves (Grant index refusing bytes) index (with_pending (after_rejection mirrors refusing)) (λ mirror budget. refl)
+  -- or rejects them
+  rejects :
+      (event : Event) → ((mirror budget : ℕ) → budget ≡ budget_after mirror event budget) →
+      (index rejecting bytes : ℕ) → asks mirrors service index rejecting bytes ≡ true →
+      IsStep mirrors event service (rejected mirrors index rejecting service)
+  rejects event same index rejecting bytes asking =
+      let found = Passes-option_map_or (is_asking mirrors rejecting bytes) (slice_get service.workers index) asking in
+      moves event index (with_pending (after_rejection mirrors rejecting)) same
       (λ worker there kept.
-      rejection mirrors service.history worker kept refusing bytes
-      (subst (λ (w : Worker). is_asking mirrors refusing bytes w ≡ true)
+      rejection mirrors service.history worker kept rejecting bytes
+      (subst (λ (w : Worker). is_asking mirrors rejecting bytes w ≡ true)
       (same_Some found.item worker (sym found.is ∙ there)) found.passed))
 
   -- a mirror's budget is raised
@@ -238,10 +238,16 @@ module _ (mirrors : List Mirror) (service : Service) (keeps : Keeps mirrors serv
         (IsStep mirrors (Grant index mirror bytes) service)
         (λ asking.
         cond_both (has_room (service.books mirror) bytes) (granted index mirror bytes service)
-        (moved index (with_pending (after_rejection mirrors mirror)) service)
+        (rejected mirrors index mirror service)
         (IsStep mirrors (Grant index mirror bytes) service)
-        (grants index mirror bytes asking) (λ room. refuses index mirror bytes asking))
+        (grants index mirror bytes asking)
+        (λ room. rejects (Grant index mirror bytes) (λ mirror budget. refl) index mirror bytes asking))
         (λ test. unchanged (Grant index mirror bytes) (λ mirror budget. refl))
+    step (Reject index mirror bytes) =
+        cond_both (asks mirrors service index mirror bytes) (rejected mirrors index mirror service) service
+        (IsStep mirrors (Reject index mirror bytes) service)
+        (rejects (Reject index mirror bytes) (λ mirror budget. refl) index mirror bytes)
+        (λ test. unchanged (Reject index mirror bytes) (λ mirror budget. refl))
     step (Render index moment) =
         moves (Render index moment) index (after_rendering mirrors service.history moment) (λ mirror budget. refl)
         (λ worker there kept.

@@ -38,7 +38,8 @@ before-present name books [] = refl
 before-present name books (mirror ∷ mirrors) =
     ap (λ (n : ℕ). cond (not (bytes_eq name mirror.name)) (1 + n) 0) (before-present name (λ index. books (suc index)) mirrors)
 
-length-present : (books : ℕ → Account) (mirrors : List Mirror) → length (with_budgets_of books mirrors) ≡ length mirrors
+pub length-present : (books : ℕ → Account) (mirrors : List Mirror) →
+    length (with_budgets_of books mirrors) ≡ length mirrors
 length-present books [] = refl
 length-present books (mirror ∷ mirrors) = ap suc (length-present (λ index. books (suc index)) mirrors)
 

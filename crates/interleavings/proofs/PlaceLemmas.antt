@@ -9,7 +9,7 @@ use Rattle.interleavings.specs.Jobs.{EndedJob, Job, Rendered}
 use Rattle.interleavings.specs.Requests.{IsToItsRequest}
 
 -- the item after some others
-slice_get-seam : {A : Type 0} (before : List A) (item : A) (after : List A) →
+pub slice_get-seam : {A : Type 0} (before : List A) (item : A) (after : List A) →
     slice_get (before ++ item ∷ after) (length before) ≡ Some item
 slice_get-seam [] item after = refl
 slice_get-seam (first ∷ before) item after = slice_get-seam before item after

@@ -41,7 +41,7 @@ all-range test start (suc count) holds =
     (all-range test (start + 1) count (λ k within. holds k (omega arith)))
 
 -- certified rows pass the check
-passed-AreCertified : (net : Net) (rows : List Row) → AreCertified net rows → pass_check net rows ≡ true
+pub passed-AreCertified : (net : Net) (rows : List Row) → AreCertified net rows → pass_check net rows ≡ true
 passed-AreCertified net rows certified =
     let count = length net.doors in
     let unbroken = λ (from : ℕ). is_none (broken_at net rows from) in

@@ -6,9 +6,8 @@ use Rattle.mirror_ledger.specs.Budgets.{Account}
 use Rattle.mirror_ledger.specs.Named.{budget_at}
 use Rattle.mirror_ledger.specs.Raising.{raise_at}
 use Rattle.records.specs.declared.mirror.Mirror.{Mirror}
-use Rattle.interleavings.specs.Events.{Drop, Enter, Event, Grant, Learn, Plan, Publish, Raise, Render, asks, decided, granted, happens, moved, run}
+use Rattle.interleavings.specs.Events.{Drop, Enter, Event, Grant, Learn, Plan, Publish, Raise, Reject, Render, asks, decided, granted, happens, rejected, run}
 use Rattle.interleavings.specs.Laws.{BudgetsAreThoseOfRaises, mirrors_after, mirrors_by}
-use Rattle.interleavings.specs.Moves.{after_rejection, with_pending}
 use Rattle.interleavings.specs.Services.{Service, has_room, opened, opened_book, present, with_budget, with_budgets_of}
 
 -- a mirror with another budget, and more mirrors
@@ -90,7 +89,7 @@ module _ (mirrors : List Mirror) (service : Service) where
   present-decided : (worker mirror bytes : ℕ) → present mirrors (decided mirrors worker mirror bytes service) ≡ present mirrors service
   present-decided worker mirror bytes =
       cond_both (has_room (service.books mirror) bytes) (granted worker mirror bytes service)
-      (moved worker (with_pending (after_rejection mirrors mirror)) service)
+      (rejected mirrors worker mirror service)
       (λ (after : Service). present mirrors after ≡ present mirrors service)
       (λ room. with_budgets_of-same (granted worker mirror bytes service).books service.books mirrors (λ index. refl))
       (λ none. refl)
@@ -105,6 +104,9 @@ module _ (mirrors : List Mirror) (service : Service) where
       cond_both (asks mirrors service worker mirror bytes) (decided mirrors worker mirror bytes service) service
       (λ (after : Service). present mirrors after ≡ present mirrors service)
       (λ asking. present-decided worker mirror bytes) (λ none. refl)
+  present-event (Reject worker mirror bytes) =
+      cond_both (asks mirrors service worker mirror bytes) (rejected mirrors worker mirror service) service
+      (λ (after : Service). present mirrors after ≡ present mirrors service) (λ asking. refl) (λ none. refl)
   present-event (Render worker moment) = refl
   present-event (Drop worker) = refl
   present-event (Raise mirror bytes) =

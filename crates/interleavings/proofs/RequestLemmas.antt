@@ -5,11 +5,10 @@ use Rattle.std.specs.List.{slice_get}
 use Rattle.std.proofs.lemmas.Bool.{cond_both}
 use Rattle.std.proofs.lemmas.List.{append-nil}
 use Rattle.std.proofs.lemmas.Option.{IfSome_then, none-some, same_Some}
-use Rattle.catalogue.specs.declared.edit.Edit.{Edit}
 use Rattle.mirror_ledger.specs.Asks.{booked}
 use Rattle.records.specs.declared.mirror.Mirror.{Mirror}
 use Rattle.interleavings.specs.Entries.{Course, JobsGoByWhatIsPublished}
-use Rattle.interleavings.specs.Events.{Drop, Enter, Event, Grant, Learn, Plan, Publish, Raise, Render, asks, decided, granted, happens, moved, service_after}
+use Rattle.interleavings.specs.Events.{Drop, Enter, Event, Grant, Learn, Plan, Publish, Raise, Reject, Render, asks, decided, granted, happens, moved, rejected, service_after}
 use Rattle.interleavings.specs.Jobs.{Pending, Worker, new_worker}
 use Rattle.interleavings.specs.Laws.{worker_at}
 use Rattle.interleavings.specs.Moves.{after_drop, after_entry, after_grant, after_news, after_plan, after_rejection, after_rendering, with_outcome, with_pending}
@@ -98,6 +97,18 @@ module _ (mirrors : List Mirror) (start : History) (workers : ℕ) where
               (keeps was.old at_changed (all changed was.old at_changed) (now ∙ ap Some other.1)))
         ]
 
+  -- a mirror rejects
+  rejects : (events : List Event) (all : AllKeep events) (event : Event) (changed mirror : ℕ) →
+      Next events all event (rejected mirrors changed mirror (course events))
+  rejects events all event changed mirror =
+      moves events all event (rejected mirrors changed mirror (course events)) changed
+      (with_pending (after_rejection mirrors mirror)) refl
+      (λ old was keeps.
+      pending-kept course changed events event old was keeps (after_rejection mirrors mirror) old.share
+      (λ p.
+      cond_both (eqb (mirror + 1) (length mirrors)) (with_outcome None p) (record p { tried = mirror + 1 })
+      (λ (q : Pending). q.request ≡ p.request) (λ last. refl) (λ other. refl)))
+
   step : (events : List Event) (all : AllKeep events) (event : Event) →
       Next events all event (happens mirrors (course events) event)
   step events all (Publish known batch) =
@@ -124,20 +135,19 @@ module _ (mirrors : List Mirror) (start : History) (workers : ℕ) where
       (Next events all event)
       (λ asking.
       cond_both (has_room (service.books mirror) bytes) (granted changed mirror bytes service)
-      (moved changed (with_pending (after_rejection mirrors mirror)) service) (Next events all event)
+      (rejected mirrors changed mirror service) (Next events all event)
       (λ room.
       moves events all event (granted changed mirror bytes service) changed (after_grant mirror bytes) refl
       (λ old was keeps.
       pending-kept course changed events event old was keeps (with_outcome (Some mirror))
       (λ m. old.share m + booked m bytes (Some mirror)) (λ p. refl)))
-      (λ full.
-      moves events all event (moved changed (with_pending (after_rejection mirrors mirror)) service) changed
-      (with_pending (after_rejection mirrors mirror)) refl
-      (λ old was keeps.
-      pending-kept course changed events event old was keeps (after_rejection mirrors mirror) old.share
-      (λ p.
-      cond_both (eqb (mirror + 1) (length mirrors)) (with_outcome None p) (record p { tried = mirror + 1 })
-      (λ (q : Pending). q.request ≡ p.request) (λ last. refl) (λ other. refl)))))
+      (λ full. rejects events all event changed mirror))
+      (λ test. stay events all event service refl)
+  step events all (Reject changed mirror bytes) =
+      let event = Reject changed mirror bytes in
+      let service = course events in
+      cond_both (asks mirrors service changed mirror bytes) (rejected mirrors changed mirror service) service
+      (Next events all event) (λ asking. rejects events all event changed mirror)
       (λ test. stay events all event service refl)
   step events all (Render changed moment) =
       let move = after_rendering mirrors (course events).history moment in

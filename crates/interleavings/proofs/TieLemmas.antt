@@ -22,9 +22,10 @@ use Rattle.service_desks.specs.Scripts.{IsPublished, IsScriptReply, publish_repl
 use Rattle.service_desks.specs.States.{Publication, earlier_in, settled}
 use Rattle.service_desks.specs.Workers.{stock_of}
 use Rattle.service_desks.specs.Asking.{asks_of}
+use Rattle.interleavings.specs.Events.{asks, granted, rejected}
 use Rattle.interleavings.specs.Jobs.{Pending, bytes_asked, outcomes_by_app, outcomes_of}
 use Rattle.interleavings.specs.Services.{is_published, published, with_budget}
-use Rattle.interleavings.specs.Ties.{AnswersAreOfPending, FullIsNotPublished, GrantsAreBooked, NextIsPublished, PressPublishes, RaisesAreEvents, RejectedIsNotPublished, RoomIsTested, ScriptsArePublished, WorkersReplyByOneHistory}
+use Rattle.interleavings.specs.Ties.{AnswersAreOfPending, FullBooksReject, FullIsNotPublished, GrantsAreBooked, NextIsPublished, PressPublishes, RaisesAreEvents, RejectedIsNotPublished, RoomIsTested, ScriptsArePublished, WorkersReplyByOneHistory}
 
 module _ (history : History) (batch : List Edit) where
   taken : is_published history (length history) batch ≡ true → published history (length history)
@@ -95,6 +96,13 @@ grants_are_booked books mirror bytes new grants =
     let own = ap (λ (b : Bool). (books mirror).total + cond b bytes 0) (eq-eqb mirror mirror refl) in
     same-account (record (books mirror) { total = (books mirror).total + cond (eqb mirror mirror) bytes 0 }) new
     (own ∙ sym grants.total) (sym grants.budget)
+
+pub full_books_reject : FullBooksReject
+full_books_reject mirrors service worker mirror bytes full =
+    ap
+    (λ (b : Bool). cond (asks mirrors service worker mirror bytes)
+    (cond b (granted worker mirror bytes service) (rejected mirrors worker mirror service)) service)
+    full
 
 -- the budget of the mirror itself
 own_budget : (books : ℕ → Account) (mirror bytes : ℕ) →

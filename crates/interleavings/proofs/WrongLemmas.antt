@@ -22,14 +22,14 @@ use Rattle.records.specs.declared.mirror.Mirror.{Mirror}
 use Rattle.replies.specs.Plans.{IsPlan}
 use Rattle.theorems.specs.Asks.{offer_in}
 use Rattle.version.specs.Versions as version
-use Rattle.interleavings.specs.Events.{Drop, Enter, Grant, Learn, Plan, Publish, Raise, Render}
+use Rattle.interleavings.specs.Events.{Drop, Enter, Grant, Learn, Plan, Publish, Raise, Reject, Render}
 use Rattle.interleavings.specs.Jobs.{EndedJob, Job, Pending, Rendered, Worker, is_decided, new_worker}
 use Rattle.interleavings.proofs.EventLemmas.{Made}
 use Rattle.interleavings.specs.Laws.{BatchesArePublishedInTurn, BatchesArePublishedWhole, IsAcceptedHistory, IsOfOneCatalogue, JobsGoByWhatWasSeen, PublishedIsAccepted, PublishedStays, RepliesAreOfOneCatalogue, SeenIsPublished, SeenNeverFalls, SharesAreOfJobs, TotalsAreWithinBudgets}
 use Rattle.interleavings.specs.Moves.{reply_by}
 use Rattle.interleavings.specs.Runs.{begins, lower_release, small_batch, small_mirrors, small_request, small_rows, unknown_release, withdrawal, wrong_rows}
 use Rattle.interleavings.specs.Services.{content_at}
-use Rattle.interleavings.specs.Wrong.{believes_any_number, cuts_a_budget, forgets_dropped_jobs, forgets_what_was_seen, grants_without_room, keeps_the_first_catalogue, leaves_the_share, never_publishes, plans_by_any_rows, plans_by_the_newest, publishes_half_a_batch, publishes_late_batches, publishes_over_unknown_batches, publishes_rejected_batches, renders_by_the_newest, renders_undecided}
+use Rattle.interleavings.specs.Wrong.{believes_any_number, books_what_is_rejected, cuts_a_budget, forgets_dropped_jobs, forgets_what_was_seen, grants_without_room, keeps_the_first_catalogue, leaves_the_share, never_publishes, plans_by_any_rows, plans_by_the_newest, publishes_half_a_batch, publishes_late_batches, publishes_over_unknown_batches, publishes_rejected_batches, renders_by_the_newest, renders_undecided}
 
 small-is-ok : is_ok (run_batches (small_batch ∷ []) []) ≡ true
 unfolding hex_on_literals version.version_of version.components_of version.lenient_version_of hash_of parsed
@@ -150,6 +150,12 @@ pub share : ¬ (TotalsAreWithinBudgets leaves_the_share)
 unfolding hex_on_literals version.version_of version.components_of version.lenient_version_of hash_of parsed
 share law =
     let book = law small_mirrors (small_batch ∷ []) 1 (begins 0 (Grant 0 0 3 ∷ [])) small-accepted 0 in
+    apart 3 0 refl book.adds_up
+
+pub booked : ¬ (TotalsAreWithinBudgets books_what_is_rejected)
+unfolding hex_on_literals version.version_of version.components_of version.lenient_version_of hash_of parsed
+booked law =
+    let book = law small_mirrors (small_batch ∷ []) 1 (begins 0 (Reject 0 0 3 ∷ [])) small-accepted 0 in
     apart 3 0 refl book.adds_up
 
 pub lowered : ¬ (TotalsAreWithinBudgets cuts_a_budget)

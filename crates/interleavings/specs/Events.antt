@@ -23,6 +23,8 @@ pub data Event : Type 0 where
   Plan : (worker : ℕ) (request : Request) (tables : Tables) → Event
   -- a worker asks a mirror to grant bytes
   Grant : (worker mirror bytes : ℕ) → Event
+  -- a worker asks a mirror, which rejects the bytes, with room for them or without
+  Reject : (worker mirror bytes : ℕ) → Event
   -- a worker renders its reply
   Render : (worker moment : ℕ) → Event
   -- a worker ends its job without a reply
@@ -44,12 +46,16 @@ abbrev pub granted : ℕ → ℕ → ℕ → Service → Service
 granted worker mirror bytes service =
     record (moved worker (after_grant mirror bytes) service) { books = with_grant service.books mirror bytes }
 
--- the mirror grants the bytes if it has room
+-- the mirror rejects the worker's bytes
+abbrev pub rejected : List Mirror → ℕ → ℕ → Service → Service
+rejected mirrors worker mirror service = moved worker (with_pending (after_rejection mirrors mirror)) service
+
+-- the mirror grants the bytes if it has room, else it rejects them
 abbrev pub decided : List Mirror → ℕ → ℕ → ℕ → Service → Service
 decided mirrors worker mirror bytes service =
     if has_room (service.books mirror) bytes
     then granted worker mirror bytes service
-    else moved worker (with_pending (after_rejection mirrors mirror)) service
+    else rejected mirrors worker mirror service
 
 -- a machine: what becomes of a service over its mirrors by an event
 abbrev pub Machine : Type 0
@@ -63,6 +69,8 @@ happens mirrors service (Learn worker number) = moved worker (after_news (length
 happens mirrors service (Plan worker request tables) = moved worker (after_plan service.history request tables) service
 happens mirrors service (Grant worker mirror bytes) =
     if asks mirrors service worker mirror bytes then decided mirrors worker mirror bytes service else service
+happens mirrors service (Reject worker mirror bytes) =
+    if asks mirrors service worker mirror bytes then rejected mirrors worker mirror service else service
 happens mirrors service (Render worker moment) = moved worker (after_rendering mirrors service.history moment) service
 happens mirrors service (Drop worker) = moved worker after_drop service
 happens mirrors service (Raise mirror bytes) = record service { books = with_budget service.books mirror bytes }

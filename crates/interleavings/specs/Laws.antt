@@ -17,7 +17,7 @@ use Rattle.replies.specs.Plans.{IsPlan, IsPlanOf, payloads_of}
 use Rattle.replies.specs.Replies.{AreOutcomes, reply_of}
 use Rattle.replies.specs.declared.choices.Choice.{Choice}
 use Rattle.replies.specs.declared.choices.Plan.{Plan}
-use Rattle.interleavings.specs.Choices.{IsByPrices}
+use Rattle.interleavings.specs.Choices.{IsByPrices, Tables, are_certified}
 use Rattle.interleavings.specs.Events.{Event, Machine, Publish, Raise, service_after}
 use Rattle.interleavings.specs.Jobs.{EndedJob, Job, Pending, Rendered, Worker, granted_for, is_decided, jobs_of, outcomes_of}
 use Rattle.interleavings.specs.Services.{Service, content_at, present, published, raised_budget}
@@ -201,3 +201,9 @@ PlansAreByPrices =
     AreTables (content_of history) tables →
     IsPlanOf (content_of history) request plan →
     IsByPrices (content_of history) request (tables ++ plan.tables) plan.choices
+
+-- for each request there are certified rows by the content of each history
+abbrev pub RequestsHaveRows : Type 0
+RequestsHaveRows =
+    (history : History) (request : Request) → (tables : Tables) ×
+    (are_certified (content_of history) request tables ≡ true)

@@ -1,3 +1,4 @@
+pub mod Calls
 pub mod Choices
 pub mod Entries
 pub mod Events
@@ -9,6 +10,8 @@ pub mod Moves
 pub mod Requests
 pub mod Restart
 pub mod Runs
+pub mod Served
+pub mod ServedRuns
 pub mod Services
 pub mod Ties
 pub mod Wrong

@@ -11,7 +11,7 @@ use Rattle.price_cert.specs.declared.row.Row.TheVariants.{End, Nothing}
 use Rattle.records.specs.declared.mirror.Mirror.{Mirror}
 use Rattle.theorems.specs.Asks.{check_in}
 use Rattle.interleavings.specs.Choices.{Tables}
-use Rattle.interleavings.specs.Events.{Drop, Enter, Event, Grant, Learn, Plan, Publish, Raise, Render, happens, service_after}
+use Rattle.interleavings.specs.Events.{Drop, Enter, Event, Grant, Learn, Plan, Publish, Raise, Reject, Render, happens, service_after}
 use Rattle.interleavings.specs.Jobs.{EndedJob, Rendered, Worker, new_worker}
 use Rattle.interleavings.specs.Services.{Service}
 
@@ -161,6 +161,17 @@ pub record BudgetRaised : Type 0 where
   pub total : (budget_raised.books 0).total ≡ 6
   pub budget : (budget_raised.books 0).budget ≡ 6
 
+-- a mirror with room rejects one worker, once, and grants the other one's bytes
+abbrev pub rejected_then_granted : Service
+rejected_then_granted =
+    small_run 2 (begins 0 (begins 1 (Reject 0 0 3 ∷ Reject 0 0 3 ∷ Grant 1 0 3 ∷ Render 0 86400 ∷ Render 1 86400 ∷ [])))
+
+pub record RejectedWithRoom : Type 0 where
+  pub outcomes :
+      outcomes_in rejected_then_granted ≡ (replied 1 (codes "error-internal") ∷ []) ∷ (replied 1 (codes "ok") ∷ []) ∷ []
+  pub shares : shares_in rejected_then_granted ≡ 0 ∷ 3 ∷ []
+  pub total : (rejected_then_granted.books 0).total ≡ 3
+
 -- events whose conditions fail: a worker without a job plans, asks, renders and drops, and hears of what isn't
 -- published; there is no worker 7; an edit is rejected
 abbrev pub nothing_happened : Service
@@ -168,6 +179,7 @@ nothing_happened =
     small_run 1
     (Plan 0 small_request small_rows
     ∷ Grant 0 0 3
+    ∷ Reject 0 0 3
     ∷ Render 0 86400
     ∷ Drop 0
     ∷ Learn 0 2

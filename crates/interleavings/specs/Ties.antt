@@ -1,5 +1,5 @@
 -- What the contracts of the program's functions say by helpers of events: `published`, `has_room`, `with_grant`,
--- `with_budget` and `IsReplyOf`; and by events, what the operator's calls say. `Enter`, `Learn` and `Drop` have no law.
+-- `with_budget` and `IsReplyOf`; and by events, what the operator's calls say. `Calls` has those of a worker's desk.
 use Rattle.std.specs.Prelude.{◌≡◌, ◌<◌, ◌≤◌, ◌⊎◌, ◌↔◌, ◌+◌, ◌-◌, ℕ, All, Bool, true, false, IfSome, List, ◌++◌, length, Option, option_to_list, Result, Ok, Err}
 use Rattle.catalogue.specs.declared.edit.Edit.{Edit}
 use Rattle.catalogue.specs.declared.fault.Refused.{Refused}
@@ -28,7 +28,7 @@ use Rattle.service_desks.specs.States.{Publication, State, Store, earlier_in, se
 use Rattle.service_desks.specs.Workers.{Progress, Replies, stock_of}
 use Rattle.service_desks.specs.Answering.{IsReply, Stock}
 use Rattle.service_desks.specs.Asking.{asks_of}
-use Rattle.interleavings.specs.Events.{Event, Publish, Raise, happens, run}
+use Rattle.interleavings.specs.Events.{Event, Grant, Publish, Raise, Reject, happens, run}
 use Rattle.interleavings.specs.Jobs.{Pending, is_decided, outcomes_of}
 use Rattle.interleavings.specs.Laws.{IsReplyOf}
 use Rattle.interleavings.specs.Services.{Service, has_room, present, published, with_budget, with_grant}
@@ -68,6 +68,13 @@ abbrev pub GrantsAreBooked : Type 0
 GrantsAreBooked =
     (books : ℕ → Account) (mirror bytes : ℕ) (new : Account) →
     Grants (books mirror) new bytes → with_grant books mirror bytes mirror ≡ new
+
+-- a grant without room is a rejection
+abbrev pub FullBooksReject : Type 0
+FullBooksReject =
+    (mirrors : List Mirror) (service : Service) (worker mirror bytes : ℕ) →
+    has_room (service.books mirror) bytes ≡ false →
+    happens mirrors service (Grant worker mirror bytes) ≡ happens mirrors service (Reject worker mirror bytes)
 
 -- `Book::raise` is a raise of the mirror's budget to so many bytes, also if these are fewer and it changes nothing
 abbrev pub RaisesAreEvents : Type 0

@@ -5,7 +5,7 @@ use Rattle.editions.specs.Editions.{content_of}
 use Rattle.omaha_json.specs.declared.request.Request.{Request}
 use Rattle.replies.specs.declared.choices.Choice.{Choice}
 use Rattle.interleavings.specs.Entries.{JobsGoByWhatIsPublished, entered_job}
-use Rattle.interleavings.specs.Events.{Drop, Enter, Grant, Learn, Machine, Plan, Publish, Raise, Render, asks, granted, happens, moved}
+use Rattle.interleavings.specs.Events.{Drop, Enter, Grant, Learn, Machine, Plan, Publish, Raise, Reject, Render, asks, granted, happens, moved, rejected}
 use Rattle.interleavings.specs.Headline.{OffersLeadToTargets, RepliesSayTrue}
 use Rattle.interleavings.specs.Jobs.{EndedJob, Job, Pending, Rendered, Worker}
 use Rattle.interleavings.specs.Laws.{BatchesArePublishedInTurn, BatchesArePublishedWhole, JobsGoByWhatWasSeen, PublishedIsAccepted, PublishedStays, RepliesAreOfOneCatalogue, SeenIsPublished, SeenNeverFalls, SharesAreOfJobs, TotalsAreWithinBudgets}
@@ -151,6 +151,14 @@ leaves_the_share mirrors service (Grant worker mirror bytes) =
     }
 leaves_the_share mirrors service event = happens mirrors service event
 
+-- books bytes that a mirror rejects
+abbrev pub books_what_is_rejected : Machine
+books_what_is_rejected mirrors service (Reject worker mirror bytes) =
+    if asks mirrors service worker mirror bytes
+    then record (rejected mirrors worker mirror service) { books = with_grant service.books mirror bytes }
+    else service
+books_what_is_rejected mirrors service event = happens mirrors service event
+
 -- cuts a budget below what was granted
 abbrev pub cuts_a_budget : Machine
 cuts_a_budget mirrors service (Raise mirror bytes) =
@@ -216,6 +224,7 @@ pub record EntriesBreak : Type 0 where
 pub record GrantsBreak : Type 0 where
   pub no_room : ¬ (TotalsAreWithinBudgets grants_without_room)
   pub share : ¬ (TotalsAreWithinBudgets leaves_the_share)
+  pub rejected : ¬ (TotalsAreWithinBudgets books_what_is_rejected)
   pub lowered : ¬ (TotalsAreWithinBudgets cuts_a_budget)
   pub forgotten : ¬ (SharesAreOfJobs forgets_dropped_jobs)
 

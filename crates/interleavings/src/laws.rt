@@ -1,14 +1,17 @@
 //! What holds after every interleaving of publishers, workers and operators, each law as a clause of a function.
 
+ghost use Rattle.interleavings.specs.Calls.{LoneCallsAreForRoom, WorkerCallsAreEvents};
 ghost use Rattle.interleavings.specs.Entries.{JobsGoByWhatIsPublished};
 ghost use Rattle.interleavings.specs.Events.{happens};
 ghost use Rattle.interleavings.specs.Headline.{OffersLeadToTargets, RepliesSayTrue};
 ghost use Rattle.interleavings.specs.LargerRuns.{DifferentialAndPin, HeardOfABatch, PinnedOffer, SecondMirrorGrants, TwoAppsInOneReply};
-ghost use Rattle.interleavings.specs.Laws.{BatchesArePublishedInTurn, BatchesArePublishedWhole, BudgetsAreThoseOfRaises, JobsGoByWhatWasSeen, PlansAreByPrices, PublishedIsAccepted, PublishedStays, RepliesAreOfOneCatalogue, SeenIsPublished, SeenNeverFalls, SharesAreOfJobs, TotalsAreWithinBudgets};
+ghost use Rattle.interleavings.specs.Laws.{BatchesArePublishedInTurn, BatchesArePublishedWhole, BudgetsAreThoseOfRaises, JobsGoByWhatWasSeen, PlansAreByPrices, PublishedIsAccepted, PublishedStays, RepliesAreOfOneCatalogue, RequestsHaveRows, SeenIsPublished, SeenNeverFalls, SharesAreOfJobs, TotalsAreWithinBudgets};
 ghost use Rattle.interleavings.specs.Requests.{RepliesAreToGivenRequests};
 ghost use Rattle.interleavings.specs.Restart.{DumpsAreProfiles, OperatorsOnlyRaise, RestartsKeepReplies, ServicesOpenAgain};
-ghost use Rattle.interleavings.specs.Runs.{BudgetEnds, BudgetRaised, DropAfterGrant, FailedConditions, PublishBetween, StalePublish};
-ghost use Rattle.interleavings.specs.Ties.{AnswersAreOfPending, FullIsNotPublished, GrantsAreBooked, NextIsPublished, OperatorCallsAreEvents, PressPublishes, RaisesAreEvents, RaisesByNameAreEvents, RejectedIsNotPublished, RoomIsTested, ScriptsArePublished, WorkersReplyByOneHistory};
+ghost use Rattle.interleavings.specs.Runs.{BudgetEnds, BudgetRaised, DropAfterGrant, FailedConditions, PublishBetween, RejectedWithRoom, StalePublish};
+ghost use Rattle.interleavings.specs.Served.{RunsAreInterleavings, ServedRepliesArePublished};
+ghost use Rattle.interleavings.specs.ServedRuns.{CallsWorked, LookedUp, ProceedingsRejected, RunWorked};
+ghost use Rattle.interleavings.specs.Ties.{AnswersAreOfPending, FullBooksReject, FullIsNotPublished, GrantsAreBooked, NextIsPublished, OperatorCallsAreEvents, PressPublishes, RaisesAreEvents, RaisesByNameAreEvents, RejectedIsNotPublished, RoomIsTested, ScriptsArePublished, WorkersReplyByOneHistory};
 ghost use Rattle.interleavings.specs.Wrong.{EntriesBreak, GrantsBreak, PlansAndRepliesBreak, PublishesBreak, RequestsBreak};
 
 // rule: Service
@@ -133,7 +136,7 @@ pub fn restart()
 /// The helpers say what is published, whether a book has room, which book it is after a grant or a raise, and what the
 /// reply of a job is. A raise by a name from the present mirrors is the event `Raise` of that mirror, or none; and each
 /// call of the operator's desk, from what is published and the present mirrors, is one event `Publish` or `Raise`, or
-/// none. The events `Enter`, `Learn` and `Drop` have no such law, and none says that a worker's call is one whole event.
+/// none. The calls of a worker's desk are lists of events by `worker_calls`; the event `Learn` has no such law.
 pub fn ties()
     ensures next { NextIsPublished }
     ensures rejected { RejectedIsNotPublished }
@@ -141,6 +144,7 @@ pub fn ties()
     ensures press { PressPublishes }
     ensures room { RoomIsTested }
     ensures grants { GrantsAreBooked }
+    ensures rejects { FullBooksReject }
     ensures raises { RaisesAreEvents }
     ensures named { RaisesByNameAreEvents }
     ensures operator { OperatorCallsAreEvents }
@@ -149,14 +153,80 @@ pub fn ties()
     ensures scripts { ScriptsArePublished }
 {}
 
+// rule: Choice by prices
+/// States that each request has certified rows by the content of each history.
+pub fn certified()
+    ensures { RequestsHaveRows }
+{
+    catalogue_laws::validity();
+    solver::laws::tables();
+    theorems::laws::graphs();
+}
+
+// rule: Events of a call
+/// States that each call of a worker's desk is a list of events, if its view enters what is published and each mirror
+/// has room for what it granted.
+///
+/// A look-up enters and drops its job. A request that is replied to enters, plans, asks the mirrors and renders; if
+/// memory runs out, it drops its job after some of the asks. Other calls are no event. The events change that worker
+/// alone, and the books by what it asked for; it then has sent what it had, and what the call sent.
+pub fn worker_calls()
+    ensures { WorkerCallsAreEvents }
+{
+    catalogue_laws::validity();
+    quotes::laws::rows();
+    theorems::laws::graphs();
+    theorems::laws::plans();
+    crate::laws::certified();
+}
+
+/// States that a mirror rejects a worker that is alone for want of room only.
+///
+/// It holds if nothing was granted to others, no budget was raised, and each ask is granted by the first mirror with room.
+pub fn lone_calls()
+    ensures { LoneCallsAreForRoom }
+{
+    catalogue_laws::validity();
+    quotes::laws::rows();
+    theorems::laws::graphs();
+    theorems::laws::plans();
+    crate::laws::certified();
+}
+
+// rule: Run of a service
+/// States that each run of a service is a run of the machine: there is a list of events after which what the operator
+/// left is published, each worker sent the replies of its calls, in order, and no others, and each mirror's total is
+/// the one given.
+///
+/// The run is given by the calls of each worker's desk and of the operator's desk, each by itself, and by the totals;
+/// each worker's view may in the end enter what the operator left. No clause says more of the list. That of the proof
+/// has all raises first, and then batch by batch the calls of the workers that entered it.
+pub fn runs_are_interleavings()
+    ensures { RunsAreInterleavings }
+{
+    crate::laws::worker_calls();
+}
+
+/// States that each reply of each worker of a run is that of one published catalogue: of the first batches of the
+/// history that the operator left, of some number, by a plan of chains of the least sum and what the mirrors granted
+/// for it.
+pub fn served_replies()
+    ensures { ServedRepliesArePublished }
+{
+    crate::laws::runs_are_interleavings();
+    crate::laws::every_interleaving();
+}
+
 /// Shows small runs, worked by hand: a publish between the plan of one worker and its reply, a dropped job, a publisher
-/// that is too late, a budget that ends between two workers, one that is raised, and events whose conditions fail.
+/// that is too late, a budget that ends between two workers, one that is raised, a mirror with room that rejects, and
+/// events whose conditions fail.
 pub fn runs()
     ensures publish { PublishBetween }
     ensures drop { DropAfterGrant }
     ensures stale { StalePublish }
     ensures ends { BudgetEnds }
     ensures raised { BudgetRaised }
+    ensures rejected { RejectedWithRoom }
     ensures failed { FailedConditions }
 {}
 
@@ -168,6 +238,16 @@ pub fn larger_runs()
     ensures differential { DifferentialAndPin }
     ensures pin { PinnedOffer }
     ensures heard { HeardOfABatch }
+{}
+
+/// Shows calls and a run of a service, worked by hand as events: two workers and an operator, a rejected ask, a raise,
+/// a publish between two replies of one worker, and a look-up. The proceedings of a look-up are of a run. Those whose
+/// totals are made up, or whose operator left a batch without a call, are of none.
+pub fn served_runs()
+    ensures calls { CallsWorked }
+    ensures run { RunWorked }
+    ensures held { LookedUp }
+    ensures rejected { ProceedingsRejected }
 {}
 
 /// Shows machines that are wrong in one event each, with the law that each of them breaks.

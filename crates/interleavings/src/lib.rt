@@ -4,11 +4,12 @@
 //! each reply is that of one published catalogue, and no mirror grants more than its budget. Read `specs/Events.antt`
 //! for what can happen, `specs/Jobs.antt` for what a worker keeps, `specs/Choices.antt` for what it chooses by prices,
 //! `specs/Laws.antt`, `specs/Entries.antt` and `specs/Requests.antt` for what holds, and `specs/Restart.antt` for a
-//! service that starts from a dump. `specs/Ties.antt` reads the contracts of single calls in events and helpers of them;
-//! `Enter`, `Learn` and `Drop` have none.
+//! service that starts from a dump. `specs/Ties.antt` reads the contracts of single calls in events and helpers of
+//! them, `specs/Calls.antt` the calls of a worker's desk as lists of events, and `specs/Served.antt` all that a service
+//! did as one list.
 //!
-//! It says nothing of threads: that what they do is a list of these events follows from no contract. Nor does it say
-//! that anything happens: that a worker comes on, or soon sees what is published.
+//! It says nothing of time: in that list only each worker's own replies are in their order. Nor does it say that
+//! anything happens: that a worker comes on, or soon sees what is published. Nothing has a law for `Learn`.
 
 #![tactic(auto)]
 

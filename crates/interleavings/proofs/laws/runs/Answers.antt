@@ -14,5 +14,6 @@ returns c =
       stale = record { history = refl };
       ends = record { outcomes = refl; shares = refl; total = refl };
       raised = record { outcomes = refl; total = refl; budget = refl };
+      rejected = record { outcomes = refl; shares = refl; total = refl };
       failed = record { history = refl; workers = refl; total = refl; outcomes = refl };
     }

@@ -1,5 +1,5 @@
 use Rattle.interleavings.proofs.OperatorLemmas.{operator_calls_are_events, raises_by_name_are_events}
-use Rattle.interleavings.proofs.TieLemmas.{answers_are_of_pending, full_is_not_published, grants_are_booked, next_is_published, press_publishes, raises_are_events, rejected_is_not_published, room_is_tested, scripts_are_published, workers_reply_by_one_history}
+use Rattle.interleavings.proofs.TieLemmas.{answers_are_of_pending, full_books_reject, full_is_not_published, grants_are_booked, next_is_published, press_publishes, raises_are_events, rejected_is_not_published, room_is_tested, scripts_are_published, workers_reply_by_one_history}
 use Rattle.interleavings.proofs.laws.ties.Goals as goal
 
 pub returns : goal.returns
@@ -11,6 +11,7 @@ returns c =
       press = press_publishes;
       room = room_is_tested;
       grants = grants_are_booked;
+      rejects = full_books_reject;
       raises = raises_are_events;
       named = raises_by_name_are_events;
       operator = operator_calls_are_events;

@@ -1,4 +1,4 @@
-use Rattle.interleavings.proofs.WrongLemmas.{first, forgotten, half, late, lost, lowered, never, newest_plan, newest_reply, no_room, rejected, share, unchecked, undecided, unseen, unpublished}
+use Rattle.interleavings.proofs.WrongLemmas.{booked, first, forgotten, half, late, lost, lowered, never, newest_plan, newest_reply, no_room, rejected, share, unchecked, undecided, unseen, unpublished}
 use Rattle.interleavings.proofs.WrongReplyLemmas.{nowhere, untrue}
 use Rattle.interleavings.proofs.WrongRequestLemmas.{again, another, another_time, old, previous, previous_time}
 use Rattle.interleavings.proofs.laws.wrong_machines.Goals as goal
@@ -22,6 +22,6 @@ returns c =
         previous_time = previous_time;
       };
       entries = record { old = old; first = first; untrue = unpublished; forgotten = unseen };
-      grants = record { no_room = no_room; share = share; lowered = lowered; forgotten = forgotten };
+      grants = record { no_room = no_room; share = share; rejected = booked; lowered = lowered; forgotten = forgotten };
       publishes = record { half = half; rejected = rejected; lost = lost; late = late; never = never };
     }
