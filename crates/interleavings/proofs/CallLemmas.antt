@@ -1,5 +1,5 @@
 -- What the events of each work lead to, from a service in which the worker has no job.
-use Rattle.std.proofs.Common.{◌≡◌, ℕ, ◌+◌, ◌<◌, ◌≤◌, ◌&&◌, true, List, [], ◌∷◌, ◌++◌, length, map, Option, None, Some, refl, ap, ◌∙◌}
+use Rattle.std.proofs.Common.{◌≡◌, ℕ, ◌+◌, ◌<◌, ◌≤◌, ◌&&◌, true, List, [], ◌∷◌, ◌++◌, length, map, Option, None, Some, refl, sym, ap, ◌∙◌, subst}
 use Rattle.std.specs.List.{AllByRecursion, slice_get}
 use Rattle.std.specs.Option.{is_none}
 use Rattle.std.proofs.lemmas.Bool.{and_from, cond-true, false≢true}
@@ -12,7 +12,7 @@ use Rattle.records.specs.declared.mirror.Mirror.{Mirror}
 use Rattle.replies.specs.Replies.{AreOutcomes, IsOutcome}
 use Rattle.replies.specs.declared.choices.Choice.{Choice}
 use Rattle.service_desks.specs.Asking.{asks_of}
-use Rattle.interleavings.specs.Calls.{Break, Look, Reply, asks_events, events_of}
+use Rattle.interleavings.specs.Calls.{AreForRoom, Break, Look, Reply, asks_events, events_of}
 use Rattle.interleavings.specs.Choices.{Tables, are_certified, choices_of}
 use Rattle.interleavings.specs.Events.{Drop, Enter, Event, Plan, Render, happens, run}
 use Rattle.interleavings.specs.Jobs.{EndedJob, Job, Pending, Worker, bytes_asked, is_decided, outcomes_by_app}
@@ -20,7 +20,7 @@ use Rattle.interleavings.specs.Moves.{after_drop, after_entry, after_plan, after
 use Rattle.interleavings.specs.Services.{Service, content_at}
 use Rattle.interleavings.proofs.KeptLemmas.{IsNamed}
 use Rattle.interleavings.proofs.RunLemmas.{run-append}
-use Rattle.interleavings.proofs.StateLemmas.{asked, books_after, moves, share_after, state}
+use Rattle.interleavings.proofs.StateLemmas.{HaveNoRoom, asked, asked-for-room, books_after, for-room-append, moves, share_after, state}
 
 -- the asks of a plan: their bytes, their outcomes by app, and whom they name
 pub record AreAsks (mirrors : List Mirror) (plan : List (Option Choice)) (outcomes : List (Option ℕ)) : Type 0 where
@@ -140,6 +140,34 @@ module _ (mirrors : List Mirror) (history : History) (workers : List Worker) (in
             (asked mirrors history workers index old there request plan count count ended some asks [] rest [] share
             books
             parts refl named room)
+
+        -- the mirrors that reject have no room, up to some last event
+        for-room : (last : Event) → HaveNoRoom mirrors books asks →
+            ((service : Service) → AreForRoom mirrors service (last ∷ [])) →
+            AreForRoom mirrors (at (idle seen ended share) books)
+            (Enter index ∷ Plan index request tables ∷ (asks_events mirrors index asks ++ last ∷ []))
+        for-room last full ends =
+            let asked_for =
+            for-room-append mirrors (asks_events mirrors index asks) (last ∷ []) (at (asking []) books)
+            (asked-for-room mirrors history workers index old there request plan count count ended some asks [] rest
+            [] share books parts refl named room full)
+            (ends (run happens mirrors (at (asking []) books) (asks_events mirrors index asks))) in (
+              tt,
+              (
+                tt,
+                subst (λ (s : Service). AreForRoom mirrors s (asks_events mirrors index asks ++ last ∷ []))
+                    (sym (begins [])) asked_for,
+              ),
+            )
+
+        pub breaks-for-room : HaveNoRoom mirrors books asks →
+            AreForRoom mirrors (at (idle seen ended share) books) (events_of mirrors index (Break request tables asks))
+        breaks-for-room full = for-room (Drop index) full (λ service. (tt, tt))
+
+        pub replies-for-room : (moment : ℕ) → HaveNoRoom mirrors books asks →
+            AreForRoom mirrors (at (idle seen ended share) books)
+            (events_of mirrors index (Reply request tables asks moment))
+        replies-for-room moment full = for-room (Render index moment) full (λ service. (tt, tt))
 
         pub breaks :
             run happens mirrors (at (idle seen ended share) books) (events_of mirrors index (Break request tables asks))

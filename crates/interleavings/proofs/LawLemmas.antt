@@ -1,10 +1,9 @@
 -- The laws of every interleaving.
-use Rattle.std.proofs.Common.{◌≡◌, ℕ, ◌≤◌, inl, inr, List, [], ◌∷◌, ◌++◌, length, None, sym, ap, ◌∙◌, subst}
+use Rattle.std.proofs.Common.{◌≡◌, ℕ, ◌≤◌, inl, inr, List, ◌++◌, length, None, sym, ap, ◌∙◌, subst}
 use Rattle.std.specs.List.{All, Contains, sum_by}
 use Rattle.std.specs.Option.{option_map}
 use Rattle.std.proofs.lemmas.List.Elements.{All-contains_itself, All-from_recursion, Contains-append_left, Contains-append_right, recursion_from_All}
 use Rattle.std.proofs.lemmas.Option.{none-some}
-use Rattle.catalogue.specs.declared.edit.Edit.{Edit}
 use Rattle.catalogue_laws.specs.Histories.{HistoriesAreValid, HistoriesGrow, History, PrefixesAreAccepted}
 use Rattle.quotes.specs.ByRows.{CertifiedRowsQuote}
 use Rattle.records.specs.declared.mirror.Mirror.{Mirror}

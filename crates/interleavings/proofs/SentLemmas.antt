@@ -1,5 +1,5 @@
 -- Each reply of each worker of a run is that of one published catalogue.
-use Rattle.std.proofs.Common.{◌≡◌, ℕ, List, [], ◌∷◌, length, map, Option, None, Some, All, refl, sym, subst}
+use Rattle.std.proofs.Common.{List, [], ◌∷◌, length, map, Option, None, Some, All, refl, sym, subst}
 use Rattle.std.specs.List.{AllByRecursion, flat_map}
 use Rattle.std.specs.Option.{option_map_or}
 use Rattle.std.proofs.lemmas.List.Elements.{All-from_recursion, recursion_from_All}

@@ -1,19 +1,21 @@
 -- A service in which one worker is in the place of another, and what the events of that worker make of it.
-use Rattle.std.proofs.Common.{◌≡◌, ℕ, zero, suc, ◌+◌, ◌<◌, ◌≤◌, ◌&&◌, Bool, true, false, cond, eqb, ltb, List, [], ◌∷◌, ◌++◌, length, map, Option, None, Some, refl, sym, ap, ◌∙◌, append_assoc, arith}
+use Rattle.std.proofs.Common.{◌≡◌, ℕ, zero, suc, ◌+◌, ◌<◌, ◌≤◌, ◌&&◌, Bool, true, false, cond, eqb, ltb, List, [], ◌∷◌, ◌++◌, length, map, Option, None, Some, refl, sym, ap, ◌∙◌, append_assoc, subst, arith}
 use Rattle.std.specs.List.{AllByRecursion, slice_get}
 use Rattle.std.specs.Option.{option_map_or}
-use Rattle.std.proofs.lemmas.Bool.{and_from, cond-false, cond-true, eq-eqb, le-leb, lt-ltb, ne_eqb}
+use Rattle.std.proofs.lemmas.Bool.{and_from, cond-false, cond-true, eq-eqb, false_from_ne_true, le-leb, leb-true, lt-ltb, ne_eqb}
 use Rattle.std.proofs.lemmas.List.{append-nil, length-append}
-use Rattle.std.proofs.lemmas.List.Sums.{sum_by-cons}
+use Rattle.std.proofs.lemmas.List.Sums.{sum_by-cons, sum_by_push}
 use Rattle.std.proofs.lemmas.Option.{none-some, same_Some}
 use Rattle.catalogue_laws.specs.Histories.{History}
 use Rattle.mirror_ledger.specs.Asks.{Ask, booked, granted_at}
 use Rattle.mirror_ledger.specs.Budgets.{Account}
+use Rattle.mirror_ledger.specs.Order.{HasRoomAt, IsFirstWithRoom}
 use Rattle.omaha_json.specs.declared.request.Request.{Request}
 use Rattle.records.specs.declared.mirror.Mirror.{Mirror}
 use Rattle.replies.specs.declared.choices.Choice.{Choice}
-use Rattle.interleavings.specs.Calls.{ask_events, asks_events, rejections}
-use Rattle.interleavings.specs.Events.{Grant, Reject, asks, decided, granted, happens, moved, rejected, run}
+use Rattle.service_desks.specs.Asking.{AreGranted}
+use Rattle.interleavings.specs.Calls.{AreForRoom, IsOfOneWorker, ask_events, asks_events, rejections}
+use Rattle.interleavings.specs.Events.{Event, Grant, Reject, asks, decided, granted, happens, moved, rejected, run}
 use Rattle.interleavings.specs.Jobs.{EndedJob, Pending, Worker, bytes_asked}
 use Rattle.interleavings.specs.Moves.{after_grant, after_rejection, is_asking, with_outcome, with_pending}
 use Rattle.interleavings.specs.Services.{Service, changed_at, has_room, with_grant}
@@ -103,6 +105,59 @@ pub books_after-budget : (books : ℕ → Account) (asks : List Ask) (mirror : �
 books_after-budget books [] mirror = refl
 books_after-budget books (ask ∷ asks) mirror =
     books_after-budget (books_by books ask.0 ask.1) asks mirror ∙ books_by-budget books ask.0 ask.1 mirror
+
+-- the mirrors before this one reject an ask of such an outcome
+abbrev pub rejected_by : List Mirror → Option ℕ → ℕ
+rejected_by mirrors None = length mirrors
+rejected_by mirrors (Some mirror) = mirror
+
+-- they have no room for it, nor for the asks after it
+abbrev pub HaveNoRoom : List Mirror → (ℕ → Account) → List Ask → Type 0
+HaveNoRoom mirrors books [] = Unit {0}
+HaveNoRoom mirrors books (ask ∷ asks) =
+    ((at : ℕ) → at < rejected_by mirrors ask.1 → has_room (books at) ask.0 ≡ false)
+    × HaveNoRoom mirrors (books_by books ask.0 ask.1) asks
+
+-- of two lists of events
+pub for-room-append : (mirrors : List Mirror) (events more : List Event) (service : Service) →
+    AreForRoom mirrors service events → AreForRoom mirrors (run happens mirrors service events) more →
+    AreForRoom mirrors service (events ++ more)
+for-room-append mirrors [] more service first second = second
+for-room-append mirrors (event ∷ events) more service first second =
+    (first.0, for-room-append mirrors events more (happens mirrors service event) first.1 second)
+
+-- what is granted by the first mirror with room, to a worker that is alone
+pub no-room-first : (mirrors : List Mirror) (books : ℕ → Account) (before asks : List Ask) →
+    IsOfOneWorker mirrors books before → AreGranted mirrors before asks → HaveNoRoom mirrors books asks
+no-room-first mirrors books before [] alone granted = tt
+no-room-first mirrors books before (ask ∷ asks) alone granted = (
+  at-first ask.1 granted.0,
+  no-room-first mirrors (books_by books ask.0 ask.1) (before ++ ask ∷ []) asks
+      (λ mirror below. (
+        (let own = (alone mirror below).0 in
+            let more = books_by-is books ask.0 ask.1 mirror in
+            let all = sum_by_push (λ (a : Ask). booked mirror a.0 a.1) before ask in
+            omega arith),
+        books_by-budget books ask.0 ask.1 mirror ∙ (alone mirror below).1,
+      ))
+      granted.1,
+)
+  where
+    full : (at : ℕ) → at < length mirrors → (HasRoomAt mirrors before ask.0 at → ⊥) → has_room (books at) ask.0 ≡ false
+    full at below none =
+        let total = (alone at below).0 in
+        let budget = (alone at below).1 in
+        false_from_ne_true (has_room (books at) ask.0)
+        (λ room.
+        let low = leb-true ((books at).total + ask.0) (books at).budget room in
+        none (omega arith))
+
+    at-first : (outcome : Option ℕ) → IsFirstWithRoom mirrors before ask.0 outcome →
+        (at : ℕ) → at < rejected_by mirrors outcome → has_room (books at) ask.0 ≡ false
+    at-first None first at below = full at below (first at below)
+    at-first (Some mirror) first at below =
+        let within = first.0 in
+        full at (omega arith) (first.2 at below)
 
 -- a mirror that isn't the last one rejects, and the last one
 not-last : (mirrors : List Mirror) (mirror : ℕ) (pending : Pending) → (mirror + 1 ≡ length mirrors → ⊥) →
@@ -208,6 +263,21 @@ module _ (mirrors : List Mirror) (history : History) (workers : List Worker) (in
       none-grants zero some whole = absurd (omega arith)
       none-grants (suc count) some whole = all-reject count 0 (omega arith)
 
+      -- if they have no room, that is why
+      for-room : (count mirror : ℕ) → mirror + count ≤ length mirrors →
+          ((at : ℕ) → at < mirror + count → has_room (books at) bytes ≡ false) →
+          AreForRoom mirrors (trying mirror) (rejections index bytes mirror count)
+      for-room zero mirror within full = tt
+      for-room (suc zero) mirror within full = (full mirror (omega arith), tt)
+      for-room (suc (suc count)) mirror within full = (
+        full mirror (omega arith),
+        subst (λ (s : Service). AreForRoom mirrors s (rejections index bytes (mirror + 1) (suc count)))
+            (sym (rejects mirror (omega arith)
+            ∙ ap (λ (p : Pending). state (busy share p) books)
+            (not-last mirrors mirror (pending_with outcomes mirror) (λ last. omega arith))))
+            (for-room (suc count) (mirror + 1) (omega arith) (λ at below. full at (omega arith))),
+      )
+
       -- a mirror grants
       grants : (mirror : ℕ) → mirror < length mirrors → (books mirror).total + bytes ≤ (books mirror).budget →
           happens mirrors (trying mirror) (Grant index mirror bytes)
@@ -240,6 +310,15 @@ module _ (mirrors : List Mirror) (history : History) (workers : List Worker) (in
           ∙ ap (λ (s : Service). happens mirrors s (Grant index mirror bytes))
           (some-reject mirror 0 (omega arith) ∙ ap trying start)
           ∙ grants mirror named (omega arith)
+
+      -- the mirrors that reject one ask have no room
+      once-for-room : (outcome : Option ℕ) → IsNamed mirrors outcome →
+          ((at : ℕ) → at < rejected_by mirrors outcome → has_room (books at) bytes ≡ false) →
+          AreForRoom mirrors (trying 0) (ask_events mirrors index bytes outcome)
+      once-for-room None named full = for-room (length mirrors) 0 (omega arith) (λ at below. full at (omega arith))
+      once-for-room (Some mirror) named full =
+          for-room-append mirrors (rejections index bytes 0 mirror) (Grant index mirror bytes ∷ []) (trying 0)
+          (for-room mirror 0 (omega arith) (λ at below. full at (omega arith))) (tt, tt)
 
     -- some asks, after those that have an outcome
     abbrev pub outcomes_in : List Ask → List (Option ℕ)
@@ -289,3 +368,41 @@ module _ (mirrors : List Mirror) (history : History) (workers : List Worker) (in
           (λ (os : List (Option ℕ)). state (busy (share_after share (ask ∷ asks)) (pending_with os 0))
           (books_after books (ask ∷ asks)))
           (append_assoc outcomes (ask.1 ∷ []) (outcomes_in asks))
+
+      -- the mirrors that reject some asks have no room
+      pub asked-for-room :
+          (asks : List Ask) (before rest : List ℕ) (outcomes : List (Option ℕ)) (share : ℕ → ℕ) (books : ℕ → Account) →
+          bytes_asked choices ≡ before ++ (sizes_in asks ++ rest) → length outcomes ≡ length before →
+          AllByRecursion (λ (ask : Ask). IsNamed mirrors ask.1) asks →
+          ((mirror : ℕ) → mirror < length mirrors → (books mirror).total + granted_at mirror asks
+          ≤ (books mirror).budget) →
+          HaveNoRoom mirrors books asks →
+          AreForRoom mirrors (state (busy share (pending_with outcomes 0)) books) (asks_events mirrors index asks)
+      asked-for-room [] before rest outcomes share books parts sized named room full = tt
+      asked-for-room (ask ∷ asks) before rest outcomes share books parts sized named room full =
+          let next = ap (λ (sizes : List ℕ). slice_get sizes (length outcomes)) parts
+          ∙ ap (slice_get (before ++ (ask.0 ∷ sizes_in asks ++ rest))) sized
+          ∙ slice_get-seam before ask.0 (sizes_in asks ++ rest) in
+          let long = length-append outcomes (ask.1 ∷ []) in
+          let wide = length-append before (ask.0 ∷ []) in
+          let cons = λ (mirror : ℕ). sum_by-cons (λ (a : Ask). booked mirror a.0 a.1) ask asks in
+          for-room-append mirrors (ask_events mirrors index ask.0 ask.1) (asks_events mirrors index asks)
+          (state (busy share (pending_with outcomes 0)) books)
+          (once-for-room share books outcomes ask.0 next ask.1 named.0 full.0)
+          (subst (λ (s : Service). AreForRoom mirrors s (asks_events mirrors index asks))
+          (sym (asked-once share books outcomes ask.0 next ask.1 some named.0
+          (λ mirror below.
+          let all = room mirror below in
+          let both = cons mirror in
+          omega arith)))
+          (asked-for-room asks (before ++ ask.0 ∷ []) rest (outcomes ++ ask.1 ∷ []) (share_by share ask.0 ask.1)
+          (books_by books ask.0 ask.1)
+          (parts ∙ sym (append_assoc before (ask.0 ∷ []) (sizes_in asks ++ rest)))
+          (omega arith) named.1
+          (λ mirror below.
+          let all = room mirror below in
+          let both = cons mirror in
+          let own = books_by-is books ask.0 ask.1 mirror in
+          let budget = books_by-budget books ask.0 ask.1 mirror in
+          omega arith)
+          full.1))

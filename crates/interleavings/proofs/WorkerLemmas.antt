@@ -3,7 +3,7 @@ use Rattle.std.proofs.Common.{◌≡◌, ℕ, ◌+◌, ◌<◌, ◌≤◌, inl, 
 use Rattle.std.specs.List.{AllByRecursion, flat_map}
 use Rattle.std.proofs.Math.Seq.{take-append_seam}
 use Rattle.std.proofs.lemmas.Bool.{eq-eqb}
-use Rattle.std.proofs.lemmas.List.{append-nil, length-map}
+use Rattle.std.proofs.lemmas.List.{append-nil, append_cancel_left, length-map}
 use Rattle.std.proofs.lemmas.List.Elements.{filter_map-append}
 use Rattle.std.proofs.lemmas.List.Sums.{sum_by-cons}
 use Rattle.catalogue_laws.specs.Histories.{History}
@@ -27,16 +27,16 @@ use Rattle.service_desks.specs.Answering.{HasBegun, IsReply}
 use Rattle.service_desks.specs.Asking.{AsksFirst, asks_of}
 use Rattle.service_desks.specs.Entries.{Enters, FindsNoEntry}
 use Rattle.service_desks.specs.Workers.{HasStatus, IsCall, Progress, stock_of}
-use Rattle.interleavings.specs.Calls.{Break, EntersPublished, HaveRoom, IsAfterCall, IsBetween, IsWork, Look, Nothing, Reply as Replied, Sent, WorkerCallsAreEvents, events_of, sent_by, sent_for, sent_in, sent_to, sent_with}
+use Rattle.interleavings.specs.Calls.{AreForRoom, Break, EntersPublished, HaveRoom, IsAfterCall, IsBetween, IsWork, LoneCallsAreForRoom, Look, Nothing, Reply as Replied, Sent, WorkerCallsAreEvents, events_of, sent_by, sent_for, sent_in, sent_to, sent_with}
 use Rattle.interleavings.specs.Events.{happens, run}
 use Rattle.interleavings.specs.Jobs.{EndedJob, Job, Pending, Worker, bytes_asked, outcomes_by_app}
 use Rattle.interleavings.specs.Laws.{worker_at}
 use Rattle.interleavings.specs.Moves.{rendered_at, reply_by}
 use Rattle.interleavings.specs.Services.{Service, content_at}
-use Rattle.interleavings.proofs.CallLemmas.{AreAsks-plan, breaks, idle, looks, pending, replies}
+use Rattle.interleavings.proofs.CallLemmas.{AreAsks-plan, breaks, breaks-for-room, looks, replies, replies-for-room}
 use Rattle.interleavings.proofs.KeptLemmas.{IsNamed}
 use Rattle.interleavings.proofs.RowLemmas.{HasRows, PlansHaveRows}
-use Rattle.interleavings.proofs.StateLemmas.{books_after, books_after-budget, books_after-is, changed-own, share_after, share_after-is, state}
+use Rattle.interleavings.proofs.StateLemmas.{HaveNoRoom, books_after, books_after-budget, books_after-is, changed-own, no-room-first, share_after, share_after-is, state}
 
 -- what a mirror granted of asks, and of more
 pub granted-append : (mirror : ℕ) (asks more : List Ask) →
@@ -65,8 +65,15 @@ take-all {A} items =
 module _ (mirrors : List Mirror) (service : Service) (index : ℕ) (worker : Worker) (before after : Progress)
     (sent : List Sent) (some : 1 ≤ length mirrors) (there : worker_at service index ≡ Some worker)
     (between : IsBetween before sent worker) (rows : PlansHaveRows) where
+  -- the mirrors had no room for what they rejected
+  abbrev HadNoRoom : Type 0
+  HadNoRoom = (asks : List Ask) → after.asks ≡ before.asks ++ asks → HaveNoRoom mirrors service.books asks
+
+  -- the call is some work; and if the mirrors had no room, that is why they reject in it
   abbrev IsDone : List Sent → Type 0
-  IsDone new = IsWork mirrors service index before after (sent ++ new)
+  IsDone new =
+      (work : IsWork mirrors service index before after (sent ++ new))
+      × (HadNoRoom → AreForRoom mirrors service (events_of mirrors index work.work))
 
   abbrev at : Worker → (ℕ → Account) → Service
   at new books = state mirrors service.history service.workers index worker there new books
@@ -117,12 +124,15 @@ module _ (mirrors : List Mirror) (service : Service) (index : ℕ) (worker : Wor
 
   -- nothing happened
   nothing : after.asks ≡ before.asks → after.sight.seen ≡ before.sight.seen → IsDone []
-  nothing asked seen = record {
-    work = Nothing;
-    leads =
-        left-by resting [] [] service begins refl (between.seen ∙ sym seen) (λ mirror. refl)
-        (between.sent ∙ sym (append-nil sent)) (asked ∙ sym (append-nil before.asks));
-  }
+  nothing asked seen = (
+    record {
+      work = Nothing;
+      leads =
+          left-by resting [] [] service begins refl (between.seen ∙ sym seen) (λ mirror. refl)
+          (between.sent ∙ sym (append-nil sent)) (asked ∙ sym (append-nil before.asks));
+    },
+    λ full. tt,
+  )
 
   -- the replies of a worker whose last job ended without one
   sent-none : (job : Job) → flat_map sent_for (worker.ended ++ record { job = job; rendered = None } ∷ []) ≡ sent ++ []
@@ -140,17 +150,20 @@ module _ (mirrors : List Mirror) (service : Service) (index : ℕ) (worker : Wor
       seen-now = ap (λ (h : History). length h) (sym published) ∙ sym (ap (λ (s : Sight). s.seen) enters.left)
 
       looked : after.asks ≡ before.asks → IsDone []
-      looked asked = record {
-        work = Look;
-        leads =
-            left-by _ [] []
-            (run happens mirrors service (events_of mirrors index Look))
-            (ap (λ (s : Service). run happens mirrors s (events_of mirrors index Look)) begins
-            ∙ looks mirrors service.history service.workers index worker there worker.seen worker.ended worker.share
-            service.books)
-            refl seen-now (λ mirror. refl)
-            (sent-none (record { number = count; pending = None })) (asked ∙ sym (append-nil before.asks));
-      }
+      looked asked = (
+        record {
+          work = Look;
+          leads =
+              left-by _ [] []
+              (run happens mirrors service (events_of mirrors index Look))
+              (ap (λ (s : Service). run happens mirrors s (events_of mirrors index Look)) begins
+              ∙ looks mirrors service.history service.workers index worker there worker.seen worker.ended worker.share
+              service.books)
+              refl seen-now (λ mirror. refl)
+              (sent-none (record { number = count; pending = None })) (asked ∙ sym (append-nil before.asks));
+        },
+        λ full. (tt, (tt, tt)),
+      )
 
       -- the content of what is published
       same-content : content_of history ≡ content_at service.history count
@@ -174,28 +187,34 @@ module _ (mirrors : List Mirror) (service : Service) (index : ℕ) (worker : Wor
 
           broke : IsDone []
           broke =
-              let events = events_of mirrors index (Break request has.tables asks) in
-              record {
-                work = Break request has.tables asks;
-                leads =
-                    left-by _ asks [] (run happens mirrors service events)
-                    (ap (λ (s : Service). run happens mirrors s events) begins
-                    ∙ breaks mirrors service.history service.workers index worker there worker.seen worker.ended
+              let events = events_of mirrors index (Break request has.tables asks) in (
+                record {
+                  work = Break request has.tables asks;
+                  leads =
+                      left-by _ asks [] (run happens mirrors service events)
+                      (ap (λ (s : Service). run happens mirrors s events) begins
+                      ∙ breaks mirrors service.history service.workers index worker there worker.seen worker.ended
+                      worker.share service.books request has.tables plan has.certified has.chosen some asks rest parts
+                      named
+                      has-room)
+                      refl seen-now (λ mirror. refl)
+                      (sent-none (record {
+                        number = count;
+                        pending = Some (record {
+                          request = request;
+                          choices = plan;
+                          outcomes = map (λ (ask : Ask). ask.1) asks;
+                          tried = 0;
+                        });
+                      }))
+                      asked;
+                },
+                λ full. subst (λ (s : Service). AreForRoom mirrors s events) (sym begins)
+                    (breaks-for-room mirrors service.history service.workers index worker there worker.seen worker.ended
                     worker.share service.books request has.tables plan has.certified has.chosen some asks rest parts
                     named
-                    has-room)
-                    refl seen-now (λ mirror. refl)
-                    (sent-none (record {
-                      number = count;
-                      pending = Some (record {
-                        request = request;
-                        choices = plan;
-                        outcomes = map (λ (ask : Ask). ask.1) asks;
-                        tried = 0;
-                      });
-                    }))
-                    asked;
-              }
+                    has-room (full asks asked)),
+              )
 
           replied :
               (outcomes : List (Option ℕ)) (moment : ℕ) (text : List ℕ) →
@@ -222,25 +241,32 @@ module _ (mirrors : List Mirror) (service : Service) (index : ℕ) (worker : Wor
               ∙ ap
               (λ (os : List (Option ℕ)). reply_bytes
               (reply_of (content_at service.history count) request (payloads_of plan) os mirrors moment))
-              (sym by_app)) in
-              record {
-                work = Replied request has.tables asks moment;
-                leads =
-                    left-by _ asks (record { request = request; moment = moment; text = text } ∷ [])
-                    (run happens mirrors service events)
-                    (ap (λ (s : Service). run happens mirrors s events) begins
-                    ∙ replies mirrors service.history service.workers index worker there worker.seen worker.ended
+              (sym by_app)) in (
+                record {
+                  work = Replied request has.tables asks moment;
+                  leads =
+                      left-by _ asks (record { request = request; moment = moment; text = text } ∷ [])
+                      (run happens mirrors service events)
+                      (ap (λ (s : Service). run happens mirrors s events) begins
+                      ∙ replies mirrors service.history service.workers index worker there worker.seen worker.ended
+                      worker.share service.books request has.tables plan has.certified has.chosen some asks rest parts
+                      named
+                      has-room moment
+                      (eq-eqb (length own.outcomes) (length (bytes_asked plan))
+                      (length-map asks (λ (ask : Ask). ask.1) ∙ sym all)))
+                      refl seen-now (λ mirror. refl)
+                      (flat-push sent_for worker.ended job
+                      ∙ ap (λ (old : List Sent). old ++ sent_for job) between.sent
+                      ∙ ap (λ (t : List ℕ). sent ++ record { request = request; moment = moment; text = t } ∷ []) bytes)
+                      asked;
+                },
+                λ full. subst (λ (s : Service). AreForRoom mirrors s events) (sym begins)
+                    (replies-for-room mirrors service.history service.workers index worker there worker.seen
+                    worker.ended
                     worker.share service.books request has.tables plan has.certified has.chosen some asks rest parts
                     named
-                    has-room moment
-                    (eq-eqb (length own.outcomes) (length (bytes_asked plan))
-                    (length-map asks (λ (ask : Ask). ask.1) ∙ sym all)))
-                    refl seen-now (λ mirror. refl)
-                    (flat-push sent_for worker.ended job
-                    ∙ ap (λ (old : List Sent). old ++ sent_for job) between.sent
-                    ∙ ap (λ (t : List ℕ). sent ++ record { request = request; moment = moment; text = t } ∷ []) bytes)
-                    asked;
-              }
+                    has-room moment (full asks asked)),
+              )
 
         -- a first part of the plan was asked for
         first-part : AsksFirst mirrors plan before.asks after.asks → HaveRoom mirrors service before after → IsDone []
@@ -306,4 +332,16 @@ module _ (mirrors : List Mirror) (service : Service) (index : ℕ) (worker : Wor
 
 pub worker_calls_are_events : PlansHaveRows → WorkerCallsAreEvents
 worker_calls_are_events rows mirrors service index worker before after sent call some there between called own room =
-    by_call mirrors service index worker before after sent some there between rows own room call called
+    (by_call mirrors service index worker before after sent some there between rows own room call called).0
+
+pub lone_calls_are_for_room : PlansHaveRows → LoneCallsAreForRoom
+lone_calls_are_for_room rows mirrors service index worker before after sent call some there between called own room
+    alone first =
+    let (added, is, granted) = first in
+    let done = by_call mirrors service index worker before after sent some there between rows own room call called in (
+      done.0,
+      done.1
+          (λ asks asked. subst (HaveNoRoom mirrors service.books)
+          (append_cancel_left before.asks added asks (sym is ∙ asked))
+          (no-room-first mirrors service.books before.asks added alone granted)),
+    )

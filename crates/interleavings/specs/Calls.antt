@@ -1,6 +1,6 @@
 -- The calls of a worker's desk as lists of events: what leads from one state of a worker to the next, with what it
 -- sent.
-use Rattle.std.specs.Prelude.{◌≡◌, ℕ, zero, suc, ◌+◌, ◌≤◌, ◌<◌, List, [], ◌∷◌, ◌++◌, flat_map, length, Option, None, Some, Result, Ok, Err}
+use Rattle.std.specs.Prelude.{◌≡◌, ℕ, zero, suc, ◌+◌, ◌≤◌, ◌<◌, false, List, [], ◌∷◌, ◌++◌, flat_map, length, Option, None, Some, Result, Ok, Err}
 use Rattle.std.specs.Option.{option_map_or}
 use Rattle.catalogue_laws.specs.Histories.{History}
 use Rattle.http_desks.specs.Calls.{Asks, Call, Looks}
@@ -8,18 +8,21 @@ use Rattle.http_desks.specs.declared.desk.DeskStatus.{DeskStatus}
 use Rattle.http_desks.specs.declared.desk.DeskStatus.TheVariants as status
 use Rattle.http_desks.specs.declared.desk.Off.{Off}
 use Rattle.mirror_ledger.specs.Asks.{Ask, granted_at}
+use Rattle.mirror_ledger.specs.Budgets.{Account}
+use Rattle.mirror_ledger.specs.Named.{budget_at}
 use Rattle.omaha_json.specs.ReplyWriting.{reply_bytes}
 use Rattle.omaha_json.specs.RequestReading.{request_of_bytes}
 use Rattle.omaha_json.specs.declared.fault.RequestFault.{RequestFault}
 use Rattle.omaha_json.specs.declared.request.Request.{Request}
 use Rattle.records.specs.declared.mirror.Mirror.{Mirror}
+use Rattle.service_desks.specs.Asking.{GrantsFirst}
 use Rattle.service_desks.specs.Entries.{Enters}
 use Rattle.service_desks.specs.Workers.{IsCall, Progress}
 use Rattle.interleavings.specs.Choices.{Tables}
 use Rattle.interleavings.specs.Events.{Drop, Enter, Event, Grant, Plan, Reject, Render, happens, run}
 use Rattle.interleavings.specs.Jobs.{EndedJob, Pending, Rendered, Worker}
 use Rattle.interleavings.specs.Laws.{worker_at}
-use Rattle.interleavings.specs.Services.{Service, changed_at}
+use Rattle.interleavings.specs.Services.{Service, changed_at, has_room}
 
 -- so many mirrors, from an index on, reject a worker's bytes
 abbrev pub rejections : ℕ → ℕ → ℕ → ℕ → List Event
@@ -64,7 +67,7 @@ abbrev pub sent_to : ℕ → List ℕ → Result Request RequestFault → List S
 sent_to moment text (Ok request) = record { request = request; moment = moment; text = text } ∷ []
 sent_to moment text (Err fault) = []
 
--- by the status; a request with a fault gets no reply
+-- by the status; a request with a fault gets 400 and no body, which is no reply here
 abbrev pub sent_with : List ℕ → ℕ → DeskStatus → List ℕ → List Sent
 sent_with input moment status.Success text = sent_to moment text (request_of_bytes input)
 sent_with input moment status.BadRequest text = []
@@ -147,3 +150,37 @@ WorkerCallsAreEvents =
     EntersPublished service.history before after →
     HaveRoom mirrors service before after →
     IsWork mirrors service index before after (sent ++ sent_by call)
+
+-- an event that is a rejection is of a mirror without room
+abbrev pub IsForRoom : Service → Event → Type 0
+IsForRoom service (Reject worker mirror bytes) = has_room (service.books mirror) bytes ≡ false
+IsForRoom service event = Unit {0}
+
+-- so is each event of a list, when it happens
+abbrev pub AreForRoom : List Mirror → Service → List Event → Type 0
+AreForRoom mirrors service [] = Unit {0}
+AreForRoom mirrors service (event ∷ events) =
+    IsForRoom service event × AreForRoom mirrors (happens mirrors service event) events
+
+-- nothing was granted but to one worker, and no budget was raised
+abbrev pub IsOfOneWorker : List Mirror → (ℕ → Account) → List Ask → Type 0
+IsOfOneWorker mirrors books asks =
+    (mirror : ℕ) → mirror < length mirrors →
+    ((books mirror).total ≡ granted_at mirror asks) × ((books mirror).budget ≡ budget_at mirrors mirror)
+
+-- in a call of such a worker, whose asks are each granted by the first mirror with room, the mirrors that reject are
+-- without room
+abbrev pub LoneCallsAreForRoom : Type 0
+LoneCallsAreForRoom =
+    (mirrors : List Mirror) (service : Service) (index : ℕ) (worker : Worker) (before after : Progress)
+    (sent : List Sent) (call : Call) →
+    1 ≤ length mirrors →
+    worker_at service index ≡ Some worker →
+    IsBetween before sent worker →
+    IsCall mirrors before call after →
+    EntersPublished service.history before after →
+    HaveRoom mirrors service before after →
+    IsOfOneWorker mirrors service.books before.asks →
+    GrantsFirst mirrors before.asks after.asks →
+    (work : IsWork mirrors service index before after (sent ++ sent_by call))
+    × AreForRoom mirrors service (events_of mirrors index work.work)

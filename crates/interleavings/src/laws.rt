@@ -1,6 +1,6 @@
 //! What holds after every interleaving of publishers, workers and operators, each law as a clause of a function.
 
-ghost use Rattle.interleavings.specs.Calls.{WorkerCallsAreEvents};
+ghost use Rattle.interleavings.specs.Calls.{LoneCallsAreForRoom, WorkerCallsAreEvents};
 ghost use Rattle.interleavings.specs.Entries.{JobsGoByWhatIsPublished};
 ghost use Rattle.interleavings.specs.Events.{happens};
 ghost use Rattle.interleavings.specs.Headline.{OffersLeadToTargets, RepliesSayTrue};
@@ -172,6 +172,19 @@ pub fn certified()
 /// alone, and the books by what it asked for; it then has sent what it had, and what the call sent.
 pub fn worker_calls()
     ensures { WorkerCallsAreEvents }
+{
+    catalogue_laws::validity();
+    quotes::laws::rows();
+    theorems::laws::graphs();
+    theorems::laws::plans();
+    crate::laws::certified();
+}
+
+/// States that a mirror rejects a worker that is alone for want of room only.
+///
+/// It holds if nothing was granted to others, no budget was raised, and each ask is granted by the first mirror with room.
+pub fn lone_calls()
+    ensures { LoneCallsAreForRoom }
 {
     catalogue_laws::validity();
     quotes::laws::rows();
