@@ -1,15 +1,17 @@
 -- The options of the command `serve`; this project's profile.
-use Rattle.std.specs.Prelude.{ℕ, ◌&&◌, ◌||◌, Bool, if◌then◌else◌, List, [], ◌∷◌, codes, is_some, nat_lt, Option, None, Some, unwrap_or}
+use Rattle.std.specs.Prelude.{ℕ, ◌&&◌, ◌||◌, Bool, if◌then◌else◌, List, [], ◌∷◌, codes, is_some, nat_eq, nat_lt, true, Option, None, Some, unwrap_or}
+use Rattle.std.specs.List.{starts_with}
 use Rattle.std.specs.Option.{option_map, option_map_or}
 use Rattle.clap.specs.Words.{App, Kinds, Row, first_of, new_app, with_rule}
 use Rattle.clap.specs.declared.error.kind.ErrorKind.TheVariants.{MissingRequiredArgument, ValueValidation}
-use Rattle.omaha_arguments.specs.Options.{number_in, number_of, option_named, string_in, wanted_option, workers_in}
+use Rattle.omaha_arguments.specs.Options.{flag_in, flag_named, number_in, number_of, option_named, string_in, wanted_option, workers_in}
 use Rattle.omaha_arguments.specs.declared.command.Serve.{Serve}
 
--- the command `serve`, with its fourteen options
+-- the command `serve`, with its fifteen options and flags
 abbrev pub serve_app : App
 serve_app =
     with_rule
+    (with_rule
     (with_rule
     (with_rule
     (with_rule
@@ -26,6 +28,7 @@ serve_app =
     (wanted_option (codes "packages")))
     (wanted_option (codes "listen")))
     (option_named (codes "operator")))
+    (flag_named (codes "operator-anywhere")))
     (option_named (codes "workers")))
     (option_named (codes "sessions")))
     (option_named (codes "edits")))
@@ -88,6 +91,19 @@ serve_in options =
 abbrev pub is_named : List Row → Bool
 is_named options = is_some (first_of (codes "profile") options) || is_some (first_of (codes "history") options)
 
+-- the address begins as those of the loopback, 127.0.0.0/8 and [::1]
+abbrev pub is_loopback : List ℕ → Bool
+is_loopback address = starts_with nat_eq address (codes "127.") || starts_with nat_eq address (codes "[::1]:")
+
+-- there is no operator, or its address is of the loopback
+abbrev pub is_operator_local : List Row → Bool
+is_operator_local options = option_map_or is_loopback (first_of (codes "operator") options) true
+
+-- rule: Address of an operator
+-- there is no operator, or its address is of the loopback or may be any
+abbrev pub is_operator_allowed : List Row → Bool
+is_operator_allowed options = flag_in (codes "operator-anywhere") options || is_operator_local options
+
 -- what is wrong with the options of `serve`
 abbrev pub faults_of_serve : List Row → Kinds
 faults_of_serve options =
@@ -96,4 +112,5 @@ faults_of_serve options =
     && is_some (seconds_in (codes "idle") 60 options) && is_some (connections_in options)
     && is_some (number_in (codes "pinned-tables") 256 options)
     && is_some (number_in (codes "history-limit") 67108864 options)
-    then (if is_named options then [] else MissingRequiredArgument ∷ []) else ValueValidation ∷ []
+    then (if is_named options && is_operator_allowed options then [] else MissingRequiredArgument ∷ [])
+    else ValueValidation ∷ []

@@ -3,12 +3,12 @@
 ghost use Rattle.std.specs.Prelude.{◌≡◌, codes, IfOk, is_some};
 ghost use Rattle.clap.specs.Words.{FailsBy, first_of, found_of, kind_of, rows_of};
 ghost use Rattle.omaha_arguments.specs.Options.{IsMade};
-ghost use Rattle.omaha_arguments.specs.ServeArguments.{connections_in, connections_of, faults_of_serve, is_named, limit_in, limit_of, seconds_in, seconds_of, serve_app, serve_in};
+ghost use Rattle.omaha_arguments.specs.ServeArguments.{connections_in, connections_of, faults_of_serve, is_loopback, is_named, is_operator_allowed, is_operator_local, limit_in, limit_of, seconds_in, seconds_of, serve_app, serve_in};
 
 use crate::command::Serve;
 use crate::options::{
-    Making, number_in, number_of, optional_string, string_in, titled, with_option,
-    with_wanted_option, workers_in,
+    Making, flag_in, number_in, number_of, optional_string, string_in, titled, with_flag,
+    with_option, with_wanted_option, workers_in,
 };
 use clap::error::ErrorKind;
 use clap::{ArgMatches, Error};
@@ -29,6 +29,8 @@ const LISTEN: &str = "The address and port to listen on, such as 127.0.0.1:8080"
 
 const OPERATOR: &str = "The operator's address, such as 127.0.0.1:8081 [default: none]";
 
+const ANYWHERE: &str = "The operator's address may be other than of the loopback";
+
 const WORKERS: &str = "How many threads serve clients, 1 to 8 [default: 1]";
 
 const SESSIONS: &str = "How many sessions of clients before it ends [default: no end]";
@@ -45,6 +47,11 @@ const PINNED: &str = "How many tables of pinned clients each worker keeps [defau
 
 const LOG: &str = "Where to log replies: a file, or - for standard error [default: none]";
 
+const NO_PROFILE: &str = "name a profile by --profile <F>, or a history by --history <FILE>";
+
+const OPEN_OPERATOR: &str =
+    "whoever reaches the operator's address may publish: name 127.0.0.1:PORT or [::1]:PORT, or add --operator-anywhere";
+
 const AFTER_SERVE: &str =
     "Prints `ready` when it listens. It replies to `POST /service/update2/json` and sends the packages
 under `/p/`. Each worker is a thread that serves many connections at once, and no silent or slow
@@ -52,7 +59,8 @@ client holds up another. If as many are connected as may be, the one that has wa
 between two messages is closed for the next. An operator may
 `POST /operate` to the operator's address meanwhile: a script is published as the next edition,
 `raise NAME BUDGET` raises a mirror's budget, and `dump` gets the profile of what is published.
-Anybody who reaches that address may publish and raise, so keep it on the loopback. After the last
+Any program that reaches that address may publish and raise, so it must be 127.x.x.x:PORT or
+[::1]:PORT, unless --operator-anywhere is given; a page in a browser may not. After the last
 session it prints one line for each mirror: its name, and how many bytes it was granted.
 
 With --history each script and each raise is kept in that file before it takes effect and is
@@ -89,6 +97,7 @@ pub(crate) fn serve_command<'a>(alloc: Global) -> Making<'a>
     let command = with_wanted_option(alloc, command, "packages", "DIR", PACKAGES);
     let command = with_wanted_option(alloc, command, "listen", "ADDR", LISTEN);
     let command = with_option(alloc, command, "operator", "ADDR", OPERATOR);
+    let command = with_flag(alloc, command, "operator-anywhere", ANYWHERE);
     let command = with_option(alloc, command, "workers", "N", WORKERS);
     let command = with_option(alloc, command, "sessions", "K", SESSIONS);
     let command = with_option(alloc, command, "edits", "M", EDITS);
@@ -202,15 +211,40 @@ fn is_named(matches: &ArgMatches<'_>) -> bool
     by_profile || by_history
 }
 
-// The error of a server that has nothing to serve, built like the errors of `clap`.
-fn missing_profile(alloc: Global) -> Result<Error, AllocError>
+// The error of an option that has to be given, built like the errors of `clap`.
+fn missing_option(alloc: Global, message: &str) -> Result<Error, AllocError>
     ensures { IfOk result (λ error. kind_of error ≡ ErrorKind.MissingRequiredArgument) }
 {
     let mut command = serve_command(alloc)?.bin_name("omaha serve")?;
-    command.error(
-        ErrorKind::MissingRequiredArgument,
-        "name a profile by --profile <F>, or a history by --history <FILE>",
-    )
+    command.error(ErrorKind::MissingRequiredArgument, message)
+}
+
+// Whether an address begins as those of the loopback.
+fn is_loopback(address: &str) -> bool
+    ensures { result ≡ is_loopback address.now }
+{
+    let bytes = address.as_bytes();
+    bytes.starts_with(b"127.") || bytes.starts_with(b"[::1]:")
+}
+
+// Whether the operator's address, if there is one, is of the loopback.
+fn is_operator_local(matches: &ArgMatches<'_>) -> bool
+    ensures { result ≡ is_operator_local (rows_of (found_of matches.now)) }
+{
+    match matches.get_str("operator") {
+        None => true,
+        Some(address) => is_loopback(address),
+    }
+}
+
+// rule: Address of an operator
+// Whether the operator's address, if there is one, is of the loopback or may be any.
+fn is_operator_allowed(matches: &ArgMatches<'_>) -> bool
+    ensures { result ≡ is_operator_allowed (rows_of (found_of matches.now)) }
+{
+    let may_be_any = flag_in(matches, "operator-anywhere");
+    let is_local = is_operator_local(matches);
+    may_be_any || is_local
 }
 
 // rule: Options of the server
@@ -238,7 +272,10 @@ pub(crate) fn read_serve(alloc: Global, matches: &ArgMatches<'_>) -> Result<Serv
         return Err(invalid_bound(alloc)?);
     };
     if !is_named(matches) {
-        return Err(missing_profile(alloc)?);
+        return Err(missing_option(alloc, NO_PROFILE)?);
+    }
+    if !is_operator_allowed(matches) {
+        return Err(missing_option(alloc, OPEN_OPERATOR)?);
     }
     Ok(Serve {
         profile: optional_string(alloc, matches, "profile")?,
