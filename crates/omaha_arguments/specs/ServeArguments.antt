@@ -95,12 +95,14 @@ is_named options = is_some (first_of (codes "profile") options) || is_some (firs
 abbrev pub is_loopback : List ℕ → Bool
 is_loopback address = starts_with nat_eq address (codes "127.") || starts_with nat_eq address (codes "[::1]:")
 
+-- there is no operator, or its address is of the loopback
+abbrev pub is_operator_local : List Row → Bool
+is_operator_local options = option_map_or is_loopback (first_of (codes "operator") options) true
+
 -- rule: Address of an operator
 -- there is no operator, or its address is of the loopback or may be any
 abbrev pub is_operator_allowed : List Row → Bool
-is_operator_allowed options =
-    option_map_or (λ address. flag_in (codes "operator-anywhere") options || is_loopback address)
-    (first_of (codes "operator") options) true
+is_operator_allowed options = flag_in (codes "operator-anywhere") options || is_operator_local options
 
 -- what is wrong with the options of `serve`
 abbrev pub faults_of_serve : List Row → Kinds

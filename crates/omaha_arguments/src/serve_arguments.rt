@@ -3,7 +3,7 @@
 ghost use Rattle.std.specs.Prelude.{◌≡◌, codes, IfOk, is_some};
 ghost use Rattle.clap.specs.Words.{FailsBy, first_of, found_of, kind_of, rows_of};
 ghost use Rattle.omaha_arguments.specs.Options.{IsMade};
-ghost use Rattle.omaha_arguments.specs.ServeArguments.{connections_in, connections_of, faults_of_serve, is_loopback, is_named, is_operator_allowed, limit_in, limit_of, seconds_in, seconds_of, serve_app, serve_in};
+ghost use Rattle.omaha_arguments.specs.ServeArguments.{connections_in, connections_of, faults_of_serve, is_loopback, is_named, is_operator_allowed, is_operator_local, limit_in, limit_of, seconds_in, seconds_of, serve_app, serve_in};
 
 use crate::command::Serve;
 use crate::options::{
@@ -46,6 +46,11 @@ const CONNECTIONS: &str = "How many clients may be connected at once [default: 1
 const PINNED: &str = "How many tables of pinned clients each worker keeps [default: 256]";
 
 const LOG: &str = "Where to log replies: a file, or - for standard error [default: none]";
+
+const NO_PROFILE: &str = "name a profile by --profile <F>, or a history by --history <FILE>";
+
+const OPEN_OPERATOR: &str =
+    "whoever reaches the operator's address may publish: name 127.0.0.1:PORT or [::1]:PORT, or add --operator-anywhere";
 
 const AFTER_SERVE: &str =
     "Prints `ready` when it listens. It replies to `POST /service/update2/json` and sends the packages
@@ -206,15 +211,12 @@ fn is_named(matches: &ArgMatches<'_>) -> bool
     by_profile || by_history
 }
 
-// The error of a server that has nothing to serve, built like the errors of `clap`.
-fn missing_profile(alloc: Global) -> Result<Error, AllocError>
+// The error of an option that has to be given, built like the errors of `clap`.
+fn missing_option(alloc: Global, message: &str) -> Result<Error, AllocError>
     ensures { IfOk result (λ error. kind_of error ≡ ErrorKind.MissingRequiredArgument) }
 {
     let mut command = serve_command(alloc)?.bin_name("omaha serve")?;
-    command.error(
-        ErrorKind::MissingRequiredArgument,
-        "name a profile by --profile <F>, or a history by --history <FILE>",
-    )
+    command.error(ErrorKind::MissingRequiredArgument, message)
 }
 
 // Whether an address begins as those of the loopback.
@@ -225,27 +227,24 @@ fn is_loopback(address: &str) -> bool
     bytes.starts_with(b"127.") || bytes.starts_with(b"[::1]:")
 }
 
+// Whether the operator's address, if there is one, is of the loopback.
+fn is_operator_local(matches: &ArgMatches<'_>) -> bool
+    ensures { result ≡ is_operator_local (rows_of (found_of matches.now)) }
+{
+    match matches.get_str("operator") {
+        None => true,
+        Some(address) => is_loopback(address),
+    }
+}
+
 // rule: Address of an operator
 // Whether the operator's address, if there is one, is of the loopback or may be any.
 fn is_operator_allowed(matches: &ArgMatches<'_>) -> bool
     ensures { result ≡ is_operator_allowed (rows_of (found_of matches.now)) }
 {
     let may_be_any = flag_in(matches, "operator-anywhere");
-    match matches.get_str("operator") {
-        None => true,
-        Some(address) => may_be_any || is_loopback(address),
-    }
-}
-
-// The error of an operator's address that others reach, built like the errors of `clap`.
-fn open_operator(alloc: Global) -> Result<Error, AllocError>
-    ensures { IfOk result (λ error. kind_of error ≡ ErrorKind.MissingRequiredArgument) }
-{
-    let mut command = serve_command(alloc)?.bin_name("omaha serve")?;
-    command.error(
-        ErrorKind::MissingRequiredArgument,
-        "whoever reaches the operator's address may publish: name 127.0.0.1:PORT or [::1]:PORT, or add --operator-anywhere",
-    )
+    let is_local = is_operator_local(matches);
+    may_be_any || is_local
 }
 
 // rule: Options of the server
@@ -273,10 +272,10 @@ pub(crate) fn read_serve(alloc: Global, matches: &ArgMatches<'_>) -> Result<Serv
         return Err(invalid_bound(alloc)?);
     };
     if !is_named(matches) {
-        return Err(missing_profile(alloc)?);
+        return Err(missing_option(alloc, NO_PROFILE)?);
     }
     if !is_operator_allowed(matches) {
-        return Err(open_operator(alloc)?);
+        return Err(missing_option(alloc, OPEN_OPERATOR)?);
     }
     Ok(Serve {
         profile: optional_string(alloc, matches, "profile")?,
