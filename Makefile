@@ -6,7 +6,7 @@
 # make mutants CRATE..  tries the mutants that the gate doesn't, of these crates or of all; the prover
 #                    must reject each
 # make commands      runs the commands on the profiles of examples/, and verifies each track's
-#                    certificate; the program is built without a proof
+#                    certificate; reviews random catalogues; the program is built without a proof
 # make serving       tests the server and the walk, after make install, over the loopback
 # make idle          tests the server before thousands of idle and slow connections, after make install; it needs wrk
 # make history       kills a server with a history 500 times while it publishes, after make install, and looks
@@ -56,6 +56,7 @@ mutants:
 
 commands:
 	tests/commands.py
+	tests/review.py
 
 serving:
 	tests/serve.py

@@ -27,10 +27,12 @@ const AFTER_REVIEW: &str =
 app, the cohort, the lane and whether clients allow a downgrade:
   track   mini stable held no: target 3.0, 4 releases, 1 stuck
   stuck   mini stable held no: 4.0, above the target without a downgrade
-  largest mini stable held no: 1.0, 500 bytes
+  largest mini stable held no: 1.0, 2 steps, 500 bytes
+  longest mini stable held no: 1.0, 2 steps, 500 bytes
   new     mini stable held no: 1400 bytes
   total   4 tracks, 16 releases, 2 stuck
-`largest` is the release whose clients download most, `new` is for clients without a release.
+`largest` is the release whose clients download most, `longest` the one whose clients download most
+packages one after the other, and `new` is for clients without a release.
 
 The reason is the first rule without which the release wouldn't be stuck:
   the target is withdrawn              put another target, or take the withdrawal back

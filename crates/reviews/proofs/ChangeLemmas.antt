@@ -1,5 +1,5 @@
 -- Pairs of tracks of which an app isn't there, and the lists of changes.
-use Rattle.std.proofs.Common.{◌≡◌, ℕ, ◌+◌, ◌++◌, List, [], ◌∷◌, length, ltb, Option, None, Some, sym, ap, ◌∙◌, arith}
+use Rattle.std.proofs.Common.{◌≡◌, ℕ, ◌+◌, ◌++◌, List, [], ◌∷◌, length, ltb, Option, None, Some, sym, ap, ◌∙◌, append_assoc, arith}
 use Rattle.std.specs.List.{cons_option, filter_map, range_with_len, slice_get}
 use Rattle.std.specs.Option.{is_some, option_map_or}
 use Rattle.std.proofs.lemmas.Bool.{ltb-false}
@@ -48,9 +48,19 @@ range-more n =
     ∙ ap (λ (xs : List ℕ). xs ++ n ∷ []) (map-id (range_with_len 0 n))
 
 -- what is found below the next index
-pub filter_map-range :
+filter_map-range :
     {A : Type 0} (f : ℕ → Option A) (n : ℕ) (found : Option A) → f n ≡ found →
     filter_map f (range_with_len 0 (n + 1)) ≡ filter_map f (range_with_len 0 n) ++ cons_option found []
 filter_map-range {A} f n found is =
     ap (filter_map f) (range-more n) ∙ filter_map-append f (range_with_len 0 n) (n ∷ [])
     ∙ ap (λ (o : Option A). filter_map f (range_with_len 0 n) ++ cons_option o []) is
+
+-- what is found at the next index comes after the rest
+pub filter_map-pushed :
+    {A : Type 0} (f : ℕ → Option A) (before now : List A) (n : ℕ) (found : Option A) → f n ≡ found →
+    now ≡ before ++ filter_map f (range_with_len 0 n) →
+    now ++ cons_option found [] ≡ before ++ filter_map f (range_with_len 0 (n + 1))
+filter_map-pushed {A} f before now n found is so_far =
+    ap (λ (xs : List A). xs ++ cons_option found []) so_far
+    ∙ append_assoc before (filter_map f (range_with_len 0 n)) (cons_option found [])
+    ∙ sym (ap (λ (xs : List A). before ++ xs) (filter_map-range f n found is))

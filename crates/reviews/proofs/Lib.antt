@@ -7,3 +7,4 @@ mod PinLemmas
 mod ReasonLemmas
 mod ReviewLemmas
 mod RouteLemmas
+mod StepLemmas

@@ -1,6 +1,7 @@
--- Tests of lists that were filtered or mapped.
-use Rattle.std.proofs.Common.{◌≡◌, ℕ, ◌+◌, ◌&&◌, ◌||◌, Bool, true, false, cond, List, [], ◌∷◌, map, refl, ap}
-use Rattle.std.specs.List.{enumerate_from, filter, list_any}
+-- Lists that were filtered or mapped.
+use Rattle.std.proofs.Common.{◌≡◌, ℕ, ◌+◌, ◌&&◌, ◌||◌, Bool, true, false, cond, List, [], ◌∷◌, ◌++◌, map, refl, sym, ap, ap₂, ◌∙◌, arith}
+use Rattle.std.specs.List.{enumerate_from, filter, list_any, range_with_len}
+use Rattle.std.proofs.lemmas.List.FromFn.{map-range_with_len_more}
 
 -- some item of a list that was filtered and then mapped passes a test
 pub list_any-filtered :
@@ -26,3 +27,10 @@ enumerate_from-map f n (x ∷ xs) = ap (λ rest. (n, f x) ∷ rest) (enumerate_f
 pub map-mapped : {A B C : Type 0} (f : A → B) (g : B → C) (xs : List A) → map (λ x. g (f x)) xs ≡ map g (map f xs)
 map-mapped f g [] = refl
 map-mapped f g (x ∷ xs) = ap (λ rest. g (f x) ∷ rest) (map-mapped f g xs)
+
+-- what is made of the next index comes after the rest
+pub map-range_pushed :
+    {A : Type 0} (f : ℕ → A) (before : List A) (n : ℕ) (next : A) → next ≡ f n → before ≡ map f (range_with_len 0 n) →
+    before ++ next ∷ [] ≡ map f (range_with_len 0 (n + 1))
+map-range_pushed {A} f before n next is so_far =
+    ap₂ (λ (xs : List A) (x : A). xs ++ x ∷ []) so_far is ∙ sym (map-range_with_len_more f 0 n n (omega arith))

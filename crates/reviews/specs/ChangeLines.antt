@@ -1,5 +1,5 @@
 -- How the review of a change is printed; this project's profile.
-use Rattle.std.specs.Prelude.{ℕ, ◌&&◌, not, Bool, if◌then◌else◌, codes, decimal, List, [], ◌++◌, length, nat_lt, slice_get}
+use Rattle.std.specs.Prelude.{ℕ, ◌&&◌, not, Bool, false, if◌then◌else◌, codes, decimal, List, [], ◌++◌, length, nat_lt, slice_get, Option}
 use Rattle.std.specs.List.{count_by, flat_map}
 use Rattle.std.specs.Option.{option_map_or}
 use Rattle.records.specs.declared.content.App.{App}
@@ -10,10 +10,14 @@ use Rattle.reviews.specs.declared.review.TrackReview.{TrackReview}
 use Rattle.reviews.specs.declared.outcome.Outcome.{Outcome}
 use Rattle.reviews.specs.declared.outcome.Outcome.TheVariants.{Here, Next, Stuck}
 
+-- whether clients were stuck before a change; who was on no track wasn't
+abbrev pub was_stuck : Option Outcome → Bool
+was_stuck was = option_map_or is_stuck was false
+
 -- rule: Newly stuck
 -- a release is newly stuck if it is stuck after a change and was not before it
 abbrev pub is_newly_stuck : Change → Bool
-is_newly_stuck change = is_stuck change.becomes && not (is_stuck change.was)
+is_newly_stuck change = is_stuck change.becomes && not (was_stuck change.was)
 
 -- how many releases are newly stuck
 abbrev pub newly_stuck_total : List Change → ℕ
@@ -31,6 +35,13 @@ outcome_string Here = codes "0 bytes"
 outcome_string (Next payload sum) = decimal sum ++ codes " bytes"
 outcome_string (Stuck reason) = codes "stuck"
 
+-- the same of where clients were, if they were on a track
+abbrev pub bytes_before : Option Outcome → ℕ
+bytes_before was = option_map_or bytes_of was 0
+
+abbrev pub string_before : Option Outcome → List ℕ
+string_before was = option_map_or outcome_string was (codes "none")
+
 -- the word of a line, by the bytes before a change and after it
 abbrev pub size_word : ℕ → ℕ → List ℕ
 size_word before after =
@@ -39,19 +50,19 @@ size_word before after =
 -- the word of the line of a change; a release that was stuck is freed
 abbrev pub change_word : Change → List ℕ
 change_word change =
-    if is_stuck change.was then codes "freed  " else size_word (bytes_of change.was) (bytes_of change.becomes)
+    if was_stuck change.was then codes "freed  " else size_word (bytes_before change.was) (bytes_of change.becomes)
 
 -- a release, with what its clients download before a change and after it
 abbrev pub change_facts : App → Change → List ℕ
 change_facts app change =
-    spelled_at app change.after ++ (codes ", " ++ (outcome_string change.was ++ (codes " to " ++ outcome_string change.becomes)))
+    spelled_at app change.release ++ (codes ", " ++ (string_before change.was ++ (codes " to " ++ outcome_string change.becomes)))
 
 -- the line of a release that is stuck after the change, by why it is
 abbrev pub stuck_line : App → Change → Outcome → List ℕ
 stuck_line app change Here = []
 stuck_line app change (Next payload sum) = []
 stuck_line app change (Stuck reason) =
-    line_string stuck_word (track_string app change.clients) (stuck_release app change.after reason)
+    line_string stuck_word (track_string app change.clients) (stuck_release app change.release reason)
 
 -- the line of a release that is newly stuck; none of any other
 abbrev pub newly_stuck_line : App → Change → List ℕ

@@ -1,9 +1,9 @@
 -- What a change of a catalogue makes of its clients; this project's profile.
-use Rattle.std.specs.Prelude.{ℕ, ◌==◌, ◌&&◌, ◌||◌, not, Bool, true, false, if◌then◌else◌, List, [], length, filter_map, position, slice_get, Option, None, Some, option_and_then, option_map}
+use Rattle.std.specs.Prelude.{ℕ, ◌==◌, ◌&&◌, ◌||◌, not, Bool, true, false, if◌then◌else◌, List, [], length, nat_lt, filter_map, position, slice_get, Option, None, Some, option_and_then, option_map}
 use Rattle.std.specs.List.{flat_map, list_any, range_with_len}
 use Rattle.std.specs.Option.{option_map_or}
 use Rattle.std.specs.Str.{bytes_eq}
-use Rattle.records.specs.Lookups.{is_release}
+use Rattle.records.specs.Lookups.{has_release, is_release, releases_at}
 use Rattle.records.specs.declared.content.App.{App}
 use Rattle.records.specs.declared.content.Diff.{Diff}
 use Rattle.records.specs.declared.content.Release.{Release}
@@ -12,6 +12,7 @@ use Rattle.cohorts.specs.declared.track.Lane.TheVariants.{Target, Held}
 use Rattle.payload_graph.specs.declared.payload.Payload.{Payload}
 use Rattle.payload_graph.specs.declared.payload.Payload.TheVariants.{Full, Differ}
 use Rattle.payload_graph.specs.declared.payload.TrackKey.{TrackKey}
+use Rattle.reviews.specs.ReviewLines.{is_stuck}
 use Rattle.reviews.specs.declared.change.Change.{Change}
 use Rattle.reviews.specs.declared.change.Clients.{Clients}
 use Rattle.reviews.specs.declared.review.TrackReview.{TrackReview}
@@ -87,37 +88,44 @@ abbrev pub clients_of : TrackKey → TrackKey → Clients
 clients_of old new =
     record { app = new.app; cohort = new.cohort; lane = new.lane; rollback = old.rollback || new.rollback }
 
--- the change of a release, if there is one
-abbrev pub change_by : App → App → TrackReview → TrackReview → ℕ → ℕ → Outcome → Outcome → Option Change
-change_by before after old new from to was becomes =
+-- the change of a release of a track that was there before, if there is one
+abbrev pub change_by : App → App → Clients → ℕ → Outcome → Outcome → Option Change
+change_by before after clients release was becomes =
     if is_changed before after was becomes
-    then Some
-    (record {
-      clients = clients_of old.key new.key;
-      before = from;
-      after = to;
-      was = was;
-      becomes = becomes;
-    })
+    then Some (record { clients = clients; release = release; was = Some was; becomes = becomes })
     else None
 
--- the change of the release at an index of the app before, by its version; none if the app after doesn't have it
+-- the change of a release that wasn't on the track before, if it counts and is stuck
+abbrev pub arrival_by : Clients → Bool → ℕ → Outcome → Option Change
+arrival_by clients counts release becomes =
+    if counts && is_stuck becomes
+    then Some (record { clients = clients; release = release; was = None; becomes = becomes })
+    else None
+
+-- where the clients of a track were at the release of a version; nowhere if the app didn't have it
+abbrev pub was_at : App → TrackReview → List ℕ → Option Outcome
+was_at before old version =
+    option_and_then (λ from. slice_get old.outcomes.items from) (position (is_release version) before.releases)
+
+-- the change of a release by where its clients were; one that wasn't there counts if it is below the target
+abbrev pub change_from : App → App → Clients → ℕ → ℕ → Outcome → Option Outcome → Option Change
+change_from before after clients target release becomes None =
+    arrival_by clients (nat_lt release target) release becomes
+change_from before after clients target release becomes (Some was) = change_by before after clients release was becomes
+
+-- the change of the release at an index of the app after, by its version before
 abbrev pub change_at : App → App → TrackReview → TrackReview → ℕ → Option Change
-change_at before after old new from =
+change_at before after old new index =
     option_and_then
     (λ (release : Release). option_and_then
-    (λ to. option_and_then
-    (λ was. option_and_then
-    (λ becomes. change_by before after old new from to was becomes)
-    (slice_get new.outcomes.items to))
-    (slice_get old.outcomes.items from))
-    (position (is_release release.version) after.releases))
-    (slice_get before.releases from)
+    (λ becomes. change_from before after (clients_of old.key new.key) new.target index becomes (was_at before old release.version))
+    (slice_get new.outcomes.items index))
+    (slice_get after.releases index)
 
 -- the changes of the releases of a track, by ascending version
 abbrev pub changes_between : App → App → TrackReview → TrackReview → List Change
 changes_between before after old new =
-    filter_map (change_at before after old new) (range_with_len 0 (length before.releases))
+    filter_map (change_at before after old new) (range_with_len 0 (length after.releases))
 
 -- the changes of the clients of one track before and one after, none if an app isn't there
 abbrev pub changes_of_pair : List App → List App → TrackReview → TrackReview → List Change
@@ -126,16 +134,44 @@ changes_of_pair before after old new =
     (λ (one : App). option_map_or (λ (other : App). changes_between one other old new) (slice_get after new.key.app) [])
     (slice_get before old.key.app) []
 
--- the changes of the clients of a track after the change
+-- the changes of the clients of the tracks before that are on a track after the change
 abbrev pub changes_to : List App → List App → List TrackReview → List TrackReview → TrackReview → List Change
 changes_to before after olds news new =
     flat_map
     (λ (old : TrackReview). if are_same_clients olds news old new then changes_of_pair before after old new else [])
     olds
 
+-- the change of a release of a track whose lane had no target before; it counts if it was there or is below the target
+abbrev pub arrival_at : List Release → App → TrackReview → ℕ → Option Change
+arrival_at before after new index =
+    option_and_then
+    (λ (release : Release). option_and_then
+    (λ becomes. arrival_by (clients_of new.key new.key) (nat_lt index new.target || has_release before release.version) index becomes)
+    (slice_get new.outcomes.items index))
+    (slice_get after.releases index)
+
+-- the changes of the releases of such a track, by ascending version
+abbrev pub arrivals_between : List Release → App → TrackReview → List Change
+arrivals_between before after new =
+    filter_map (arrival_at before after new) (range_with_len 0 (length after.releases))
+
+-- those of a track, none if its app isn't there
+abbrev pub arrivals_of : List App → List App → TrackReview → List Change
+arrivals_of before after new =
+    option_map_or (λ (app : App). arrivals_between (releases_at before new.key.app) app new) (slice_get after new.key.app) []
+
+-- the lane of a track has a target
+abbrev pub has_lane : List TrackReview → TrackKey → Bool
+has_lane reviews key = list_any (λ (review : TrackReview). is_same_lane_of review.key key) reviews
+
+-- the changes of the clients of a track after the change
+abbrev pub changes_on : List App → List App → List TrackReview → List TrackReview → TrackReview → List Change
+changes_on before after olds news new =
+    if has_lane olds new.key then changes_to before after olds news new else arrivals_of before after new
+
 -- those of some tracks after it
 abbrev pub changes_from : List App → List App → List TrackReview → List TrackReview → List TrackReview → List Change
-changes_from before after olds news some = flat_map (changes_to before after olds news) some
+changes_from before after olds news some = flat_map (changes_on before after olds news) some
 
 -- rule: Review of a change
 -- the changes of all releases, by the tracks after the change in their order

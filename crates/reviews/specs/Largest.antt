@@ -1,5 +1,5 @@
--- The chain of a track that costs most; this project's profile.
-use Rattle.std.specs.Prelude.{◌≡◌, ℕ, ◌<◌, ◌≤◌, if◌then◌else◌, List, length, nat_le, slice_get, Option, None, Some, option_and_then}
+-- The largest one of some values of a track's releases; this project's profile.
+use Rattle.std.specs.Prelude.{◌≡◌, ℕ, ◌<◌, ◌≤◌, if◌then◌else◌, List, length, nat_le, slice_index_or, Option, None, Some}
 use Rattle.reviews.specs.declared.largest.Largest.{Largest}
 use Rattle.reviews.specs.declared.outcome.Outcome.{Outcome}
 use Rattle.reviews.specs.declared.outcome.Outcome.TheVariants.{Here, Next, Stuck}
@@ -10,30 +10,30 @@ sum_of Here = None
 sum_of (Next payload sum) = Some sum
 sum_of (Stuck reason) = None
 
--- the least sum from the release at an index
-abbrev pub sum_at : List Outcome → ℕ → Option ℕ
-sum_at outcomes release = option_and_then sum_of (slice_get outcomes release)
+-- the value of the release at an index, if it has one
+abbrev pub value_at : List (Option ℕ) → ℕ → Option ℕ
+value_at values release = slice_index_or values release None
 
--- the larger one of the largest sum so far and the next one, if there is one
+-- the larger one of the largest value so far and the next one, if there is one
 abbrev pub larger_of : Option Largest → ℕ → Option ℕ → Option Largest
 larger_of best from None = best
-larger_of None from (Some sum) = Some (record { from = from; sum = sum })
-larger_of (Some known) from (Some sum) =
-    if nat_le sum known.sum then Some known else Some (record { from = from; sum = sum })
+larger_of None from (Some value) = Some (record { from = from; value = value })
+larger_of (Some known) from (Some value) =
+    if nat_le value known.value then Some known else Some (record { from = from; value = value })
 
--- the largest sum of the releases before an index, of the lowest release that has it
-pub record IsLargestOf (outcomes : List Outcome) (count : ℕ) (best : Largest) : Type 0 where
+-- the largest value of the releases before an index, of the lowest release that has it
+pub record IsLargestOf (values : List (Option ℕ)) (count : ℕ) (best : Largest) : Type 0 where
   pub within : best.from < count
-  pub is : sum_at outcomes best.from ≡ Some best.sum
-  pub most : (release sum : ℕ) → release < count → sum_at outcomes release ≡ Some sum → sum ≤ best.sum
-  pub lowest : (release sum : ℕ) → release < best.from → sum_at outcomes release ≡ Some sum → sum < best.sum
+  pub is : value_at values best.from ≡ Some best.value
+  pub most : (release value : ℕ) → release < count → value_at values release ≡ Some value → value ≤ best.value
+  pub lowest : (release value : ℕ) → release < best.from → value_at values release ≡ Some value → value < best.value
 
 -- the same if there is one
-abbrev pub IsLargestBefore : List Outcome → ℕ → Option Largest → Type 0
-IsLargestBefore outcomes count None = (release : ℕ) → release < count → sum_at outcomes release ≡ None
-IsLargestBefore outcomes count (Some best) = IsLargestOf outcomes count best
+abbrev pub IsLargestBefore : List (Option ℕ) → ℕ → Option Largest → Type 0
+IsLargestBefore values count None = (release : ℕ) → release < count → value_at values release ≡ None
+IsLargestBefore values count (Some best) = IsLargestOf values count best
 
--- rule: Largest sum of a track
--- the largest of the least sums of a track's releases, with the lowest release that has it; none if there is no sum
-abbrev pub IsLargest : List Outcome → Option Largest → Type 0
-IsLargest outcomes best = IsLargestBefore outcomes (length outcomes) best
+-- rule: Largest of a track
+-- the largest value of a track's releases, with the lowest release that has it; none if no release has a value
+abbrev pub IsLargest : List (Option ℕ) → Option Largest → Type 0
+IsLargest values best = IsLargestBefore values (length values) best

@@ -7,4 +7,6 @@ pub mod Reasons
 pub mod ReviewLines
 pub mod Reviews
 pub mod Routes
+pub mod Steps
 pub mod Tracks
+pub mod Warnings

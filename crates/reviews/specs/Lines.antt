@@ -62,5 +62,8 @@ stuck_word = codes "stuck  "
 abbrev pub largest_word : List ℕ
 largest_word = codes "largest"
 
+abbrev pub longest_word : List ℕ
+longest_word = codes "longest"
+
 abbrev pub new_word : List ℕ
 new_word = codes "new    "

@@ -1,12 +1,13 @@
 -- How the review of a catalogue is printed; this project's profile.
-use Rattle.std.specs.Prelude.{ℕ, ◌-◌, ◌==◌, Bool, true, false, if◌then◌else◌, codes, decimal, List, [], ◌++◌, filter_map, length, slice_get, sum_by, take, Option, None, Some}
+use Rattle.std.specs.Prelude.{ℕ, ◌-◌, ◌==◌, Bool, true, false, if◌then◌else◌, codes, decimal, List, [], ◌++◌, filter_map, length, slice_get, sum_by, take, unwrap_or, Option, None, Some, option_and_then}
 use Rattle.std.specs.List.{count_by, enumerate_from, flat_map}
 use Rattle.std.specs.Option.{option_map_or}
 use Rattle.records.specs.declared.content.App.{App}
 use Rattle.payload_graph.specs.declared.payload.TrackKey.{TrackKey}
 use Rattle.quotes.specs.declared.quote.Quote.{Quote}
 use Rattle.quotes.specs.declared.quote.Quote.TheVariants as quote
-use Rattle.reviews.specs.Lines.{largest_word, line_string, new_word, spelled_at, stuck_release, stuck_word, track_string, track_word}
+use Rattle.reviews.specs.Largest.{sum_of, value_at}
+use Rattle.reviews.specs.Lines.{largest_word, line_string, longest_word, new_word, spelled_at, stuck_release, stuck_word, track_string, track_word}
 use Rattle.reviews.specs.declared.change.Clients.{Clients}
 use Rattle.reviews.specs.declared.largest.Largest.{Largest}
 use Rattle.reviews.specs.declared.review.TrackReview.{TrackReview}
@@ -68,10 +69,21 @@ more_line track more = if more == 0 then [] else line_string stuck_word track (d
 abbrev pub stuck_part : App → List ℕ → ℕ → List StuckRelease → List ℕ
 stuck_part app track limit stuck = stuck_lines app track (take limit stuck) ++ more_line track (length stuck - limit)
 
--- the largest of the least sums of a track's releases
-abbrev pub largest_string : App → Option Largest → List ℕ
-largest_string app None = codes "none"
-largest_string app (Some best) = spelled_at app best.from ++ (codes ", " ++ (decimal best.sum ++ codes " bytes"))
+-- the steps of the release at an index of a track; 0 if it has none
+abbrev pub steps_from : TrackReview → ℕ → ℕ
+steps_from review release = unwrap_or (value_at review.steps.items release) 0
+
+-- its bytes up to the target; 0 if it has none
+abbrev pub bytes_from : TrackReview → ℕ → ℕ
+bytes_from review release = unwrap_or (option_and_then sum_of (slice_get review.outcomes.items release)) 0
+
+-- rule: Printed chain
+-- the chain from a release: its release, its steps and its bytes; or that there is none
+abbrev pub chain_string : App → TrackReview → Option Largest → List ℕ
+chain_string app review None = codes "none"
+chain_string app review (Some best) =
+    spelled_at app best.from ++ (codes ", " ++ (decimal (steps_from review best.from) ++ (codes " steps, "
+    ++ (decimal (bytes_from review best.from) ++ codes " bytes"))))
 
 -- what clients outside of all releases download, from version 0
 abbrev pub newcomers_string : Quote → List ℕ
@@ -79,14 +91,20 @@ newcomers_string quote.Here = codes "0 bytes"
 newcomers_string (quote.Next payload sum) = decimal sum ++ codes " bytes"
 newcomers_string quote.NoChain = codes "stuck"
 
+-- the lines of a track's largest and longest chains, and of clients outside of all releases
+abbrev pub chain_lines : App → List ℕ → TrackReview → List ℕ
+chain_lines app track review =
+    line_string largest_word track (chain_string app review review.largest)
+    ++ (line_string longest_word track (chain_string app review review.longest)
+    ++ line_string new_word track (newcomers_string review.newcomers))
+
 -- rule: Lines of a track
 -- the lines of a track of that name
 abbrev pub named_lines : App → List ℕ → ℕ → TrackReview → List ℕ
 named_lines app track limit review =
     line_string track_word track (track_facts app review)
     ++ (stuck_part app track limit (stuck_of review.outcomes.items)
-    ++ (line_string largest_word track (largest_string app review.largest)
-    ++ line_string new_word track (newcomers_string review.newcomers)))
+    ++ chain_lines app track review)
 
 -- the lines of a track; none if its app isn't there
 abbrev pub track_lines : List App → ℕ → TrackReview → List ℕ

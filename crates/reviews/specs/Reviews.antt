@@ -13,8 +13,9 @@ use Rattle.price_cert.specs.declared.row.Row.TheVariants as row
 use Rattle.quotes.specs.Quotes.{IsQuote}
 use Rattle.quotes.specs.declared.quote.Quote.{Quote}
 use Rattle.quotes.specs.declared.quote.Quote.TheVariants as quote
-use Rattle.reviews.specs.Largest.{IsLargest}
+use Rattle.reviews.specs.Largest.{IsLargest, sum_of}
 use Rattle.reviews.specs.Reasons.{IsReason, IsStuck}
+use Rattle.reviews.specs.Steps.{all_steps}
 use Rattle.reviews.specs.declared.cause.Reason.{Reason}
 use Rattle.reviews.specs.declared.outcome.Outcome.{Outcome}
 use Rattle.reviews.specs.declared.outcome.Outcome.TheVariants.{Here, Next, Stuck}
@@ -46,12 +47,14 @@ pub record AreOutcomes (app : App) (key : TrackKey) (outcomes : List Outcome) : 
   pub each : (release : ℕ) (d : Outcome) → release < length app.releases → IsOutcome app key release (slice_index_or outcomes release d)
 
 -- rule: Review of a track
--- the target of a track, the outcome of each release, the largest of their sums, and what clients outside of all
--- releases are offered from version 0
+-- the target of a track; the outcome and the steps of each release; the largest of the sums and of the steps; and what
+-- clients outside of all releases are offered from version 0
 pub record IsTrackReview (app : App) (review : TrackReview) : Type 0 where
   pub target : target_index app review.key ≡ Some review.target
   pub outcomes : AreOutcomes app review.key review.outcomes.items
-  pub largest : IsLargest review.outcomes.items review.largest
+  pub steps : review.steps.items ≡ all_steps app review.outcomes.items
+  pub largest : IsLargest (map sum_of review.outcomes.items) review.largest
+  pub longest : IsLargest review.steps.items review.longest
   pub newcomers : IsQuote app review.key (Outside zero_version) review.newcomers
 
 -- the same of a content, which has the track's app

@@ -1,15 +1,18 @@
 //! What a change of a catalogue makes of its clients.
 
 ghost use Rattle.std.specs.Prelude.{◌≡◌, ◌++◌, ◌||◌, [], true, if◌then◌else◌, IfOk, OnOk, filter_map, length};
-ghost use Rattle.std.specs.List.{flat_map, range_with_len};
+ghost use Rattle.std.specs.List.{cons_option, flat_map, range_with_len};
 ghost use Rattle.values.specs.Ordered.{ascend};
+ghost use Rattle.records.specs.Lookups.{releases_at};
 ghost use Rattle.records.specs.Validity.{is_release_below};
-ghost use Rattle.reviews.specs.Changes.{are_same_clients, change_at, change_by, changes_between, changes_of, changes_of_pair, changes_to, clients_of, has_downgrades, is_changed, is_same_form, is_same_lane, is_same_lane_of, is_same_payload, is_same_version, is_served, version_to};
+ghost use Rattle.reviews.specs.Changes.{are_same_clients, arrival_at, arrival_by, arrivals_between, arrivals_of, change_at, change_by, change_from, changes_between, changes_of, changes_of_pair, changes_on, changes_to, clients_of, has_downgrades, has_lane, is_changed, is_same_form, is_same_lane, is_same_lane_of, is_same_payload, is_same_version, is_served, version_to, was_at};
 ghost use Rattle.reviews.specs.declared.review.TrackReview.{TrackReview};
 
+use crate::line::find_app;
 use crate::outcome::Outcome;
 use crate::review::TrackReview;
-use catalogue::{App, Catalogue};
+use crate::stuck::is_stuck;
+use catalogue::{App, Catalogue, Release};
 use cohorts::Lane;
 use payload_graph::{Payload, TrackKey};
 use records::lookup;
@@ -34,12 +37,10 @@ pub struct Clients {
 pub struct Change {
     /// The clients, by the indexes after the change.
     pub clients: Clients,
-    /// The index of the release before the change.
-    pub before: usize,
-    /// The index of the same release after it.
-    pub after: usize,
-    /// Where its clients were.
-    pub was: Outcome,
+    /// The index of the release after the change.
+    pub release: usize,
+    /// Where its clients were, `None` if the release or a target of their lane wasn't there.
+    pub was: Option<Outcome>,
     /// Where they are after the change.
     pub becomes: Outcome,
 }
@@ -155,31 +156,81 @@ fn clients_of(old: &TrackKey, new: &TrackKey) -> Clients
     }
 }
 
-// The change of the release at an index of the app before, if there is one.
+// The change of a release of a track that was there before, if there is one.
+fn change_by(
+    before: &App,
+    after: &App,
+    clients: Clients,
+    release: usize,
+    was: Outcome,
+    becomes: Outcome,
+) -> Option<Change>
+    ensures { result ≡ change_by before.now after.now clients release was becomes }
+{
+    if !is_changed(before, after, was, becomes) {
+        return None;
+    }
+    Some(Change {
+        clients,
+        release,
+        was: Some(was),
+        becomes,
+    })
+}
+
+// The change of a release that wasn't on the track before, if it counts and is stuck.
+fn arrival_by(clients: Clients, counts: bool, release: usize, becomes: Outcome) -> Option<Change>
+    ensures { result ≡ arrival_by clients counts release becomes }
+{
+    if !(counts && is_stuck(&becomes)) {
+        return None;
+    }
+    Some(Change {
+        clients,
+        release,
+        was: None,
+        becomes,
+    })
+}
+
+// Where the clients of a track were at the release of a version.
+fn was_at(before: &App, old: &TrackReview, version: &Version) -> Option<Outcome>
+    requires { ascend is_release_below before.now.releases ≡ true }
+    ensures { result ≡ was_at before.now old.now version.now }
+{
+    let from = lookup::index_of_release(before.releases.as_slice(), version)?;
+    let was = old.outcomes.as_slice().get(from)?;
+    Some(*was)
+}
+
+// The change of the release at an index of the app after, if there is one.
 fn change_at(
     before: &App,
     after: &App,
     old: &TrackReview,
     new: &TrackReview,
-    from: usize,
+    index: usize,
 ) -> Option<Change>
-    requires { ascend is_release_below after.now.releases ≡ true }
-    ensures { result ≡ change_at before.now after.now old.now new.now from }
+    requires { ascend is_release_below before.now.releases ≡ true }
+    ensures { result ≡ change_at before.now after.now old.now new.now index }
 {
-    let release = before.releases.as_slice().get(from)?;
-    let to = lookup::index_of_release(after.releases.as_slice(), &release.version)?;
-    let was = *old.outcomes.as_slice().get(from)?;
-    let becomes = *new.outcomes.as_slice().get(to)?;
-    if !is_changed(before, after, was, becomes) {
-        return None;
+    let release = after.releases.as_slice().get(index)?;
+    let becomes = *new.outcomes.as_slice().get(index)?;
+    let clients = clients_of(&old.key, &new.key);
+    match was_at(before, old, &release.version) {
+        Some(was) => change_by(before, after, clients, index, was, becomes),
+        None => arrival_by(clients, index < new.target, index, becomes),
     }
-    Some(Change {
-        clients: clients_of(&old.key, &new.key),
-        before: from,
-        after: to,
-        was,
-        becomes,
-    })
+}
+
+// Adds a change, if there is one.
+fn push_found(changes: &mut Vec<Change>, found: Option<Change>) -> Result<(), AllocError>
+    ensures { OnOk result (changes.new.items ≡ changes.old.items ++ cons_option found []) }
+{
+    if let Some(change) = found {
+        changes.push(change)?;
+    }
+    Ok(())
 }
 
 // Adds the changes of the clients of one track before and one after.
@@ -190,14 +241,11 @@ fn push_changes(
     old: &TrackReview,
     new: &TrackReview,
 ) -> Result<(), AllocError>
-    requires { ascend is_release_below after.now.releases ≡ true }
+    requires { ascend is_release_below before.now.releases ≡ true }
     ensures { OnOk result (changes.new.items ≡ changes.old.items ++ changes_between before.now after.now old.now new.now) }
 {
-    for from in 0..before.releases.as_slice().len() {
-        match change_at(before, after, old, new, from) {
-            Some(change) => changes.push(change)?,
-            None => {}
-        }
+    for index in 0..after.releases.as_slice().len() {
+        push_found(changes, change_at(before, after, old, new, index))?;
     }
     Ok(())
 }
@@ -211,12 +259,65 @@ fn push_pair(
 ) -> Result<(), AllocError>
     ensures { OnOk result (changes.new.items ≡ changes.old.items ++ changes_of_pair before.now after.now old.now new.now) }
 {
-    after.validity();
+    before.validity();
     let one = before.apps().get(old.key.app);
     let other = after.apps().get(new.key.app);
     match (one, other) {
         (Some(one), Some(other)) => push_changes(changes, one, other, old, new),
         _ => Ok(()),
+    }
+}
+
+// The releases of an app before a change, none if it wasn't there.
+fn releases_at(catalogue: &Catalogue, app: usize) -> &[Release]
+    ensures value { result.now ≡ releases_at catalogue.now app }
+    ensures ascending { ascend is_release_below result.now ≡ true }
+{
+    catalogue.validity();
+    match catalogue.apps().get(app) {
+        Some(there) => there.releases.as_slice(),
+        None => &[],
+    }
+}
+
+// The change of a release of a track whose lane had no target before, if there is one.
+fn arrival_at(before: &[Release], after: &App, new: &TrackReview, index: usize) -> Option<Change>
+    requires { ascend is_release_below before.now ≡ true }
+    ensures { result ≡ arrival_at before.now after.now new.now index }
+{
+    let release = after.releases.as_slice().get(index)?;
+    let becomes = *new.outcomes.as_slice().get(index)?;
+    let counts = index < new.target || lookup::has_release(before, &release.version);
+    arrival_by(clients_of(&new.key, &new.key), counts, index, becomes)
+}
+
+// Adds the changes of the releases of such a track.
+fn push_arrivals(
+    changes: &mut Vec<Change>,
+    before: &[Release],
+    after: &App,
+    new: &TrackReview,
+) -> Result<(), AllocError>
+    requires { ascend is_release_below before.now ≡ true }
+    ensures { OnOk result (changes.new.items ≡ changes.old.items ++ arrivals_between before.now after.now new.now) }
+{
+    for index in 0..after.releases.as_slice().len() {
+        push_found(changes, arrival_at(before, after, new, index))?;
+    }
+    Ok(())
+}
+
+fn push_arrivals_of(
+    changes: &mut Vec<Change>,
+    before: &Catalogue,
+    after: &Catalogue,
+    new: &TrackReview,
+) -> Result<(), AllocError>
+    ensures { OnOk result (changes.new.items ≡ changes.old.items ++ arrivals_of before.now after.now new.now) }
+{
+    match find_app(after, new.key.app) {
+        Some(app) => push_arrivals(changes, releases_at(before, new.key.app), app, new),
+        None => Ok(()),
     }
 }
 
@@ -229,7 +330,7 @@ pub struct Reviewed<'a> {
     pub tracks: &'a [TrackReview],
 }
 
-// Adds the changes of the clients of a track after the change.
+// Adds the changes of the clients of the tracks before that are on a track after the change.
 fn push_track(
     changes: &mut Vec<Change>,
     before: &Reviewed<'_>,
@@ -246,6 +347,30 @@ fn push_track(
     Ok(())
 }
 
+fn has_lane(reviews: &[TrackReview], key: &TrackKey) -> bool
+    ensures { result ≡ has_lane reviews.now key.now }
+{
+    reviews
+        .iter()
+        .any(|review| is_same_lane_of(&review.key, key))
+}
+
+// Adds the changes of the clients of a track after the change.
+fn push_changes_on(
+    changes: &mut Vec<Change>,
+    before: &Reviewed<'_>,
+    after: &Reviewed<'_>,
+    new: &TrackReview,
+) -> Result<(), AllocError>
+    ensures { OnOk result (changes.new.items ≡ changes.old.items ++ changes_on before.now.catalogue.now after.now.catalogue.now before.now.tracks.now after.now.tracks.now new.now) }
+{
+    if has_lane(before.tracks, &new.key) {
+        push_track(changes, before, after, new)
+    } else {
+        push_arrivals_of(changes, before.catalogue, after.catalogue, new)
+    }
+}
+
 // rule: Review of a change
 /// The changes from the reviews of a catalogue to those of a later one, by the tracks of the later one.
 ///
@@ -259,7 +384,7 @@ pub fn changes(
 {
     let mut changes = Vec::new(alloc);
     for new in after.tracks {
-        push_track(&mut changes, before, after, new)?;
+        push_changes_on(&mut changes, before, after, new)?;
     }
     Ok(changes)
 }

@@ -2,7 +2,7 @@
 
 ghost use Rattle.std.specs.Prelude.{◌≡◌, ◌++◌, IfOk, OnOk, string_bytes};
 ghost use Rattle.std.specs.List.{count_by};
-ghost use Rattle.reviews.specs.ChangeLines.{bytes_of, change_counts, change_facts, change_string, change_word, is_newly_stuck, line_by, newly_stuck_line, newly_stuck_lines, newly_stuck_total, offer_line, offer_lines, size_word, outcome_string};
+ghost use Rattle.reviews.specs.ChangeLines.{bytes_before, bytes_of, change_counts, change_facts, change_string, change_word, is_newly_stuck, line_by, newly_stuck_line, newly_stuck_lines, newly_stuck_total, offer_line, offer_lines, outcome_string, size_word, string_before, was_stuck};
 
 use crate::change::{Change, Reviewed};
 use crate::line::{find_app, push_line, spelled_at, stuck_release, track_string};
@@ -12,11 +12,21 @@ use crate::stuck::{is_stuck, totals_string};
 use catalogue::{App, Catalogue};
 use std::alloc::{AllocError, Global};
 
+// Whether clients were stuck before a change.
+fn was_stuck(was: &Option<Outcome>) -> bool
+    ensures { result ≡ was_stuck was.now }
+{
+    match was {
+        Some(outcome) => is_stuck(outcome),
+        None => false,
+    }
+}
+
 // rule: Newly stuck
 fn is_newly_stuck(change: &Change) -> bool
     ensures { result ≡ is_newly_stuck change.now }
 {
-    is_stuck(&change.becomes) && !is_stuck(&change.was)
+    is_stuck(&change.becomes) && !was_stuck(&change.was)
 }
 
 // rule: Newly stuck
@@ -39,6 +49,15 @@ fn bytes_of(outcome: &Outcome) -> u64
     }
 }
 
+fn bytes_before(was: &Option<Outcome>) -> u64
+    ensures { result ≡ bytes_before was.now }
+{
+    match was {
+        Some(outcome) => bytes_of(outcome),
+        None => 0,
+    }
+}
+
 fn outcome_string(alloc: Global, outcome: &Outcome) -> Result<String, AllocError>
     ensures { IfOk result (λ says. string_bytes says ≡ outcome_string outcome.now) }
 {
@@ -46,6 +65,15 @@ fn outcome_string(alloc: Global, outcome: &Outcome) -> Result<String, AllocError
         Outcome::Here => format!(in alloc; "0 bytes"),
         Outcome::Next { sum, .. } => format!(in alloc; "{sum} bytes"),
         Outcome::Stuck(_) => format!(in alloc; "stuck"),
+    }
+}
+
+fn string_before(alloc: Global, was: &Option<Outcome>) -> Result<String, AllocError>
+    ensures { IfOk result (λ says. string_bytes says ≡ string_before was.now) }
+{
+    match was {
+        Some(outcome) => outcome_string(alloc, outcome),
+        None => format!(in alloc; "none"),
     }
 }
 
@@ -64,21 +92,21 @@ fn size_word(before: u64, after: u64) -> &'static str
 fn change_word(change: &Change) -> &'static str
     ensures { result.now ≡ change_word change.now }
 {
-    if is_stuck(&change.was) {
+    if was_stuck(&change.was) {
         "freed  "
     } else {
-        size_word(bytes_of(&change.was), bytes_of(&change.becomes))
+        size_word(bytes_before(&change.was), bytes_of(&change.becomes))
     }
 }
 
 fn change_facts(alloc: Global, app: &App, change: &Change) -> Result<String, AllocError>
     ensures { IfOk result (λ facts. string_bytes facts ≡ change_facts app.now change.now) }
 {
-    let was = outcome_string(alloc, &change.was)?;
+    let was = string_before(alloc, &change.was)?;
     let becomes = outcome_string(alloc, &change.becomes)?;
     let before = was.as_str();
     let after = becomes.as_str();
-    let spelled = spelled_at(app, change.after);
+    let spelled = spelled_at(app, change.release);
     format!(in alloc; "{spelled}, {before} to {after}")
 }
 
@@ -98,7 +126,7 @@ fn push_newly_stuck(
         return Ok(());
     };
     let track = track_string(alloc, app, &change.clients)?;
-    let says = stuck_release(alloc, app, change.after, reason)?;
+    let says = stuck_release(alloc, app, change.release, reason)?;
     push_line(text, "stuck  ", track.as_str(), says.as_str())
 }
 

@@ -3,10 +3,11 @@
 //! A `TrackReview` says of a track with a target where the clients at each release are, its `Outcome`: at the target,
 //! before a chain of the least sum, or stuck for a `Reason`. `review_catalogue` makes one for each track. A reason
 //! is the first of the rules, the `Cause`s, without which the release would have a chain. `changes` compares the reviews
-//! of two catalogues. `write_review` and `write_changes` write them as lines. Read `specs/Reviews.antt` for what a review
-//! says, `specs/Reasons.antt` for reasons, `specs/Lifts.antt` for tracks without a rule and `specs/Changes.antt` for
-//! changes; `specs/Routes.antt` has the ways by which a track without a rule is searched, `specs/ReviewLines.antt` and
-//! `specs/ChangeLines.antt` the lines.
+//! of two catalogues. `write_review`, `write_changes` and `write_warnings` write them as lines. Read
+//! `specs/Reviews.antt` for what a review says, `specs/Reasons.antt` for reasons, `specs/Steps.antt` for the steps of
+//! chains, `specs/Lifts.antt` for tracks without a rule and `specs/Changes.antt` for changes; `specs/Routes.antt` has the
+//! ways by which a track without a rule is searched, `specs/ReviewLines.antt`, `specs/ChangeLines.antt` and
+//! `specs/Warnings.antt` the lines.
 //!
 //! It reads no file, prints nothing, and decides no offer.
 
@@ -23,7 +24,9 @@ mod reasons;
 mod review;
 mod review_lines;
 mod roads;
+mod steps;
 mod stuck;
+mod warnings;
 
 pub use crate::cause::{Cause, Reason};
 pub use crate::change::{Change, Clients, Reviewed, changes};
@@ -33,3 +36,4 @@ pub use crate::outcome::Outcome;
 pub use crate::review::{TrackReview, review_catalogue};
 pub use crate::review_lines::write_review;
 pub use crate::stuck::stuck_total;
+pub use crate::warnings::write_warnings;

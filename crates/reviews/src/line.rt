@@ -51,7 +51,8 @@ pub(crate) fn spelled_at(app: &App, release: usize) -> &str
     }
 }
 
-fn cohort_name(app: &App, index: usize) -> &str
+/// The name of a cohort; empty if there is no such cohort.
+pub(crate) fn cohort_name(app: &App, index: usize) -> &str
     ensures { result.now ≡ cohort_name app.now index }
 {
     match app.cohorts.as_slice().get(index) {

@@ -10,9 +10,10 @@ ghost use Rattle.reviews.specs.Reviews.{is_unpriced, AreReviews, AreOutcomes, Is
 ghost use Rattle.reviews.specs.Tracks.{IsTrackOf};
 
 use crate::cause::Reason;
-use crate::largest::{Largest, find_largest};
+use crate::largest::{Largest, find_largest, largest_sum};
 use crate::outcome::{Outcome, outcome_by};
 use crate::reasons::Subject;
+use crate::steps::all_steps;
 use catalogue::Catalogue;
 use cohorts::track_target;
 use payload_graph::{Place, TrackKey};
@@ -30,8 +31,12 @@ pub struct TrackReview {
     pub target: usize,
     /// Where the clients at each release are, by ascending version.
     pub outcomes: Vec<Outcome>,
-    /// The largest of their least sums, with the lowest release that has it; `None` if there is no sum.
+    /// How many payloads lead from each release to the target, `None` at the target and if its clients are stuck.
+    pub steps: Vec<Option<u64>>,
+    /// The largest of the least sums, in bytes, with the lowest release that has it; `None` if there is no sum.
     pub largest: Option<Largest>,
+    /// The largest number of steps, with the lowest release that has it; `None` if there are no steps.
+    pub longest: Option<Largest>,
     /// What clients outside of all releases are offered, from version 0.
     pub newcomers: Quote,
 }
@@ -141,13 +146,17 @@ fn review_subject(
 {
     let reasons = find_reasons(alloc, catalogue, subject, table)?;
     let outcomes = find_outcomes(alloc, catalogue, subject, table, reasons.as_slice())?;
+    let steps = all_steps(alloc, subject.app, outcomes.as_slice())?;
+    let largest = largest_sum(alloc, outcomes.as_slice())?;
+    let longest = find_largest(steps.as_slice());
     let place = Place::Outside(Version::zero());
-    let largest = find_largest(outcomes.as_slice());
     Ok(TrackReview {
         key: *subject.key,
         target: subject.target,
         outcomes,
+        steps,
         largest,
+        longest,
         newcomers: quote_from(catalogue, subject.key, &place, table),
     })
 }

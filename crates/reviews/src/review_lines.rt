@@ -1,11 +1,12 @@
 //! How the review of a catalogue is printed.
 
 ghost use Rattle.std.specs.Prelude.{◌≡◌, ◌++◌, ◌-◌, IfOk, OnOk, length, string_bytes};
-ghost use Rattle.reviews.specs.ReviewLines.{all_lines, clients_on, largest_string, more_line, named_lines, newcomers_string, review_counts, review_string, stuck_lines, stuck_part, track_facts, track_lines};
+ghost use Rattle.reviews.specs.ReviewLines.{all_lines, bytes_from, chain_lines, chain_string, clients_on, more_line, named_lines, newcomers_string, review_counts, review_string, steps_from, stuck_lines, stuck_part, track_facts, track_lines};
 
 use crate::change::Clients;
 use crate::largest::Largest;
 use crate::line::{find_app, push_line, spelled_at, stuck_release, track_string};
+use crate::outcome::Outcome;
 use crate::review::TrackReview;
 use crate::stuck::{StuckRelease, count_stuck, first_of, stuck_of, stuck_total, totals_string};
 use catalogue::{App, Catalogue};
@@ -76,15 +77,40 @@ fn push_stuck_part(
     push_more(alloc, text, track, stuck.len().saturating_sub(limit))
 }
 
-fn largest_string(alloc: Global, app: &App, largest: Option<Largest>) -> Result<String, AllocError>
-    ensures { IfOk result (λ says. string_bytes says ≡ largest_string app.now largest) }
+fn steps_from(review: &TrackReview, release: usize) -> u64
+    ensures { result ≡ steps_from review.now release }
+{
+    match review.steps.as_slice().get(release) {
+        Some(Some(steps)) => *steps,
+        _ => 0,
+    }
+}
+
+fn bytes_from(review: &TrackReview, release: usize) -> u64
+    ensures { result ≡ bytes_from review.now release }
+{
+    match review.outcomes.as_slice().get(release) {
+        Some(Outcome::Next { sum, .. }) => *sum,
+        _ => 0,
+    }
+}
+
+// rule: Printed chain
+fn chain_string(
+    alloc: Global,
+    app: &App,
+    review: &TrackReview,
+    largest: Option<Largest>,
+) -> Result<String, AllocError>
+    ensures { IfOk result (λ says. string_bytes says ≡ chain_string app.now review.now largest) }
 {
     match largest {
         None => format!(in alloc; "none"),
         Some(best) => {
-            let sum = best.sum;
             let from = spelled_at(app, best.from);
-            format!(in alloc; "{from}, {sum} bytes")
+            let steps = steps_from(review, best.from);
+            let bytes = bytes_from(review, best.from);
+            format!(in alloc; "{from}, {steps} steps, {bytes} bytes")
         }
     }
 }
@@ -97,6 +123,24 @@ fn newcomers_string(alloc: Global, newcomers: Quote) -> Result<String, AllocErro
         Quote::Next { sum, .. } => format!(in alloc; "{sum} bytes"),
         Quote::NoChain => format!(in alloc; "stuck"),
     }
+}
+
+// Adds the lines of a track's largest and longest chains, and of clients outside of all releases.
+fn push_chains(
+    alloc: Global,
+    text: &mut Vec<u8>,
+    app: &App,
+    track: &str,
+    review: &TrackReview,
+) -> Result<(), AllocError>
+    ensures { OnOk result (text.new.items ≡ text.old.items ++ chain_lines app.now track.now review.now) }
+{
+    let largest = chain_string(alloc, app, review, review.largest)?;
+    push_line(text, "largest", track, largest.as_str())?;
+    let longest = chain_string(alloc, app, review, review.longest)?;
+    push_line(text, "longest", track, longest.as_str())?;
+    let newcomers = newcomers_string(alloc, review.newcomers)?;
+    push_line(text, "new    ", track, newcomers.as_str())
 }
 
 // rule: Lines of a track
@@ -113,12 +157,9 @@ fn push_named(
 {
     let facts = track_facts(alloc, app, review)?;
     let stuck = stuck_of(alloc, review.outcomes.as_slice())?;
-    let largest = largest_string(alloc, app, review.largest)?;
-    let newcomers = newcomers_string(alloc, review.newcomers)?;
     push_line(text, "track  ", track, facts.as_str())?;
     push_stuck_part(alloc, text, app, track, limit, stuck.as_slice())?;
-    push_line(text, "largest", track, largest.as_str())?;
-    push_line(text, "new    ", track, newcomers.as_str())
+    push_chains(alloc, text, app, track, review)
 }
 
 // Adds the lines of a track, and none if its app isn't there.
@@ -166,8 +207,8 @@ fn push_tracks(
 /// Writes the review of a catalogue, with at most `limit` stuck releases for each track.
 ///
 /// Each track has a line with its target, a line for each stuck release, one that counts those without a line, one for
-/// the largest sum and one for clients outside of all releases. The last line counts tracks, releases and stuck
-/// releases. Out of memory is the only error.
+/// the largest chain, one for the longest and one for clients outside of all releases. The last line counts tracks,
+/// releases and stuck releases. Out of memory is the only error.
 pub fn write_review(
     alloc: Global,
     catalogue: &Catalogue,
