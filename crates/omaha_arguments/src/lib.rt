@@ -24,7 +24,7 @@ mod walk_arguments;
 
 pub use crate::command::{
     Command, Comparison, HistoryAction, HistoryAsked, Once, Publication, Question, Raise, Report,
-    Review, Serve, Walk,
+    Review, Serve, Source, Walk,
 };
 pub use crate::command_line::read_arguments;
 pub use crate::error::ArgumentError;
