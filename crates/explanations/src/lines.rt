@@ -16,7 +16,7 @@ Remedy: None is needed; without --history keep an `omaha dump --to ADDR`, as a r
 Found in: the reply to a script.
 Edition N is published, and the script's `base` is another one; nothing is changed.
 Usual cause: Another script was published, this one was sent twice, or a server without --history was started again.
-Remedy: Look at `omaha dump --to ADDR`: if the script's edits aren't there, set its `base` to N and send it again.
+Remedy: If `omaha dump --to ADDR` lacks the edits, set `base` to N, see `omaha review --to ADDR`, and send it again.
 ",
     ),
     (

@@ -10,7 +10,7 @@ use Rattle.omaha_arguments.specs.HistoryArguments.{asked_in, faults_of_history, 
 use Rattle.omaha_arguments.specs.OperatorArguments.{dump_app, dump_in, publication_in, publish_app, raise_app, raise_in}
 use Rattle.omaha_arguments.specs.Options.{number_in, option_named, strings_in, workers_in}
 use Rattle.omaha_arguments.specs.ReportArguments.{certify_app, check_app, comparison_in, describe_app, explain_app, faults_of_check, faults_of_report, report_in, verify_app}
-use Rattle.omaha_arguments.specs.ReviewArguments.{review_app, review_in}
+use Rattle.omaha_arguments.specs.ReviewArguments.{faults_of_review, review_app, review_in}
 use Rattle.omaha_arguments.specs.ScriptArguments.{faults_of_script, script_app, script_in}
 use Rattle.omaha_arguments.specs.ServeArguments.{faults_of_serve, serve_app, serve_in}
 use Rattle.omaha_arguments.specs.WalkArguments.{faults_of_walk, walk_app, walk_in}
@@ -113,7 +113,7 @@ faults_in name options =
     else (if bytes_eq name (codes "walk") then faults_of_walk options
     else (if bytes_eq name (codes "describe") then []
     else (if bytes_eq name (codes "check") then faults_of_check options
-    else (if bytes_eq name (codes "review") then [] else faults_of_report name options)))))))))))
+    else (if bytes_eq name (codes "review") then faults_of_review options else faults_of_report name options)))))))))))
 
 -- rule: Arguments of the command line
 -- what the arguments ask for

@@ -136,12 +136,21 @@ pub struct Comparison {
     pub workers: usize,
 }
 
+/// Where the catalogue is that is reviewed.
+#[derive(Drop)]
+pub enum Source {
+    /// The profile in the file of this path.
+    Profile(Text),
+    /// What a running server has published: its operator's listener, as `HOST:PORT`.
+    Server(Text),
+}
+
 /// What the command `review` is asked to do.
 #[derive(Drop)]
 pub struct Review {
-    /// The path of the profile.
-    pub profile: Text,
-    /// The path of the script whose changes are reviewed, or `None` to review the profile.
+    /// Where the catalogue is.
+    pub source: Source,
+    /// The path of the script whose changes are reviewed, or `None` to review the catalogue.
     pub script: Option<Text>,
     /// Whether each stuck release is printed, not just the first 40 of a track.
     pub all: bool,
@@ -186,6 +195,8 @@ pub struct Report {
 pub enum Question {
     /// What it has.
     Check,
+    /// What it has, and which targets no client can reach.
+    Warn,
     /// The certificate of a track.
     Certify(TrackNames),
     /// Whether a certificate is valid, by the path of its file.

@@ -26,7 +26,7 @@ mod walk_arguments;
 
 pub use crate::command::{
     Command, Comparison, HistoryAction, HistoryAsked, Once, Publication, Question, Raise, Report,
-    Review, Script, Serve, Walk,
+    Review, Script, Serve, Source, Walk,
 };
 pub use crate::command_line::read_arguments;
 pub use crate::error::ArgumentError;

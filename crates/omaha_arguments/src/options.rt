@@ -1,7 +1,7 @@
 // The options and arguments of a command, as `clap` reads them.
 
 ghost use Rattle.std.specs.Prelude.{◌≡◌, IfOk, map};
-ghost use Rattle.clap.specs.Words.{App, first_of, found_of, new_app, rows_of, with_rule};
+ghost use Rattle.clap.specs.Words.{App, first_of, found_of, new_app, new_rule, rows_of, with_rule};
 ghost use Rattle.omaha_arguments.specs.Options.{IsMade, flag_in, flag_named, has_plus, number_in, number_of, option_named, string_in, strings_in, wanted, wanted_list, wanted_option, workers_in, workers_of};
 
 use clap::{Arg, ArgAction, ArgMatches};
@@ -36,6 +36,20 @@ pub(crate) fn with_wanted<'a>(
     ensures { (app : App) → IsMade app command.entry → IsMade (with_rule app (wanted name.entry.now)) result }
 {
     let argument = Arg::new(alloc, name).required(true).help(help);
+    let more = command?.arg(argument)?;
+    Ok(more)
+}
+
+/// The command with one more argument, which may be left out.
+pub(crate) fn with_argument<'a>(
+    alloc: Global,
+    command: Making<'a>,
+    name: &'a str,
+    help: &'a str,
+) -> Making<'a>
+    ensures { (app : App) → IsMade app command.entry → IsMade (with_rule app (new_rule name.entry.now)) result }
+{
+    let argument = Arg::new(alloc, name).help(help);
     let more = command?.arg(argument)?;
     Ok(more)
 }

@@ -3,13 +3,14 @@
 ghost use Rattle.std.specs.Prelude.{◌≡◌, [], codes, IfOk, unwrap_or};
 ghost use Rattle.clap.specs.Words.{FailsBy, found_of, kind_of, rows_of};
 ghost use Rattle.omaha_arguments.specs.Options.{IsMade, workers_in};
-ghost use Rattle.omaha_arguments.specs.ReportArguments.{yes_or_no, certify_app, check_app, comparison_in, describe_app, explain_app, faults_of_certify, faults_of_check, faults_of_report, lane_of, names_in, question_in, report_in, verify_app};
+ghost use Rattle.omaha_arguments.specs.ReportArguments.{yes_or_no, certify_app, check_app, check_question_in, comparison_in, describe_app, explain_app, faults_of_certify, faults_of_check, faults_of_report, is_one_check, lane_of, names_in, question_in, report_in, verify_app};
 
 use crate::command::{Comparison, Question, Report};
 use crate::options::{
-    Making, optional_string, string_in, titled, with_option, with_wanted, with_wanted_list,
-    workers_in,
+    Making, flag_in, optional_string, string_in, titled, with_flag, with_option, with_wanted,
+    with_wanted_list, workers_in,
 };
+use crate::serve_arguments::is_given;
 use clap::error::ErrorKind;
 use clap::{Arg, ArgMatches, Error};
 use cohorts::{Lane, TrackNames};
@@ -25,6 +26,10 @@ tables of prices it has. If the profile is invalid, prints the first fault on st
 With --workers several threads make the tables of prices, which is faster for a large profile. What
 is printed is the same.
 
+With --warn it also prints a line for each target that no client can reach, as if it is withdrawn;
+the status is the same:
+  warning: app mini, cohort stable: nothing leads to 3.0
+
 With --packages it also compares each declared package with its file in DIR. If some differ, it
 prints a line for each in place of that line, and then `omaha: packages N` on standard error:
   mini-1.0.bin: missing                     DIR has no such file
@@ -39,7 +44,8 @@ if the arguments are invalid.
 Examples:
   omaha check profile.toml
   omaha check profile.toml --packages packages
-  omaha check profile.toml --workers 4";
+  omaha check profile.toml --workers 4
+  omaha check profile.toml --warn";
 
 const CERTIFY: &str = "Prints the certificate of a track: its least sums of bytes.";
 
@@ -111,7 +117,13 @@ pub(crate) fn check_command<'a>(alloc: Global) -> Making<'a>
     let help = "The folder of the packages [default: they are not compared]";
     let command = with_option(alloc, command, "packages", "DIR", help);
     let help = "How many threads make the tables of prices, 1 to 8 [default: 1]";
-    with_option(alloc, command, "workers", "N", help)
+    let command = with_option(alloc, command, "workers", "N", help);
+    with_flag(
+        alloc,
+        command,
+        "warn",
+        "Warn of targets that no client can reach",
+    )
 }
 
 pub(crate) fn describe_command<'a>(alloc: Global) -> Making<'a>
@@ -203,13 +215,24 @@ fn read_names(alloc: Global, matches: &ArgMatches<'_>) -> Result<TrackNames, Err
     })
 }
 
+// The question of `check`.
+fn check_question_in(matches: &ArgMatches<'_>) -> Question
+    ensures { result ≡ check_question_in (rows_of (found_of matches.now)) }
+{
+    if flag_in(matches, "warn") {
+        Question::Warn
+    } else {
+        Question::Check
+    }
+}
+
 // Reads the question of a command.
 fn read_question(alloc: Global, name: &str, matches: &ArgMatches<'_>) -> Result<Question, Error>
     ensures faults { FailsBy (faults_of_report name.now (rows_of (found_of matches.now))) result }
     ensures question { IfOk result (λ question. question ≡ question_in name.now (rows_of (found_of matches.now))) }
 {
     if name == "check" {
-        return Ok(Question::Check);
+        return Ok(check_question_in(matches));
     }
     if name == "certify" {
         return Ok(Question::Certify(read_names(alloc, matches)?));
@@ -248,6 +271,21 @@ fn invalid_workers(alloc: Global) -> Result<Error, AllocError>
     )
 }
 
+// The error for `--warn` beside `--packages`, built like the errors of `clap`.
+fn two_checks(alloc: Global) -> Result<Error, AllocError>
+    ensures { IfOk result (λ error. kind_of error ≡ ErrorKind.ValueValidation) }
+{
+    let mut command = check_command(alloc)?.bin_name("omaha check")?;
+    command.error(ErrorKind::ValueValidation, "--warn goes without --packages")
+}
+
+// Whether `--warn` and `--packages` aren't given together.
+fn is_one_check(matches: &ArgMatches<'_>) -> bool
+    ensures { result ≡ is_one_check (rows_of (found_of matches.now)) }
+{
+    !(flag_in(matches, "warn") && is_given(matches, "packages"))
+}
+
 // rule: Number of workers
 /// Reads how many threads `check` has for the tables.
 pub(crate) fn read_workers(alloc: Global, matches: &ArgMatches<'_>) -> Result<usize, Error>
@@ -256,7 +294,8 @@ pub(crate) fn read_workers(alloc: Global, matches: &ArgMatches<'_>) -> Result<us
     ensures workers { IfOk result (λ workers. workers ≡ unwrap_or (workers_in (rows_of (found_of matches.now))) 1) }
 {
     match workers_in(matches) {
-        Some(workers) => Ok(workers as usize),
+        Some(workers) if is_one_check(matches) => Ok(workers as usize),
+        Some(_) => Err(two_checks(alloc)?),
         None => Err(invalid_workers(alloc)?),
     }
 }

@@ -1,20 +1,24 @@
 // The arguments of the command `review`, as `clap` reads them.
 
 ghost use Rattle.std.specs.Prelude.{◌≡◌, IfOk};
-ghost use Rattle.clap.specs.Words.{found_of, rows_of};
+ghost use Rattle.clap.specs.Words.{FailsBy, found_of, kind_of, rows_of};
 ghost use Rattle.omaha_arguments.specs.Options.{IsMade};
-ghost use Rattle.omaha_arguments.specs.ReviewArguments.{review_app, review_in};
+ghost use Rattle.omaha_arguments.specs.ReviewArguments.{faults_of_review, is_one_source, review_app, review_in, source_in};
 
-use crate::command::Review;
+use crate::command::{Review, Source};
 use crate::options::{
-    Making, flag_in, optional_string, string_in, titled, with_flag, with_option, with_wanted,
+    Making, flag_in, optional_string, string_in, titled, with_argument, with_flag, with_option,
 };
-use clap::ArgMatches;
+use crate::serve_arguments::is_given;
+use clap::error::ErrorKind;
+use clap::{ArgMatches, Error};
 use std::alloc::{AllocError, Global};
 use values::Text;
 
 const REVIEW: &str =
     "Prints which clients of a profile are stuck and why, or what a script changes.";
+
+const TO: &str = "A running server in place of F: its operator's address, such as 127.0.0.1:8081";
 
 const SCRIPT: &str = "The script whose changes are printed [default: the profile is reviewed]";
 
@@ -42,13 +46,17 @@ The reason is the first rule without which the release wouldn't be stuck:
   above the target without a downgrade the cohort or the clients allow no downgrade
   several rules                        no rule alone is the reason
 
-With --script it prints only what the script changes; its base is 1:
+With --script it prints only what the script changes; its base is 1, as that of a profile:
   stuck   mini stable target no: 1.0, the target is withdrawn     newly stuck; these come first
   larger  mini stable target no: 1.0, 750 bytes to 800 bytes      more bytes up to the target
   smaller mini stable target no: 1.0, 750 bytes to 350 bytes      fewer bytes
   other   mini stable target no: 2.0, 450 bytes to 450 bytes      another first package
   freed   mini stable held yes: 4.0, stuck to 1400 bytes          it was stuck
   total   4 tracks, 16 releases, 3 changed, 1 newly stuck
+
+With --to it reviews what a running server has published; the base of a script is then the number of
+the server's edition. If it isn't, the server's reply `stale N` is printed, and the status is 1.
+Nothing is published.
 
 With --strict it prints the same, and then `omaha: stuck N` on standard error if N releases are
 stuck or, with --script, newly stuck.
@@ -58,29 +66,75 @@ Exit status: 0 if the review was printed, 1 if --strict found a stuck release or
 
 Examples:
   omaha review profile.toml
-  omaha review profile.toml --script stage.toml --strict";
+  omaha review profile.toml --script stage.toml --strict
+  omaha review --to 127.0.0.1:8081 --script stage.toml --strict";
 
 pub(crate) fn review_command<'a>(alloc: Global) -> Making<'a>
     ensures { IsMade review_app result }
 {
     let command = titled(alloc, "review", REVIEW, AFTER_REVIEW);
-    let command = with_wanted(alloc, command, "F", "The profile");
+    let command = with_argument(alloc, command, "F", "The profile");
+    let command = with_option(alloc, command, "to", "ADDR", TO);
     let command = with_option(alloc, command, "script", "S", SCRIPT);
     let command = with_flag(alloc, command, "all", ALL);
     with_flag(alloc, command, "strict", STRICT)
 }
 
-// rule: Arguments of a review
-/// Reads the arguments of `review`.
-pub(crate) fn read_review(alloc: Global, matches: &ArgMatches<'_>) -> Result<Review, AllocError>
+// Whether a profile is named, or a server, and not both.
+fn is_one_source(matches: &ArgMatches<'_>) -> bool
+    ensures { result ≡ is_one_source (rows_of (found_of matches.now)) }
+{
+    let profile = is_given(matches, "F");
+    if is_given(matches, "to") {
+        !profile
+    } else {
+        profile
+    }
+}
+
+// Where the catalogue is.
+fn source_in(alloc: Global, matches: &ArgMatches<'_>) -> Result<Source, AllocError>
+    ensures { IfOk result (λ source. source ≡ source_in (rows_of (found_of matches.now))) }
+{
+    match optional_string(alloc, matches, "to")? {
+        Some(to) => Ok(Source::Server(to)),
+        None => Ok(Source::Profile(Text::copy_of(alloc, string_in(matches, "F"))?)),
+    }
+}
+
+// The error of a review of no catalogue, or of two, built like the errors of `clap`.
+fn invalid_source(alloc: Global) -> Result<Error, AllocError>
+    ensures { IfOk result (λ error. kind_of error ≡ ErrorKind.ValueValidation) }
+{
+    let mut command = review_command(alloc)?.bin_name("omaha review")?;
+    command.error(
+        ErrorKind::ValueValidation,
+        "name a profile F, or a server by --to <ADDR>, and not both",
+    )
+}
+
+// Reads what is reviewed, if one catalogue is named.
+fn review_of(alloc: Global, matches: &ArgMatches<'_>) -> Result<Review, AllocError>
     ensures { IfOk result (λ review. review ≡ review_in (rows_of (found_of matches.now))) }
 {
-    let profile = Text::copy_of(alloc, string_in(matches, "F"))?;
+    let source = source_in(alloc, matches)?;
     let script = optional_string(alloc, matches, "script")?;
     Ok(Review {
-        profile,
+        source,
         script,
         all: flag_in(matches, "all"),
         strict: flag_in(matches, "strict"),
     })
+}
+
+// rule: Arguments of a review
+/// Reads the arguments of `review`.
+pub(crate) fn read_review(alloc: Global, matches: &ArgMatches<'_>) -> Result<Review, Error>
+    ensures faults { FailsBy (faults_of_review (rows_of (found_of matches.now))) result }
+    ensures review { IfOk result (λ review. review ≡ review_in (rows_of (found_of matches.now))) }
+{
+    if !is_one_source(matches) {
+        return Err(invalid_source(alloc)?);
+    }
+    Ok(review_of(alloc, matches)?)
 }

@@ -192,8 +192,8 @@ fn invalid_bound(alloc: Global) -> Result<Error, AllocError>
     )
 }
 
-// Whether an option is given.
-fn is_given(matches: &ArgMatches<'_>, id: &str) -> bool
+/// Whether an option or an argument is given.
+pub(crate) fn is_given(matches: &ArgMatches<'_>, id: &str) -> bool
     ensures { result ≡ is_some (first_of id.now (rows_of (found_of matches.now))) }
 {
     match matches.get_str(id) {

@@ -23,7 +23,7 @@ use Rattle.omaha_commands.specs.declared.failure.Failure.{Failure}
 abbrev pub Does : World → Command → Streams → Streams → Result (Unit {0}) Failure → Type 0
 Does world (command.Once once) old new result = Responds world.files once old new result
 Does world (command.Report report) old new result = Reports world.files report old new result
-Does world (command.Review asked) old new result = Reviews world.files asked old new result
+Does world (command.Review asked) old new result = Reviews world.files world.operated asked old new result
 Does world (command.Compare asked) old new result = Compares world.files world.storage asked old new result
 Does world (command.Describe paths) old new result = PrintsDescriptions world.storage paths old new result
 Does world (command.Explain code) old new result = Explains code old new result

@@ -1,1 +1,2 @@
 mod DescriptionLemmas
+mod ReviewLemmas

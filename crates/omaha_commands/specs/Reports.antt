@@ -1,10 +1,14 @@
 -- What the commands that report on a profile find and print; this project's profile.
-use Rattle.std.specs.Prelude.{◌≡◌, ◌⊎◌, ℕ, List, codes, length, Some, Result, Ok, Err}
+use Rattle.std.specs.Prelude.{◌≡◌, ◌⊎◌, ℕ, List, ◌++◌, codes, length, Some, Result, Ok, Err}
 use Rattle.std.specs.Io.KnownBytes.{Appends}
 use Rattle.streams.specs.Reading.{IsWhole}
 use Rattle.streams.specs.Writing.{Breaks}
 use Rattle.records.specs.declared.content.App.{App}
 use Rattle.editions.specs.Editions.{content_of}
+use Rattle.catalogue_laws.specs.Histories.{History}
+use Rattle.reviews.specs.Reviews.{AreReviews}
+use Rattle.reviews.specs.Warnings.{warnings_string}
+use Rattle.reviews.specs.declared.review.TrackReview.{TrackReview}
 use Rattle.services.specs.declared.service.Service.{Service}
 use Rattle.reports.specs.Certificates.{Certifies, Verifies}
 use Rattle.reports.specs.Summaries.{summary_of}
@@ -14,7 +18,7 @@ use Rattle.omaha_commands.specs.Profiles.{Files, IsServed, IsUnreadable, max_pro
 use Rattle.omaha_commands.specs.Rejections.{failure_of_certificate}
 use Rattle.omaha_commands.specs.Streams.{Streams}
 use Rattle.omaha_arguments.specs.declared.command.Question.{Question}
-use Rattle.omaha_arguments.specs.declared.command.Question.TheVariants.{Check, Certify, Verify}
+use Rattle.omaha_arguments.specs.declared.command.Question.TheVariants.{Check, Warn, Certify, Verify}
 use Rattle.omaha_arguments.specs.declared.command.Report.{Report}
 use Rattle.omaha_commands.specs.declared.failure.Failure.{Failure}
 use Rattle.omaha_commands.specs.declared.failure.Failure.TheVariants as failure
@@ -32,12 +36,25 @@ abbrev pub IsVerified : Files → List App → List ℕ → Result (Unit {0}) (R
 IsVerified files apps path found =
     (bytes : List ℕ) × IsWhole (files path) max_profile bytes × Verifies apps bytes found
 
+-- the warnings of a content, by the reviews of its tracks
+abbrev pub AreWarnings : List App → List ℕ → Type 0
+AreWarnings apps text = (reviews : List TrackReview) × AreReviews apps reviews × (text ≡ warnings_string apps reviews)
+
+-- rule: Check with warnings
+-- the summary of an edition, and its warnings
+abbrev pub IsWarned : History → List ℕ → Type 0
+IsWarned history text =
+    (warnings : List ℕ) × AreWarnings (content_of history) warnings
+    × (text ≡ summary_of (length history) (content_of history) ++ warnings)
+
 -- rule: Report on a profile
--- what is found for a question about a service's edition: its summary; the certificate of the named track; or
--- that the certificate in the file is valid. Or why that is not found.
+-- what is found for a question about a service's edition: its summary, perhaps with warnings; the certificate of the
+-- named track; or that the certificate in the file is valid. Or why that is not found.
 abbrev pub Finds : Files → Service → Question → Result (List ℕ) Failure → Type 0
 Finds files service Check (Ok text) = text ≡ summary_of (length service.edition) (content_of service.edition)
 Finds files service Check (Err refusal) = refusal ≡ failure.Memory
+Finds files service Warn (Ok text) = IsWarned service.edition text
+Finds files service Warn (Err refusal) = refusal ≡ failure.Memory
 Finds files service (Certify names) (Ok text) = Certifies (content_of service.edition) names (Ok text)
 Finds files service (Certify names) (Err refusal) =
     FailsAs (λ error. Certifies (content_of service.edition) names (Err error)) refusal

@@ -1,5 +1,6 @@
 -- What `review` finds and prints; this project's profile.
-use Rattle.std.specs.Prelude.{◌≡◌, ◌≢◌, ◌⊎◌, ⊤, ℕ, ◌-◌, ◌^◌, ◌&&◌, true, if◌then◌else◌, List, nat_lt, length, Option, Some, None, Result, Ok, Err}
+use Rattle.std.specs.Prelude.{◌≡◌, ◌≢◌, ◌⊎◌, ⊤, ℕ, ◌-◌, ◌^◌, ◌==◌, ◌&&◌, Bool, true, false, bytes_eq, if◌then◌else◌, codes, decimal, List, ◌++◌, nat_lt, length, Option, Some, None, Result, Ok, Err}
+use Rattle.std.specs.Option.{option_map}
 use Rattle.std.specs.Io.KnownBytes.{Appends}
 use Rattle.streams.specs.Reading.{IsLonger, IsWhole}
 use Rattle.streams.specs.Writing.{Breaks}
@@ -10,7 +11,6 @@ use Rattle.editions.specs.declared.fault.NextError.{NextError}
 use Rattle.editions.specs.declared.fault.NextError.TheVariants as next
 use Rattle.services.specs.declared.service.Service.{Service}
 use Rattle.profile_toml.specs.Reading.{script_of_bytes}
-use Rattle.profile_toml.specs.declared.fault.ProfileFault.{ProfileFault}
 use Rattle.reviews.specs.ChangeLines.{change_string, newly_stuck_total}
 use Rattle.reviews.specs.Changes.{changes_of}
 use Rattle.reviews.specs.ReviewLines.{review_string, stuck_total}
@@ -18,11 +18,17 @@ use Rattle.reviews.specs.Reviews.{AreReviews}
 use Rattle.reviews.specs.declared.change.Change.{Change}
 use Rattle.reviews.specs.declared.review.TrackReview.{TrackReview}
 use Rattle.omaha_arguments.specs.declared.command.Review.{Review}
-use Rattle.omaha_commands.specs.Profiles.{Files, IsServed}
+use Rattle.omaha_arguments.specs.declared.command.Source.{Source}
+use Rattle.omaha_arguments.specs.declared.command.Source.TheVariants.{Profile, Server}
+use Rattle.update_client.specs.declared.posting.Reply.{Reply}
+use Rattle.omaha_commands.specs.Operating.{Listeners}
+use Rattle.omaha_commands.specs.Profiles.{Files, IsMade, IsServed, service_of_bytes}
 use Rattle.omaha_commands.specs.Streams.{Streams}
 use Rattle.omaha_commands.specs.declared.failure.Failure.{Failure}
 use Rattle.omaha_commands.specs.declared.failure.Failure.TheVariants as failure
 use Rattle.omaha_commands.specs.declared.reviewing.Findings.{Findings}
+use Rattle.omaha_commands.specs.declared.reviewing.Verdict.{Verdict}
+use Rattle.omaha_commands.specs.declared.reviewing.Verdict.TheVariants.{StuckReleases, Declined}
 
 -- how many bytes a script may have
 abbrev pub max_script : ℕ
@@ -37,7 +43,7 @@ pub record IsReviewed (history : History) (limit : ℕ) (findings : Findings) : 
   pub reviews : List TrackReview
   pub are : AreReviews (content_of history) reviews
   pub text : findings.text.items ≡ review_string (content_of history) limit reviews
-  pub stuck : findings.stuck ≡ stuck_total reviews
+  pub verdict : findings.verdict ≡ StuckReleases (stuck_total reviews)
 
 -- the review of a change from one edition to another is found, and how many releases are newly stuck
 pub record IsReviewedChange (old new : History) (findings : Findings) : Type 0 where
@@ -48,7 +54,7 @@ pub record IsReviewedChange (old new : History) (findings : Findings) : Type 0 w
   pub changes : List Change
   pub are : changes ≡ changes_of (content_of old) (content_of new) before after
   pub text : findings.text.items ≡ change_string (content_of new) after changes
-  pub stuck : findings.stuck ≡ newly_stuck_total changes
+  pub verdict : findings.verdict ≡ StuckReleases (newly_stuck_total changes)
 
 -- why an edition has no next one, as a failure
 abbrev pub failure_of_next : NextError → Failure
@@ -56,8 +62,17 @@ failure_of_next (next.Refused refused) = failure.Edit refused
 failure_of_next next.HistoryFull = failure.HistoryFull
 failure_of_next next.Memory = failure.Memory
 
--- what is found of a batch that is written for an edition of a number: another edition is there; the review of the
--- change to the next edition; or why there is none
+-- a script: the number of the edition that it is written for, and its edits
+abbrev pub Script : Type 0
+Script = ℕ × List Edit
+
+-- what is found of a change, unless memory runs out
+abbrev pub FindsNext : History → History → Result Findings Failure → Type 0
+FindsNext before after (Ok findings) = IsReviewedChange before after findings
+FindsNext before after (Err refusal) = refusal ≡ failure.Memory
+
+-- what is found of a script for an edition: another edition is there; the review of the change to the next edition; or
+-- why there is none
 abbrev pub FindsInBatch : History → ℕ → List Edit → Result Findings Failure → Type 0
 FindsInBatch history base batch (Ok findings) =
     (base ≡ length history)
@@ -68,51 +83,150 @@ FindsInBatch history base batch (Err refusal) =
     (base ≡ length history)
     × ((error : NextError) × (refusal ≡ failure_of_next error) × Continues history batch (Err error))
 
--- what is found of a script that was read, or of its fault
-abbrev pub FindsInScript : History → Result (ℕ × List Edit) ProfileFault → Result Findings Failure → Type 0
-FindsInScript history (Ok script) found = FindsInBatch history script.0 script.1 found
-FindsInScript history (Err fault) found = (found ≡ Err (failure.Script fault)) ⊎ (found ≡ Err failure.Memory)
-
--- the script's file can't be read, or has too many bytes; or its bytes are reviewed
-abbrev pub FindsInFile : Files → History → List ℕ → Result Findings Failure → Type 0
-FindsInFile files history path found =
-    ((found ≡ Err (failure.File path)) × (((files path).failed ≡ true) ⊎ IsLonger (files path) max_script))
-    ⊎ (found ≡ Err failure.Memory)
-    ⊎ ((script : List ℕ) × IsWhole (files path) max_script script × FindsInScript history (script_of_bytes script) found)
+-- what is found of an edition, unless memory runs out
+abbrev pub FindsWhole : Review → History → Result Findings Failure → Type 0
+FindsWhole asked history (Ok findings) = IsReviewed history (limit_of asked) findings
+FindsWhole asked history (Err refusal) = refusal ≡ failure.Memory
 
 -- what is found of an edition, without a script or with one
-abbrev pub FindsBy : Files → Review → History → Option (List ℕ) → Result Findings Failure → Type 0
-FindsBy files asked history None (Ok findings) = IsReviewed history (limit_of asked) findings
-FindsBy files asked history None (Err refusal) = refusal ≡ failure.Memory
-FindsBy files asked history (Some path) found = FindsInFile files history path found
+abbrev pub FindsBy : Review → History → Option Script → Result Findings Failure → Type 0
+FindsBy asked history None found = FindsWhole asked history found
+FindsBy asked history (Some script) found = FindsInBatch history script.0 script.1 found
 
--- what follows from what was made of the profile
-abbrev pub FollowsBy : Files → Review → Result Service Failure → Result Findings Failure → Type 0
-FollowsBy files asked (Ok service) found = FindsBy files asked service.edition asked.script found
-FollowsBy files asked (Err refusal) found = found ≡ Err refusal
+-- what follows from what was made of a profile
+abbrev pub FollowsBy : Review → Option Script → Result Service Failure → Result Findings Failure → Type 0
+FollowsBy asked script (Ok service) found = FindsBy asked service.edition script found
+FollowsBy asked script (Err refusal) found = found ≡ Err refusal
 
--- the profile is read first, and reviewed, or what the script changes of it
-pub record FindsReview (files : Files) (asked : Review) (found : Result Findings Failure) : Type 0 where
+-- a profile's file is read and reviewed, or what the script changes of it
+pub record FindsInProfile (files : Files) (path : List ℕ) (asked : Review) (script : Option Script) (found : Result Findings Failure) : Type 0 where
   pub made : Result Service Failure
-  pub served : IsServed files (Some asked.profile) made
-  pub follows : FollowsBy files asked made found
+  pub served : IsServed files (Some path) made
+  pub follows : FollowsBy asked script made found
+
+-- an operator's listener sends no whole reply, or memory ran out
+abbrev pub IsUnanswered : List ℕ → Result Findings Failure → Type 0
+IsUnanswered to found = (found ≡ Err (failure.Net to)) ⊎ (found ≡ Err failure.Memory)
+
+-- another reply than the one that is asked for is printed, and the review fails
+abbrev pub IsDeclined : Reply → Result Findings Failure → Type 0
+IsDeclined reply found = found ≡ Ok (record { text = reply.body; verdict = Declined })
+
+-- a script as if it were written for an edition
+abbrev pub based_on : History → Option Script → Option Script
+based_on history script = option_map (λ (it : Script). (length history, it.1)) script
+
+-- what follows from what was made of a dump, whose number isn't the server's
+abbrev pub FollowsDump : Review → Option Script → Result Service Failure → Result Findings Failure → Type 0
+FollowsDump asked script (Ok service) found = FindsBy asked service.edition (based_on service.edition script) found
+FollowsDump asked script (Err refusal) found = found ≡ Err refusal
+
+-- a dump is reviewed, or what a script's edits change of it
+pub record FindsInDump (dump : List ℕ) (asked : Review) (script : Option Script) (found : Result Findings Failure) : Type 0 where
+  pub made : Result Service Failure
+  pub is : IsMade (service_of_bytes dump) made
+  pub follows : FollowsDump asked script made found
+
+-- what is found of the reply to a dump, which may be another one
+abbrev pub FindsInReply : Bool → Reply → Review → Option Script → Result Findings Failure → Type 0
+FindsInReply true reply asked script found = FindsInDump reply.body.items asked script found
+FindsInReply false reply asked script found = IsDeclined reply found
+
+-- what is found of what a server has published: its dump is asked for
+abbrev pub FindsPublished : Listeners → List ℕ → Review → Option Script → Result Findings Failure → Type 0
+FindsPublished listeners to asked script found =
+    IsUnanswered to found
+    ⊎ ((reply : Reply) × listeners to (codes "dump") reply × FindsInReply (reply.status == 200) reply asked script found)
+
+-- a script that no server publishes, since no edition has the number 0; the reply names the server's edition
+abbrev pub probe_script : List ℕ
+probe_script = codes "schema = 1\nbase = 0\n"
+
+-- a reply to it names the edition of a number
+abbrev pub names_edition : List ℕ → ℕ → Bool
+names_edition body number = bytes_eq body (codes "stale " ++ (decimal number ++ codes "\n"))
+
+-- what is found by whether the server has the edition that a script is written for
+abbrev pub FindsIfNamed : Bool → Reply → Listeners → List ℕ → Review → Script → Result Findings Failure → Type 0
+FindsIfNamed true reply listeners to asked script found = FindsPublished listeners to asked (Some script) found
+FindsIfNamed false reply listeners to asked script found = IsDeclined reply found
+
+-- the same of a reply, unless memory runs out
+abbrev pub FindsSaid : Reply → Listeners → List ℕ → Review → Script → Result Findings Failure → Type 0
+FindsSaid reply listeners to asked script found =
+    (found ≡ Err failure.Memory)
+    ⊎ FindsIfNamed (names_edition reply.body.items script.0) reply listeners to asked script found
+
+-- what is found of a script: the server is asked for its edition first
+abbrev pub FindsScriptOn : Listeners → List ℕ → Review → Script → Result Findings Failure → Type 0
+FindsScriptOn listeners to asked script found =
+    IsUnanswered to found
+    ⊎ ((reply : Reply) × listeners to probe_script reply × FindsSaid reply listeners to asked script found)
+
+-- rule: Review of a server
+-- what is found of a server: without a script of what it has published; with one only if its edition is the one that the
+-- script is written for
+abbrev pub FindsOnServer : Listeners → List ℕ → Review → Option Script → Result Findings Failure → Type 0
+FindsOnServer listeners to asked None found = FindsPublished listeners to asked None found
+FindsOnServer listeners to asked (Some script) found = FindsScriptOn listeners to asked script found
+
+-- what is found of where the catalogue is
+abbrev pub FindsIn : Files → Listeners → Review → Source → Option Script → Result Findings Failure → Type 0
+FindsIn files listeners asked (Profile path) script found = FindsInProfile files path asked script found
+FindsIn files listeners asked (Server to) script found = FindsOnServer listeners to asked script found
+
+-- why bytes aren't read as a script
+abbrev pub IsUnreadScript : List ℕ → Failure → Type 0
+IsUnreadScript bytes (failure.Script fault) = script_of_bytes bytes ≡ Err fault
+IsUnreadScript bytes failure.Memory = ⊤
+IsUnreadScript bytes refusal = ⊥
+
+-- the script of a file; its first fault; or the file can't be read, or has too many bytes
+abbrev pub IsScriptOf : Files → List ℕ → Result Script Failure → Type 0
+IsScriptOf files path (Ok script) =
+    (bytes : List ℕ) × IsWhole (files path) max_script bytes × (script_of_bytes bytes ≡ Ok script)
+IsScriptOf files path (Err (failure.Script fault)) =
+    (bytes : List ℕ) × IsWhole (files path) max_script bytes × (script_of_bytes bytes ≡ Err fault)
+IsScriptOf files path (Err (failure.File named)) =
+    (named ≡ path) × (((files path).failed ≡ true) ⊎ IsLonger (files path) max_script)
+IsScriptOf files path (Err failure.Memory) = ⊤
+IsScriptOf files path (Err refusal) = ⊥
+
+-- the script of a review, if it has one
+abbrev pub IsScriptRead : Files → Option (List ℕ) → Result (Option Script) Failure → Type 0
+IsScriptRead files None read = read ≡ Ok None
+IsScriptRead files (Some path) (Ok None) = ⊥
+IsScriptRead files (Some path) (Ok (Some script)) = IsScriptOf files path (Ok script)
+IsScriptRead files (Some path) (Err refusal) = IsScriptOf files path (Err refusal)
+
+-- what follows from the script that was read
+abbrev pub FindsWith : Files → Listeners → Review → Result (Option Script) Failure → Result Findings Failure → Type 0
+FindsWith files listeners asked (Ok script) found = FindsIn files listeners asked asked.source script found
+FindsWith files listeners asked (Err refusal) found = found ≡ Err refusal
+
+-- the script is read first; then the catalogue is reviewed, or what the script changes of it
+pub record FindsReview (files : Files) (listeners : Listeners) (asked : Review) (found : Result Findings Failure) : Type 0 where
+  pub read : Result (Option Script) Failure
+  pub script : IsScriptRead files asked.script read
+  pub follows : FindsWith files listeners asked read found
 
 -- rule: Strict review
--- how the command ends that printed a review with so many stuck releases
-abbrev pub end_of : Review → ℕ → Result (Unit {0}) Failure
-end_of asked stuck = if asked.strict && nat_lt 0 stuck then Err (failure.Stuck stuck) else Ok tt
+-- how the command ends that printed what it found
+abbrev pub end_of : Review → Verdict → Result (Unit {0}) Failure
+end_of asked (StuckReleases stuck) = if asked.strict && nat_lt 0 stuck then Err (failure.Stuck stuck) else Ok tt
+end_of asked Declined = Err failure.Declined
 
 -- what was found is printed, and the command ends by it; or the writer failed within it; or nothing is printed
 abbrev pub PrintsReview : Review → Result Findings Failure → Streams → Streams → Result (Unit {0}) Failure → Type 0
 PrintsReview asked (Ok findings) old new result =
-    (((result ≡ end_of asked findings.stuck) × Appends old.output.bytes new.output.bytes findings.text.items)
+    (((result ≡ end_of asked findings.verdict) × Appends old.output.bytes new.output.bytes findings.text.items)
     ⊎ ((result ≡ Err failure.Write) × Breaks old.output new.output findings.text.items))
     × (new.input ≡ old.input)
 PrintsReview asked (Err refusal) old new result = (result ≡ Err refusal) × (new ≡ old)
 
 -- rule: Report of a review
 -- a review is found, and printed
-pub record Reviews (files : Files) (asked : Review) (old new : Streams) (result : Result (Unit {0}) Failure) : Type 0 where
+pub record Reviews (files : Files) (listeners : Listeners) (asked : Review) (old new : Streams) (result : Result (Unit {0}) Failure) : Type 0 where
   pub found : Result Findings Failure
-  pub is : FindsReview files asked found
+  pub is : FindsReview files listeners asked found
   pub printed : PrintsReview asked found old new result

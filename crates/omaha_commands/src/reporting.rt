@@ -1,16 +1,20 @@
 // The commands that report on a profile: `check`, `certify` and `verify`.
 
 ghost use Rattle.std.specs.Prelude.{IfErr, IfOk, Ok, Err};
-ghost use Rattle.omaha_commands.specs.Reports.{Finds, IsReported, Reports};
+ghost use Rattle.editions.specs.Editions.{content_of};
+ghost use Rattle.omaha_commands.specs.Reports.{AreWarnings, Finds, IsReported, IsWarned, Reports};
 ghost use Rattle.omaha_arguments.specs.declared.command.Question.TheVariants.{Verify};
 ghost use Rattle.streams.specs.Streams.{Known};
 
 use crate::failure::Failure;
 use crate::printing::print;
 use crate::profile::{MAX_PROFILE, open_profile};
+use editions::Edition;
 use omaha_arguments::{Question, Report};
 use reports::{certify, summary, verify};
+use reviews::{review_catalogue, write_warnings};
 use services::Service;
+use std::alloc::{AllocError, Global};
 use std::thread::Threads;
 use streams::{Disk, ReadFailure, WriteWhole};
 use values::Text;
@@ -33,6 +37,26 @@ fn verify_file<R: Disk + AllocGlobal + Threads + Sync>(
     Ok(Vec::from_slice(rt.alloc(), b"certified\n")?)
 }
 
+// A line for each target that no client can reach.
+fn warnings_of(alloc: Global, edition: &Edition) -> Result<Vec<u8>, AllocError>
+    ensures { IfOk result (λ text. AreWarnings (content_of edition.now) text.items) }
+{
+    let reviews = review_catalogue(alloc, edition.catalogue(), edition.tables())?;
+    let text = write_warnings(alloc, edition.catalogue(), reviews.as_slice())?;
+    Ok(text)
+}
+
+// rule: Check with warnings
+// The summary of an edition, and a line for each target that no client can reach.
+fn warned_summary(alloc: Global, edition: &Edition) -> Result<Vec<u8>, AllocError>
+    ensures { IfOk result (λ text. IsWarned edition.now text.items) }
+{
+    let mut text = summary(alloc, edition)?.into_bytes();
+    let warnings = warnings_of(alloc, edition)?;
+    text.extend_from_slice(warnings.as_slice())?;
+    Ok(text)
+}
+
 // What is found for a question about a service's edition.
 fn find<R: Disk + AllocGlobal + Threads + Sync>(
     rt: &R,
@@ -44,6 +68,7 @@ fn find<R: Disk + AllocGlobal + Threads + Sync>(
 {
     match question {
         Question::Check => Ok(summary(rt.alloc(), &service.edition)?.into_bytes()),
+        Question::Warn => Ok(warned_summary(rt.alloc(), &service.edition)?),
         Question::Certify(names) => Ok(certify(rt.alloc(), &service.edition, names)?),
         Question::Verify(path) => verify_file(rt, service, path),
     }
