@@ -6,9 +6,7 @@ ghost use Rattle.omaha_arguments.specs.Options.{IsMade};
 ghost use Rattle.omaha_arguments.specs.ScriptArguments.{base_in, faults_of_script, script_app, script_in};
 
 use crate::command::Script;
-use crate::options::{
-    Making, number_in, strings_in, titled, with_wanted_list, with_wanted_option,
-};
+use crate::options::{Making, number_in, strings_in, titled, with_wanted_list, with_wanted_option};
 use clap::error::ErrorKind;
 use clap::{ArgMatches, Error};
 use std::alloc::{AllocError, Global};
@@ -19,7 +17,8 @@ const BASE: &str = "The number of the edition that the script is written for";
 
 const WORDS: &str = "What an edit does, and then its keys with their values: KEY=VALUE";
 
-const AFTER_SCRIPT: &str = "A word without `=` begins an edit, and each word KEY=VALUE after it is one of its keys:
+const AFTER_SCRIPT: &str =
+    "A word without `=` begins an edit, and each word KEY=VALUE after it is one of its keys:
   add_app        app default
   add_cohort     app cohort
   add_release    app version name size sha256

@@ -19,12 +19,7 @@ fn push_edit(alloc: Global, text: &mut Vec<u8>, name: &str) -> Result<(), AllocE
 }
 
 // Adds a key with its value.
-fn push_pair(
-    alloc: Global,
-    text: &mut Vec<u8>,
-    key: &str,
-    value: &str,
-) -> Result<(), AllocError>
+fn push_pair(alloc: Global, text: &mut Vec<u8>, key: &str, value: &str) -> Result<(), AllocError>
     ensures { OnOk result (text.new.items ≡ text.old.items ++ pair_string key.now value.now) }
 {
     let name = Key { string: key };
