@@ -59,6 +59,7 @@ IsAskable (command.Explain code) = ⊤
 IsAskable (command.Serve serve) = ⊤
 IsAskable (command.Walk walk) = IsAppid walk.app
 IsAskable (command.Publish publication) = ⊤
+IsAskable (command.Script asked) = ⊤
 IsAskable (command.Raise raise) = ⊤
 IsAskable (command.Dump listener) = ⊤
 IsAskable (command.History asked) = ⊤
