@@ -78,9 +78,15 @@ impl Disk {
         }
     }
 
+    // Takes the files out.
+    fn into_files(self) -> Files<Fused> {
+        let Disk { files } = self;
+        files
+    }
+
     /// The files of a database that these statements make.
     pub fn made(alloc: Global, table: &str, rest: &str) -> Option<Disk> {
-        let Disk { files } = Disk::empty(alloc, u64::MAX, u64::MAX);
+        let files = Disk::empty(alloc, u64::MAX, u64::MAX).into_files();
         let mut conn = connect(alloc, files)?;
         let runs = runs(&mut conn, table) && runs(&mut conn, rest);
         let files = conn.close_files().ok()?;
@@ -127,8 +133,7 @@ fn open(alloc: Global, files: Files<Fused>, found: &mut Found) -> Option<Fragile
 impl DiskHistory {
     /// Opens the history on a disk, or makes one, and notes what it found.
     pub fn open(alloc: Global, disk: Disk, found: &mut Found) -> Option<DiskHistory> {
-        let Disk { files } = disk;
-        let history = open(alloc, files, found)?;
+        let history = open(alloc, disk.into_files(), found)?;
         Some(DiskHistory { history })
     }
 
