@@ -144,6 +144,8 @@ class Test:
         return None if found[0] == 0 else f"{found!r:.400}"
 
 
+# how a connection fails to a server that has ended, or ends meanwhile
+ENDED = (ConnectionRefusedError, ConnectionResetError)
 UPDATE = b'{"request":{"protocol":"3.1","app":[{"appid":"mini","cohort":"stable:7","updatecheck":{}}]}}'
 SCRIPT = (EXAMPLES / "scripts" / "stage.toml").read_bytes()
 
@@ -208,7 +210,7 @@ class Serving:
             replies.append(reply)
         for to, port in ports.items():
             for _ in range(self.left[to]):
-                with contextlib.suppress(ConnectionRefusedError):
+                with contextlib.suppress(*ENDED):
                     server.Connection(port).socket.close()
         return self.judge_end(process, replies)
 
@@ -220,11 +222,12 @@ class Serving:
         """The status of the reply, its body, and whether that is a part; `None` without a reply."""
         self.left[to] -= 1
         try:
-            with Connection(ports[to]) as connection:
-                connection.send(message)
-                reply = connection.read()
-        except ConnectionRefusedError:
+            connected = Connection(ports[to])
+        except ENDED:
             return None
+        with connected as connection:
+            connection.send(message)
+            reply = connection.read()
         if reply is None:
             return None
         body = reply.body.partition(b'"daystart"')[0]
