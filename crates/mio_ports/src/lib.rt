@@ -15,8 +15,10 @@ mod lingering;
 mod passing;
 mod port;
 mod reporting;
+mod sockets;
 mod times;
 mod waiting;
 mod waiting_list;
 
 pub use crate::port::MioPort;
+pub use crate::sockets::Listener;

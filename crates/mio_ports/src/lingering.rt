@@ -1,9 +1,8 @@
 // Connections that are closed, and whose peers may still send.
 
-use mio::net::TcpStream;
+use crate::sockets::Stream;
 use std::alloc::{AllocError, Global};
-use std::io::{ErrorKind, Read};
-use std::net::Shutdown;
+use std::io::ErrorKind;
 
 // The most connections that linger.
 const MAX_LINGERING: usize = 64;
@@ -17,7 +16,7 @@ const READS: usize = 16;
 // A connection whose replies are sent, since a second.
 #[derive(Drop)]
 struct Lingering {
-    stream: TcpStream,
+    stream: Stream,
     since: u64,
 }
 
@@ -29,7 +28,7 @@ pub(crate) struct LingeringList {
 }
 
 // Drops what has come; whether there may be more later.
-fn drop_input(mut stream: &TcpStream) -> bool {
+fn drop_input(stream: &Stream) -> bool {
     for _ in 0..READS {
         match stream.read(&mut [0; 4096]) {
             Ok(0) => return false,
@@ -53,8 +52,8 @@ impl LingeringList {
     }
 
     /// Announces the end of the replies, and keeps the connection for a while if its peer may still send.
-    pub(crate) fn close(&mut self, stream: TcpStream, now: u64) {
-        if stream.shutdown(Shutdown::Write).is_err() || !drop_input(&stream) {
+    pub(crate) fn close(&mut self, stream: Stream, now: u64) {
+        if stream.end().is_err() || !drop_input(&stream) {
             return;
         }
         if self.streams.len() < MAX_LINGERING {

@@ -6,21 +6,21 @@ ghost use Rattle.http_ports.specs.Traffic.{IsOpen};
 ghost use Rattle.port_books.specs.Books.{accepted_in, slots_after};
 ghost use Rattle.mio_ports.specs.Polled.{IsReceived, IsSent};
 
+use crate::sockets::Stream;
 use http_ports::{Last, Received, Sent};
-use mio::net::TcpStream;
 use port_books::{Book, Change};
-use std::io::{ErrorKind, Read, Write};
+use std::io::ErrorKind;
 use traces::Trace;
 
 // How often a call is tried that a signal interrupts.
 const TRIES: u32 = 16;
 
 // What a read of a slot's socket gives.
-pub(crate) fn read_stream(stream: Option<&TcpStream>, into: &mut [u8]) -> Received
+pub(crate) fn read_stream(stream: Option<&Stream>, into: &mut [u8]) -> Received
     requires { 0 < length into.old }
     ensures { IsReceived result into.new }
 {
-    let Some(mut stream) = stream else {
+    let Some(stream) = stream else {
         return Received::Failure;
     };
     for _ in 0..TRIES {
@@ -36,7 +36,7 @@ pub(crate) fn read_stream(stream: Option<&TcpStream>, into: &mut [u8]) -> Receiv
 }
 
 // Records what a read of a slot's socket gave.
-pub(crate) fn note_read(book: &mut Book<TcpStream>, slot: usize, into: &[u8], received: Received)
+pub(crate) fn note_read(book: &mut Book<Stream>, slot: usize, into: &[u8], received: Received)
     requires live { IsOpen (slots_after book.old.moves slot) }
     requires received { IsReceived received into.now }
     ensures reads { Reads slot received into.now (slots_after book.old.moves) (slots_after book.new.moves) }
@@ -54,10 +54,10 @@ pub(crate) fn note_read(book: &mut Book<TcpStream>, slot: usize, into: &[u8], re
 }
 
 // What a write to a slot's socket takes.
-pub(crate) fn write_stream(stream: Option<&TcpStream>, bytes: &[u8]) -> Sent
+pub(crate) fn write_stream(stream: Option<&Stream>, bytes: &[u8]) -> Sent
     ensures { IsSent result bytes.now }
 {
-    let Some(mut stream) = stream else {
+    let Some(stream) = stream else {
         return Sent::Failure;
     };
     for _ in 0..TRIES {
@@ -73,7 +73,7 @@ pub(crate) fn write_stream(stream: Option<&TcpStream>, bytes: &[u8]) -> Sent
 }
 
 // Records how many bytes a write to a slot's socket took.
-pub(crate) fn note_write(book: &mut Book<TcpStream>, slot: usize, bytes: &[u8], sent: Sent)
+pub(crate) fn note_write(book: &mut Book<Stream>, slot: usize, bytes: &[u8], sent: Sent)
     requires live { IsOpen (slots_after book.old.moves slot) }
     requires sent { IsSent sent bytes.now }
     ensures writes { Writes slot sent bytes.now (slots_after book.old.moves) (slots_after book.new.moves) }

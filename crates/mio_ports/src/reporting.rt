@@ -5,9 +5,9 @@ ghost use Rattle.port_books.specs.Books.{accepted_in, slot_waits, slots_after};
 ghost use Rattle.mio_ports.specs.Polled.{MayReport, accepted_of};
 
 use crate::port::MioPort;
+use crate::sockets::Stream;
 use http_ports::{Event, Last};
-use mio::net::TcpStream;
-use mio::{Interest, Token};
+use mio::Token;
 use port_books::Change;
 use std::io::ErrorKind;
 use std::sync::Wait;
@@ -60,12 +60,12 @@ impl<R: Wait + Clock> MioPort<'_, R> {
     }
 
     // Accepts a connection, and has it watched for a slot.
-    fn accept_at(&mut self, slot: usize) -> Option<TcpStream>
+    fn accept_at(&mut self, slot: usize) -> Option<Stream>
         ensures book { self.new.book ≡ self.old.book }
         ensures terms { self.new.terms ≡ self.old.terms }
     {
-        let (stream, peer) = match self.listener.accept() {
-            Ok((stream, peer)) => (stream, peer.ip()),
+        let (mut stream, peer) = match self.listener.accept() {
+            Ok(accepted) => accepted,
             Err(error) => {
                 let kind = error.kind();
                 // one that was aborted may be followed by others
@@ -74,17 +74,10 @@ impl<R: Wait + Clock> MioPort<'_, R> {
                 return None;
             }
         };
-        stream.set_nonblocking(true).ok()?;
         if let Some(address) = self.peers.get_mut(slot) {
-            *address = Some(peer);
+            *address = peer;
         }
-        let _ = stream.set_nodelay(true);
-        let mut stream = TcpStream::from_std(stream);
-        let both = Interest::READABLE | Interest::WRITABLE;
-        let watched = self
-            .poll
-            .registry()
-            .register(&mut stream, Token(slot), both);
+        let watched = stream.watch(&self.poll, Token(slot));
         watched.ok().map(|()| stream)
     }
 

@@ -95,12 +95,20 @@ is_named options = is_some (first_of (codes "profile") options) || is_some (firs
 abbrev pub is_loopback : List ℕ → Bool
 is_loopback address = starts_with nat_eq address (codes "127.") || starts_with nat_eq address (codes "[::1]:")
 
--- there is no operator, or its address is of the loopback
+-- the address is a path in the file system
+abbrev pub is_path : List ℕ → Bool
+is_path address = starts_with nat_eq address (codes "unix:")
+
+-- only this machine reaches the address
+abbrev pub is_local : List ℕ → Bool
+is_local address = is_path address || is_loopback address
+
+-- there is no operator, or its address is local
 abbrev pub is_operator_local : List Row → Bool
-is_operator_local options = option_map_or is_loopback (first_of (codes "operator") options) true
+is_operator_local options = option_map_or is_local (first_of (codes "operator") options) true
 
 -- rule: Address of an operator
--- there is no operator, or its address is of the loopback or may be any
+-- there is no operator, or its address is local or may be any
 abbrev pub is_operator_allowed : List Row → Bool
 is_operator_allowed options = flag_in (codes "operator-anywhere") options || is_operator_local options
 

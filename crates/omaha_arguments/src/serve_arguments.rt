@@ -3,7 +3,7 @@
 ghost use Rattle.std.specs.Prelude.{◌≡◌, codes, IfOk, is_some};
 ghost use Rattle.clap.specs.Words.{FailsBy, first_of, found_of, kind_of, rows_of};
 ghost use Rattle.omaha_arguments.specs.Options.{IsMade};
-ghost use Rattle.omaha_arguments.specs.ServeArguments.{connections_in, connections_of, faults_of_serve, is_loopback, is_named, is_operator_allowed, is_operator_local, limit_in, limit_of, seconds_in, seconds_of, serve_app, serve_in};
+ghost use Rattle.omaha_arguments.specs.ServeArguments.{connections_in, connections_of, faults_of_serve, is_loopback, is_named, is_operator_allowed, is_operator_local, is_path, limit_in, limit_of, seconds_in, seconds_of, serve_app, serve_in};
 
 use crate::command::Serve;
 use crate::options::{
@@ -27,9 +27,9 @@ const PACKAGES: &str = "The folder of the packages, each under its name in the c
 
 const LISTEN: &str = "The address and port to listen on, such as 127.0.0.1:8080";
 
-const OPERATOR: &str = "The operator's address, such as 127.0.0.1:8081 [default: none]";
+const OPERATOR: &str = "The operator's address: 127.0.0.1:8081, unix:PATH [default: none]";
 
-const ANYWHERE: &str = "The operator's address may be other than of the loopback";
+const ANYWHERE: &str = "The operator's address may be one that other machines reach";
 
 const WORKERS: &str = "How many threads serve clients, 1 to 8 [default: 1]";
 
@@ -50,7 +50,7 @@ const LOG: &str = "Where to log replies: a file, or - for standard error [defaul
 const NO_PROFILE: &str = "name a profile by --profile <F>, or a history by --history <FILE>";
 
 const OPEN_OPERATOR: &str =
-    "whoever reaches the operator's address may publish: name 127.0.0.1:PORT or [::1]:PORT, or add --operator-anywhere";
+    "whoever reaches the operator's address may publish: name unix:PATH, 127.0.0.1:PORT or [::1]:PORT, or add --operator-anywhere";
 
 const AFTER_SERVE: &str =
     "Prints `ready` when it listens. It replies to `POST /service/update2/json` and sends the packages
@@ -227,18 +227,25 @@ fn is_loopback(address: &str) -> bool
     bytes.starts_with(b"127.") || bytes.starts_with(b"[::1]:")
 }
 
-// Whether the operator's address, if there is one, is of the loopback.
+// Whether an address is a path in the file system.
+fn is_path(address: &str) -> bool
+    ensures { result ≡ is_path address.now }
+{
+    address.as_bytes().starts_with(b"unix:")
+}
+
+// Whether the operator's address, if there is one, is reached by this machine alone.
 fn is_operator_local(matches: &ArgMatches<'_>) -> bool
     ensures { result ≡ is_operator_local (rows_of (found_of matches.now)) }
 {
     match matches.get_str("operator") {
         None => true,
-        Some(address) => is_loopback(address),
+        Some(address) => is_path(address) || is_loopback(address),
     }
 }
 
 // rule: Address of an operator
-// Whether the operator's address, if there is one, is of the loopback or may be any.
+// Whether the operator's address, if there is one, is reached by this machine alone or may be any.
 fn is_operator_allowed(matches: &ArgMatches<'_>) -> bool
     ensures { result ≡ is_operator_allowed (rows_of (found_of matches.now)) }
 {

@@ -63,6 +63,13 @@ fn end_of<A: Drop>(ended: Result<A, ServerError>, asked: &Serve) -> Result<(), F
     }
 }
 
+// Lets go the operator's address, if there is one.
+fn close_operator<P: Port, S: System<P>>(system: &S, operator: &Option<Text>) {
+    if let Some(address) = operator {
+        system.close_address(address.as_str());
+    }
+}
+
 // A copy of a string that may be missing.
 fn copy_of(text: &Option<Text>) -> Result<Option<Text>, AllocError>
     ensures { IfOk result (λ copy. copy ≡ text.now) }
@@ -128,5 +135,9 @@ pub(crate) fn serve_profile<
         return Err(Failure::Memory);
     };
     let ended = serve(rt, system, kept, &place, &Free, writer, errors);
+    if ended.is_ok() {
+        system.close_address(asked.listen.as_str());
+        close_operator(system, &asked.operator);
+    }
     end_of(ended, asked)
 }

@@ -10,12 +10,14 @@ use http_devices::{Reading, Writing};
 use http_wire::Failed;
 use std::alloc::Global;
 use std::io;
+use std::io::{Read, Write};
 use std::marker::Brand;
 use std::net::{Net, TcpListener, TcpStream, ToSocketAddrs};
+use std::os::unix::net::UnixStream;
 use std::sync::ledger::{Blank, Ledger};
 use std::time::Duration;
 
-// Connects, and limits the time of each read and each write.
+// Connects to an address, and limits the time of each read and each write.
 fn connect_limited<R: Net<Listener = TcpListener, Stream = TcpStream>, A: ToSocketAddrs>(
     rt: &R,
     address: A,
@@ -29,10 +31,19 @@ fn connect_limited<R: Net<Listener = TcpListener, Stream = TcpStream>, A: ToSock
     Ok(stream)
 }
 
+// Connects to the socket at a path, and limits the time of each read and each write.
+fn connect_path<R: Net>(rt: &R, path: &str, seconds: u64) -> io::Result<UnixStream> {
+    let stream = UnixStream::connect(rt, path)?;
+    let limit = Duration::from_secs(seconds);
+    stream.set_read_timeout(Some(limit))?;
+    stream.set_write_timeout(Some(limit))?;
+    Ok(stream)
+}
+
 // Posts over a connection.
-fn post_on<A: Ledger, B: Ledger>(
+fn post_on<S: Read + Write + Copy + Drop, A: Ledger, B: Ledger>(
     alloc: Global,
-    stream: &TcpStream,
+    stream: S,
     reads: Blank,
     writes: Blank,
     post: &Post<'_>,
@@ -46,8 +57,8 @@ fn post_on<A: Ledger, B: Ledger>(
     requires some_writes { 0 < writes.parts }
     ensures { PostedWithin limit result }
 {
-    let mut source = Reading::<&TcpStream, A>::new(stream, reads);
-    let mut sink = Writing::<&TcpStream, B>::new(stream, writes);
+    let mut source = Reading::<S, A>::new(stream, reads);
+    let mut sink = Writing::<S, B>::new(stream, writes);
     post_over(alloc, &mut source, &mut sink, post, limit)
 }
 
@@ -89,16 +100,16 @@ fn read_on<A: Ledger>(
 }
 
 // Posts over a connection, with ledgers of its own.
-fn post_once(
+fn post_once<S: Read + Write + Copy + Drop>(
     alloc: Global,
-    stream: &TcpStream,
+    stream: S,
     post: &Post<'_>,
     limit: u64,
 ) -> Result<Reply, LinkFault>
     ensures { PostedWithin limit result }
 {
     let (reads, writes) = (Blank::new(1), Blank::new(1));
-    post_on::<Brand, Brand>(alloc, stream, reads, writes, post, limit)
+    post_on::<S, Brand, Brand>(alloc, stream, reads, writes, post, limit)
 }
 
 /// Posts to a host, which is looked up as `HOST:PORT`, over a connection of its own, and returns the reply, whatever its
@@ -116,6 +127,23 @@ pub fn post_to<R: Net<Listener = TcpListener, Stream = TcpStream>>(
     ensures { PostedWithin limit result }
 {
     let Ok(stream) = connect_limited(rt, post.host, seconds) else {
+        return Err(LinkFault::Connect);
+    };
+    post_once(alloc, &stream, post, limit)
+}
+
+/// Posts to who listens at the socket of a path, over a connection of its own, as `post_to` does.
+pub(crate) fn post_at<R: Net>(
+    alloc: Global,
+    rt: &R,
+    path: &str,
+    seconds: u64,
+    post: &Post<'_>,
+    limit: u64,
+) -> Result<Reply, LinkFault>
+    ensures { PostedWithin limit result }
+{
+    let Ok(stream) = connect_path(rt, path, seconds) else {
         return Err(LinkFault::Connect);
     };
     post_once(alloc, &stream, post, limit)

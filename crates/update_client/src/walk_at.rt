@@ -6,7 +6,7 @@ ghost use Rattle.update_client.specs.Walking.{IsWalkOver};
 
 use crate::LinkFault;
 use crate::client::Client;
-use crate::connecting::post_to;
+use crate::connecting::{post_at, post_to};
 use crate::fault::Fault;
 use crate::http_link::HttpLink;
 use crate::posting::Reply;
@@ -23,6 +23,16 @@ const SECONDS: u64 = 30;
 
 /// The path that an operator's scripts are posted to.
 const OPERATE_PATH: &str = "/operate";
+
+// A message of an operator's, to a host.
+fn operation<'a>(host: &'a str, body: &'a [u8]) -> Post<'a> {
+    Post {
+        host,
+        path: OPERATE_PATH,
+        kind: "text/plain; charset=utf-8",
+        body,
+    }
+}
 
 /// What can reach a server: a runtime with a network, or a test's stand-in for one.
 pub trait Connector {
@@ -52,7 +62,8 @@ pub trait Connector {
 
     /// Posts a body to the operator's listener at an address, and returns the reply, whatever its status.
     ///
-    /// The address is `HOST:PORT`, as above. A reply may be as long as memory allows. Errors are those of `post_to`.
+    /// The address is `HOST:PORT`, as above, or `unix:PATH` for a socket. A reply may be as long as memory allows. Errors
+    /// are those of `post_to`.
     fn operate_at(&self, alloc: Global, address: &str, body: &[u8]) -> Result<Reply, LinkFault>
         ensures ok { IfOk result (λ reply. operated self.now address.now body.now reply) }
         ensures err { IfErr result IsPostFault };
@@ -77,12 +88,12 @@ impl<R: Net<Listener = TcpListener, Stream = TcpStream>> Connector for R {
     }
 
     fn operate_at(&self, alloc: Global, address: &str, body: &[u8]) -> Result<Reply, LinkFault> {
-        let post = Post {
-            host: address,
-            path: OPERATE_PATH,
-            kind: "text/plain; charset=utf-8",
-            body,
-        };
-        post_to(alloc, self, SECONDS, &post, u64::MAX)
+        match address.strip_prefix("unix:") {
+            Some(path) => {
+                let post = operation("localhost", body);
+                post_at(alloc, self, path, SECONDS, &post, u64::MAX)
+            }
+            None => post_to(alloc, self, SECONDS, &operation(address, body), u64::MAX),
+        }
     }
 }
