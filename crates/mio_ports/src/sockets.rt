@@ -51,7 +51,7 @@ impl Listener {
         }
     }
 
-    // Accepts a connection, which doesn't block, and tells the address of its peer. That of a path has none.
+    // Accepts a connection, which doesn't block, and gives the address of its peer. That of a path has none.
     pub(crate) fn accept(&self) -> io::Result<(Stream, Option<IpAddr>)> {
         match self {
             Listener::Tcp(listener) => {

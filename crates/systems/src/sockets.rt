@@ -61,10 +61,18 @@ fn file_limit<R: Disk + AllocGlobal>(rt: &R) -> Option<u64> {
     text.lines().find_map(limit_in)
 }
 
-// Whether a listener may take a path: there is nothing, or a socket to which nobody listens any more.
+// Whether nobody listens at a socket any more.
+fn is_left_over<R: Net>(rt: &R, path: &str) -> bool {
+    match UnixStream::connect(rt, path) {
+        Ok(_) => false,
+        Err(error) => error.kind() == ErrorKind::ConnectionRefused,
+    }
+}
+
+// Whether a listener may take a path: there is nothing, or a socket that a server left.
 fn may_take<R: Files + Net>(rt: &R, path: &str) -> bool {
     match rt.symlink_metadata(path) {
-        Ok(found) => found.file_type().is_socket() && UnixStream::connect(rt, path).is_err(),
+        Ok(found) => found.file_type().is_socket() && is_left_over(rt, path),
         Err(error) => error.kind() == ErrorKind::NotFound,
     }
 }
