@@ -63,10 +63,14 @@ fn end_of<A: Drop>(ended: Result<A, ServerError>, asked: &Serve) -> Result<(), F
     }
 }
 
-// Lets go the operator's address, if there is one.
-fn close_operator<P: Port, S: System<P>>(system: &S, operator: &Option<Text>) {
-    if let Some(address) = operator {
-        system.close_address(address.as_str());
+// Closes the addresses of a server if it was served; another server may have them if it wasn't.
+fn close_addresses<P: Port, S: System<P>>(system: &S, asked: &Serve, served: bool) {
+    if !served {
+        return;
+    }
+    system.close_address(asked.listen.as_str());
+    if let Some(operator) = &asked.operator {
+        system.close_address(operator.as_str());
     }
 }
 
@@ -135,9 +139,6 @@ pub(crate) fn serve_profile<
         return Err(Failure::Memory);
     };
     let ended = serve(rt, system, kept, &place, &Free, writer, errors);
-    if ended.is_ok() {
-        system.close_address(asked.listen.as_str());
-        close_operator(system, &asked.operator);
-    }
+    close_addresses(system, asked, ended.is_ok());
     end_of(ended, asked)
 }
