@@ -1,6 +1,6 @@
 // What there is to say of other words.
 
-pub(crate) const WORDS: [(&str, &str); 10] = [
+pub(crate) const WORDS: [(&str, &str); 11] = [
     (
         "edit",
         "edit N: CODE
@@ -56,6 +56,15 @@ Found in: the start of `serve`.
 A thread of a worker or of the log could not be started; no connection was accepted.
 Usual cause: A limit of threads or of memory, as `ulimit -u`, or `TasksMax=` of a unit.
 Remedy: Raise the limit, or serve with fewer workers.
+",
+    ),
+    (
+        "unpublished",
+        "unpublished
+Found in: the end of `serve`.
+A worker's view of the editions was found not to be of what the operator published. No total is printed.
+Usual cause: An error in omaha. The replies were sent, each from one edition.
+Remedy: Report it. Compare the replies in the log with the history, and start it again.
 ",
     ),
     (

@@ -14,12 +14,13 @@ use Rattle.mirror_ledger.specs.Tills.{granted_by}
 use Rattle.publisher.specs.Sights.{fresh}
 use Rattle.records.specs.declared.mirror.Mirror.{Mirror}
 use Rattle.service_desks.specs.Operators.{IsCall as IsOperatorCall}
+use Rattle.service_desks.specs.Served.{IsServed, IsWorked, Proceedings}
 use Rattle.service_desks.specs.States.{State, Store}
 use Rattle.service_desks.specs.Workers.{IsCall, Progress}
 use Rattle.interleavings.specs.Calls.{Sent, WorkerCallsAreEvents, sent_by}
 use Rattle.interleavings.specs.Events.{Drop, Enter, Event, Grant, Learn, Plan, Publish, Raise, Reject, Render, happens, run, service_after}
 use Rattle.interleavings.specs.Jobs.{Worker, new_worker}
-use Rattle.interleavings.specs.Served.{IsInterleaved, IsDone, IsServed, IsWorked, Proceedings, RunsAreInterleavings}
+use Rattle.interleavings.specs.Served.{IsInterleaved, IsDone, RunsAreInterleavings}
 use Rattle.interleavings.specs.Services.{Service, opened, opened_book, present, with_budget, with_budgets_of}
 use Rattle.interleavings.specs.Ties.{IsDueAfter, is_of_operator, state_of}
 use Rattle.interleavings.proofs.BatchLemmas.{IsAtTask, left_of, serves}

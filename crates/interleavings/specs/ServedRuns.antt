@@ -2,13 +2,13 @@
 use Rattle.std.specs.Prelude.{◌≡◌, ℕ, List, [], ◌∷◌, ◌++◌, codes, map, None, Some}
 use Rattle.http_desks.specs.Calls.{Looks}
 use Rattle.kept_records.specs.declared.record.Record.{Record}
+use Rattle.service_desks.specs.Served.{IsServed, Proceedings}
 use Rattle.service_desks.specs.States.{State, Store, store}
 use Rattle.interleavings.specs.Calls.{Break, Look, Nothing, Reply, Sent, Work, events_of, sent_in}
 use Rattle.interleavings.specs.Events.{Drop, Enter, Event, Grant, Plan, Publish, Raise, Reject, Render, happens, service_after}
 use Rattle.interleavings.specs.Jobs.{Worker}
 use Rattle.interleavings.specs.LargerRuns.{ask_of, asking, offers_in, two_apps, two_mirrors}
 use Rattle.interleavings.specs.Runs.{begins, dropped, outcomes_in, replied, shares_in, small_batch, small_mirrors, small_request, small_rows, small_run, withdrawal}
-use Rattle.interleavings.specs.Served.{IsServed, Proceedings}
 use Rattle.interleavings.specs.Services.{Service}
 
 -- the first mirror rejects the bytes of the first app, and both reject those of the second one

@@ -33,6 +33,7 @@ EndsBy server.Folder serve result = (result ≡ Err (failure.File serve.packages
 EndsBy server.OperatorNet serve result = (named : Failure) × IsUnbound serve.operator named × (result ≡ Err named)
 EndsBy server.NoPlace serve result = result ≡ Err failure.NoPlace
 EndsBy server.Thread serve result = result ≡ Err failure.Thread
+EndsBy server.Unpublished serve result = result ≡ Err failure.Unpublished
 EndsBy server.Write serve result = result ≡ Err failure.Write
 EndsBy server.Memory serve result = result ≡ Err failure.Memory
 

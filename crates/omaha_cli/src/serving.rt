@@ -58,6 +58,7 @@ fn end_of<A: Drop>(ended: Result<A, ServerError>, asked: &Serve) -> Result<(), F
         Err(ServerError::Folder) => Err(Failure::File(asked.packages.clone()?)),
         Err(ServerError::NoPlace) => Err(Failure::NoPlace),
         Err(ServerError::Thread) => Err(Failure::Thread),
+        Err(ServerError::Unpublished) => Err(Failure::Unpublished),
         Err(ServerError::Write) => Err(Failure::Write),
         Err(ServerError::Memory) => Err(Failure::Memory),
     }

@@ -36,6 +36,7 @@ failure_string (failure.History path fault) =
 failure_string failure.NoPlace = codes "no place"
 failure_string failure.Closed = codes "closed"
 failure_string failure.Thread = codes "thread"
+failure_string failure.Unpublished = codes "unpublished"
 failure_string (failure.Walk fault) = walk_fault_text fault
 failure_string failure.Declined = codes "declined"
 failure_string failure.Memory = codes "memory"

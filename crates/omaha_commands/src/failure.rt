@@ -58,6 +58,8 @@ pub enum Failure {
     Closed,
     /// A thread could not be started.
     Thread,
+    /// A worker's view is not of what the operator published.
+    Unpublished,
     /// A walk failed.
     Walk(Fault),
     /// The operator's listener replied with another status than 200. Its reply is printed, and nothing else.
@@ -118,6 +120,7 @@ impl fmt::Display for Failure {
             Failure::NoPlace => write!(f, "no place"),
             Failure::Closed => write!(f, "closed"),
             Failure::Thread => write!(f, "thread"),
+            Failure::Unpublished => write!(f, "unpublished"),
             Failure::Walk(fault) => write!(f, "{fault}"),
             Failure::Declined => write!(f, "declined"),
             Failure::Memory => write!(f, "memory"),

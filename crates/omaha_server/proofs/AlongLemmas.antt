@@ -1,6 +1,7 @@
 -- Ports that were served, seen by a part of the desk's state.
-use Rattle.std.proofs.Common.{◌≡◌, ◌∙◌, ℕ, Bool, true, List, [], ◌∷◌, ap, refl, subst, sym}
+use Rattle.std.proofs.Common.{◌≡◌, ◌∙◌, ℕ, Bool, true, List, [], ◌∷◌, Option, Some, None, ap, refl, subst, sym}
 use Rattle.http_desks.specs.Calls.{Call, Leads}
+use Rattle.http_ports.specs.Rounds.{all_calls}
 use Rattle.http_ports.specs.declared.terms.Terms.{Terms}
 use Rattle.http_talks.specs.Ports.{Passage}
 use Rattle.mirror_ledger.specs.Asks.{Ask}
@@ -11,7 +12,7 @@ use Rattle.service_desks.specs.States.{State}
 use Rattle.service_desks.specs.Workers.{IsCall, Progress}
 use Rattle.service_desks.specs.Asking.{GrantsFirst}
 use Rattle.systems.specs.Edges.{Edges}
-use Rattle.omaha_server.specs.Serving.{AreOperated, AreServed, DeskSteps, IsServedPort, desk_path, desk_type, operator_path, operator_type}
+use Rattle.omaha_server.specs.Serving.{AreOperated, DeskSteps, IsOperated, IsServedPort, IsWorkersPort, desk_path, desk_type, operator_path, operator_type}
 use Rattle.omaha_server.specs.declared.place.Place.{Place}
 
 -- each step keeps what holds of the state, and is a step of the part
@@ -60,7 +61,7 @@ IsServedPort-along part Kept steps along follows edges place path kind terms pas
     )
 
 -- what stays of a worker's desk: the mirrors, and that nobody else is granted on them, if the worker is single
-pub AreServed-along :
+pub IsWorkersPort-along :
     {D : Type 0} (mirrors : D → List Mirror) (sight : D → Sight) (asks : D → List Ask) (Alone : D → Type 0)
     (steps : D → Call → D → Type 0) (edges : Edges) (place : Place) (terms : Terms) (single : Bool) (passage : Passage) (before behind : D)
     → ((old : D) (call : Call) (new : D) → steps old call new →
@@ -69,8 +70,8 @@ pub AreServed-along :
     × (Alone old → Alone new × GrantsFirst (mirrors old) (asks old) (asks new)))
     → (single ≡ true → Alone before) → asks before ≡ []
     → IsServedPort edges place desk_path desk_type steps before behind terms passage
-    → AreServed edges place terms single (mirrors before) (sight before) (asks behind) passage
-AreServed-along {D} mirrors sight asks Alone steps edges place terms single passage before behind step alone none port =
+    → IsWorkersPort edges place terms single (mirrors before) (sight before) (record { sight = sight behind; asks = asks behind }) passage
+IsWorkersPort-along {D} mirrors sight asks Alone steps edges place terms single passage before behind step alone none port =
     let part : D → Progress = λ d. record { sight = sight d; asks = asks d } in
     let Kept : D → Type 0 = λ d. (mirrors d ≡ mirrors before) × (single ≡ true → Alone d) in
     let follows : Follows part Kept steps (DeskSteps single (mirrors before)) = λ old call new kept stepped.
@@ -83,12 +84,41 @@ AreServed-along {D} mirrors sight asks Alone steps edges place terms single pass
     ) in
     let along = IsServedPort-along part Kept steps (DeskSteps single (mirrors before)) follows edges place desk_path desk_type terms passage
     before behind (refl, alone) port in
-    record {
-      left = sight behind;
-      served =
-          subst (λ (first : List Ask). IsServedPort edges place desk_path desk_type (DeskSteps single (mirrors before))
-          (record { sight = sight before; asks = first }) (part behind) terms passage) none along.1;
-    }
+    subst (λ (first : List Ask). IsServedPort edges place desk_path desk_type (DeskSteps single (mirrors before))
+    (record { sight = sight before; asks = first }) (part behind) terms passage) none along.1
+
+-- each step is one of others too
+Leads-weaker :
+    {D : Type 0} (steps others : D → Call → D → Type 0)
+    → ((old : D) (call : Call) (new : D) → steps old call new → others old call new)
+    → (calls : List Call) (old new : D) → Leads steps old calls new → Leads others old calls new
+Leads-weaker steps others weaker [] old new same = same
+Leads-weaker steps others weaker (call ∷ calls) old new leads =
+    (leads.0, weaker old call leads.0 leads.1, Leads-weaker steps others weaker calls leads.0 new leads.2)
+
+-- the calls of a worker at its port lead its desk on
+pub Leads-worked :
+    (edges : Edges) (place : Place) (terms : Terms) (single : Bool) (mirrors : List Mirror) (sight : Sight) (after : Progress)
+    (passage : Passage) (calls : List Call) (port : IsWorkersPort edges place terms single mirrors sight after passage)
+    → all_calls port.talked.2.rounds ≡ calls
+    → Leads (IsCall mirrors) (record { sight = sight; asks = [] }) calls after
+Leads-worked edges place terms single mirrors sight after passage calls port called =
+    Leads-weaker (DeskSteps single mirrors) (IsCall mirrors) (λ old call new stepped. stepped.0) calls
+    (record { sight = sight; asks = [] }) after
+    (subst (λ (these : List Call). Leads (DeskSteps single mirrors) (record { sight = sight; asks = [] }) these after) called
+    port.talked.2.leads)
+
+-- and those of the operator lead the service on
+pub Leads-operated :
+    (edges : Edges) (place : Place) (terms : Option Terms) (before : State) (calls : List Call) (after : State)
+    (passage : Option Passage)
+    → IsOperated edges place terms before calls after passage → Leads IsOperatorCall before calls after
+Leads-operated edges place None before calls after None operated =
+    subst (λ (these : List Call). Leads IsOperatorCall before these after) (sym operated.0) operated.1
+Leads-operated edges place None before calls after (Some passage) never = absurd never
+Leads-operated edges place (Some terms) before calls after None never = absurd never
+Leads-operated edges place (Some terms) before calls after (Some passage) (port, called) =
+    subst (λ (these : List Call). Leads IsOperatorCall before these after) called port.talked.2.leads
 
 -- what stays of the operator's desk: the names of what it borrows
 pub AreOperated-along :

@@ -1,3 +1,4 @@
 mod AlongLemmas
+mod ChoiceLemmas
 mod ClientLemmas
 mod RunLemmas

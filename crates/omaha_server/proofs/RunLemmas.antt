@@ -6,15 +6,19 @@ use Rattle.std.specs.Option.{is_some}
 use Rattle.std.proofs.lemmas.List.{length-map}
 use Rattle.std.proofs.lemmas.Slice.Zip.{AllZip-long}
 use Rattle.catalogue_laws.specs.Histories.{History}
+use Rattle.http_desks.specs.Calls.{Call}
+use Rattle.http_ports.specs.Rounds.{all_calls}
 use Rattle.http_ports.specs.Traffic.{Slot}
 use Rattle.http_ports.specs.declared.terms.Terms.{Terms}
 use Rattle.http_talks.specs.Ports.{Passage}
 use Rattle.mirror_ledger.specs.Asks.{Ask}
 use Rattle.mirror_ledger.specs.Tills.{AreTotalsOf, HasEnded, HaveWorked, WorksAs}
 use Rattle.mirror_ledger.specs.declared.running.Ran.{Ran}
-use Rattle.publisher.specs.Sights.{fresh}
+use Rattle.profile_toml.specs.Laws.{AreMirrors}
+use Rattle.publisher.specs.Sights.{Allows, Sight, fresh}
 use Rattle.kept_records.specs.declared.record.Record.{Record}
 use Rattle.records.specs.declared.mirror.Mirror.{Mirror}
+use Rattle.service_desks.specs.Served.{IsWorked}
 use Rattle.service_desks.specs.States.{Publication, Store}
 use Rattle.systems.specs.Edges.{Edges}
 use Rattle.omaha_server.specs.Jobs.{IsClients, IsManned}
@@ -22,21 +26,26 @@ use Rattle.omaha_server.specs.Opening.{AreClientTerms, IsOperatorsPort, client_t
 use Rattle.omaha_server.specs.OperatorPorts.{has_operator, terms_left}
 use Rattle.omaha_server.specs.Passages.{Passages, passage_of, passages_of}
 use Rattle.omaha_server.specs.Places.{ArePorts}
-use Rattle.omaha_server.specs.Runs.{HasServed, HaveRun, PrintsLines}
-use Rattle.omaha_server.specs.Serving.{AreServed, AreTotals, IsOperated, IsReady, PrintsTotals, Serves, ServesToEnd, begun, is_single, with_mirrors}
+use Rattle.omaha_server.specs.Runs.{HasServed, HaveRun, IsPublished, PrintsLines}
+use Rattle.omaha_server.specs.Serving.{AreServed, AreTotals, IsOperated, IsReady, IsWorkersPort, PrintsTotals, Serves, ServesToEnd, begun, is_single, with_mirrors}
 use Rattle.services.specs.Totals.{names_of, totals_string}
 use Rattle.omaha_server.specs.declared.clients.Clients.{Clients}
+use Rattle.omaha_server.specs.declared.clients.Visited.{Visited}
 use Rattle.omaha_server.specs.declared.error.ServerError.{ServerError}
 use Rattle.omaha_server.specs.declared.error.ServerError.TheVariants as server
 use Rattle.omaha_server.specs.declared.opening.Ports.{Ports}
+use Rattle.omaha_server.specs.declared.operating.Operated.{Operated}
 use Rattle.omaha_server.specs.declared.operating.Operating.{Operating}
 use Rattle.omaha_server.specs.declared.place.Place.{Place}
 use Rattle.omaha_server.specs.declared.ports.ServedPort.{ServedPort}
 use Rattle.omaha_server.specs.declared.running.Ended.{Ended}
+use Rattle.omaha_server.specs.declared.running.Run.{Run}
 use Rattle.services.specs.declared.service.Service.{Service}
 use Rattle.omaha_server.specs.declared.setup.Setup.{Setup}
 use Rattle.streams.specs.Streams.{Known}
 use Rattle.streams.specs.Writing.{Breaks}
+use Rattle.omaha_server.proofs.AlongLemmas.{Leads-operated, Leads-worked}
+use Rattle.omaha_server.proofs.ChoiceLemmas.{AllZip-by, chosen}
 
 -- an item of a list that was mapped
 get_or-mapped :
@@ -45,6 +54,12 @@ get_or-mapped :
 get_or-mapped f [] index a b below = absurd (omega (arith, below))
 get_or-mapped f (item ∷ items) zero a b below = refl
 get_or-mapped f (item ∷ items) (suc index) a b below = get_or-mapped f items index a b (omega (arith, below))
+
+-- an item that is there, by either default
+get_or-else : {A : Type 0} (items : List A) (index : ℕ) (one other : A) → index < length items → get_or items index one ≡ get_or items index other
+get_or-else [] index one other below = absurd (omega (arith, below))
+get_or-else (item ∷ items) zero one other below = refl
+get_or-else (item ∷ items) (suc index) one other below = get_or-else items index one other (omega (arith, below))
 
 -- each job came to its end
 ended-at :
@@ -63,28 +78,24 @@ ended-at comes (job ∷ jobs) (its ∷ worked) (end ∷ ends) (suc worker) j a e
 
 module _ {S R P K : Type 0} (edges_of : S → Edges) (terms_of : P → Terms) (slots_of : P → ℕ → Slot) (accepted_of : P → ℕ)
     (first_of : K → ℕ) (kept_of : K → List Record) (setup : Setup S R) (mirrors : List Mirror) where
-  -- what a worker's job comes to
-  abbrev comes : Bool → Clients S R P → List Ask → ServedPort P → Type 0
-  comes single clients asks served =
-      AreServed (edges_of clients.setup.now.system.now) clients.setup.now.place.now (terms_of clients.port) single mirrors
-      clients.view asks (passage_of terms_of slots_of accepted_of served)
+  -- what passed at the port of a worker
+  abbrev passed : Visited P → Passage
+  passed end = passage_of terms_of slots_of accepted_of end.served
 
-  -- it is said of the setup
-  at-setup : (single : Bool) (history : History) (terms : Terms) (clients : Clients S R P) (asks : List Ask) (served : ServedPort P) →
-      IsClients setup (fresh history) clients → terms_of clients.port ≡ terms → comes single clients asks served →
-      AreServed (edges_of setup.system.now) setup.place.now terms single mirrors (fresh history) asks (passage_of terms_of slots_of accepted_of served)
-  at-setup single history terms clients asks served is by came =
-      subst (λ t. AreServed (edges_of setup.system.now) setup.place.now t single mirrors (fresh history) asks (passage_of terms_of slots_of accepted_of served)) by
-      (subst (λ s. AreServed (edges_of setup.system.now) setup.place.now (terms_of clients.port) single mirrors s asks (passage_of terms_of slots_of accepted_of served)) is.by
-      (subst (λ (s : Setup S R). AreServed (edges_of s.system.now) s.place.now (terms_of clients.port) single mirrors clients.view asks (passage_of terms_of slots_of accepted_of served)) is.with came))
+  -- what a worker's job comes to
+  abbrev comes : Bool → Clients S R P → List Ask → Visited P → Type 0
+  comes single clients asks end =
+      IsWorkersPort (edges_of clients.setup.now.system.now) clients.setup.now.place.now (terms_of clients.port) single mirrors
+      clients.view (record { sight = end.view; asks = asks }) (passed end)
 
   -- what the operator's job comes to
-  abbrev led : Operating S R P K → List Mirror → List Mirror → Option (ServedPort P) → Type 0
-  led own before after served =
-      (left : Publication)
+  abbrev led : Operating S R P K → List Mirror → List Mirror → Operated P → Type 0
+  led own before after end =
+      (left : Publication) × (calls : List Call)
       × IsOperated (edges_of own.setup.now.system.now) own.setup.now.place.now (terms_left terms_of own.port)
-      (with_mirrors before (begun own.press (first_of own.records) (kept_of own.records))) (with_mirrors after left)
-      (option_map (passage_of terms_of slots_of accepted_of) served)
+      (with_mirrors before (begun own.press (first_of own.records) (kept_of own.records))) calls (with_mirrors after left)
+      (option_map (passage_of terms_of slots_of accepted_of) end.served)
+      × IfOk end.left (λ receipt. receipt ≡ left.history)
 
   -- as many jobs came to their end
   as_many :
@@ -93,67 +104,148 @@ module _ {S R P K : Type 0} (edges_of : S → Edges) (terms_of : P → Terms) (s
   as_many {A} {E} {J} worked ends same =
       sym (length-map ends Ok) ∙ ap length (sym same) ∙ length-map worked (λ (its : A × Result E J). its.1)
 
-  -- what a worker's job came to
-  served-at :
-      (jobs : List (Clients S R P)) (asks : List (List Ask)) (results : List (Result (ServedPort P) (Clients S R P))) (ends : List (ServedPort P))
-      (single : Bool) (history : History) (terms : Terms) (worker : ℕ) (a : List Ask) (p : Passage)
-      (worked : HaveWorked (comes single) jobs asks results) →
-      map (λ (its : List Ask × Result (ServedPort P) (Clients S R P)). its.1) worked.worked ≡ map Ok ends →
-      worker < length jobs → length ends ≡ length jobs → All (IsClients setup (fresh history)) jobs →
-      ((d : Terms) → get_or (map terms_of (map (λ (job : Clients S R P). job.port) jobs)) worker d ≡ terms) →
-      AreServed (edges_of setup.system.now) setup.place.now terms single mirrors (fresh history) (get_or asks worker a)
-      (get_or (map (passage_of terms_of slots_of accepted_of) ends) worker p)
-  served-at [] asks results ends single history terms worker a p worked same below long each by = absurd (omega (arith, below))
-  served-at (job ∷ jobs) asks results [] single history terms worker a p worked same below long each by = cc long
-  served-at (job ∷ jobs) asks results (end ∷ ends) single history terms worker a p worked same below long each by =
-      let here = get_or (job ∷ jobs) worker job in
-      let came = ended-at (comes single) (job ∷ jobs) worked.worked (end ∷ ends) worker job a end worked.each same below in
-      let told = at-setup single history terms here (get_or (map (λ its. its.0) worked.worked) worker a) (get_or (end ∷ ends) worker end)
-      (each worker job below)
-      (sym (ap terms_of (get_or-mapped (λ (c : Clients S R P). c.port) (job ∷ jobs) worker job job.port below))
-      ∙ sym (get_or-mapped terms_of (map (λ (c : Clients S R P). c.port) (job ∷ jobs)) worker job.port terms
-      (omega (arith, below, length-map (job ∷ jobs) (λ (c : Clients S R P). c.port)))) ∙ by terms) came in
-      subst (λ (q : Passage). AreServed (edges_of setup.system.now) setup.place.now terms single mirrors (fresh history) (get_or asks worker a) q)
-      (sym (get_or-mapped (passage_of terms_of slots_of accepted_of) (end ∷ ends) worker end p (omega (arith, below, long))))
-      (subst (λ (list : List (List Ask)). AreServed (edges_of setup.system.now) setup.place.now terms single mirrors (fresh history) (get_or list worker a)
-      (passage_of terms_of slots_of accepted_of (get_or (end ∷ ends) worker end))) (sym worked.asked) told)
+  module _ (single : Bool) (history left : History) (capacity : ℕ) where
+    -- a worker served its port by these calls, and then its view may enter what is left
+    abbrev IsSo : List (List Ask) → List Passage → ℕ → List Call → Type 0
+    IsSo asks passages worker calls =
+        ((a : List Ask) → IsWorked mirrors history left calls (get_or asks worker a))
+        × ((a : List Ask) (p : Passage) →
+        AreServed (edges_of setup.system.now) setup.place.now (client_terms setup.place.now capacity worker) single mirrors
+        (fresh history) calls (get_or asks worker a) (get_or passages worker p))
+
+    -- the job is said of the setup
+    at-setup : (terms : Terms) (clients : Clients S R P) (asks : List Ask) (end : Visited P) →
+        IsClients setup (fresh history) clients → terms_of clients.port ≡ terms → comes single clients asks end →
+        IsWorkersPort (edges_of setup.system.now) setup.place.now terms single mirrors (fresh history)
+        (record { sight = end.view; asks = asks }) (passed end)
+    at-setup terms clients asks end is by came =
+        subst (λ t. IsWorkersPort (edges_of setup.system.now) setup.place.now t single mirrors (fresh history) (record { sight = end.view; asks = asks }) (passed end)) by
+        (subst (λ (s : Sight). IsWorkersPort (edges_of setup.system.now) setup.place.now (terms_of clients.port) single mirrors s (record { sight = end.view; asks = asks }) (passed end)) is.by
+        (subst (λ (s : Setup S R). IsWorkersPort (edges_of s.system.now) s.place.now (terms_of clients.port) single mirrors clients.view (record { sight = end.view; asks = asks }) (passed end)) is.with came))
+
+    -- the calls by which it did
+    called-at :
+        (asks : List (List Ask)) (passages : List Passage) (worker : ℕ) (own : List Ask) (end : Visited P) →
+        ((a : List Ask) → get_or asks worker a ≡ own) → ((p : Passage) → get_or passages worker p ≡ passed end) →
+        Allows end.view left →
+        IsWorkersPort (edges_of setup.system.now) setup.place.now (client_terms setup.place.now capacity worker) single mirrors
+        (fresh history) (record { sight = end.view; asks = own }) (passed end) →
+        (calls : List Call) × IsSo asks passages worker calls
+    called-at asks passages worker own end asked passes allowed port =
+        let calls = all_calls port.talked.2.rounds in
+        let edges = edges_of setup.system.now in
+        let terms = client_terms setup.place.now capacity worker in (
+          calls,
+          (
+            (λ a. subst (IsWorked mirrors history left calls) (sym (asked a)) (record {
+              sight = end.view;
+              allowed = allowed;
+              leads = Leads-worked edges setup.place.now terms single mirrors (fresh history)
+                  (record { sight = end.view; asks = own }) (passed end) calls port refl;
+            })),
+            λ a p.
+                subst (λ (q : Passage). AreServed edges setup.place.now terms single mirrors (fresh history) calls (get_or asks worker a) q) (sym (passes p))
+                (subst (λ (these : List Ask). AreServed edges setup.place.now terms single mirrors (fresh history) calls these (passed end)) (sym (asked a))
+                (record { left = end.view; served = port; called = refl })),
+          ),
+        )
+
+    -- a worker's job that came to its end
+    served-at :
+        (jobs : List (Clients S R P)) (asks : List (List Ask)) (results : List (Result (Visited P) (Clients S R P))) (ends : List (Visited P))
+        (worker : ℕ) (worked : HaveWorked (comes single) jobs asks results) →
+        map (λ (its : List Ask × Result (Visited P) (Clients S R P)). its.1) worked.worked ≡ map Ok ends →
+        worker < length jobs → length ends ≡ length jobs → All (IsClients setup (fresh history)) jobs →
+        ((d : Terms) → get_or (map terms_of (map (λ (job : Clients S R P). job.port) jobs)) worker d ≡ client_terms setup.place.now capacity worker) →
+        All (λ (end : Visited P). Allows end.view left) ends →
+        (calls : List Call)
+        × IsSo asks (map (passage_of terms_of slots_of accepted_of) (map (λ (end : Visited P). end.served) ends)) worker calls
+    served-at [] asks results ends worker worked same below long each by allowed = absurd (omega (arith, below))
+    served-at (job ∷ jobs) asks results [] worker worked same below long each by allowed = cc long
+    served-at (job ∷ jobs) asks results (end ∷ ends) worker worked same below long each by allowed =
+        let read = λ (its : List Ask × Result (Visited P) (Clients S R P)). its.0 in
+        let here = get_or (job ∷ jobs) worker job in
+        let there = get_or (end ∷ ends) worker end in
+        let own = get_or (map read worked.worked) worker [] in
+        let in_ends : worker < length (end ∷ ends) = omega (arith, below, long) in
+        let in_worked : worker < length (map read worked.worked) =
+        omega (arith, below, length-map worked.worked read, AllZip-long (λ job its. WorksAs (comes single) job its.0 its.1) (job ∷ jobs) worked.worked worked.each) in
+        let came = ended-at (comes single) (job ∷ jobs) worked.worked (end ∷ ends) worker job [] end worked.each same below in
+        let terms = client_terms setup.place.now capacity worker in
+        let is_by : terms_of here.port ≡ terms =
+        sym (ap terms_of (get_or-mapped (λ (c : Clients S R P). c.port) (job ∷ jobs) worker job job.port below))
+        ∙ sym (get_or-mapped terms_of (map (λ (c : Clients S R P). c.port) (job ∷ jobs)) worker job.port terms
+        (omega (arith, below, length-map (job ∷ jobs) (λ (c : Clients S R P). c.port)))) ∙ by terms in
+        called-at asks (map (passage_of terms_of slots_of accepted_of) (map (λ (e : Visited P). e.served) (end ∷ ends))) worker own there
+        (λ a. ap (λ (list : List (List Ask)). get_or list worker a) worked.asked ∙ get_or-else (map read worked.worked) worker a [] in_worked)
+        (λ p. get_or-mapped (passage_of terms_of slots_of accepted_of) (map (λ (e : Visited P). e.served) (end ∷ ends)) worker end.served p
+        (omega (arith, in_ends, length-map (end ∷ ends) (λ (e : Visited P). e.served)))
+        ∙ ap (passage_of terms_of slots_of accepted_of) (get_or-mapped (λ (e : Visited P). e.served) (end ∷ ends) worker end end.served in_ends))
+        (allowed worker end in_ends)
+        (at-setup terms here own there (each worker job below) is_by came)
 
   pub AreTotals-run :
       {X : Type 0} (jobs : List (Clients S R P)) (own : Operating S R P K) (single : Bool)
-      (ran : Result (Ran (Clients S R P) (Operating S R P K) (ServedPort P) (Option (ServedPort P))) X) (ended : Ended (ServedPort P) (Option (ServedPort P))) →
+      (ran : Result (Ran (Clients S R P) (Operating S R P K) (Visited P) (Operated P)) X) (ended : Ended (Visited P) (Operated P)) (run : Run P) →
+      AreMirrors mirrors →
       IsManned terms_of setup jobs own → is_single (is_some setup.place.now.operator) setup.place.now.workers ≡ single →
       IfOk ran (λ done. (asks : List (List Ask)) × HaveWorked (comes single) jobs asks done.ends.items × AreTotalsOf done.mirrors.items asks done.totals.items) →
       IfOk ran (λ done. HasEnded (λ before after. led own before after) mirrors done.mirrors.items done.own) →
-      HaveRun ran ended →
+      HaveRun ran ended → IsPublished ended run →
       AreTotals (edges_of setup.system.now) setup.place.now (record { edition = own.press; mirrors = mirrors })
       (begun own.press (first_of own.records) (kept_of own.records)).store
-      (passages_of terms_of slots_of accepted_of (record { clients = ended.clients; operator = ended.own })) ended.totals.items
-  AreTotals-run jobs own single (Err error) ended manned alone works operated run = absurd run
-  AreTotals-run jobs own single (Ok done) ended manned alone works operated (ends, ended_own, totals) =
+      (passages_of terms_of slots_of accepted_of run.ports) run.totals.items
+  AreTotals-run jobs own single (Err error) ended run valid manned alone works operated have published = absurd have
+  AreTotals-run jobs own single (Ok done) ended run valid manned alone works operated (ends, ended_own, totals) published =
+      let edges = edges_of setup.system.now in
+      let place = setup.place.now in
+      let passage = passage_of terms_of slots_of accepted_of in
+      let ports = map (λ (end : Visited P). end.served) ended.clients.items in
+      let first = begun own.press (first_of own.records) (kept_of own.records) in
       let (asks, worked, sums) = works in
-      let same : map (λ (its : List Ask × Result (ServedPort P) (Clients S R P)). its.1) worked.worked ≡ map Ok ended.clients.items = sym worked.ended ∙ ends in
+      let same : map (λ (its : List Ask × Result (Visited P) (Clients S R P)). its.1) worked.worked ≡ map Ok ended.clients.items = sym worked.ended ∙ ends in
       let long : length worked.worked ≡ length jobs = AllZip-long (λ job its. WorksAs (comes single) job its.0 its.1) jobs worked.worked worked.each in
-      let (left, there) = subst (λ (o : Option (Option (ServedPort P))). HasEnded (λ before after. led own before after) mirrors done.mirrors.items o) ended_own operated in
-      record {
-        asks = asks;
-        many = ap length worked.asked ∙ length-map worked.worked (λ its. its.0) ∙ long ∙ manned.many;
-        ports = length-map ended.clients.items (passage_of terms_of slots_of accepted_of)
-            ∙ as_many worked.worked ended.clients.items same ∙ long ∙ manned.many;
+      let ended_all : length ended.clients.items ≡ length jobs = as_many worked.worked ended.clients.items same ∙ long in
+      let asked : length asks ≡ place.workers = ap length worked.asked ∙ length-map worked.worked (λ its. its.0) ∙ long ∙ manned.many in
+      let (left, calls, there, receipt) = subst (λ (o : Option (Operated P)). HasEnded (λ before after. led own before after) mirrors done.mirrors.items o) ended_own operated in
+      let is : published.left ≡ left.history = subst (λ (r : Result History _). IfOk r (λ history. history ≡ left.history)) published.is receipt in
+      let allowed = subst (λ (history : History). All (λ (end : Visited P). Allows end.view history) ended.clients.items) is published.allowed in
+      let all = chosen (IsSo single own.press left.history manned.capacity asks (map passage ports)) place.workers
+      (λ worker below. served-at single own.press left.history manned.capacity jobs asks done.ends.items ended.clients.items worker worked same
+      (omega (arith, below, manned.many)) ended_all manned.each (λ d. manned.ports worker d below) allowed) in
+      let ran : AreTotals edges place (record { edition = own.press; mirrors = mirrors }) first.store
+      (record { clients = map passage ports; operator = option_map passage ended.own.served }) ended.totals.items = record {
+        calls = all.0;
+        operator_calls = calls;
+        left = with_mirrors done.mirrors.items left;
+        run = record {
+          some = valid.some;
+          few = valid.few;
+          due = refl;
+          operated = Leads-operated (edges_of own.setup.now.system.now) own.setup.now.place.now (terms_left terms_of own.port)
+              (with_mirrors mirrors first) calls (with_mirrors done.mirrors.items left) (option_map passage ended.own.served) there;
+          asks = asks;
+          worked = AllZip-by (IsWorked mirrors own.press left.history) all.0 asks (all.1 ∙ sym asked)
+              (λ worker c a below. (all.2 worker c (omega (arith, below, all.1))).0 a);
+          summed = subst (AreTotalsOf done.mirrors.items asks) totals sums;
+        };
+        many = all.1;
+        ports = length-map ports passage ∙ length-map ended.clients.items (λ (end : Visited P). end.served) ∙ ended_all ∙ manned.many;
         capacity = manned.capacity;
-        served = λ worker a p below.
-            subst (λ (s : Bool). AreServed (edges_of setup.system.now) setup.place.now (client_terms setup.place.now manned.capacity worker) s mirrors (fresh own.press)
-            (get_or asks worker a) (get_or (map (passage_of terms_of slots_of accepted_of) ended.clients.items) worker p)) (sym alone)
-            (served-at jobs asks done.ends.items ended.clients.items single own.press (client_terms setup.place.now manned.capacity worker) worker a p worked same
-            (omega (arith, below, manned.many)) (as_many worked.worked ended.clients.items same ∙ long) manned.each
-            (λ d. manned.ports worker d below));
+        served = λ worker c a p below.
+            subst (λ (s : Bool). AreServed edges place (client_terms place manned.capacity worker) s mirrors (fresh own.press)
+            (get_or all.0 worker c) (get_or asks worker a) (get_or (map passage ports) worker p)) (sym alone) ((all.2 worker c below).1 a p);
         operator = terms_left terms_of own.port;
         port = manned.port;
-        left = with_mirrors done.mirrors.items left;
         operated = subst (λ (s : Setup S R). IsOperated (edges_of s.system.now) s.place.now (terms_left terms_of own.port)
-            (with_mirrors mirrors (begun own.press (first_of own.records) (kept_of own.records))) (with_mirrors done.mirrors.items left)
-            (option_map (passage_of terms_of slots_of accepted_of) ended.own)) manned.with there;
-        summed = subst (AreTotalsOf done.mirrors.items asks) totals sums;
-      }
+            (with_mirrors mirrors first) calls (with_mirrors done.mirrors.items left) (option_map passage ended.own.served)) manned.with there;
+      } in
+      subst (λ (list : List (ServedPort P)). AreTotals edges place (record { edition = own.press; mirrors = mirrors }) first.store
+      (record { clients = map passage list; operator = option_map passage run.ports.operator }) run.totals.items) (sym published.clients)
+      (subst (λ (one : Option (ServedPort P)). AreTotals edges place (record { edition = own.press; mirrors = mirrors }) first.store
+      (record { clients = map passage ports; operator = option_map passage one }) run.totals.items) (sym published.operator)
+      (subst (λ (t : List ℕ). AreTotals edges place (record { edition = own.press; mirrors = mirrors }) first.store
+      (record { clients = map passage ports; operator = option_map passage ended.own.served }) t) (sym published.totals) ran))
 
 -- there is a port for the operator if there is an operator
 is_operated : {P : Type 0} (place : Place) (terms_of : P → Terms) (port : Option P) →
@@ -212,3 +304,4 @@ module _ (edges : Edges) (place : Place) (service : Service) (kept : Store) (old
   Serves-unprinted names new server.Folder named never = absurd never
   Serves-unprinted names new server.NoPlace named never = absurd never
   Serves-unprinted names new server.Thread named never = absurd never
+  Serves-unprinted names new server.Unpublished named never = absurd never

@@ -1,7 +1,9 @@
 -- What a server's workers came to, up to its totals.
-use Rattle.std.specs.Prelude.{◌≡◌, ℕ, List, Some, Result, Ok, Err, map}
+use Rattle.std.specs.Prelude.{◌≡◌, ℕ, All, List, Some, Result, Ok, Err, map}
 use Rattle.mirror_ledger.specs.declared.running.Ran.{Ran}
 use Rattle.std.specs.Io.KnownBytes.{Appends}
+use Rattle.catalogue_laws.specs.Histories.{History}
+use Rattle.publisher.specs.Sights.{Allows}
 use Rattle.service_desks.specs.States.{Store}
 use Rattle.streams.specs.Streams.{Known}
 use Rattle.streams.specs.Writing.{Breaks}
@@ -12,7 +14,10 @@ use Rattle.services.specs.Totals.{totals_string}
 use Rattle.omaha_server.specs.declared.error.ServerError.{ServerError}
 use Rattle.omaha_server.specs.declared.error.ServerError.TheVariants as server
 use Rattle.omaha_server.specs.declared.place.Place.{Place}
+use Rattle.omaha_server.specs.declared.clients.Visited.{Visited}
+use Rattle.omaha_server.specs.declared.operating.Operated.{Operated}
 use Rattle.omaha_server.specs.declared.running.Ended.{Ended}
+use Rattle.omaha_server.specs.declared.running.Run.{Run}
 use Rattle.services.specs.declared.service.Service.{Service}
 
 -- all jobs began and came to these ends, and these are the totals
@@ -20,6 +25,15 @@ abbrev pub HaveRun : {J O E F X : Type 0} → Result (Ran J O E F) X → Ended E
 HaveRun (Ok ran) ended =
     (ran.ends.items ≡ map Ok ended.clients.items) × (ran.own ≡ Some ended.own) × (ran.totals.items ≡ ended.totals.items)
 HaveRun (Err error) ended = ⊥
+
+-- the ports and the totals of jobs that came to these ends, of which each worker's view may enter what the operator left
+pub record IsPublished {P : Type 0} (ended : Ended (Visited P) (Operated P)) (run : Run P) : Type 0 where
+  pub left : History
+  pub is : ended.own.left ≡ Ok left
+  pub allowed : All (λ (visited : Visited P). Allows visited.view left) ended.clients.items
+  pub clients : run.ports.clients.items ≡ map (λ (visited : Visited P). visited.served) ended.clients.items
+  pub operator : run.ports.operator ≡ ended.own.served
+  pub totals : run.totals.items ≡ ended.totals.items
 
 -- listeners were bound, `ready` was printed and nothing else, and the service was served with these totals
 pub record HasServed (edges : Edges) (place : Place) (service : Service) (kept : Store) (old new : Known) (passages : Passages) (totals : List ℕ) : Type 0 where

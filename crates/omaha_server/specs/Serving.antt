@@ -5,14 +5,15 @@ use Rattle.std.specs.Option.{is_some}
 use Rattle.catalogue_laws.specs.Histories.{History}
 use Rattle.http_desks.specs.Calls.{Call}
 use Rattle.http_desks.specs.Uses.{IsUse}
+use Rattle.http_ports.specs.Rounds.{all_calls}
 use Rattle.http_ports.specs.declared.terms.Terms.{Terms}
 use Rattle.http_talks.specs.Ports.{HasTalked, Passage}
 use Rattle.kept_records.specs.declared.record.Record.{Record}
 use Rattle.mirror_ledger.specs.Asks.{Ask}
-use Rattle.mirror_ledger.specs.Tills.{AreTotalsOf}
 use Rattle.publisher.specs.Sights.{Sight, fresh}
 use Rattle.records.specs.declared.mirror.Mirror.{Mirror}
 use Rattle.service_desks.specs.Operators.{IsCall as IsOperatorCall}
+use Rattle.service_desks.specs.Served.{IsServed}
 use Rattle.service_desks.specs.States.{Publication, State, Store, publication}
 use Rattle.service_desks.specs.Workers.{IsCall, Progress}
 use Rattle.streams.specs.Streams.{Known}
@@ -51,15 +52,21 @@ abbrev pub DeskSteps : Bool → List Mirror → Progress → Call → Progress �
 DeskSteps single mirrors before call after =
     IsCall mirrors before call after × (single ≡ true → GrantsFirst mirrors before.asks after.asks)
 
--- rule: Sessions of a server
 -- a worker served a port of these terms to its end: what was sent on each connection is the replies to the messages that
 -- were received on it. The worker's view begins as it was, and has asked for nothing before. Each reply is that of the
 -- one history that the view then holds, by what the mirrors granted.
+abbrev pub IsWorkersPort : Edges → Place → Terms → Bool → List Mirror → Sight → Progress → Passage → Type 0
+IsWorkersPort edges place terms single mirrors sight after passage =
+    IsServedPort edges place desk_path desk_type (DeskSteps single mirrors) (record { sight = sight; asks = [] }) after terms
+    passage
+
+-- rule: Sessions of a server
+-- a worker served its port so, by these calls of its desk, and asked for this
 pub record AreServed (edges : Edges) (place : Place) (terms : Terms) (single : Bool) (mirrors : List Mirror) (sight : Sight)
-    (asks : List Ask) (passage : Passage) : Type 0 where
+    (calls : List Call) (asks : List Ask) (passage : Passage) : Type 0 where
   pub left : Sight
-  pub served : IsServedPort edges place desk_path desk_type (DeskSteps single mirrors)
-      (record { sight = sight; asks = [] }) (record { sight = left; asks = asks }) terms passage
+  pub served : IsWorkersPort edges place terms single mirrors sight (record { sight = left; asks = asks }) passage
+  pub called : all_calls served.talked.2.rounds ≡ calls
 
 -- the path of the operator's desk, and the type of its replies
 abbrev pub operator_path : List ℕ
@@ -75,12 +82,14 @@ abbrev pub AreOperated : Edges → Place → Terms → State → State → Passa
 AreOperated edges place terms before after passage =
     IsServedPort edges place operator_path operator_type IsOperatorCall before after terms passage
 
--- the same, if there is a port for the operator; without one nothing is published, and no budget raised
-abbrev pub IsOperated : Edges → Place → Option Terms → State → State → Option Passage → Type 0
-IsOperated edges place None before after None = after ≡ before
-IsOperated edges place None before after (Some passage) = ⊥
-IsOperated edges place (Some terms) before after None = ⊥
-IsOperated edges place (Some terms) before after (Some passage) = AreOperated edges place terms before after passage
+-- the same by these calls, if there is a port for the operator; without one there is no call, nothing is published, and no
+-- budget raised
+abbrev pub IsOperated : Edges → Place → Option Terms → State → List Call → State → Option Passage → Type 0
+IsOperated edges place None before calls after None = (calls ≡ []) × (after ≡ before)
+IsOperated edges place None before calls after (Some passage) = ⊥
+IsOperated edges place (Some terms) before calls after None = ⊥
+IsOperated edges place (Some terms) before calls after (Some passage) =
+    (served : AreOperated edges place terms before after passage) × (all_calls served.talked.2.rounds ≡ calls)
 
 -- a press and records as they are when the operator begins: nothing is due
 abbrev pub begun : History → ℕ → List Record → Publication
@@ -95,22 +104,26 @@ abbrev pub state_of : Service → Store → State
 state_of service kept = record { mirrors = service.mirrors; history = service.edition; store = kept }
 
 -- rule: Totals of a server
--- each worker served a port with its portion of the sessions, with a view that has seen the service's edition, and the
--- operator's port was served, if there is an operator, from what was kept on; the totals are the sums of what the workers asked for, and each is
+-- what was done at the ports is a run of the service, from its edition and from what was kept: each worker served a port
+-- with its portion of the sessions, with a view that had seen that edition; the operator's port was served, if there is an
+-- operator; each worker's view may enter what is left; and the totals are the sums of what the workers asked for, each
 -- within the budget that its mirror has after the operator's last connection
 pub record AreTotals (edges : Edges) (place : Place) (service : Service) (kept : Store) (passages : Passages) (totals : List ℕ) : Type 0 where
-  pub asks : List (List Ask)
-  pub many : length asks ≡ place.workers
+  pub calls : List (List Call)
+  pub operator_calls : List Call
+  pub left : State
+  pub run : IsServed service.mirrors service.edition kept
+      (record { workers = calls; operator = operator_calls; totals = totals }) left
+  pub many : length calls ≡ place.workers
   pub ports : length passages.clients ≡ place.workers
   pub capacity : ℕ
-  pub served : (worker : ℕ) (a : List Ask) (p : Passage) → worker < place.workers →
+  pub served : (worker : ℕ) (c : List Call) (a : List Ask) (p : Passage) → worker < place.workers →
       AreServed edges place (client_terms place capacity worker) (is_single (is_some place.operator) place.workers)
-      service.mirrors (fresh service.edition) (slice_index_or asks worker a) (slice_index_or passages.clients worker p)
+      service.mirrors (fresh service.edition) (slice_index_or calls worker c) (slice_index_or run.asks worker a)
+      (slice_index_or passages.clients worker p)
   pub operator : Option Terms
   pub port : IsOperatorsPort place operator
-  pub left : State
-  pub operated : IsOperated edges place operator (state_of service kept) left passages.operator
-  pub summed : AreTotalsOf left.mirrors asks totals
+  pub operated : IsOperated edges place operator (state_of service kept) operator_calls left passages.operator
 
 -- the line that says that the server listens was printed
 abbrev pub IsReady : Known → Known → Type 0
@@ -135,6 +148,7 @@ Stops edges place old new server.Log = new ≡ old
 Stops edges place old new server.Folder = new ≡ old
 Stops edges place old new server.NoPlace = new ≡ old
 Stops edges place old new server.Thread = IsOpen edges place × IsReady old new
+Stops edges place old new server.Unpublished = IsOpen edges place × IsReady old new
 Stops edges place old new server.Write = IsOpen edges place × Breaks old new ready_line
 Stops edges place old new server.Memory = (new ≡ old) ⊎ (IsOpen edges place × IsReady old new)
 
@@ -146,6 +160,7 @@ IsUnlogged server.Log = ⊥
 IsUnlogged server.Folder = ⊤
 IsUnlogged server.NoPlace = ⊤
 IsUnlogged server.Thread = ⊤
+IsUnlogged server.Unpublished = ⊤
 IsUnlogged server.Write = ⊤
 IsUnlogged server.Memory = ⊤
 

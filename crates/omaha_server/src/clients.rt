@@ -22,6 +22,15 @@ use std::time::Clock;
 use systems::System;
 use worker_threads::portion_of;
 
+/// What a worker came to.
+#[derive(Drop)]
+pub(crate) struct Visited<P> {
+    /// Its port.
+    pub(crate) served: ServedPort<P>,
+    /// Its view, as it is then.
+    pub(crate) view: View,
+}
+
 /// The connections that a worker serves, as the job of its thread.
 #[derive(Drop)]
 pub(crate) struct Clients<'s, 'a, S, R, P: Port> {
@@ -39,14 +48,16 @@ pub(crate) struct Clients<'s, 'a, S, R, P: Port> {
 impl<S: System<P>, R: Clock + Wait + AllocGlobal, P: Port + Send + Drop> TillJob
     for Clients<'_, '_, S, R, P> {
     ghost use Rattle.omaha_server.specs.Passages.{passage_of};
-    ghost use Rattle.omaha_server.specs.Serving.{AreServed};
+    ghost use Rattle.omaha_server.specs.Serving.{IsWorkersPort};
 
-    type End = ServedPort<P>;
+    type End = Visited<P>;
 
-    ghost comes_to = { λ single mirrors clients asks served. AreServed (S.edges clients.setup.now.system.now) clients.setup.now.place.now
-        (P.terms clients.port) single mirrors clients.view asks (passage_of P.terms P.slots P.accepted served) };
+    ghost comes_to = { λ single mirrors clients asks end.
+        IsWorkersPort (S.edges clients.setup.now.system.now) clients.setup.now.place.now (P.terms clients.port) single
+        mirrors clients.view (record { sight = end.view; asks = asks })
+        (passage_of P.terms P.slots P.accepted end.served) };
 
-    fn work<T: Till + Drop>(self, till: T) -> (T, ServedPort<P>) {
+    fn work<T: Till + Drop>(self, till: T) -> (T, Visited<P>) {
         let Clients {
             setup,
             port,
@@ -57,11 +68,11 @@ impl<S: System<P>, R: Clock + Wait + AllocGlobal, P: Port + Send + Drop> TillJob
         let tables = setup.place.pinned_tables as usize;
         let mut desk = Worker::with_tables(setup.rt, view, till, tables);
         let served = serve_new(setup, port, &mut desk, &mut lines);
-        let (_view, till) = desk.into_parts();
+        let (left, till) = desk.into_parts();
         if let Some(lines) = lines {
             let _ = lines.finish();
         }
-        (till, served)
+        (till, Visited { served, view: left })
     }
 }
 

@@ -17,6 +17,8 @@ pub enum ServerError {
     NoPlace,
     /// A thread could not be started.
     Thread,
+    /// A worker's view is not of what the operator published.
+    Unpublished,
     /// The output could not be written.
     Write,
     /// Memory ran out.

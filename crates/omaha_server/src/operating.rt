@@ -16,8 +16,9 @@ use http_ports::{Port, Terms};
 use kept_records::Records;
 use log_queues::LineSender;
 use mirror_ledger::{BudgetJob, Budgets};
-use publisher::{Prepared, Press};
+use publisher::{Prepared, Press, Receipt};
 use service_desks::Operator;
+use std::alloc::AllocError;
 use std::sync::Wait;
 use std::thread::Threads;
 use std::time::Clock;
@@ -62,6 +63,15 @@ pub(crate) struct Operating<'s, 'a, S, R: Threads + Wait + AllocGlobal, P: Port,
     pub(crate) records: K,
     /// The operator's end of the log, if there is one.
     pub(crate) lines: Option<LineSender>,
+}
+
+/// What the operator came to.
+#[derive(Drop)]
+pub(crate) struct Operated<P> {
+    /// The port, if there is an operator.
+    pub(crate) served: Option<ServedPort<P>>,
+    /// A receipt of what is published then.
+    pub(crate) left: Result<Receipt, AllocError>,
 }
 
 // Serves a port by the operator's desk.
@@ -131,28 +141,33 @@ impl<
     P: Port + Send + Drop,
     K: Records,
 > BudgetJob for Operating<'_, '_, S, R, P, K> {
-    ghost use Rattle.std.specs.Prelude.{option_map};
+    ghost use Rattle.std.specs.Prelude.{◌≡◌, IfOk, List, option_map};
+    ghost use Rattle.http_desks.specs.Calls.{Call};
     ghost use Rattle.service_desks.specs.States.{Publication};
     ghost use Rattle.omaha_server.specs.OperatorPorts.{has_operator, terms_left};
     ghost use Rattle.omaha_server.specs.Passages.{passage_of};
     ghost use Rattle.omaha_server.specs.Serving.{IsOperated, begun, with_mirrors};
 
-    type End = Option<ServedPort<P>>;
+    type End = Operated<P>;
 
     ghost raises = { λ own. has_operator own.port };
 
-    ghost comes_to = { λ before after old served. (left : Publication)
+    ghost comes_to = { λ before after old end. (left : Publication) × (calls : List Call)
         × IsOperated (S.edges old.setup.now.system.now) old.setup.now.place.now (terms_left P.terms old.port)
-        (with_mirrors before (begun old.press (K.first old.records) (K.kept old.records))) (with_mirrors after left)
-        (option_map (passage_of P.terms P.slots P.accepted) served) };
+        (with_mirrors before (begun old.press (K.first old.records) (K.kept old.records))) calls (with_mirrors after left)
+        (option_map (passage_of P.terms P.slots P.accepted) end.served)
+        × IfOk end.left (λ receipt. receipt ≡ left.history) };
 
-    fn work<B: Budgets>(&mut self, budgets: &mut B) -> Option<ServedPort<P>> {
+    fn work<B: Budgets>(&mut self, budgets: &mut B) -> Operated<P> {
         match &self.port {
             OperatorPort::New(_) => {}
-            _ => return None,
+            _ => return Operated {
+                served: None,
+                left: self.press.receipt(),
+            },
         }
         let OperatorPort::New(port) = std::mem::replace(&mut self.port, OperatorPort::Served) else {
-            return None;
+            unreachable!()
         };
         let mut due = None;
         let served = operate(
@@ -167,6 +182,10 @@ impl<
         if let Some(lines) = self.lines.take() {
             let _ = lines.finish();
         }
-        Some(served)
+        let left = self.press.receipt();
+        Operated {
+            served: Some(served),
+            left,
+        }
     }
 }

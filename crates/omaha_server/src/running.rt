@@ -1,11 +1,16 @@
 // What the jobs of a server came to.
 
-ghost use Rattle.std.specs.Prelude.{◌≡◌, ◌⊎◌, IfErr, IfOk, Ok, map};
-ghost use Rattle.omaha_server.specs.Runs.{HaveRun};
-ghost use Rattle.omaha_server.specs.declared.error.ServerError.TheVariants.{Memory, Thread};
+ghost use Rattle.std.specs.Prelude.{◌≡◌, ◌⊎◌, All, IfErr, IfOk, Ok, map};
+ghost use Rattle.publisher.specs.Sights.{Allows};
+ghost use Rattle.omaha_server.specs.Runs.{HaveRun, IsPublished};
+ghost use Rattle.omaha_server.specs.declared.error.ServerError.TheVariants.{Memory, Thread, Unpublished};
 
+use crate::clients::Visited;
 use crate::error::ServerError;
+use crate::operating::Operated;
+use crate::ports::{ServedPort, ServedPorts};
 use mirror_ledger::{BudgetJob, Ran, TillJob};
+use publisher::{Receipt, may_enter};
 use std::alloc::{AllocError, Global};
 
 /// What jobs that all began came to.
@@ -59,4 +64,61 @@ pub(crate) fn ends_of<J: TillJob + Drop, O: BudgetJob>(
         own,
         totals,
     })
+}
+
+/// The ports of a server that was served, and the mirrors' totals.
+#[derive(Drop)]
+pub(crate) struct Run<P> {
+    /// The ports.
+    pub(crate) ports: ServedPorts<P>,
+    /// Each mirror's total in bytes.
+    pub(crate) totals: Vec<u64>,
+}
+
+// The ports of workers, if each one's view may enter what is published at the end.
+fn published_ports<P: Drop>(
+    alloc: Global,
+    clients: Vec<Visited<P>>,
+    left: &Receipt,
+) -> Result<Vec<ServedPort<P>>, ServerError>
+    ensures ports { IfOk result (λ ports. ports.items ≡ map (λ visited. visited.served) clients.items) }
+    ensures allowed { IfOk result (λ _. All (λ visited. Allows visited.view left.now) clients.items) }
+    ensures err { IfErr result (λ error. (error ≡ Unpublished) ⊎ (error ≡ Memory)) }
+{
+    let mut ports = Vec::new(alloc);
+    for visited in clients {
+        let Visited { served, view } = visited;
+        if !may_enter(view, left) {
+            return Err(ServerError::Unpublished);
+        }
+        let Ok(()) = ports.push(served) else {
+            return Err(ServerError::Memory);
+        };
+    }
+    Ok(ports)
+}
+
+// rule: Run of a service
+/// The ports and the totals of jobs that came to their ends, if each worker's view may enter what the operator left.
+pub(crate) fn published_run<P: Drop>(
+    alloc: Global,
+    ended: Ended<Visited<P>, Operated<P>>,
+) -> Result<Run<P>, ServerError>
+    ensures ok { IfOk result (IsPublished ended) }
+    ensures err { IfErr result (λ error. (error ≡ Unpublished) ⊎ (error ≡ Memory)) }
+{
+    let Ended {
+        clients,
+        own: Operated {
+            served: operator,
+            left,
+        },
+        totals,
+    } = ended;
+    let Ok(left) = left else {
+        return Err(ServerError::Memory);
+    };
+    let clients = published_ports(alloc, clients, &left)?;
+    let ports = ServedPorts { clients, operator };
+    Ok(Run { ports, totals })
 }

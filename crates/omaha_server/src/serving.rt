@@ -7,7 +7,7 @@ ghost use Rattle.omaha_server.specs.Jobs.{IsManned};
 ghost use Rattle.omaha_server.specs.Passages.{passages_in, passages_of};
 ghost use Rattle.omaha_server.specs.Runs.{HasServed, PrintsLines};
 ghost use Rattle.omaha_server.specs.Serving.{AreTotals, IsLogged, IsOpened, IsSilent, IsUnlogged, Serves, Stops, begun};
-ghost use Rattle.omaha_server.specs.declared.error.ServerError.TheVariants.{Memory, NoPlace, Thread};
+ghost use Rattle.omaha_server.specs.declared.error.ServerError.TheVariants.{Memory, NoPlace, Thread, Unpublished};
 
 use crate::clients::Clients;
 use crate::crew::{Crew, Publishing, crew_of};
@@ -17,7 +17,7 @@ use crate::opening::open_place;
 use crate::operating::Operating;
 use crate::place::Place;
 use crate::ports::ServedPorts;
-use crate::running::{Ended, ends_of};
+use crate::running::{Run, ends_of, published_run};
 use crate::setup::Setup;
 use editions::Edition;
 use http_ports::Port;
@@ -36,13 +36,6 @@ use streams::WriteWhole;
 use systems::System;
 use values::Text;
 use worker_threads::Gate;
-
-// The ports of a server that was served, and the mirrors' totals.
-#[derive(Drop)]
-struct Run<P> {
-    ports: ServedPorts<P>,
-    totals: Vec<u64>,
-}
 
 // Publishes an edition to the views of so many workers.
 fn open_views<R: Wait>(
@@ -66,7 +59,7 @@ fn open_views<R: Wait>(
 
 // rule: Totals of a server
 // Runs the jobs of the workers and of the operator, with a till for each worker, beside a thread that writes the log if
-// there is one.
+// there is one. The press still shows what the operator left when the workers' views are compared with it.
 fn run_jobs<
     P: Port + Send + Drop,
     S: System<P> + Sync,
@@ -87,7 +80,7 @@ fn run_jobs<
         (record { edition = own.old.press; mirrors = mirrors })
         (begun own.old.press (K.first own.old.records) (K.kept own.old.records)).store
         (passages_of P.terms P.slots P.accepted run.ports) run.totals.items) }
-    ensures err { IfErr result (λ error. (error ≡ Thread) ⊎ (error ≡ Memory)) }
+    ensures err { IfErr result (λ error. (error ≡ Thread) ⊎ (error ≡ Unpublished) ⊎ (error ≡ Memory)) }
 {
     thread::scope(
         thread::scope_env(),
@@ -98,7 +91,7 @@ fn run_jobs<
                 (record { edition = own.entry.now.press; mirrors = mirrors })
                 (begun own.entry.now.press (K.first own.entry.now.records) (K.kept own.entry.now.records)).store
                 (passages_of P.terms P.slots P.accepted run.ports) run.totals.items) }
-            ensures err { IfErr result (λ error. (error ≡ Thread) ⊎ (error ≡ Memory)) }
+            ensures err { IfErr result (λ error. (error ≡ Thread) ⊎ (error ≡ Unpublished) ⊎ (error ≡ Memory)) }
         {
             let rt = setup.runtime();
             let signal = match log {
@@ -123,13 +116,9 @@ fn run_jobs<
             if let Some(signal) = signal {
                 signal.end();
             }
-            let Ended {
-                clients,
-                own: operator,
-                totals,
-            } = ends_of(rt.alloc(), ran)?;
-            let ports = ServedPorts { clients, operator };
-            Ok(Run { ports, totals })
+            let ended = ends_of(rt.alloc(), ran)?;
+            let run = published_run(rt.alloc(), ended)?;
+            Ok(run)
         },
     )
 }
@@ -264,7 +253,8 @@ fn is_dash(path: &str) -> bool
 /// mirror: its name and how many bytes it was granted. `gate` is called in each worker's thread before it serves. Returns
 /// the ports. Fails, in this order, with the log, the folder, memory, no place for a view, the address, the operator's
 /// address, the output, and a thread that can't be started; in that case no connection was accepted. Memory may also run
-/// out after `ready`; then no total is printed.
+/// out after `ready`; then no total is printed. Nor is one if a worker's view at its end is not of what the operator
+/// published, which no test has seen.
 ///
 /// The log gets a line for each reply, as `access_logs` has it, at the end of its file, or on `errors`, which is
 /// otherwise left as it is; workers never mix their lines. A line that can't be written is lost, and holds up no reply.

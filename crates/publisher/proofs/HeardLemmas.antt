@@ -1,6 +1,6 @@
 -- Histories that begin with those that were heard.
 use Rattle.std.proofs.Common.{◌≡◌, ◌≤◌, List, [], ◌∷◌, ◌++◌, length, sym, ap, ◌∙◌, take, drop, append_assoc, arith, subst}
-use Rattle.std.proofs.lemmas.List.{append-nil, length-append, take-append-drop, take-append-le}
+use Rattle.std.proofs.lemmas.List.{append-nil, length-append, nil_from_length, take-append-drop, take-append-le}
 use Rattle.std.proofs.Math.Seq.{take-append_seam}
 use Rattle.catalogue_laws.specs.Histories.{History}
 use Rattle.publisher.specs.Beginnings.{StartsWith}
@@ -18,6 +18,12 @@ pub starts_with-length : (now before : History) → StartsWith now before → le
 starts_with-length now before from =
     subst (λ (all : History). length before ≤ length all) (sym from.1)
     (grind (arith, length-append))
+
+-- a history that begins with one of as many batches is that
+pub starts_with-same : (now before : History) → StartsWith now before → length now ≡ length before → now ≡ before
+starts_with-same now before from same =
+    let none : from.0 ≡ [] = nil_from_length from.0 (omega (arith, same, ap length from.1, length-append before from.0)) in
+    from.1 ∙ ap (λ (rest : History). before ++ rest) none ∙ append-nil before
 
 pub goes_on-later : (later now : History) → StartsWith later now → (heard : List History) → GoesOn now heard
     → GoesOn later heard

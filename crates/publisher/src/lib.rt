@@ -4,7 +4,8 @@
 //! `Press::publish` publishes one more batch whole or not at all, and returns a `Receipt`: `prepare` makes the edition,
 //! or says why not, and `show_prepared` shows it. `View::enter` gives an
 //! `Entered` with one edition, whose history begins with all that the view has seen or learnt; `Entered::leave` gives
-//! the view back. `meet` compares a view with a press. Read `specs/Publishing.antt` and `specs/Sights.antt`.
+//! the view back. `meet` compares a view with a press, `may_enter` with a receipt. Read `specs/Publishing.antt` and
+//! `specs/Sights.antt`.
 //!
 //! Contracts see a press, an entered view and a receipt as a history. What a view has seen is kept by the rule of
 //! `left_right`; what it has learnt is kept as an edition, and `View::enter` compares its batches. `is_same` compares two
@@ -30,7 +31,7 @@ mod view;
 
 pub use crate::fault::PublishError;
 pub use crate::histories::{is_same, starts_with};
-pub use crate::meeting::meet;
+pub use crate::meeting::{may_enter, meet};
 pub use crate::prepared::Prepared;
 pub use crate::press::{Press, open, open_edition};
 pub use crate::receipt::Receipt;

@@ -1,10 +1,11 @@
-ghost use Rattle.std.specs.Prelude.{◌≡◌, max, length, IfNone, IfSome};
+ghost use Rattle.std.specs.Prelude.{◌≡◌, max, length, true, IfNone, IfSome};
 ghost use Rattle.catalogue_laws.specs.Histories.{History};
 ghost use Rattle.publisher.specs.Beginnings.{StartsWith};
 ghost use Rattle.publisher.specs.Heard.{IsLinked};
 ghost use Rattle.publisher.specs.Sights.{Allows, Learns, fresh};
 
 use crate::press::Press;
+use crate::receipt::Receipt;
 use crate::view::View;
 
 // rule: Meeting of a press and a view
@@ -26,5 +27,25 @@ pub fn meet(press: &Press, view: View) -> (View, Option<(u64, u64)>)
     match view.enter() {
         Ok(entered) => (entered.leave(), Some((before, press.edition().number()))),
         Err(view) => (view, None),
+    }
+}
+
+// rule: Meeting of a press and a view
+/// Whether a view may enter the edition of a receipt, as an entry finds out. It is not found if there is no entry, or a
+/// later edition is published.
+///
+/// Meant for a receipt of what the press shows, before the press ends.
+pub fn may_enter(view: View, receipt: &Receipt) -> bool
+    ensures { result ≡ true → Allows view receipt.now }
+{
+    let mut view = view;
+    view.learn(receipt);
+    match view.enter() {
+        Ok(entered) => {
+            let is_same = entered.edition().number() == receipt.edition();
+            let _view = entered.leave();
+            is_same
+        }
+        Err(_) => false,
     }
 }

@@ -91,6 +91,15 @@ impl Press {
         shown
     }
 
+    /// Returns a receipt of the published edition, which takes no memory.
+    ///
+    /// Fails if the edition has 2^63 owners.
+    pub fn receipt(&self) -> Result<Receipt, AllocError>
+        ensures { IfOk result (λ receipt. receipt ≡ self.now) }
+    {
+        Receipt::of(self.published())
+    }
+
     // rule: Publishing
     // rule: Stale base
     /// Makes the edition with one more batch on the base, the number of the edition that the batch was made for, and

@@ -3,7 +3,7 @@
 use crate::chains::DIFFERENTIAL;
 use crate::rows::{Kind, is_found};
 use fixtures::{CHAINED, open_profile, publish_edits};
-use publisher::{Press, Receipt, View, meet};
+use publisher::{Press, Receipt, View, may_enter, meet};
 use std::alloc::Global;
 use std::sync::Wait;
 use std::thread::{Threads, join};
@@ -78,14 +78,22 @@ fn run<R: Threads + Wait + Sync>(
     )
 }
 
-// Whether a view that learns a receipt and enters once more meets the press at 101.
+// Whether a view may enter what the press shows.
+fn is_let_in(press: &Press, view: View) -> bool {
+    match press.receipt() {
+        Ok(left) => may_enter(view, &left),
+        Err(_) => false,
+    }
+}
+
+// Whether a view that learns a receipt and enters once more meets the press at 101, and may enter that.
 fn is_met(alloc: Global, press: &Press, entries: Entries, receipt: &Receipt) -> bool {
     let Entries { view, are_kept } = entries;
     let mut view = view;
     view.learn(receipt);
     let (view, number) = enter(alloc, view);
-    let (_view, numbers) = meet(press, view);
-    are_kept && number == 101 && numbers == Some((101, 101))
+    let (view, numbers) = meet(press, view);
+    are_kept && number == 101 && numbers == Some((101, 101)) && is_let_in(press, view)
 }
 
 // Whether two views of a press keep their numbers and the reply, and meet it at 101.

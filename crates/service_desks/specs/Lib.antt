@@ -8,5 +8,6 @@ pub mod Operators
 pub mod Raises
 pub mod Replies
 pub mod Scripts
+pub mod Served
 pub mod States
 pub mod Workers

@@ -1,7 +1,8 @@
 use Rattle.std.proofs.Common.{◌∙◌, ap, subst, sym}
+use Rattle.publisher.specs.Sights.{Sight}
 use Rattle.omaha_server.specs.Passages.{passage_of}
-use Rattle.omaha_server.specs.Serving.{AreServed}
-use Rattle.omaha_server.proofs.AlongLemmas.{AreServed-along}
+use Rattle.omaha_server.specs.Serving.{IsWorkersPort}
+use Rattle.omaha_server.proofs.AlongLemmas.{IsWorkersPort-along}
 use Rattle.omaha_server.proofs.clients.ClientsTillJob.work.Goals as goal
 
 pub returns : goal.returns
@@ -13,10 +14,14 @@ returns g c = λ single alone none.
     let mirrors = g.T.Till.mirrors in
     let asks = g.T.Till.asks in
     let till = c.with_tables-desk.ensures.till in
+    let first = c.with_tables-desk.result in
+    let behind = c.serve_new-served.new.desk in
+    let parts = c.into_parts-left.result in
     let served =
-    AreServed-along (λ d. mirrors d.till) (λ d. d.view) (λ d. asks d.till) (λ d. g.T.Till.alone d.till) _ edges place terms single passage
-    c.with_tables-desk.result c.serve_new-served.new.desk (λ old call new stepped. (stepped.0, stepped.1, stepped.2))
+    IsWorkersPort-along (λ d. mirrors d.till) (λ d. d.view) (λ d. asks d.till) (λ d. g.T.Till.alone d.till) _ edges place terms single passage
+    first behind (λ old call new stepped. (stepped.0, stepped.1, stepped.2))
     (λ is. subst g.T.Till.alone (sym till) (alone is)) (ap asks till ∙ none) c.serve_new-served.ensures in
-    subst (λ t. AreServed edges place terms single (mirrors t) c.args.self.view (asks c.into_parts-view.result.1) passage) till
-    (subst (λ s. AreServed edges place terms single (mirrors c.with_tables-desk.result.till) s (asks c.into_parts-view.result.1) passage) c.with_tables-desk.ensures.view
-    (subst (λ t. AreServed edges place terms single (mirrors c.with_tables-desk.result.till) c.with_tables-desk.result.view (asks t) passage) (sym c.into_parts-view.ensures.till) served))
+    subst (λ t. IsWorkersPort edges place terms single (mirrors t) c.args.self.view (record { sight = parts.0; asks = asks parts.1 }) passage) till
+    (subst (λ (s : Sight). IsWorkersPort edges place terms single (mirrors first.till) s (record { sight = parts.0; asks = asks parts.1 }) passage) c.with_tables-desk.ensures.view
+    (subst (λ (s : Sight). IsWorkersPort edges place terms single (mirrors first.till) first.view (record { sight = s; asks = asks parts.1 }) passage) (sym c.into_parts-left.ensures.view)
+    (subst (λ t. IsWorkersPort edges place terms single (mirrors first.till) first.view (record { sight = behind.view; asks = asks t }) passage) (sym c.into_parts-left.ensures.till) served)))

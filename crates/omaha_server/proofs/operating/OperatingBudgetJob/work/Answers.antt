@@ -1,4 +1,5 @@
-use Rattle.std.proofs.Common.{◌≡◌, ◌∙◌, Option, Some, None, refl, subst, sym}
+use Rattle.std.proofs.Common.{◌≡◌, ◌∙◌, [], Option, Some, None, refl, subst, sym}
+use Rattle.http_ports.specs.Rounds.{all_calls}
 use Rattle.http_ports.specs.declared.terms.Terms.{Terms}
 use Rattle.service_desks.specs.States.{publication}
 use Rattle.omaha_server.specs.OperatorPorts.{terms_left}
@@ -24,10 +25,12 @@ returns-in_default g c =
       raises = refl;
       comes = (
         first,
+        [],
         subst (λ (terms : Option Terms). IsOperated edges place terms
-            (with_mirrors (g.B.Budgets.present c.args.budgets.now) first)
+            (with_mirrors (g.B.Budgets.present c.args.budgets.now) first) []
             (with_mirrors (g.B.Budgets.present c.args.budgets.now) first) None)
-            (sym (none_left g.P.Port.terms c.args.self.now.port c.in_default.not-New)) refl,
+            (sym (none_left g.P.Port.terms c.args.self.now.port c.in_default.not-New)) (refl, refl),
+        c.receipt.ensures,
       );
     }
 
@@ -39,9 +42,12 @@ returns-clause-comes g c =
     let left = publication c.operate-served.new.press (g.K.Records.first c.operate-served.new.records)
     (g.K.Records.kept c.operate-served.new.records) c.operate-served.new.due in (
       left,
+      all_calls c.operate-served.ensures.operated.talked.2.rounds,
       subst (λ (port : OperatorPort g.row.P.Denot). IsOperated edges place (terms_left g.P.Port.terms port)
           (with_mirrors (g.B.Budgets.present c.args.budgets.now) (begun c.args.self.now.press (g.K.Records.first records) (g.K.Records.kept records)))
+          (all_calls c.operate-served.ensures.operated.talked.2.rounds)
           (with_mirrors (g.B.Budgets.present c.operate-served.new.budgets) left)
           (Some (passage_of g.P.Port.terms g.P.Port.slots g.P.Port.accepted c.operate-served.result)))
-          (sym c.in-New-replace.is ∙ c.replace.ensures.value) c.operate-served.ensures.operated,
+          (sym c.in-New-replace.is ∙ c.replace.ensures.value) (c.operate-served.ensures.operated, refl),
+      c.receipt-left.ensures,
     )
