@@ -12,7 +12,7 @@ returns g c =
     let counted : vec_len c.captures.jobs ≡ c.captures.setup.now.place.now.workers = omega (arith, c.captures.jobs.ok.0, manned.many) in
     record {
       ok = AreTotals-run g.S.System.edges g.P.Port.terms g.P.Port.slots g.P.Port.accepted g.K.Records.first g.K.Records.kept c.captures.setup.now c.captures.mirrors
-          c.captures.jobs.items own _ c.run_with_tills-ran.result c.in_ok-ended.ended c.in_ok-run.run valid manned
+          c.captures.jobs.items own _ c.run_with_tills-ran.result c.in_ok-ended.ended c.in_ok-run.run' valid manned
           (cc (manned.operates, counted)) works led c.in_ok-ended.ensures.ok c.in_ok-run.ensures.ok;
       err = tt;
     }
