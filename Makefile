@@ -1,5 +1,5 @@
-# make demo          prints requests of examples/ and their replies, by the program built without a
-#                    proof; after make install it also starts the server
+# make demo          prints requests of examples/ and their replies, serves, publishes and walks, by the
+#                    program built without a proof, or by the one of make install
 # make test          the gate: the rules' marks, the words to avoid, the functions and clauses that the claims name, the
 #                    lists of crates and of the corpus, the pictures, every proof from nothing, mutants, tests and the
 #                    program, and then the rows of tests/rows and a few idle connections with the built program
