@@ -1,9 +1,10 @@
 // The options of the command `serve`.
 
-ghost use Rattle.std.specs.Prelude.{◌≡◌, codes, IfOk, is_some};
+ghost use Rattle.std.specs.Prelude.{◌≡◌, ◌<◌, ◌==◌, codes, IfOk, is_some};
+ghost use Rattle.std.specs.List.{after_first, before_first};
 ghost use Rattle.clap.specs.Words.{FailsBy, first_of, found_of, kind_of, rows_of};
 ghost use Rattle.omaha_arguments.specs.Options.{IsMade};
-ghost use Rattle.omaha_arguments.specs.ServeArguments.{connections_in, connections_of, faults_of_serve, is_loopback, is_named, is_operator_allowed, is_operator_local, is_path, limit_in, limit_of, seconds_in, seconds_of, serve_app, serve_in};
+ghost use Rattle.omaha_arguments.specs.ServeArguments.{connections_in, connections_of, faults_of_serve, are_three_octets, has_leading_zero, is_loopback, is_loopback_host, is_named, is_octet, is_operator_allowed, is_operator_local, is_path, limit_in, limit_of, seconds_in, seconds_of, serve_app, serve_in};
 
 use crate::command::Serve;
 use crate::options::{
@@ -219,12 +220,61 @@ fn missing_option(alloc: Global, message: &str) -> Result<Error, AllocError>
     command.error(ErrorKind::MissingRequiredArgument, message)
 }
 
-// Whether an address begins as those of the loopback.
+// The strings before and after the first such character, or all and nothing.
+fn split_at(text: &str, mark: char) -> (&str, &str)
+    requires { mark < 128 }
+    ensures before { result.0.now ≡ before_first (λ byte. byte == mark) text.now }
+    ensures after { result.1.now ≡ after_first (λ byte. byte == mark) text.now }
+{
+    match text.split_once(mark) {
+        Some(parts) => parts,
+        None => (text, ""),
+    }
+}
+
+// Whether a string of digits has a zero before them.
+fn has_leading_zero(text: &str) -> bool
+    ensures { result ≡ has_leading_zero text.now }
+{
+    text.len() > 1 && text.as_bytes()[0] == b'0'
+}
+
+// Whether a string is a decimal number below 256 without leading zeros.
+fn is_octet(text: &str) -> bool
+    ensures { result ≡ is_octet text.now }
+{
+    match number_of(text) {
+        Some(number) => number < 256 && !has_leading_zero(text),
+        None => false,
+    }
+}
+
+// Whether a string is three such numbers, with dots between them.
+fn are_three_octets(text: &str) -> bool
+    ensures { result ≡ are_three_octets text.now }
+{
+    let (first, rest) = split_at(text, '.');
+    let (second, third) = split_at(rest, '.');
+    is_octet(first) && is_octet(second) && is_octet(third)
+}
+
+// Whether a host is of 127.0.0.0/8.
+fn is_loopback_host(host: &str) -> bool
+    ensures { result ≡ is_loopback_host host.now }
+{
+    let (network, rest) = split_at(host, '.');
+    network == "127" && are_three_octets(rest)
+}
+
+// Whether an address is of the loopback, by its digits: no name is looked up.
 fn is_loopback(address: &str) -> bool
     ensures { result ≡ is_loopback address.now }
 {
-    let bytes = address.as_bytes();
-    bytes.starts_with(b"127.") || bytes.starts_with(b"[::1]:")
+    if address.as_bytes().starts_with(b"[::1]:") {
+        return true;
+    }
+    let (host, _) = split_at(address, ':');
+    is_loopback_host(host)
 }
 
 // Whether an address is a path in the file system.

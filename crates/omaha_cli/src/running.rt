@@ -131,10 +131,10 @@ fn obey<
         Command::Explain(code) => explain_code(rt.alloc(), code, writer),
         Command::Serve(asked) => serve_profile(rt, system, stores, asked, writer, errors),
         Command::Walk(asked) => walk_on(rt.alloc(), rt, asked, writer),
-        Command::Publish(asked) => publish_on(rt, rt.alloc(), asked, reader, writer),
-        Command::Script(asked) => print_script(rt.alloc(), asked, writer),
+        Command::Publish(asked) => publish_on(rt, asked, reader, writer),
+        Command::Script(asked) => print_script(rt, rt.alloc(), asked, writer),
         Command::Raise(asked) => raise_on(rt, rt.alloc(), asked, writer),
-        Command::Dump(to) => dump_on(rt, rt.alloc(), to, writer),
+        Command::Dump(asked) => dump_on(rt, rt.alloc(), asked, writer, errors),
         Command::History(asked) => print_history(rt, stores, asked, writer),
     }
 }

@@ -27,10 +27,10 @@ use values::{ReadError, Text};
 const MAX_STUCK: usize = 40;
 
 /// How many bytes a script may have.
-const MAX_SCRIPT: u32 = 262144;
+pub(crate) const MAX_SCRIPT: u32 = 262144;
 
 /// The script that asks a server for its edition: no edition has the number 0, so that no server publishes it.
-const PROBE: &[u8] = b"schema = 1\nbase = 0\n";
+pub(crate) const PROBE: &[u8] = b"schema = 1\nbase = 0\n";
 
 // How a review ends.
 #[derive(Clone, Copy)]
@@ -104,7 +104,7 @@ fn review_next(alloc: Global, before: &Edition, after: &Edition) -> Result<Findi
 }
 
 // Why an edition has no next one, as a failure.
-fn failure_of(error: NextError) -> Failure
+pub(crate) fn failure_of(error: NextError) -> Failure
     ensures { result ≡ failure_of_next error }
 {
     match error {
@@ -133,7 +133,7 @@ fn review_batch(
 }
 
 // Reads a script.
-fn script_in(alloc: Global, script: &[u8]) -> Result<(u64, Batch), Failure>
+pub(crate) fn script_in(alloc: Global, script: &[u8]) -> Result<(u64, Batch), Failure>
     ensures ok { IfOk result (λ read. script_of_bytes script.now ≡ Ok read) }
     ensures err { IfErr result (λ failure. IsUnreadScript script.now failure) }
 {
@@ -195,7 +195,12 @@ fn declined(reply: Reply) -> Findings
 }
 
 // What an operator's listener replies to a body.
-fn ask<R: Connector>(rt: &R, alloc: Global, to: &Text, body: &[u8]) -> Result<Reply, Failure>
+pub(crate) fn ask<R: Connector>(
+    rt: &R,
+    alloc: Global,
+    to: &Text,
+    body: &[u8],
+) -> Result<Reply, Failure>
     ensures ok { IfOk result (λ reply. R.operated rt.now to.now body.now reply) }
     ensures err { IfErr result (λ failure. IsUnanswered to.now (Err failure)) }
 {
@@ -360,7 +365,10 @@ fn review_source<R: Disk + Connector + AllocGlobal + Threads + Sync>(
 }
 
 // Reads the script of a file.
-fn read_script_file<R: Disk + AllocGlobal>(rt: &R, path: &Text) -> Result<(u64, Batch), Failure>
+pub(crate) fn read_script_file<R: Disk + AllocGlobal>(
+    rt: &R,
+    path: &Text,
+) -> Result<(u64, Batch), Failure>
     ensures ok { IfOk result (λ script. IsScriptOf (R.file_at rt.now) path.now (Ok script)) }
     ensures err { IfErr result (λ failure. IsScriptOf (R.file_at rt.now) path.now (Err failure)) }
 {
