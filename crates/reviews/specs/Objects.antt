@@ -18,11 +18,11 @@ use Rattle.reviews.specs.declared.stuck.StuckRelease.{StuckRelease}
 
 -- an object on a line of its own, with no space in it
 abbrev pub object_line : Data → List ℕ
-object_line object = compact_text object ++ codes "\n"
+object_line value = compact_text value ++ codes "\n"
 
 -- a whole number
 abbrev pub whole : ℕ → Data
-whole number_of = number (unsigned number_of)
+whole amount = number (unsigned amount)
 
 -- a total; one past the largest number of 64 bits is written as that
 abbrev pub capped : ℕ → ℕ
