@@ -154,6 +154,8 @@ pub struct Review {
     pub script: Option<Text>,
     /// Whether each stuck release is printed, not just the first 40 of a track.
     pub all: bool,
+    /// Whether the review is printed as JSON objects, one on each line, with each stuck release.
+    pub json: bool,
     /// Whether the command fails if a release is stuck or, with a script, newly stuck.
     pub strict: bool,
 }

@@ -59,9 +59,10 @@ client holds up another. If as many are connected as may be, the one that has wa
 between two messages is closed for the next. An operator may
 `POST /operate` to the operator's address meanwhile: a script is published as the next edition,
 `raise NAME BUDGET` raises a mirror's budget, and `dump` gets the profile of what is published.
-Any program that reaches that address may publish and raise, so it must be 127.x.x.x:PORT or
-[::1]:PORT, unless --operator-anywhere is given; a page in a browser may not. After the last
-session it prints one line for each mirror: its name, and how many bytes it was granted.
+Any program that reaches that address may publish and raise; a page in a browser may not. So it
+must be 127.x.x.x:PORT, [::1]:PORT, or unix:PATH, a socket that the server's user and its group may
+use, unless --operator-anywhere is given. After the last session it prints one line for each
+mirror: its name, and how many bytes it was granted.
 
 With --history each script and each raise is kept in that file before it takes effect and is
 replied to, so a server that is started again has the edition, the catalogue and the budgets of all
