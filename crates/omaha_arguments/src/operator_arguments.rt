@@ -11,7 +11,7 @@ use clap::ArgMatches;
 use std::alloc::{AllocError, Global};
 use values::Text;
 
-const TO: &str = "The operator's address of the server, such as 127.0.0.1:8081";
+const TO: &str = "The operator's address of the server: 127.0.0.1:8081, unix:PATH";
 
 const SCRIPT: &str = "The script: a TOML file of at most 262144 bytes, or - for standard input";
 

@@ -3,7 +3,7 @@
 ghost use Rattle.std.specs.Prelude.{◌≡◌, codes, IfOk, is_some};
 ghost use Rattle.clap.specs.Words.{FailsBy, first_of, found_of, kind_of, rows_of};
 ghost use Rattle.omaha_arguments.specs.Options.{IsMade};
-ghost use Rattle.omaha_arguments.specs.ServeArguments.{connections_in, connections_of, faults_of_serve, is_loopback, is_named, is_operator_allowed, is_operator_local, is_path, limit_in, limit_of, seconds_in, seconds_of, serve_app, serve_in};
+ghost use Rattle.omaha_arguments.specs.ServeArguments.{connections_in, connections_of, faults_of_serve, is_local, is_loopback, is_named, is_operator_allowed, is_operator_local, is_path, limit_in, limit_of, seconds_in, seconds_of, serve_app, serve_in};
 
 use crate::command::Serve;
 use crate::options::{
@@ -59,9 +59,10 @@ client holds up another. If as many are connected as may be, the one that has wa
 between two messages is closed for the next. An operator may
 `POST /operate` to the operator's address meanwhile: a script is published as the next edition,
 `raise NAME BUDGET` raises a mirror's budget, and `dump` gets the profile of what is published.
-Any program that reaches that address may publish and raise, so it must be 127.x.x.x:PORT or
-[::1]:PORT, unless --operator-anywhere is given; a page in a browser may not. After the last
-session it prints one line for each mirror: its name, and how many bytes it was granted.
+Any program that reaches that address may publish and raise; a page in a browser may not. So it
+must be 127.x.x.x:PORT, [::1]:PORT, or unix:PATH, a socket that the server's user and its group may
+use, unless --operator-anywhere is given. After the last session it prints one line for each
+mirror: its name, and how many bytes it was granted.
 
 With --history each script and each raise is kept in that file before it takes effect and is
 replied to, so a server that is started again has the edition, the catalogue and the budgets of all
@@ -234,13 +235,20 @@ fn is_path(address: &str) -> bool
     address.as_bytes().starts_with(b"unix:")
 }
 
+// Whether only this machine reaches an address.
+fn is_local(address: &str) -> bool
+    ensures { result ≡ is_local address.now }
+{
+    is_path(address) || is_loopback(address)
+}
+
 // Whether the operator's address, if there is one, is reached by this machine alone.
 fn is_operator_local(matches: &ArgMatches<'_>) -> bool
     ensures { result ≡ is_operator_local (rows_of (found_of matches.now)) }
 {
     match matches.get_str("operator") {
         None => true,
-        Some(address) => is_path(address) || is_loopback(address),
+        Some(address) => is_local(address),
     }
 }
 
