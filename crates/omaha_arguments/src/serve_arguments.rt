@@ -4,7 +4,7 @@ ghost use Rattle.std.specs.Prelude.{◌≡◌, ◌<◌, ◌==◌, codes, IfOk, i
 ghost use Rattle.std.specs.List.{after_first, before_first};
 ghost use Rattle.clap.specs.Words.{FailsBy, first_of, found_of, kind_of, rows_of};
 ghost use Rattle.omaha_arguments.specs.Options.{IsMade};
-ghost use Rattle.omaha_arguments.specs.ServeArguments.{connections_in, connections_of, faults_of_serve, are_three_octets, has_leading_zero, is_loopback, is_loopback_host, is_named, is_octet, is_operator_allowed, is_operator_local, is_path, limit_in, limit_of, seconds_in, seconds_of, serve_app, serve_in};
+ghost use Rattle.omaha_arguments.specs.ServeArguments.{connections_in, connections_of, faults_of_serve, are_three_octets, has_leading_zero, is_local, is_loopback, is_loopback_host, is_named, is_octet, is_operator_allowed, is_operator_local, is_path, limit_in, limit_of, seconds_in, seconds_of, serve_app, serve_in};
 
 use crate::command::Serve;
 use crate::options::{
@@ -285,13 +285,20 @@ fn is_path(address: &str) -> bool
     address.as_bytes().starts_with(b"unix:")
 }
 
+// Whether only this machine reaches an address.
+fn is_local(address: &str) -> bool
+    ensures { result ≡ is_local address.now }
+{
+    is_path(address) || is_loopback(address)
+}
+
 // Whether the operator's address, if there is one, is reached by this machine alone.
 fn is_operator_local(matches: &ArgMatches<'_>) -> bool
     ensures { result ≡ is_operator_local (rows_of (found_of matches.now)) }
 {
     match matches.get_str("operator") {
         None => true,
-        Some(address) => is_path(address) || is_loopback(address),
+        Some(address) => is_local(address),
     }
 }
 

@@ -17,12 +17,12 @@ use Rattle.reviews.specs.declared.review.TrackReview.{TrackReview}
 use Rattle.reviews.specs.declared.stuck.StuckRelease.{StuckRelease}
 
 -- an object on a line of its own, with no space in it
-abbrev pub object_line : Data → List ℕ
-object_line object = compact_text object ++ codes "\n"
+unfoldable pub object_line : Data → List ℕ
+object_line value = compact_text value ++ codes "\n"
 
 -- a whole number
 abbrev pub whole : ℕ → Data
-whole number_of = number (unsigned number_of)
+whole amount = number (unsigned amount)
 
 -- a total; one past the largest number of 64 bits is written as that
 abbrev pub capped : ℕ → ℕ
@@ -60,10 +60,13 @@ stuck_data app kind clients release reason =
     (member (codes "version") (string (spelled_at app release))
     no_members)))))))
 
+-- the line of a stuck release of a track
+abbrev pub stuck_line : App → Clients → StuckRelease → List ℕ
+stuck_line app clients one = object_line (stuck_data app (codes "stuck") clients one.release one.reason)
+
 -- a line for each of some stuck releases of a track
 abbrev pub stuck_objects : App → Clients → List StuckRelease → List ℕ
-stuck_objects app clients stuck =
-    flat_map (λ (one : StuckRelease). object_line (stuck_data app (codes "stuck") clients one.release one.reason)) stuck
+stuck_objects app clients stuck = flat_map (stuck_line app clients) stuck
 
 -- the chain from a release of a track: its steps and its bytes
 abbrev pub chain_data : App → List ℕ → TrackReview → Largest → Data
@@ -102,15 +105,19 @@ newcomers_data app review =
     (member (codes "lane") (string (lane_word review.key.lane))
     no_members))))))
 
+-- the lines of the chains of a track: the largest, the longest, and that of clients outside of all releases
+abbrev pub chain_objects : App → TrackReview → List ℕ
+chain_objects app review =
+    chain_object app (codes "largest") review review.largest
+    ++ (chain_object app (codes "longest") review review.longest
+    ++ object_line (newcomers_data app review))
+
 -- rule: Objects of a track
--- the lines of a track: the track, each stuck release, the largest chain, the longest, and clients outside of all releases
+-- the lines of a track: the track, each stuck release, and the chains
 abbrev pub track_objects : App → TrackReview → List ℕ
 track_objects app review =
     object_line (track_data app review)
-    ++ (stuck_objects app (clients_on review.key) (stuck_of review.outcomes.items)
-    ++ (chain_object app (codes "largest") review review.largest
-    ++ (chain_object app (codes "longest") review review.longest
-    ++ object_line (newcomers_data app review))))
+    ++ (stuck_objects app (clients_on review.key) (stuck_of review.outcomes.items) ++ chain_objects app review)
 
 -- the lines of a track of a content; none if its app isn't there
 abbrev pub track_objects_among : List App → TrackReview → List ℕ

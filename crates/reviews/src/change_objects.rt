@@ -4,13 +4,12 @@ ghost use Rattle.std.specs.Prelude.{◌≡◌, ◌++◌, IfOk, OnOk, false, opti
 ghost use Rattle.serde_json.specs.View.{view};
 ghost use Rattle.serde_json.specs.Written.{has_float};
 ghost use Rattle.reviews.specs.ChangeLines.{line_by};
-ghost use Rattle.reviews.specs.ChangeObjects.{bytes_if, change_data, change_kind, change_objects, change_summary, newly_stuck_object, newly_stuck_objects, offer_object, offer_objects, size_kind};
-ghost use Rattle.reviews.specs.Objects.{object_line};
+ghost use Rattle.reviews.specs.ChangeObjects.{bytes_if, change_data, change_kind, change_objects, change_summary, newly_stuck_object, newly_stuck_objects, offer_object, offer_objects, size_kind, stuck_object};
 
 use crate::change::{Change, Reviewed};
 use crate::change_lines::{bytes_before, bytes_of, is_newly_stuck, newly_stuck_total, was_stuck};
 use crate::line::{cohort_name, find_app, lane_word, spelled_at};
-use crate::objects::{bytes_value, capped, push_object, stuck_value};
+use crate::objects::{bytes_value, capped, push_object, push_stuck_object};
 use crate::outcome::Outcome;
 use crate::review::TrackReview;
 use crate::stuck::release_total;
@@ -77,6 +76,34 @@ fn change_value(alloc: Global, app: &App, change: &Change) -> Result<Value, Allo
     })
 }
 
+// Adds the line of a release that is stuck after a change, and none for any other.
+fn push_outcome(
+    alloc: Global,
+    text: &mut Vec<u8>,
+    app: &App,
+    change: &Change,
+    becomes: Outcome,
+) -> Result<(), AllocError>
+    ensures { OnOk result (text.new.items ≡ text.old.items ++ stuck_object app.now change.now becomes) }
+{
+    match becomes {
+        Outcome::Here => Ok(()),
+        Outcome::Next { .. } => Ok(()),
+        Outcome::Stuck(reason) => {
+            let clients = &change.clients;
+            push_stuck_object(
+                alloc,
+                text,
+                app,
+                "newly_stuck",
+                clients,
+                change.release,
+                reason,
+            )
+        }
+    }
+}
+
 // Adds the line of a newly stuck release, and none for any other.
 fn push_newly_stuck_object(
     alloc: Global,
@@ -86,15 +113,11 @@ fn push_newly_stuck_object(
 ) -> Result<(), AllocError>
     ensures { OnOk result (text.new.items ≡ text.old.items ++ newly_stuck_object app.now change.now) }
 {
-    if !is_newly_stuck(change) {
-        return Ok(());
+    if is_newly_stuck(change) {
+        push_outcome(alloc, text, app, change, change.becomes)
+    } else {
+        Ok(())
     }
-    let Outcome::Stuck(reason) = change.becomes else {
-        return Ok(());
-    };
-    let clients = &change.clients;
-    let value = stuck_value(alloc, app, "newly_stuck", clients, change.release, reason)?;
-    push_object(alloc, text, &value)
 }
 
 // Adds the line of a changed release that isn't newly stuck.

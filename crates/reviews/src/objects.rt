@@ -4,7 +4,7 @@ ghost use Rattle.std.specs.Prelude.{◌≡◌, ◌++◌, IfOk, OnOk, false};
 ghost use Rattle.serde_json.specs.Data.{Data};
 ghost use Rattle.serde_json.specs.View.{view};
 ghost use Rattle.serde_json.specs.Written.{has_float};
-ghost use Rattle.reviews.specs.Objects.{all_objects, bytes_data, capped, chain_data, chain_object, newcomers_bytes, newcomers_data, object_line, review_objects, stuck_data, stuck_objects, summary_data, track_data, track_objects, track_objects_among};
+ghost use Rattle.reviews.specs.Objects.{all_objects, bytes_data, capped, chain_data, chain_object, chain_objects, newcomers_bytes, newcomers_data, object_line, review_objects, stuck_data, stuck_line, stuck_objects, summary_data, track_data, track_objects, track_objects_among};
 
 use crate::cause::Reason;
 use crate::change::Clients;
@@ -30,6 +30,7 @@ pub(crate) fn capped(total: u128) -> u64
 }
 
 /// Adds an object without a float, on a line of its own.
+#[tactic(auto, unfolding(crate::specs::Objects::object_line))]
 pub(crate) fn push_object(
     alloc: Global,
     text: &mut Vec<u8>,
@@ -82,8 +83,8 @@ fn push_track_object(
     push_object(alloc, text, &value)
 }
 
-/// A stuck release, and why it is stuck.
-pub(crate) fn stuck_value(
+// A stuck release, and why it is stuck.
+fn stuck_value(
     alloc: Global,
     app: &App,
     kind: &str,
@@ -105,6 +106,35 @@ pub(crate) fn stuck_value(
     })
 }
 
+/// Adds the line of a stuck release.
+pub(crate) fn push_stuck_object(
+    alloc: Global,
+    text: &mut Vec<u8>,
+    app: &App,
+    kind: &str,
+    clients: &Clients,
+    release: usize,
+    reason: Reason,
+) -> Result<(), AllocError>
+    ensures { OnOk result (text.new.items ≡ text.old.items ++ object_line (stuck_data app.now kind.now clients.now release reason)) }
+{
+    let value = stuck_value(alloc, app, kind, clients, release, reason)?;
+    push_object(alloc, text, &value)
+}
+
+// Adds the line of a stuck release of a track.
+fn push_stuck_release(
+    alloc: Global,
+    text: &mut Vec<u8>,
+    app: &App,
+    clients: &Clients,
+    one: &StuckRelease,
+) -> Result<(), AllocError>
+    ensures { OnOk result (text.new.items ≡ text.old.items ++ stuck_line app.now clients.now one.now) }
+{
+    push_stuck_object(alloc, text, app, "stuck", clients, one.release, one.reason)
+}
+
 // Adds a line for each of some stuck releases of a track.
 fn push_stuck_objects(
     alloc: Global,
@@ -116,8 +146,7 @@ fn push_stuck_objects(
     ensures { OnOk result (text.new.items ≡ text.old.items ++ stuck_objects app.now clients.now stuck.now) }
 {
     for one in stuck {
-        let value = stuck_value(alloc, app, "stuck", clients, one.release, one.reason)?;
-        push_object(alloc, text, &value)?;
+        push_stuck_release(alloc, text, app, clients, one)?;
     }
     Ok(())
 }
@@ -200,6 +229,20 @@ fn push_newcomers_object(
     push_object(alloc, text, &value)
 }
 
+// Adds the lines of the chains of a track, and of clients outside of all releases.
+fn push_chain_objects(
+    alloc: Global,
+    text: &mut Vec<u8>,
+    app: &App,
+    review: &TrackReview,
+) -> Result<(), AllocError>
+    ensures { OnOk result (text.new.items ≡ text.old.items ++ chain_objects app.now review.now) }
+{
+    push_chain_object(alloc, text, app, "largest", review, review.largest)?;
+    push_chain_object(alloc, text, app, "longest", review, review.longest)?;
+    push_newcomers_object(alloc, text, app, review)
+}
+
 // rule: Objects of a track
 // Adds the lines of a track.
 fn push_objects(
@@ -214,9 +257,7 @@ fn push_objects(
     let clients = clients_on(&review.key);
     push_track_object(alloc, text, app, review)?;
     push_stuck_objects(alloc, text, app, &clients, stuck.as_slice())?;
-    push_chain_object(alloc, text, app, "largest", review, review.largest)?;
-    push_chain_object(alloc, text, app, "longest", review, review.longest)?;
-    push_newcomers_object(alloc, text, app, review)
+    push_chain_objects(alloc, text, app, review)
 }
 
 fn push_objects_among(
