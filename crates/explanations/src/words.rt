@@ -64,7 +64,7 @@ Remedy: Raise the limit, or serve with fewer workers.
 Found in: the end of `serve`.
 A worker's view of the editions was found not to be of what the operator published. No total is printed.
 Usual cause: An error in omaha. The replies were sent, each from one edition.
-Remedy: Report it. Compare the replies in the log with the history, and start it again.
+Remedy: Report it, and start it again. What the mirrors were granted is in no line then.
 ",
     ),
     (
