@@ -3,11 +3,13 @@
 
 `make commands` runs it. Without PATH it builds the program without a proof. Each catalogue has an app of up to seven
 releases, with differentials, stones, floors, audiences, withdrawn releases and two cohorts. The whole review is
-predicted from a list of all chains. Prints the first catalogue whose review differs, and exits with 1 then.
+predicted from a list of all chains, as lines and as JSON objects. Prints the first catalogue whose review differs, and
+exits with 1 then.
 """
 
 import argparse
 import dataclasses
+import json
 import pathlib
 import random
 import subprocess
@@ -175,39 +177,75 @@ class Track:
         new = self.best(0)
         yield f"new     {name}: " + (f"{new[0]} bytes" if new else "stuck")
 
+    def objects(self, lane):
+        """The objects of the review."""
+        track = {"app": "demo", "cohort": self.cohort.name, "lane": lane, "downgrade": self.rollback}
+        best = {version: self.best(version) for version in range(1, len(self.releases) + 1)}
+        stuck = [version for version, chain in best.items() if chain is None]
+        counts = {"target": f"{self.target}.0", "releases": len(best), "stuck": len(stuck)}
+        yield {"kind": "track"} | track | counts
+        for version in stuck:
+            yield {"kind": "stuck", "version": f"{version}.0", "reason": self.reason(version)} | track
+        going = [version for version in best if best[version] and version != self.target]
+        for kind, key in ("largest", lambda v: best[v][0]), ("longest", lambda v: len(best[v][1])):
+            for first in sorted(going, key=lambda version: (-key(version), version))[:1]:
+                chain = {"from": f"{first}.0", "steps": len(best[first][1]), "bytes": best[first][0]}
+                yield {"kind": kind} | track | chain
+        new = self.best(0)
+        yield {"kind": "new", "bytes": new[0] if new else None} | track
 
-def review_of(catalogue):
-    """What is printed of a catalogue."""
+
+def tracks_of(catalogue):
+    """The tracks of a catalogue that have a target, with their lanes."""
     releases, diffs, cohorts = catalogue
-    lines, tracks = [], 0
     for cohort in cohorts:
         for lane, target in ("target", cohort.target), ("held", cohort.held):
             for rollback in [False, True] if cohort.rollback else [False]:
                 if target:
-                    tracks += 1
-                    lines += Track(releases, diffs, cohort, target, rollback).lines(lane)
+                    yield Track(releases, diffs, cohort, target, rollback), lane
+
+
+def review_of(catalogue, flag):
+    """What is printed of a catalogue by a flag, `--all` or `--json`."""
+    lines, objects, tracks = [], [], 0
+    for track, lane in tracks_of(catalogue):
+        tracks += 1
+        lines += track.lines(lane)
+        objects += track.objects(lane)
+    releases = tracks * len(catalogue[0])
     stuck = sum(line.startswith("stuck") for line in lines)
-    lines.append(f"total   {tracks} tracks, {tracks * len(releases)} releases, {stuck} stuck")
+    lines.append(f"total   {tracks} tracks, {releases} releases, {stuck} stuck")
+    objects.append({"kind": "summary", "tracks": tracks, "releases": releases, "stuck": stuck})
+    if flag == "--json":
+        lines = [json.dumps(it, sort_keys=True, separators=(",", ":")) for it in objects]
     return "".join(f"{line}\n" for line in lines)
 
 
-def built_reviews(folder, names):
+def built_reviews(folder, names, flag):
     """What a program that is built without a proof prints of each profile of a folder."""
     for name in names:
-        pathlib.Path(folder, f"{name}.args").write_text("review\n--all\n{}\n")
+        pathlib.Path(folder, f"{name}.args").write_text(f"review\n{flag}\n{{}}\n")
     words = ["rt", "try", "--cases", folder]
     ran = subprocess.run(words, cwd=TOP / "crates" / "omaha", capture_output=True, text=True)
     parts = [part.partition("\n") for part in ran.stdout.split("== ")[1:]]
     return {name: output for name, _, output in parts}
 
 
-def program_reviews(program, folder, names):
+def program_reviews(program, folder, names, flag):
     """What a program prints of each profile of a folder."""
     found = {}
     for name in names:
-        words = [program, "review", "--all", f"{folder}/{name}"]
+        words = [program, "review", flag, f"{folder}/{name}"]
         found[name] = subprocess.run(words, capture_output=True, text=True).stdout
     return found
+
+
+def compare(catalogues, flag, found):
+    """Exits with the first catalogue whose review isn't what was found by a flag."""
+    for name, catalogue in catalogues.items():
+        wanted = review_of(catalogue, flag)
+        if found.get(name, "").strip() != wanted.strip():
+            sys.exit(f"{profile_of(catalogue)}\nwanted:\n{wanted}\nfound:\n{found.get(name)}")
 
 
 def main():
@@ -220,14 +258,12 @@ def main():
     with tempfile.TemporaryDirectory() as folder:
         for name, catalogue in catalogues.items():
             pathlib.Path(folder, name).write_text(profile_of(catalogue))
-        if asked.program:
-            found = program_reviews(asked.program, folder, catalogues)
-        else:
-            found = built_reviews(folder, catalogues)
-    for name, catalogue in catalogues.items():
-        wanted = review_of(catalogue)
-        if found.get(name, "").strip() != wanted.strip():
-            sys.exit(f"{profile_of(catalogue)}\nwanted:\n{wanted}\nfound:\n{found.get(name)}")
+        for flag in "--all", "--json":
+            if asked.program:
+                found = program_reviews(asked.program, folder, catalogues, flag)
+            else:
+                found = built_reviews(folder, catalogues, flag)
+            compare(catalogues, flag, found)
     print(f"{COUNT} catalogues are reviewed as all of their chains say")
 
 

@@ -546,6 +546,36 @@ def publishes_by_its_commands(program):
         expect("dump of nobody", call("dump", "--to", to), (1, b"", line))
 
 
+def takes_scripts_at_a_socket(program):
+    """A socket is for its owner and its group, and no other server takes it, nor any other file; one left over is replaced."""
+    live = (EXAMPLES / "live.toml").read_text()
+    with tempfile.TemporaryDirectory() as folder:
+        path = pathlib.Path(folder, "operator")
+        to, line = f"unix:{path}", f"omaha: net unix:{path}\n".encode()
+        words = ["--operator", to, "--log", "access.log"]
+        server = Server(program, folder, profile=live, more=words)
+        stage = str(EXAMPLES / "scripts" / "stage.toml")
+        expect("first line", server.ready, b"ready\n")
+        expect("mode", (path.is_socket(), oct(path.stat().st_mode & 0o777)), (True, "0o660"))
+        expect("publish", run(program, folder, "publish", "--to", to, stage), (b"edition 2\n", b"", 0))
+        expect("raise", run(program, folder, "raise", "--to", to, "m0", "1"), (b"refused B3 Lower 1000000000000\n", b"", 1))
+        expect("dump", run(program, folder, "dump", "--to", to)[0][:10], b"schema = 2")
+        expect("who it was is not known", pathlib.Path(folder, "access.log").read_bytes()[:7], b"- - - [")
+        expect("in use", Server(program, folder, profile=live, more=words).end(), (b"", line, 1))
+        expect("still there", run(program, folder, "publish", "--to", to, stage), (b"stale 2\n", b"", 1))
+        server.process.kill()
+        server.end()
+        expect("left over", path.is_socket(), True)
+        expect("nobody listens", run(program, folder, "dump", "--to", to), (b"", line, 1))
+        again = Server(program, folder, profile=live, sessions=0, more=[*words, "--edits", "1"])
+        expect("replaced", run(program, folder, "publish", "--to", to, stage), (b"edition 2\n", b"", 0))
+        expect("the end", again.end(), (b"ready\nm0 0\n", b"", 0))
+        expect("removed", path.exists(), False)
+        path.write_text("kept")
+        expect("another file", Server(program, folder, profile=live, more=words).end(), (b"", line, 1))
+        expect("it is kept", path.read_text(), "kept")
+
+
 def raises_by_its_command(program):
     """`raise` prints the reply; a dump has the raised budget, and no publish changes it."""
     live = (EXAMPLES / "live.toml").read_text().replace("1000000000000", "1000")
@@ -718,6 +748,7 @@ def logs_whole_lines_of_all_workers(program):
 ALONE = [
     publishes_while_it_serves,
     publishes_by_its_commands,
+    takes_scripts_at_a_socket,
     raises_by_its_command,
     raises_while_two_workers_serve,
     accepts_again_after_it_could_not,

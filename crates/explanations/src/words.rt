@@ -27,7 +27,8 @@ Found in: an address of the command line.
 `serve` can't listen on the address, or may not open two more files, for a connection and a package. `publish`,
 `raise` and `dump` can't reach an operator's listener there, or its reply isn't whole.
 Usual cause: No address and port, a port in use, or one below 1024 without the right to it; a server that is not running.
-Remedy: Try another port, or `ss -ltn` to see who has it; see that `ulimit -n` is above 8.
+Of unix:PATH, another file, or no right to the folder.
+Remedy: Try another port, or `ss -ltn` to see who has it, `ls -l PATH`; see that `ulimit -n` is above 8.
 ",
     ),
     (

@@ -6,7 +6,7 @@ use http_memory::{FixedClock, Shelf};
 use http_ports::Terms;
 use http_talks::{Connections, serve_port};
 use http_wire::Unwatched;
-use mio_ports::MioPort;
+use mio_ports::{Listener, MioPort};
 use std::alloc::Global;
 use std::net::{Net, TcpListener};
 use std::sync::{Arc, Wait};
@@ -18,16 +18,16 @@ const EMPTY: Shelf<'static> = Shelf { files: &[] };
 const STOPPED: FixedClock = FixedClock { seconds: 0 };
 
 /// A listener on the loopback for ports.
-pub(crate) fn listen_for_ports(rt: &HostRuntime) -> Option<Arc<TcpListener, Global>> {
+pub(crate) fn listen_for_ports(rt: &HostRuntime) -> Option<TcpListener> {
     let listener = TcpListener::bind(rt, "127.0.0.1:0").ok()?;
     listener.set_nonblocking(true).ok()?;
-    Arc::new(rt.alloc(), listener).ok()
+    Some(listener)
 }
 
 // Serves so many connections of a listener, and returns for how many memory ran out.
 fn serve_limited<R: Wait + Net + Clock + AllocGlobal>(
     rt: &R,
-    listener: Arc<TcpListener, Global>,
+    listener: Arc<Listener, Global>,
     limit: u64,
     desk: &mut Counter,
 ) -> Option<u64> {
@@ -52,14 +52,15 @@ fn serve_limited<R: Wait + Net + Clock + AllocGlobal>(
 /// asked.
 pub(crate) fn serve_some<R: Wait + Net + Clock + AllocGlobal>(
     rt: &R,
-    listener: &Arc<TcpListener, Global>,
+    listener: &TcpListener,
     limit: u64,
 ) -> Option<u8> {
     let mut desk = Counter {
         alloc: rt.alloc(),
         asked: 0,
     };
-    let listener = Arc::try_clone(listener).ok()?;
+    let listener = Listener::Tcp(listener.try_clone().ok()?);
+    let listener = Arc::new(rt.alloc(), listener).ok()?;
     match serve_limited(rt, listener, limit, &mut desk) {
         Some(0) => Some(desk.asked),
         _ => None,

@@ -12,6 +12,7 @@
 
 mod drained;
 mod lingering;
+mod listener;
 mod passing;
 mod port;
 mod reporting;
@@ -19,4 +20,5 @@ mod times;
 mod waiting;
 mod waiting_list;
 
+pub use crate::listener::Listener;
 pub use crate::port::MioPort;

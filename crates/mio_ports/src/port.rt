@@ -3,6 +3,7 @@ ghost use Rattle.port_books.specs.Books.{accepted_in};
 
 use crate::drained::DrainedList;
 use crate::lingering::LingeringList;
+use crate::listener::Listener;
 use crate::times::Times;
 use crate::waiting_list::WaitingList;
 use http_ports::Terms;
@@ -11,9 +12,7 @@ use mio::unix::SourceFd;
 use mio::{Events, Interest, Poll, Token};
 use port_books::Book;
 use std::alloc::{AllocError, Global};
-use std::net;
 use std::net::{IpAddr, Net};
-use std::os::fd::AsRawFd;
 use std::sync::{Arc, Wait};
 use std::time::{Clock, Instant};
 
@@ -27,7 +26,7 @@ pub(crate) const EVENTS: usize = 256;
 #[derive(Drop)]
 pub struct MioPort<'a, R: Wait> {
     pub(crate) rt: &'a R,
-    pub(crate) listener: Arc<net::TcpListener, Global>,
+    pub(crate) listener: Arc<Listener, Global>,
     pub(crate) poll: Poll,
     pub(crate) events: Events,
     // what is kept of each slot, and what has passed there
@@ -79,11 +78,7 @@ impl<'a, R: Wait + Net + Clock + AllocGlobal> MioPort<'a, R> {
     /// A connection that waits for longer than the terms say is late. If there is no free slot for one more, that which
     /// has been idle for longest is late at once. Returns `None` if memory runs out, or the system can't watch the
     /// listener.
-    pub fn new(
-        rt: &'a R,
-        listener: Arc<net::TcpListener, Global>,
-        terms: Terms,
-    ) -> Option<MioPort<'a, R>>
+    pub fn new(rt: &'a R, listener: Arc<Listener, Global>, terms: Terms) -> Option<MioPort<'a, R>>
         ensures fresh { IfSome result (λ port. port.book.moves ≡ []) }
         ensures terms { IfSome result (λ port. port.terms ≡ terms) }
     {
@@ -99,7 +94,7 @@ impl<'a, R: Wait + Net + Clock + AllocGlobal> MioPort<'a, R> {
         let events = Events::with_capacity(alloc, EVENTS).ok()?;
         let poll = Poll::new(rt).ok()?;
         let start = Instant::now(rt).ok()?;
-        let fd = listener.as_raw_fd();
+        let fd = listener.raw_fd();
         poll.registry()
             .register(&mut SourceFd(&fd), Token(LISTENER), Interest::READABLE)
             .ok()?;

@@ -65,7 +65,7 @@ impl<R: Wait + Clock> MioPort<'_, R> {
         ensures terms { self.new.terms ≡ self.old.terms }
     {
         let (stream, peer) = match self.listener.accept() {
-            Ok((stream, peer)) => (stream, peer.ip()),
+            Ok(accepted) => accepted,
             Err(error) => {
                 let kind = error.kind();
                 // one that was aborted may be followed by others
@@ -76,8 +76,9 @@ impl<R: Wait + Clock> MioPort<'_, R> {
         };
         stream.set_nonblocking(true).ok()?;
         if let Some(address) = self.peers.get_mut(slot) {
-            *address = Some(peer);
+            *address = peer;
         }
+        // a connection to a path has nothing to delay
         let _ = stream.set_nodelay(true);
         let mut stream = TcpStream::from_std(stream);
         let both = Interest::READABLE | Interest::WRITABLE;

@@ -1,6 +1,6 @@
 -- The arguments of the commands that report on a profile; this project's profile.
 use Rattle.std.specs.Prelude.{ℕ, ◌&&◌, not, Bool, true, false, if◌then◌else◌, List, [], ◌∷◌, codes, is_some, Option, None, Some, unwrap_or}
-use Rattle.std.specs.Option.{option_map}
+use Rattle.std.specs.Option.{option_map, option_map_or}
 use Rattle.std.specs.Str.{bytes_eq}
 use Rattle.clap.specs.Words.{App, Kinds, Row, first_of, new_app, new_rule, with_rule}
 use Rattle.clap.specs.declared.error.kind.ErrorKind.TheVariants.{ValueValidation}
@@ -10,16 +10,18 @@ use Rattle.cohorts.specs.declared.track.Lane.TheVariants.{Target, Held}
 use Rattle.omaha_arguments.specs.Options.{flag_in, flag_named, option_named, string_in, wanted, wanted_list, workers_in}
 use Rattle.omaha_arguments.specs.declared.command.Comparison.{Comparison}
 use Rattle.omaha_arguments.specs.declared.command.Question.{Question}
-use Rattle.omaha_arguments.specs.declared.command.Question.TheVariants.{Check, Warn, Certify, Verify}
+use Rattle.omaha_arguments.specs.declared.command.Question.TheVariants.{Check, Warn, Script, Certify, Verify}
 use Rattle.omaha_arguments.specs.declared.command.Report.{Report}
 
 -- the commands `check F`, with its options, `certify F APP COHORT LANE ROLLBACK` and `verify F CERT`
 abbrev pub check_app : App
 check_app =
     with_rule
+    (with_rule
     (with_rule (with_rule (with_rule (new_app (codes "check")) (wanted (codes "F"))) (option_named (codes "packages")))
     (option_named (codes "workers")))
-    (flag_named (codes "warn"))
+    (flag_named (codes "warn")))
+    (option_named (codes "script"))
 
 abbrev pub certify_app : App
 certify_app =
@@ -64,9 +66,14 @@ names_in options =
       rollback = unwrap_or (yes_or_no (string_in (codes "ROLLBACK") options)) false;
     }
 
+-- the question of `check` without a script
+abbrev pub plain_question_in : List Row → Question
+plain_question_in options = if flag_in (codes "warn") options then Warn else Check
+
 -- the question of `check`
 abbrev pub check_question_in : List Row → Question
-check_question_in options = if flag_in (codes "warn") options then Warn else Check
+check_question_in options =
+    option_map_or (λ script. Script script) (first_of (codes "script") options) (plain_question_in options)
 
 -- the question of the command of a name
 abbrev pub question_in : List ℕ → List Row → Question
@@ -92,10 +99,18 @@ comparison_in workers options =
 abbrev pub is_one_check : List Row → Bool
 is_one_check options = not (flag_in (codes "warn") options && is_some (first_of (codes "packages") options))
 
+-- `--script`, if it is given, is without `--warn` and `--packages`
+abbrev pub is_script_alone : List Row → Bool
+is_script_alone options =
+    if is_some (first_of (codes "script") options)
+    then not (flag_in (codes "warn") options) && not (is_some (first_of (codes "packages") options))
+    else true
+
 -- what is wrong with the options of `check`
 abbrev pub faults_of_check : List Row → Kinds
 faults_of_check options =
-    if is_some (workers_in options) && is_one_check options then [] else ValueValidation ∷ []
+    if is_some (workers_in options) && is_one_check options && is_script_alone options then []
+    else ValueValidation ∷ []
 
 -- LANE and ROLLBACK are such words
 abbrev pub faults_of_certify : List Row → Kinds

@@ -14,9 +14,11 @@ review_app =
     with_rule
     (with_rule
     (with_rule
+    (with_rule
     (with_rule (with_rule (new_app (codes "review")) (new_rule (codes "F"))) (option_named (codes "to")))
     (option_named (codes "script")))
     (flag_named (codes "all")))
+    (flag_named (codes "json")))
     (flag_named (codes "strict"))
 
 -- where the catalogue is: on a server, if one is named, or in a file
@@ -42,5 +44,6 @@ review_in options =
       source = source_in options;
       script = first_of (codes "script") options;
       all = flag_in (codes "all") options;
+      json = flag_in (codes "json") options;
       strict = flag_in (codes "strict") options;
     }

@@ -1,6 +1,6 @@
 -- The options of the command `serve`; this project's profile.
-use Rattle.std.specs.Prelude.{ℕ, ◌&&◌, ◌||◌, Bool, if◌then◌else◌, List, [], ◌∷◌, codes, is_some, nat_eq, nat_lt, true, Option, None, Some, unwrap_or}
-use Rattle.std.specs.List.{starts_with}
+use Rattle.std.specs.Prelude.{ℕ, ◌&&◌, ◌||◌, ◌==◌, not, Bool, bytes_eq, if◌then◌else◌, List, [], ◌∷◌, codes, is_some, length, nat_eq, nat_lt, slice_index, true, false, Option, None, Some, unwrap_or}
+use Rattle.std.specs.List.{after_first, before_first, starts_with}
 use Rattle.std.specs.Option.{option_map, option_map_or}
 use Rattle.clap.specs.Words.{App, Kinds, Row, first_of, new_app, with_rule}
 use Rattle.clap.specs.declared.error.kind.ErrorKind.TheVariants.{MissingRequiredArgument, ValueValidation}
@@ -91,16 +91,50 @@ serve_in options =
 abbrev pub is_named : List Row → Bool
 is_named options = is_some (first_of (codes "profile") options) || is_some (first_of (codes "history") options)
 
--- the address begins as those of the loopback, 127.0.0.0/8 and [::1]
-abbrev pub is_loopback : List ℕ → Bool
-is_loopback address = starts_with nat_eq address (codes "127.") || starts_with nat_eq address (codes "[::1]:")
+-- the digits begin with a zero that could be left out; some programs read them as an octal number
+abbrev pub has_leading_zero : List ℕ → Bool
+has_leading_zero text = nat_lt 1 (length text) && slice_index text 0 == 48
 
--- there is no operator, or its address is of the loopback
+-- a decimal number below 256 without leading zeros
+abbrev pub is_octet : List ℕ → Bool
+is_octet text = option_map_or (λ number. nat_lt number 256 && not (has_leading_zero text)) (number_of text) false
+
+-- the string before the first such byte, or all of it
+abbrev pub before : ℕ → List ℕ → List ℕ
+before mark text = before_first (λ byte. byte == mark) text
+
+-- the string after the first such byte, or nothing
+abbrev pub after : ℕ → List ℕ → List ℕ
+after mark text = after_first (λ byte. byte == mark) text
+
+-- three such numbers, with dots between them
+abbrev pub are_three_octets : List ℕ → Bool
+are_three_octets text =
+    is_octet (before 46 text) && is_octet (before 46 (after 46 text)) && is_octet (after 46 (after 46 text))
+
+-- the host is of 127.0.0.0/8 (RFC 1122, section 3.2.1.3): 127 and three numbers
+abbrev pub is_loopback_host : List ℕ → Bool
+is_loopback_host host = bytes_eq (before 46 host) (codes "127") && are_three_octets (after 46 host)
+
+-- the address is of the loopback: it begins with `[::1]:`, or the host before its colon is of 127.0.0.0/8; a name never is
+abbrev pub is_loopback : List ℕ → Bool
+is_loopback address =
+    if starts_with nat_eq address (codes "[::1]:") then true else is_loopback_host (before 58 address)
+
+-- the address is a path in the file system
+abbrev pub is_path : List ℕ → Bool
+is_path address = starts_with nat_eq address (codes "unix:")
+
+-- only this machine reaches the address
+abbrev pub is_local : List ℕ → Bool
+is_local address = is_path address || is_loopback address
+
+-- there is no operator, or its address is local
 abbrev pub is_operator_local : List Row → Bool
-is_operator_local options = option_map_or is_loopback (first_of (codes "operator") options) true
+is_operator_local options = option_map_or is_local (first_of (codes "operator") options) true
 
 -- rule: Address of an operator
--- there is no operator, or its address is of the loopback or may be any
+-- there is no operator, or its address is local or may be any
 abbrev pub is_operator_allowed : List Row → Bool
 is_operator_allowed options = flag_in (codes "operator-anywhere") options || is_operator_local options
 

@@ -61,5 +61,5 @@ IsAskable (command.Walk walk) = IsAppid walk.app
 IsAskable (command.Publish publication) = ⊤
 IsAskable (command.Script asked) = ⊤
 IsAskable (command.Raise raise) = ⊤
-IsAskable (command.Dump listener) = ⊤
+IsAskable (command.Dump asked) = ⊤
 IsAskable (command.History asked) = ⊤

@@ -28,8 +28,8 @@ pub enum Command {
     Script(Script),
     /// To raise a mirror's budget on a running server.
     Raise(Raise),
-    /// To print the profile that a running server has published: its operator's listener, as `HOST:PORT`.
-    Dump(Text),
+    /// To print the profile that a running server has published.
+    Dump(DumpAsked),
     /// To read a history, or to make it shorter.
     History(HistoryAsked),
 }
@@ -103,13 +103,33 @@ pub struct Publication {
     pub to: Text,
     /// The path of the script.
     pub script: Text,
+    /// Whether the script is only checked, and not published.
+    pub check: bool,
+}
+
+/// What the command `dump` is asked to do.
+#[derive(Drop)]
+pub struct DumpAsked {
+    /// The operator's listener, as `HOST:PORT`.
+    pub to: Text,
+    /// Whether the number of the server's edition is printed on standard error.
+    pub verbose: bool,
+}
+
+/// Which edition a script is written for.
+#[derive(Drop)]
+pub enum Base {
+    /// The edition of this number.
+    Number(u64),
+    /// The edition of a running server: its operator's listener, as `HOST:PORT`.
+    Server(Text),
 }
 
 /// What the command `script` is asked to do.
 #[derive(Drop)]
 pub struct Script {
-    /// The number of the edition that the script is written for.
-    pub base: u64,
+    /// The edition that the script is written for.
+    pub base: Base,
     /// What its edits do, and their keys with their values, as they were given.
     pub words: Items<Text>,
 }
@@ -154,6 +174,8 @@ pub struct Review {
     pub script: Option<Text>,
     /// Whether each stuck release is printed, not just the first 40 of a track.
     pub all: bool,
+    /// Whether the review is printed as JSON objects, one on each line, with each stuck release.
+    pub json: bool,
     /// Whether the command fails if a release is stuck or, with a script, newly stuck.
     pub strict: bool,
 }
@@ -197,6 +219,8 @@ pub enum Question {
     Check,
     /// What it has, and which targets no client can reach.
     Warn,
+    /// What it has after a script, by the path of the script's file.
+    Script(Text),
     /// The certificate of a track.
     Certify(TrackNames),
     /// Whether a certificate is valid, by the path of its file.

@@ -25,8 +25,9 @@ mod serve_arguments;
 mod walk_arguments;
 
 pub use crate::command::{
-    Command, Comparison, HistoryAction, HistoryAsked, Once, Publication, Question, Raise, Report,
-    Review, Script, Serve, Source, Walk,
+    Base, Command, Comparison, DumpAsked, HistoryAction, HistoryAsked, Once, Publication, Question,
+    Raise, Report, Review, Script, Serve, Source, Walk,
 };
 pub use crate::command_line::read_arguments;
 pub use crate::error::ArgumentError;
+pub use crate::options::number_of;

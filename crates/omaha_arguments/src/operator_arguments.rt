@@ -5,15 +5,19 @@ ghost use Rattle.clap.specs.Words.{found_of, rows_of};
 ghost use Rattle.omaha_arguments.specs.Options.{IsMade};
 ghost use Rattle.omaha_arguments.specs.OperatorArguments.{dump_app, dump_in, publication_in, publish_app, raise_app, raise_in};
 
-use crate::command::{Publication, Raise};
-use crate::options::{Making, string_in, titled, with_wanted, with_wanted_option};
+use crate::command::{DumpAsked, Publication, Raise};
+use crate::options::{
+    Making, flag_in, string_in, titled, with_flag, with_wanted, with_wanted_option,
+};
 use clap::ArgMatches;
 use std::alloc::{AllocError, Global};
 use values::Text;
 
-const TO: &str = "The operator's address of the server, such as 127.0.0.1:8081";
+const TO: &str = "The operator's address of the server: 127.0.0.1:8081, unix:PATH";
 
 const SCRIPT: &str = "The script: a TOML file of at most 262144 bytes, or - for standard input";
+
+const CHECK: &str = "Check the script against what the server has published, and publish nothing";
 
 const PUBLISH: &str = "Publishes a script to a running server.";
 
@@ -33,9 +37,16 @@ server's reply:
                                    standard error
 `omaha explain C11` explains a code. Split a script of more than 262144 bytes.
 
+With --check it publishes nothing. It asks the server for its edition and its dump, and prints
+`valid for edition 5` if the server would publish the script now. It doesn't look for 4096 editions.
+Otherwise it fails with one of
+  omaha: script F3 BadEntry edit[0].on   the script is invalid, with the location
+  omaha: stale 5                         edition 5 is published, and `base` is another number
+  omaha: edit 0: C11 UnknownRelease      the catalogue rejects an edit, the first one of number 0
+
 If the command fails, it prints one line on standard error.
-  omaha: file F     F can't be read
-  omaha: read       standard input failed
+  omaha: file F     F can't be read; with --check, or has more than 262144 bytes
+  omaha: read       standard input failed; with --check, or has more than 262144 bytes
   omaha: net ADDR   the server can't be reached at ADDR, or its reply isn't whole
   omaha: write      standard output failed
   omaha: memory     out of memory
@@ -45,7 +56,8 @@ once, and `stale` says so.
 Exit status: 0 if the server published the script, 1 if it gave another reply or the command
 failed, 2 if the arguments are invalid.
 
-Example, against `omaha serve` with `--operator 127.0.0.1:8081`:
+Examples, against `omaha serve` with `--operator 127.0.0.1:8081`:
+  omaha publish --to 127.0.0.1:8081 --check stage.toml
   omaha publish --to 127.0.0.1:8081 stage.toml";
 
 const NAME: &str = "The mirror's name";
@@ -82,10 +94,17 @@ Exit status: 0 if the budget was raised, 1 if the server gave another reply or t
 Example, against `omaha serve` with `--operator 127.0.0.1:8081`:
   omaha raise --to 127.0.0.1:8081 eu 1000000000";
 
+const VERBOSE: &str = "Print the number of the server's edition on standard error";
+
 const DUMP: &str = "Prints the profile that a running server has published.";
 
 const AFTER_DUMP: &str = "The profile is a TOML file that `omaha serve` and `omaha check` read.
 It has the published catalogue and the mirrors, with the keys in a fixed order and no comments.
+
+With --verbose it also prints a line on standard error:
+  omaha: edition 5 at 127.0.0.1:8081
+A script for the dump has this base. If another script is published between the two requests, the
+dump is newer than this number, and the script for it is stale.
 
 If the command fails, it prints one line on standard error.
   omaha: net ADDR   the server can't be reached at ADDR, or its reply isn't whole
@@ -102,6 +121,7 @@ pub(crate) fn publish_command<'a>(alloc: Global) -> Making<'a>
 {
     let command = titled(alloc, "publish", PUBLISH, AFTER_PUBLISH);
     let command = with_wanted_option(alloc, command, "to", "ADDR", TO);
+    let command = with_flag(alloc, command, "check", CHECK);
     with_wanted(alloc, command, "F", SCRIPT)
 }
 
@@ -118,7 +138,8 @@ pub(crate) fn dump_command<'a>(alloc: Global) -> Making<'a>
     ensures { IsMade dump_app result }
 {
     let command = titled(alloc, "dump", DUMP, AFTER_DUMP);
-    with_wanted_option(alloc, command, "to", "ADDR", TO)
+    let command = with_wanted_option(alloc, command, "to", "ADDR", TO);
+    with_flag(alloc, command, "verbose", VERBOSE)
 }
 
 /// Reads the arguments of `publish`.
@@ -130,7 +151,8 @@ pub(crate) fn read_publication(
 {
     let to = Text::copy_of(alloc, string_in(matches, "to"))?;
     let script = Text::copy_of(alloc, string_in(matches, "F"))?;
-    Ok(Publication { to, script })
+    let check = flag_in(matches, "check");
+    Ok(Publication { to, script, check })
 }
 
 /// Reads the arguments of `raise`.
@@ -143,10 +165,11 @@ pub(crate) fn read_raise(alloc: Global, matches: &ArgMatches<'_>) -> Result<Rais
     Ok(Raise { to, name, budget })
 }
 
-/// Reads the operator's listener that `dump` asks.
-pub(crate) fn read_dump(alloc: Global, matches: &ArgMatches<'_>) -> Result<Text, AllocError>
-    ensures { IfOk result (λ listener. listener ≡ dump_in (rows_of (found_of matches.now))) }
+/// Reads the arguments of `dump`.
+pub(crate) fn read_dump(alloc: Global, matches: &ArgMatches<'_>) -> Result<DumpAsked, AllocError>
+    ensures { IfOk result (λ asked. asked ≡ dump_in (rows_of (found_of matches.now))) }
 {
-    let listener = string_in(matches, "to");
-    Text::copy_of(alloc, listener)
+    let to = Text::copy_of(alloc, string_in(matches, "to"))?;
+    let verbose = flag_in(matches, "verbose");
+    Ok(DumpAsked { to, verbose })
 }

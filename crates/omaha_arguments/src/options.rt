@@ -99,7 +99,7 @@ fn has_plus(text: &str) -> bool
 }
 
 /// The number that a string has in decimal digits; std's `parse` alone would accept a `+`.
-pub(crate) fn number_of(text: &str) -> Option<u64>
+pub fn number_of(text: &str) -> Option<u64>
     ensures { result ≡ number_of text.now }
 {
     if has_plus(text) {

@@ -3,7 +3,7 @@
 ghost use Rattle.std.specs.Prelude.{◌≡◌, [], codes, IfOk, unwrap_or};
 ghost use Rattle.clap.specs.Words.{FailsBy, found_of, kind_of, rows_of};
 ghost use Rattle.omaha_arguments.specs.Options.{IsMade, workers_in};
-ghost use Rattle.omaha_arguments.specs.ReportArguments.{yes_or_no, certify_app, check_app, check_question_in, comparison_in, describe_app, explain_app, faults_of_certify, faults_of_check, faults_of_report, is_one_check, lane_of, names_in, question_in, report_in, verify_app};
+ghost use Rattle.omaha_arguments.specs.ReportArguments.{yes_or_no, certify_app, check_app, check_question_in, comparison_in, describe_app, explain_app, faults_of_certify, faults_of_check, faults_of_report, is_one_check, is_script_alone, lane_of, names_in, plain_question_in, question_in, report_in, verify_app};
 
 use crate::command::{Comparison, Question, Report};
 use crate::options::{
@@ -30,6 +30,14 @@ With --warn it also prints a line for each target that no client can reach, as i
 the status is the same:
   warning: app mini, cohort stable: nothing leads to 3.0
 
+With --script it prints what the catalogue has after the script, which is for edition 1:
+  edition 2: 1 apps, 4 releases, 3 differentials, 2 cohorts, 4 tables
+If a server would reject the script, it prints one line on standard error:
+  omaha: file S                          S can't be read, or has more than 262144 bytes
+  omaha: script F3 BadEntry edit[0].on   the script is invalid, with the location
+  omaha: stale 1                         the script has another base than 1
+  omaha: edit 0: C11 UnknownRelease      an edit of the script is rejected
+
 With --packages it also compares each declared package with its file in DIR. If some differ, it
 prints a line for each in place of that line, and then `omaha: packages N` on standard error:
   mini-1.0.bin: missing                     DIR has no such file
@@ -45,7 +53,12 @@ Examples:
   omaha check profile.toml
   omaha check profile.toml --packages packages
   omaha check profile.toml --workers 4
-  omaha check profile.toml --warn";
+  omaha check profile.toml --warn
+  omaha check profile.toml --script stage.toml";
+
+const WARN_AND_PACKAGES: &str = "--warn goes without --packages";
+
+const SCRIPT_ALONE: &str = "--script goes without --warn and --packages";
 
 const CERTIFY: &str = "Prints the certificate of a track: its least sums of bytes.";
 
@@ -118,12 +131,10 @@ pub(crate) fn check_command<'a>(alloc: Global) -> Making<'a>
     let command = with_option(alloc, command, "packages", "DIR", help);
     let help = "How many threads make the tables of prices, 1 to 8 [default: 1]";
     let command = with_option(alloc, command, "workers", "N", help);
-    with_flag(
-        alloc,
-        command,
-        "warn",
-        "Warn of targets that no client can reach",
-    )
+    let help = "Warn of targets that no client can reach";
+    let command = with_flag(alloc, command, "warn", help);
+    let help = "The script that is applied to the profile, and checked [default: none]";
+    with_option(alloc, command, "script", "S", help)
 }
 
 pub(crate) fn describe_command<'a>(alloc: Global) -> Making<'a>
@@ -215,14 +226,24 @@ fn read_names(alloc: Global, matches: &ArgMatches<'_>) -> Result<TrackNames, Err
     })
 }
 
-// The question of `check`.
-fn check_question_in(matches: &ArgMatches<'_>) -> Question
-    ensures { result ≡ check_question_in (rows_of (found_of matches.now)) }
+// The question of `check` without a script.
+fn plain_question_in(matches: &ArgMatches<'_>) -> Question
+    ensures { result ≡ plain_question_in (rows_of (found_of matches.now)) }
 {
     if flag_in(matches, "warn") {
         Question::Warn
     } else {
         Question::Check
+    }
+}
+
+// Reads the question of `check`.
+fn check_question_in(alloc: Global, matches: &ArgMatches<'_>) -> Result<Question, AllocError>
+    ensures { IfOk result (λ question. question ≡ check_question_in (rows_of (found_of matches.now))) }
+{
+    match optional_string(alloc, matches, "script")? {
+        Some(script) => Ok(Question::Script(script)),
+        None => Ok(plain_question_in(matches)),
     }
 }
 
@@ -232,7 +253,7 @@ fn read_question(alloc: Global, name: &str, matches: &ArgMatches<'_>) -> Result<
     ensures question { IfOk result (λ question. question ≡ question_in name.now (rows_of (found_of matches.now))) }
 {
     if name == "check" {
-        return Ok(check_question_in(matches));
+        return Ok(check_question_in(alloc, matches)?);
     }
     if name == "certify" {
         return Ok(Question::Certify(read_names(alloc, matches)?));
@@ -271,12 +292,12 @@ fn invalid_workers(alloc: Global) -> Result<Error, AllocError>
     )
 }
 
-// The error for `--warn` beside `--packages`, built like the errors of `clap`.
-fn two_checks(alloc: Global) -> Result<Error, AllocError>
+// The error for two options that go alone, built like the errors of `clap`.
+fn two_checks(alloc: Global, message: &str) -> Result<Error, AllocError>
     ensures { IfOk result (λ error. kind_of error ≡ ErrorKind.ValueValidation) }
 {
     let mut command = check_command(alloc)?.bin_name("omaha check")?;
-    command.error(ErrorKind::ValueValidation, "--warn goes without --packages")
+    command.error(ErrorKind::ValueValidation, message)
 }
 
 // Whether `--warn` and `--packages` aren't given together.
@@ -286,6 +307,17 @@ fn is_one_check(matches: &ArgMatches<'_>) -> bool
     !(flag_in(matches, "warn") && is_given(matches, "packages"))
 }
 
+// Whether `--script`, if it is given, is without `--warn` and `--packages`.
+fn is_script_alone(matches: &ArgMatches<'_>) -> bool
+    ensures { result ≡ is_script_alone (rows_of (found_of matches.now)) }
+{
+    if is_given(matches, "script") {
+        !flag_in(matches, "warn") && !is_given(matches, "packages")
+    } else {
+        true
+    }
+}
+
 // rule: Number of workers
 /// Reads how many threads `check` has for the tables.
 pub(crate) fn read_workers(alloc: Global, matches: &ArgMatches<'_>) -> Result<usize, Error>
@@ -293,11 +325,16 @@ pub(crate) fn read_workers(alloc: Global, matches: &ArgMatches<'_>) -> Result<us
     ensures valid { IfOk result (λ _. faults_of_check (rows_of (found_of matches.now)) ≡ []) }
     ensures workers { IfOk result (λ workers. workers ≡ unwrap_or (workers_in (rows_of (found_of matches.now))) 1) }
 {
-    match workers_in(matches) {
-        Some(workers) if is_one_check(matches) => Ok(workers as usize),
-        Some(_) => Err(two_checks(alloc)?),
-        None => Err(invalid_workers(alloc)?),
+    let Some(workers) = workers_in(matches) else {
+        return Err(invalid_workers(alloc)?);
+    };
+    if !is_one_check(matches) {
+        return Err(two_checks(alloc, WARN_AND_PACKAGES)?);
     }
+    if !is_script_alone(matches) {
+        return Err(two_checks(alloc, SCRIPT_ALONE)?);
+    }
+    Ok(workers as usize)
 }
 
 // rule: Arguments of a comparison

@@ -24,10 +24,12 @@ const SCRIPT: &str = "The script whose changes are printed [default: the profile
 
 const ALL: &str = "Print all stuck releases [default: at most 40 of a track]";
 
+const JSON: &str = "Print a JSON object on each line, with all stuck releases";
+
 const STRICT: &str = "Fail if a release is stuck; with --script, if one is newly stuck";
 
 const AFTER_REVIEW: &str =
-    "A release is stuck if no packages lead its clients to the target. Each line names a track by the
+    r#"A release is stuck if no packages lead its clients to the target. Each line names a track by the
 app, the cohort, the lane and whether clients allow a downgrade:
   track   mini stable held no: target 3.0, 4 releases, 1 stuck
   stuck   mini stable held no: 4.0, above the target without a downgrade
@@ -54,6 +56,12 @@ With --script it prints only what the script changes; its base is 1, as that of 
   freed   mini stable held yes: 4.0, stuck to 1400 bytes          it was stuck
   total   4 tracks, 16 releases, 3 changed, 1 newly stuck
 
+With --json it prints the same facts as objects, without spaces, for jq and other programs:
+  {"app":"mini","bytes":1400,"cohort":"stable","downgrade":false,"kind":"new","lane":"held"}
+The kind of an object is track, stuck, largest, longest or new; with --script it is newly_stuck,
+larger, smaller, other or freed, with the bytes before and after. Bytes are null of clients who are
+stuck. The last object's kind is summary, and no stuck release is left out.
+
 With --to it reviews what a running server has published; the base of a script is then the number of
 the server's edition. If it isn't, the server's reply `stale N` is printed, and the status is 1.
 Nothing is published.
@@ -67,7 +75,8 @@ Exit status: 0 if the review was printed, 1 if --strict found a stuck release or
 Examples:
   omaha review profile.toml
   omaha review profile.toml --script stage.toml --strict
-  omaha review --to 127.0.0.1:8081 --script stage.toml --strict";
+  omaha review profile.toml --json | jq -r 'select(.kind == "stuck") | .version'
+  omaha review --to 127.0.0.1:8081 --script stage.toml --strict"#;
 
 pub(crate) fn review_command<'a>(alloc: Global) -> Making<'a>
     ensures { IsMade review_app result }
@@ -77,6 +86,7 @@ pub(crate) fn review_command<'a>(alloc: Global) -> Making<'a>
     let command = with_option(alloc, command, "to", "ADDR", TO);
     let command = with_option(alloc, command, "script", "S", SCRIPT);
     let command = with_flag(alloc, command, "all", ALL);
+    let command = with_flag(alloc, command, "json", JSON);
     with_flag(alloc, command, "strict", STRICT)
 }
 
@@ -123,6 +133,7 @@ fn review_of(alloc: Global, matches: &ArgMatches<'_>) -> Result<Review, AllocErr
         source,
         script,
         all: flag_in(matches, "all"),
+        json: flag_in(matches, "json"),
         strict: flag_in(matches, "strict"),
     })
 }

@@ -3,10 +3,13 @@
 ghost use Rattle.std.specs.Prelude.{◌≡◌, IfOk};
 ghost use Rattle.clap.specs.Words.{FailsBy, found_of, kind_of, rows_of};
 ghost use Rattle.omaha_arguments.specs.Options.{IsMade};
-ghost use Rattle.omaha_arguments.specs.ScriptArguments.{base_in, faults_of_script, script_app, script_in};
+ghost use Rattle.omaha_arguments.specs.ScriptArguments.{base_in, faults_of_script, is_one_base, number_of_base, script_app, script_in};
 
-use crate::command::Script;
-use crate::options::{Making, number_in, strings_in, titled, with_wanted_list, with_wanted_option};
+use crate::command::{Base, Script};
+use crate::options::{
+    Making, number_in, optional_string, strings_in, titled, with_option, with_wanted_list,
+};
+use crate::serve_arguments::is_given;
 use clap::error::ErrorKind;
 use clap::{ArgMatches, Error};
 use std::alloc::{AllocError, Global};
@@ -14,6 +17,8 @@ use std::alloc::{AllocError, Global};
 const SCRIPT: &str = "Prints the script of some edits, as `publish` takes it.";
 
 const BASE: &str = "The number of the edition that the script is written for";
+
+const TO: &str = "A running server in place of N: its operator's address, such as 127.0.0.1:8081";
 
 const WORDS: &str = "What an edit does, and then its keys with their values: KEY=VALUE";
 
@@ -35,31 +40,70 @@ const AFTER_SCRIPT: &str =
 the keys. A word `--` may be between two edits.
 
 If the command fails, it prints one line on standard error.
-  omaha: script F3 BadEntry edit[0].share   the edit has no such key, lacks it, or it has another type
+  omaha: script F3 BadEntry edit[0].share   there may be no such key, it lacks, or has another type
   omaha: script F1 NotToml                  a key is there twice, or N is 2^63 or more
+  omaha: net ADDR                           the server can't be reached, or names no edition
   omaha: write                              standard output failed
   omaha: memory                             out of memory
 What the edits say is checked by the server: see `omaha publish` and `omaha review`.
+
+With --to the script is for the edition that the server has now; nothing is published. If another
+script is published before it, the server replies `stale`.
 
 Exit status: 0 if the script was printed, 1 if the command failed, 2 if the arguments are invalid.
 
 Example: a tenth of the clients of a cohort get its target.
   omaha script --base 5 set_share app=editor cohort=stable share=100 |
-    omaha publish --to 127.0.0.1:8081 -";
+    omaha publish --to 127.0.0.1:8081 -
+  omaha script --to 127.0.0.1:8081 set_share app=editor cohort=stable share=100 > widen.toml";
 
 pub(crate) fn script_command<'a>(alloc: Global) -> Making<'a>
     ensures { IsMade script_app result }
 {
     let command = titled(alloc, "script", SCRIPT, AFTER_SCRIPT);
-    let command = with_wanted_option(alloc, command, "base", "N", BASE);
+    let command = with_option(alloc, command, "base", "N", BASE);
+    let command = with_option(alloc, command, "to", "ADDR", TO);
     with_wanted_list(alloc, command, "WORD", WORDS)
 }
 
 // The number of `--base`.
-fn base_in(matches: &ArgMatches<'_>) -> Option<u64>
-    ensures { result ≡ base_in (rows_of (found_of matches.now)) }
+fn number_of_base(matches: &ArgMatches<'_>) -> Option<u64>
+    ensures { result ≡ number_of_base (rows_of (found_of matches.now)) }
 {
     number_in(matches, "base", 1)
+}
+
+// Whether a number is given, or a server, and not both.
+fn is_one_base(matches: &ArgMatches<'_>) -> bool
+    ensures { result ≡ is_one_base (rows_of (found_of matches.now)) }
+{
+    let number = is_given(matches, "base");
+    if is_given(matches, "to") {
+        !number
+    } else {
+        number
+    }
+}
+
+// The edition that the script is for: a server's, or else that of a number.
+fn base_in(alloc: Global, number: u64, matches: &ArgMatches<'_>) -> Result<Base, AllocError>
+    ensures { IfOk result (λ base. base ≡ base_in number (rows_of (found_of matches.now))) }
+{
+    match optional_string(alloc, matches, "to")? {
+        Some(to) => Ok(Base::Server(to)),
+        None => Ok(Base::Number(number)),
+    }
+}
+
+// The error of a script for no edition, or for two, built like the errors of `clap`.
+fn two_bases(alloc: Global) -> Result<Error, AllocError>
+    ensures { IfOk result (λ error. kind_of error ≡ ErrorKind.ValueValidation) }
+{
+    let mut command = script_command(alloc)?.bin_name("omaha script")?;
+    command.error(
+        ErrorKind::ValueValidation,
+        "name an edition by --base <N>, or a server by --to <ADDR>, and not both",
+    )
 }
 
 // The error for a `--base` that is no number, built like the errors of `clap`.
@@ -79,9 +123,13 @@ pub(crate) fn read_script(alloc: Global, matches: &ArgMatches<'_>) -> Result<Scr
     ensures faults { FailsBy (faults_of_script (rows_of (found_of matches.now))) result }
     ensures script { IfOk result (λ script. script ≡ script_in (rows_of (found_of matches.now))) }
 {
-    let Some(base) = base_in(matches) else {
+    let Some(number) = number_of_base(matches) else {
         return Err(invalid_base(alloc)?);
     };
+    if !is_one_base(matches) {
+        return Err(two_bases(alloc)?);
+    }
+    let base = base_in(alloc, number, matches)?;
     let words = strings_in(alloc, matches, "WORD")?;
     Ok(Script { base, words })
 }

@@ -1,9 +1,10 @@
 // The options of the command `serve`.
 
-ghost use Rattle.std.specs.Prelude.{◌≡◌, codes, IfOk, is_some};
+ghost use Rattle.std.specs.Prelude.{◌≡◌, ◌<◌, ◌==◌, codes, IfOk, is_some};
+ghost use Rattle.std.specs.List.{after_first, before_first};
 ghost use Rattle.clap.specs.Words.{FailsBy, first_of, found_of, kind_of, rows_of};
 ghost use Rattle.omaha_arguments.specs.Options.{IsMade};
-ghost use Rattle.omaha_arguments.specs.ServeArguments.{connections_in, connections_of, faults_of_serve, is_loopback, is_named, is_operator_allowed, is_operator_local, limit_in, limit_of, seconds_in, seconds_of, serve_app, serve_in};
+ghost use Rattle.omaha_arguments.specs.ServeArguments.{connections_in, connections_of, faults_of_serve, are_three_octets, has_leading_zero, is_local, is_loopback, is_loopback_host, is_named, is_octet, is_operator_allowed, is_operator_local, is_path, limit_in, limit_of, seconds_in, seconds_of, serve_app, serve_in};
 
 use crate::command::Serve;
 use crate::options::{
@@ -27,9 +28,9 @@ const PACKAGES: &str = "The folder of the packages, each under its name in the c
 
 const LISTEN: &str = "The address and port to listen on, such as 127.0.0.1:8080";
 
-const OPERATOR: &str = "The operator's address, such as 127.0.0.1:8081 [default: none]";
+const OPERATOR: &str = "The operator's address: 127.0.0.1:8081, unix:PATH [default: none]";
 
-const ANYWHERE: &str = "The operator's address may be other than of the loopback";
+const ANYWHERE: &str = "The operator's address may be one that other machines reach";
 
 const WORKERS: &str = "How many threads serve clients, 1 to 8 [default: 1]";
 
@@ -50,7 +51,7 @@ const LOG: &str = "Where to log replies: a file, or - for standard error [defaul
 const NO_PROFILE: &str = "name a profile by --profile <F>, or a history by --history <FILE>";
 
 const OPEN_OPERATOR: &str =
-    "whoever reaches the operator's address may publish: name 127.0.0.1:PORT or [::1]:PORT, or add --operator-anywhere";
+    "whoever reaches the operator's address may publish: name unix:PATH, 127.0.0.1:PORT or [::1]:PORT, or add --operator-anywhere";
 
 const AFTER_SERVE: &str =
     "Prints `ready` when it listens. It replies to `POST /service/update2/json` and sends the packages
@@ -59,9 +60,10 @@ client holds up another. If as many are connected as may be, the one that has wa
 between two messages is closed for the next. An operator may
 `POST /operate` to the operator's address meanwhile: a script is published as the next edition,
 `raise NAME BUDGET` raises a mirror's budget, and `dump` gets the profile of what is published.
-Any program that reaches that address may publish and raise, so it must be 127.x.x.x:PORT or
-[::1]:PORT, unless --operator-anywhere is given; a page in a browser may not. After the last
-session it prints one line for each mirror: its name, and how many bytes it was granted.
+Any program that reaches that address may publish and raise; a page in a browser may not. So it
+must be 127.x.x.x:PORT, [::1]:PORT, or unix:PATH, a socket that the server's user and its group may
+use, unless --operator-anywhere is given. After the last session it prints one line for each
+mirror: its name, and how many bytes it was granted.
 
 With --history each script and each raise is kept in that file before it takes effect and is
 replied to, so a server that is started again has the edition, the catalogue and the budgets of all
@@ -219,26 +221,89 @@ fn missing_option(alloc: Global, message: &str) -> Result<Error, AllocError>
     command.error(ErrorKind::MissingRequiredArgument, message)
 }
 
-// Whether an address begins as those of the loopback.
+// The strings before and after the first such character, or all and nothing.
+fn split_at(text: &str, mark: char) -> (&str, &str)
+    requires { mark < 128 }
+    ensures before { result.0.now ≡ before_first (λ byte. byte == mark) text.now }
+    ensures after { result.1.now ≡ after_first (λ byte. byte == mark) text.now }
+{
+    match text.split_once(mark) {
+        Some(parts) => parts,
+        None => (text, ""),
+    }
+}
+
+// Whether a string of digits has a zero before them.
+fn has_leading_zero(text: &str) -> bool
+    ensures { result ≡ has_leading_zero text.now }
+{
+    text.len() > 1 && text.as_bytes()[0] == b'0'
+}
+
+// Whether a string is a decimal number below 256 without leading zeros.
+fn is_octet(text: &str) -> bool
+    ensures { result ≡ is_octet text.now }
+{
+    match number_of(text) {
+        Some(number) => number < 256 && !has_leading_zero(text),
+        None => false,
+    }
+}
+
+// Whether a string is three such numbers, with dots between them.
+fn are_three_octets(text: &str) -> bool
+    ensures { result ≡ are_three_octets text.now }
+{
+    let (first, rest) = split_at(text, '.');
+    let (second, third) = split_at(rest, '.');
+    is_octet(first) && is_octet(second) && is_octet(third)
+}
+
+// Whether a host is of 127.0.0.0/8.
+fn is_loopback_host(host: &str) -> bool
+    ensures { result ≡ is_loopback_host host.now }
+{
+    let (network, rest) = split_at(host, '.');
+    network == "127" && are_three_octets(rest)
+}
+
+// Whether an address is of the loopback, by its digits: no name is looked up.
 fn is_loopback(address: &str) -> bool
     ensures { result ≡ is_loopback address.now }
 {
-    let bytes = address.as_bytes();
-    bytes.starts_with(b"127.") || bytes.starts_with(b"[::1]:")
+    if address.as_bytes().starts_with(b"[::1]:") {
+        return true;
+    }
+    let (host, _) = split_at(address, ':');
+    is_loopback_host(host)
 }
 
-// Whether the operator's address, if there is one, is of the loopback.
+// Whether an address is a path in the file system.
+fn is_path(address: &str) -> bool
+    ensures { result ≡ is_path address.now }
+{
+    address.as_bytes().starts_with(b"unix:")
+}
+
+// Whether only this machine reaches an address.
+fn is_local(address: &str) -> bool
+    ensures { result ≡ is_local address.now }
+{
+    is_path(address) || is_loopback(address)
+}
+
+// Whether the operator's address, if there is one, is reached by this machine alone.
 fn is_operator_local(matches: &ArgMatches<'_>) -> bool
     ensures { result ≡ is_operator_local (rows_of (found_of matches.now)) }
 {
     match matches.get_str("operator") {
         None => true,
-        Some(address) => is_loopback(address),
+        Some(address) => is_local(address),
     }
 }
 
 // rule: Address of an operator
-// Whether the operator's address, if there is one, is of the loopback or may be any.
+// Whether the operator's address, if there is one, is reached by this machine alone or may be any.
 fn is_operator_allowed(matches: &ArgMatches<'_>) -> bool
     ensures { result ≡ is_operator_allowed (rows_of (found_of matches.now)) }
 {

@@ -1,12 +1,13 @@
 -- What a command does; this project's profile.
-use Rattle.std.specs.Prelude.{◌≡◌, ⊤, Result}
+use Rattle.std.specs.Prelude.{◌≡◌, ⊤, false, Result}
 use Rattle.omaha_server.specs.Serving.{IsSilent}
 use Rattle.omaha_commands.specs.Comparing.{Compares}
 use Rattle.omaha_commands.specs.Describing.{PrintsDescriptions}
 use Rattle.omaha_commands.specs.Explaining.{Explains}
 use Rattle.omaha_histories.specs.Histories.{PrintsHistory}
 use Rattle.omaha_once.specs.Once.{Responds}
-use Rattle.omaha_commands.specs.Operating.{Dumps, Publishes, Raises}
+use Rattle.omaha_commands.specs.Operating.{Dumps, Raises}
+use Rattle.omaha_commands.specs.Judging.{Publishes}
 use Rattle.omaha_commands.specs.Reports.{Reports}
 use Rattle.omaha_commands.specs.Reviewing.{Reviews}
 use Rattle.omaha_commands.specs.Scripting.{PrintsScript}
@@ -31,13 +32,14 @@ Does world (command.History asked) old new result = PrintsHistory world.stored a
 Does world (command.Serve serve) old new result = ServesOn world.files world.stored world.edges serve old new result
 Does world (command.Walk walk) old new result = WalksOn world.replies walk old new result
 Does world (command.Publish asked) old new result = Publishes world.files world.operated asked old new result
-Does world (command.Script asked) old new result = PrintsScript asked old new result
+Does world (command.Script asked) old new result = PrintsScript world.operated asked old new result
 Does world (command.Raise asked) old new result =
     Raises world.operated asked old.output new.output result × (new.input ≡ old.input)
-Does world (command.Dump to) old new result =
-    Dumps world.operated to old.output new.output result × (new.input ≡ old.input)
+Does world (command.Dump asked) old new result =
+    Dumps world.operated asked.to old.output new.output result × (new.input ≡ old.input)
 
--- the command logs nothing to the standard error
+-- the command prints nothing on the standard error itself: it logs nothing there, and no edition's number is asked for
 abbrev pub IsSilentCommand : Command → Type 0
 IsSilentCommand (command.Serve serve) = IsSilent serve.log
+IsSilentCommand (command.Dump asked) = asked.verbose ≡ false
 IsSilentCommand other = ⊤

@@ -131,10 +131,10 @@ fn obey<
         Command::Explain(code) => explain_code(rt.alloc(), code, writer),
         Command::Serve(asked) => serve_profile(rt, system, stores, asked, writer, errors),
         Command::Walk(asked) => walk_on(rt.alloc(), rt, asked, writer),
-        Command::Publish(asked) => publish_on(rt, rt.alloc(), asked, reader, writer),
-        Command::Script(asked) => print_script(rt.alloc(), asked, writer),
+        Command::Publish(asked) => publish_on(rt, asked, reader, writer),
+        Command::Script(asked) => print_script(rt, rt.alloc(), asked, writer),
         Command::Raise(asked) => raise_on(rt, rt.alloc(), asked, writer),
-        Command::Dump(to) => dump_on(rt, rt.alloc(), to, writer),
+        Command::Dump(asked) => dump_on(rt, rt.alloc(), asked, writer, errors),
         Command::History(asked) => print_history(rt, stores, asked, writer),
     }
 }
@@ -206,7 +206,8 @@ fn report<F: WriteWhole>(alloc: Global, ending: &Ending, errors: &mut F)
 /// history; with `serve` it serves until its last session; with `walk` it walks along a server's offers; with `publish`,
 /// `raise` and `dump` it calls an operator's listener. It returns 0 if the command did that, or the help or the version
 /// was printed; 1 if the command failed, after one line on `errors`, or none if that listener declined; and 2 if the
-/// arguments are invalid, after `clap`'s message on `errors`. With `--log -` a server also logs its replies there.
+/// arguments are invalid, after `clap`'s message on `errors`. With `--log -` a server also logs its replies there, and
+/// `dump --verbose` prints the number of the server's edition.
 pub fn run<
     P: Port + Send + Drop,
     S: System<P> + Sync,

@@ -64,6 +64,17 @@ fn end_of<A: Drop>(ended: Result<A, ServerError>, asked: &Serve) -> Result<(), F
     }
 }
 
+// Closes the addresses of a server if it was served; another server may have them if it wasn't.
+fn close_addresses<P: Port, S: System<P>>(system: &S, asked: &Serve, served: bool) {
+    if !served {
+        return;
+    }
+    system.close_address(asked.listen.as_str());
+    if let Some(operator) = &asked.operator {
+        system.close_address(operator.as_str());
+    }
+}
+
 // A copy of a string that may be missing.
 fn copy_of(text: &Option<Text>) -> Result<Option<Text>, AllocError>
     ensures { IfOk result (λ copy. copy ≡ text.now) }
@@ -129,5 +140,6 @@ pub(crate) fn serve_profile<
         return Err(Failure::Memory);
     };
     let ended = serve(rt, system, kept, &place, &Free, writer, errors);
+    close_addresses(system, asked, ended.is_ok());
     end_of(ended, asked)
 }

@@ -1,8 +1,11 @@
+pub mod Applying
+pub mod Asking
 pub mod Comparing
 pub mod Describing
 pub mod Explaining
 pub mod Failures
 pub mod HistoryFaults
+pub mod Judging
 pub mod Operating
 pub mod Profiles
 pub mod Rejections

@@ -66,8 +66,8 @@ CallsWith listeners to (Ok body) before after result = Calls listeners to body b
 CallsWith listeners to (Err refusal) before after result = (result ≡ Err refusal) × (after ≡ before)
 
 -- the script's bytes are sent as they are
-abbrev pub Publishes : Files → Listeners → Publication → Streams → Streams → Result (Unit {0}) Failure → Type 0
-Publishes files listeners publication old new result =
+abbrev pub Posts : Files → Listeners → Publication → Streams → Streams → Result (Unit {0}) Failure → Type 0
+Posts files listeners publication old new result =
     (read : Result (List ℕ) Failure) × IsScript files publication.script old.input new.input read
     × CallsWith listeners publication.to read old.output new.output result
 

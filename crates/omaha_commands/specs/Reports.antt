@@ -14,11 +14,13 @@ use Rattle.reports.specs.Certificates.{Certifies, Verifies}
 use Rattle.reports.specs.Summaries.{summary_of}
 use Rattle.price_certificates.specs.declared.fault.Fault.{Fault}
 use Rattle.values.specs.declared.read_error.ReadError.{ReadError}
+use Rattle.omaha_commands.specs.Applying.{Applies}
 use Rattle.omaha_commands.specs.Profiles.{Files, IsServed, IsUnreadable, max_profile}
 use Rattle.omaha_commands.specs.Rejections.{failure_of_certificate}
+use Rattle.omaha_commands.specs.Reviewing.{IsScriptOf, Script as Written}
 use Rattle.omaha_commands.specs.Streams.{Streams}
 use Rattle.omaha_arguments.specs.declared.command.Question.{Question}
-use Rattle.omaha_arguments.specs.declared.command.Question.TheVariants.{Check, Warn, Certify, Verify}
+use Rattle.omaha_arguments.specs.declared.command.Question.TheVariants.{Check, Warn, Script, Certify, Verify}
 use Rattle.omaha_arguments.specs.declared.command.Report.{Report}
 use Rattle.omaha_commands.specs.declared.failure.Failure.{Failure}
 use Rattle.omaha_commands.specs.declared.failure.Failure.TheVariants as failure
@@ -47,14 +49,33 @@ IsWarned history text =
     (warnings : List ℕ) × AreWarnings (content_of history) warnings
     × (text ≡ summary_of (length history) (content_of history) ++ warnings)
 
+-- the summary of the edition that was made, unless memory runs out
+abbrev pub IsSummary : Result History Failure → Result (List ℕ) Failure → Type 0
+IsSummary (Ok after) (Ok text) = text ≡ summary_of (length after) (content_of after)
+IsSummary (Ok after) (Err refusal) = refusal ≡ failure.Memory
+IsSummary (Err refusal) found = found ≡ Err refusal
+
+-- what follows from the script that was read: what it makes of an edition is summarized
+abbrev pub SummarizesBy : History → Result Written Failure → Result (List ℕ) Failure → Type 0
+SummarizesBy history (Ok script) found =
+    (applied : Result History Failure) × Applies history (length history) script applied × IsSummary applied found
+SummarizesBy history (Err refusal) found = found ≡ Err refusal
+
+-- rule: Check with a script
+-- the script of a file is read, and what it makes of an edition is summarized
+abbrev pub SummarizesAfter : Files → History → List ℕ → Result (List ℕ) Failure → Type 0
+SummarizesAfter files history path found =
+    (read : Result Written Failure) × IsScriptOf files path read × SummarizesBy history read found
+
 -- rule: Report on a profile
--- what is found for a question about a service's edition: its summary, perhaps with warnings; the certificate of the
--- named track; or that the certificate in the file is valid. Or why that is not found.
+-- what is found for a question about a service's edition: its summary, perhaps with warnings; that of the edition that a
+-- script makes of it; the certificate of the named track; or that the certificate in the file is valid. Or why that is not found.
 abbrev pub Finds : Files → Service → Question → Result (List ℕ) Failure → Type 0
 Finds files service Check (Ok text) = text ≡ summary_of (length service.edition) (content_of service.edition)
 Finds files service Check (Err refusal) = refusal ≡ failure.Memory
 Finds files service Warn (Ok text) = IsWarned service.edition text
 Finds files service Warn (Err refusal) = refusal ≡ failure.Memory
+Finds files service (Script path) found = SummarizesAfter files service.edition path found
 Finds files service (Certify names) (Ok text) = Certifies (content_of service.edition) names (Ok text)
 Finds files service (Certify names) (Err refusal) =
     FailsAs (λ error. Certifies (content_of service.edition) names (Err error)) refusal

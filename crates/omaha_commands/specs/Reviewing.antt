@@ -4,6 +4,7 @@ use Rattle.std.specs.Option.{option_map}
 use Rattle.std.specs.Io.KnownBytes.{Appends}
 use Rattle.streams.specs.Reading.{IsLonger, IsWhole}
 use Rattle.streams.specs.Writing.{Breaks}
+use Rattle.records.specs.declared.content.App.{App}
 use Rattle.catalogue.specs.declared.edit.Edit.{Edit}
 use Rattle.catalogue_laws.specs.Histories.{History}
 use Rattle.editions.specs.Editions.{Continues, content_of}
@@ -12,7 +13,9 @@ use Rattle.editions.specs.declared.fault.NextError.TheVariants as next
 use Rattle.services.specs.declared.service.Service.{Service}
 use Rattle.profile_toml.specs.Reading.{script_of_bytes}
 use Rattle.reviews.specs.ChangeLines.{change_string, newly_stuck_total}
+use Rattle.reviews.specs.ChangeObjects.{change_objects}
 use Rattle.reviews.specs.Changes.{changes_of}
+use Rattle.reviews.specs.Objects.{review_objects}
 use Rattle.reviews.specs.ReviewLines.{review_string, stuck_total}
 use Rattle.reviews.specs.Reviews.{AreReviews}
 use Rattle.reviews.specs.declared.change.Change.{Change}
@@ -38,22 +41,32 @@ max_script = 262144
 abbrev pub limit_of : Review → ℕ
 limit_of asked = if asked.all then 2 ^ 64 - 1 else 40
 
+-- what is printed of the reviews of a content: lines, or JSON objects
+abbrev pub review_bytes : Review → List App → List TrackReview → List ℕ
+review_bytes asked apps reviews =
+    if asked.json then review_objects apps reviews else review_string apps (limit_of asked) reviews
+
+-- what is printed of changes
+abbrev pub change_bytes : Review → List App → List TrackReview → List Change → List ℕ
+change_bytes asked apps reviews changes =
+    if asked.json then change_objects apps reviews changes else change_string apps reviews changes
+
 -- the review of an edition is found, and how many releases are stuck
-pub record IsReviewed (history : History) (limit : ℕ) (findings : Findings) : Type 0 where
+pub record IsReviewed (asked : Review) (history : History) (findings : Findings) : Type 0 where
   pub reviews : List TrackReview
   pub are : AreReviews (content_of history) reviews
-  pub text : findings.text.items ≡ review_string (content_of history) limit reviews
+  pub text : findings.text.items ≡ review_bytes asked (content_of history) reviews
   pub verdict : findings.verdict ≡ StuckReleases (stuck_total reviews)
 
 -- the review of a change from one edition to another is found, and how many releases are newly stuck
-pub record IsReviewedChange (old new : History) (findings : Findings) : Type 0 where
+pub record IsReviewedChange (asked : Review) (old new : History) (findings : Findings) : Type 0 where
   pub before : List TrackReview
   pub are_before : AreReviews (content_of old) before
   pub after : List TrackReview
   pub are_after : AreReviews (content_of new) after
   pub changes : List Change
   pub are : changes ≡ changes_of (content_of old) (content_of new) before after
-  pub text : findings.text.items ≡ change_string (content_of new) after changes
+  pub text : findings.text.items ≡ change_bytes asked (content_of new) after changes
   pub verdict : findings.verdict ≡ StuckReleases (newly_stuck_total changes)
 
 -- why an edition has no next one, as a failure
@@ -67,31 +80,31 @@ abbrev pub Script : Type 0
 Script = ℕ × List Edit
 
 -- what is found of a change, unless memory runs out
-abbrev pub FindsNext : History → History → Result Findings Failure → Type 0
-FindsNext before after (Ok findings) = IsReviewedChange before after findings
-FindsNext before after (Err refusal) = refusal ≡ failure.Memory
+abbrev pub FindsNext : Review → History → History → Result Findings Failure → Type 0
+FindsNext asked before after (Ok findings) = IsReviewedChange asked before after findings
+FindsNext asked before after (Err refusal) = refusal ≡ failure.Memory
 
 -- what is found of a script for an edition: another edition is there; the review of the change to the next edition; or
 -- why there is none
-abbrev pub FindsInBatch : History → ℕ → List Edit → Result Findings Failure → Type 0
-FindsInBatch history base batch (Ok findings) =
+abbrev pub FindsInBatch : Review → History → ℕ → List Edit → Result Findings Failure → Type 0
+FindsInBatch asked history base batch (Ok findings) =
     (base ≡ length history)
-    × ((after : History) × Continues history batch (Ok after) × IsReviewedChange history after findings)
-FindsInBatch history base batch (Err (failure.Stale number)) = (base ≢ length history) × (number ≡ length history)
-FindsInBatch history base batch (Err failure.Memory) = ⊤
-FindsInBatch history base batch (Err refusal) =
+    × ((after : History) × Continues history batch (Ok after) × IsReviewedChange asked history after findings)
+FindsInBatch asked history base batch (Err (failure.Stale number)) = (base ≢ length history) × (number ≡ length history)
+FindsInBatch asked history base batch (Err failure.Memory) = ⊤
+FindsInBatch asked history base batch (Err refusal) =
     (base ≡ length history)
     × ((error : NextError) × (refusal ≡ failure_of_next error) × Continues history batch (Err error))
 
 -- what is found of an edition, unless memory runs out
 abbrev pub FindsWhole : Review → History → Result Findings Failure → Type 0
-FindsWhole asked history (Ok findings) = IsReviewed history (limit_of asked) findings
+FindsWhole asked history (Ok findings) = IsReviewed asked history findings
 FindsWhole asked history (Err refusal) = refusal ≡ failure.Memory
 
 -- what is found of an edition, without a script or with one
 abbrev pub FindsBy : Review → History → Option Script → Result Findings Failure → Type 0
 FindsBy asked history None found = FindsWhole asked history found
-FindsBy asked history (Some script) found = FindsInBatch history script.0 script.1 found
+FindsBy asked history (Some script) found = FindsInBatch asked history script.0 script.1 found
 
 -- what follows from what was made of a profile
 abbrev pub FollowsBy : Review → Option Script → Result Service Failure → Result Findings Failure → Type 0

@@ -3,20 +3,24 @@
 //! `read_service` and `open_service` make a service of a profile: read `specs/Profiles.antt`. `report_on` does `check`,
 //! `certify` and `verify`: read `specs/Reports.antt`; `review_on` is `review`: read `specs/Reviewing.antt`;
 //! `compare_on` is `check` with a folder of packages, and `describe_files` describes files, by `package_files`: read
-//! `specs/Comparing.antt` and `specs/Describing.antt`. `print_script` is `script`: read `specs/Scripting.antt`.
+//! `specs/Comparing.antt` and `specs/Describing.antt`. `print_script` is `script`: read `specs/Scripting.antt`. A script is
+//! applied to an edition as `specs/Applying.antt` says.
 //! `explain_code` prints what `explanations` says of a code. `walk_on` is walked by `update_client`: read
-//! `specs/Walking.antt`; `publish_on`, `raise_on` and `dump_on` post by it: read `specs/Operating.antt`. `print` writes
-//! what a command found. A `Failure` is why a command fails, and a `HistoryFault` what is wrong with a history.
+//! `specs/Walking.antt`; `publish_on`, `raise_on` and `dump_on` post by it: read `specs/Operating.antt` and, for a script
+//! that is only checked, `specs/Judging.antt`. `print` writes what a command found. A `Failure` is why a command fails, and a `HistoryFault` what is wrong with a history.
 //!
 //! It reads no arguments, and exits with no status.
 
 #![tactic(auto)]
 
+mod applying;
+mod asking;
 mod comparing;
 mod describing;
 mod explaining;
 mod failure;
 mod history_fault;
+mod judging;
 mod operating;
 mod printing;
 mod profile;

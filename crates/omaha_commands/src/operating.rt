@@ -1,12 +1,17 @@
 // The commands of an operator: `publish`, `raise` and `dump`.
 
-ghost use Rattle.std.specs.Prelude.{◌≡◌, IfErr, IfOk, Ok, Err};
-ghost use Rattle.omaha_commands.specs.Operating.{Calls, Dumps, IsRead, IsScript, PrintsReply, Publishes, Raises, is_input};
+ghost use Rattle.std.specs.Prelude.{◌≡◌, IfErr, IfOk, Ok, Err, false};
+ghost use Rattle.omaha_commands.specs.Asking.{IsNoted, Notes};
+ghost use Rattle.omaha_commands.specs.Judging.{Publishes};
+ghost use Rattle.omaha_commands.specs.Operating.{Calls, Dumps, IsRead, IsScript, Posts, PrintsReply, Raises, is_input};
 
+use crate::asking::{edition_at, note_edition};
 use crate::failure::Failure;
+use crate::judging::check_on;
 use crate::profile::MAX_PROFILE;
-use omaha_arguments::{Publication, Raise};
+use omaha_arguments::{DumpAsked, Publication, Raise};
 use std::alloc::Global;
+use std::thread::Threads;
 use streams::{Disk, ReadFailure, ReadWhole, WriteWhole};
 use update_client::{Connector, LinkFault, Reply};
 use values::Text;
@@ -23,8 +28,8 @@ fn read_file<R: Disk>(rt: &R, alloc: Global, path: &Text) -> Result<Vec<u8>, Fai
     }
 }
 
-// Whether a path means the standard input.
-fn is_input(path: &str) -> bool
+/// Whether a path means the standard input.
+pub(crate) fn is_input(path: &str) -> bool
     ensures { result ≡ is_input path.now }
 {
     path == "-"
@@ -79,14 +84,33 @@ fn call<R: Connector, W: WriteWhole>(
     }
 }
 
-/// Posts a script to an operator's listener, as it is, and prints the reply. The script is a file, or what the reader has
-/// if its path is `-`.
-///
-/// Fails with the file or the reader, then with `Net` if the listener can't be reached or sends no whole reply; each time
-/// nothing is written. Fails with `Declined` after a reply with another status than 200, and with the writer.
-pub fn publish_on<R: Disk + Connector, I: ReadWhole, W: WriteWhole>(
+// Posts a script to an operator's listener, as it is, and prints the reply.
+fn post_script<R: Disk + Connector, I: ReadWhole, W: WriteWhole>(
     rt: &R,
     alloc: Global,
+    asked: &Publication,
+    reader: &mut I,
+    writer: &mut W,
+) -> Result<(), Failure>
+    ensures { Posts (R.file_at rt.now) (R.operated rt.now) asked.now
+        (record { input = I.input reader.old; output = W.output writer.old })
+        (record { input = I.input reader.new; output = W.output writer.new }) result }
+{
+    match read_script(rt, alloc, &asked.script, reader) {
+        Ok(script) => call(rt, alloc, &asked.to, script.as_slice(), writer),
+        Err(failure) => Err(failure),
+    }
+}
+
+/// Posts a script to an operator's listener, as it is, and prints the reply; or only checks it, if that is asked for. The
+/// script is a file, or what the reader has if its path is `-`.
+///
+/// Fails with the file or the reader, then with `Net` if the listener can't be reached or sends no whole reply; each time
+/// nothing is written. Fails with `Declined` after a reply with another status than 200, and with the writer. A check
+/// fails with the script's first fault after the file, with `Net` also if the listener names no edition, with `Stale` if
+/// the script is written for another one, and with its first rejected edit.
+pub fn publish_on<R: Disk + Connector + AllocGlobal + Threads + Sync, I: ReadWhole, W: WriteWhole>(
+    rt: &R,
     asked: &Publication,
     reader: &mut I,
     writer: &mut W,
@@ -95,9 +119,10 @@ pub fn publish_on<R: Disk + Connector, I: ReadWhole, W: WriteWhole>(
         (record { input = I.input reader.old; output = W.output writer.old })
         (record { input = I.input reader.new; output = W.output writer.new }) result }
 {
-    match read_script(rt, alloc, &asked.script, reader) {
-        Ok(script) => call(rt, alloc, &asked.to, script.as_slice(), writer),
-        Err(failure) => Err(failure),
+    if asked.check {
+        check_on(rt, asked, reader, writer)
+    } else {
+        post_script(rt, rt.alloc(), asked, reader, writer)
     }
 }
 
@@ -120,16 +145,50 @@ pub fn raise_on<R: Connector, W: WriteWhole>(
     }
 }
 
-/// Prints the profile that an operator's listener dumps.
-///
-/// Fails as `publish_on` does without a file.
-pub fn dump_on<R: Connector, W: WriteWhole>(
+// rule: Verbose dump
+// Prints the profile that an operator's listener dumps, and then the number of the edition that the server had before.
+fn dump_verbosely<R: Connector, W: WriteWhole, E: WriteWhole>(
     rt: &R,
     alloc: Global,
     to: &Text,
     writer: &mut W,
+    errors: &mut E,
 ) -> Result<(), Failure>
-    ensures { Dumps (R.operated rt.now) to.now (W.output writer.old) (W.output writer.new) result }
+    ensures dumps { Dumps (R.operated rt.now) to.now (W.output writer.old) (W.output writer.new) result }
+    ensures noted { IsNoted (R.operated rt.now) to.now (E.output errors.old) (E.output errors.new) result }
+    ensures silent { IfErr result (λ _. errors.new ≡ errors.old) }
 {
-    call(rt, alloc, to, b"dump", writer)
+    match edition_at(rt, alloc, to) {
+        Ok(number) => match call(rt, alloc, to, b"dump", writer) {
+            Ok(()) => {
+                note_edition(alloc, number, to, errors);
+                Ok(())
+            }
+            Err(failure) => Err(failure),
+        },
+        Err(failure) => Err(failure),
+    }
+}
+
+/// Prints the profile that an operator's listener dumps. If it is asked for, the number of the server's edition, which is
+/// asked before, is printed on `errors` after it.
+///
+/// Fails as `publish_on` does without a file, and with `Net` if that number is asked for and the listener names none. After
+/// a failure nothing is printed on `errors`.
+pub fn dump_on<R: Connector, W: WriteWhole, E: WriteWhole>(
+    rt: &R,
+    alloc: Global,
+    asked: &DumpAsked,
+    writer: &mut W,
+    errors: &mut E,
+) -> Result<(), Failure>
+    ensures dumps { Dumps (R.operated rt.now) asked.now.to (W.output writer.old) (W.output writer.new) result }
+    ensures noted { Notes asked.now.verbose (R.operated rt.now) asked.now.to (E.output errors.old) (E.output errors.new) result }
+    ensures silent { asked.now.verbose ≡ false → errors.new ≡ errors.old }
+{
+    if asked.verbose {
+        dump_verbosely(rt, alloc, &asked.to, writer, errors)
+    } else {
+        call(rt, alloc, &asked.to, b"dump", writer)
+    }
 }

@@ -2,13 +2,16 @@
 
 ghost use Rattle.std.specs.Prelude.{IfErr, IfOk, Ok, Err};
 ghost use Rattle.editions.specs.Editions.{content_of};
-ghost use Rattle.omaha_commands.specs.Reports.{AreWarnings, Finds, IsReported, IsWarned, Reports};
+ghost use Rattle.omaha_commands.specs.Reports.{AreWarnings, Finds, IsReported, IsSummary, IsWarned, Reports, SummarizesAfter, SummarizesBy};
 ghost use Rattle.omaha_arguments.specs.declared.command.Question.TheVariants.{Verify};
 ghost use Rattle.streams.specs.Streams.{Known};
 
+use crate::applying::apply;
 use crate::failure::Failure;
 use crate::printing::print;
 use crate::profile::{MAX_PROFILE, open_profile};
+use crate::reviewing::read_script_file;
+use catalogue::Batch;
 use editions::Edition;
 use omaha_arguments::{Question, Report};
 use reports::{certify, summary, verify};
@@ -57,6 +60,33 @@ fn warned_summary(alloc: Global, edition: &Edition) -> Result<Vec<u8>, AllocErro
     Ok(text)
 }
 
+// The summary of what a script makes of an edition.
+fn summary_by(alloc: Global, edition: &Edition, script: (u64, Batch)) -> Result<Vec<u8>, Failure>
+    ensures ok { IfOk result (λ text. SummarizesBy edition.now (Ok script) (Ok text.items)) }
+    ensures err { IfErr result (λ failure. SummarizesBy edition.now (Ok script) (Err failure)) }
+{
+    match apply(edition, edition.number(), script) {
+        Ok(next) => Ok(summary(alloc, &next)?.into_bytes()),
+        Err(failure) => Err(failure),
+    }
+}
+
+// rule: Check with a script
+// The summary of what the script of a file makes of an edition.
+fn summary_after<R: Disk + AllocGlobal>(
+    rt: &R,
+    edition: &Edition,
+    path: &Text,
+) -> Result<Vec<u8>, Failure>
+    ensures ok { IfOk result (λ text. SummarizesAfter (R.file_at rt.now) edition.now path.now (Ok text.items)) }
+    ensures err { IfErr result (λ failure. SummarizesAfter (R.file_at rt.now) edition.now path.now (Err failure)) }
+{
+    match read_script_file(rt, path) {
+        Ok(script) => summary_by(rt.alloc(), edition, script),
+        Err(failure) => Err(failure),
+    }
+}
+
 // What is found for a question about a service's edition.
 fn find<R: Disk + AllocGlobal + Threads + Sync>(
     rt: &R,
@@ -69,6 +99,7 @@ fn find<R: Disk + AllocGlobal + Threads + Sync>(
     match question {
         Question::Check => Ok(summary(rt.alloc(), &service.edition)?.into_bytes()),
         Question::Warn => Ok(warned_summary(rt.alloc(), &service.edition)?),
+        Question::Script(path) => summary_after(rt, &service.edition, path),
         Question::Certify(names) => Ok(certify(rt.alloc(), &service.edition, names)?),
         Question::Verify(path) => verify_file(rt, service, path),
     }

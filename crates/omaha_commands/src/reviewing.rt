@@ -2,20 +2,20 @@
 
 ghost use Rattle.std.specs.Prelude.{◌≡◌, ◌==◌, Err, IfErr, IfOk, Ok};
 ghost use Rattle.editions.specs.Editions.{content_of};
-ghost use Rattle.omaha_commands.specs.Reviewing.{FindsBy, FindsIfNamed, FindsIn, FindsInBatch, FindsInDump, FindsInProfile, FindsInReply, FindsNext, FindsOnServer, FindsPublished, FindsReview, FindsSaid, FindsScriptOn, FindsWhole, IsDeclined, IsReviewed, IsReviewedChange, IsScriptOf, IsScriptRead, IsUnanswered, IsUnreadScript, PrintsReview, Reviews, based_on, end_of, failure_of_next, limit_of, names_edition};
+ghost use Rattle.omaha_commands.specs.Reviewing.{FindsBy, FindsIfNamed, FindsIn, FindsInBatch, FindsInDump, FindsInProfile, FindsInReply, FindsNext, FindsOnServer, FindsPublished, FindsReview, FindsSaid, FindsScriptOn, FindsWhole, IsDeclined, IsReviewed, IsReviewedChange, IsScriptOf, IsScriptRead, IsUnanswered, IsUnreadScript, PrintsReview, Reviews, based_on, change_bytes, end_of, failure_of_next, limit_of, names_edition, review_bytes};
 ghost use Rattle.profile_toml.specs.Reading.{script_of_bytes};
 ghost use Rattle.reviews.specs.Reviews.{AreReviews};
 ghost use Rattle.streams.specs.Streams.{Known};
 
 use crate::failure::Failure;
 use crate::profile::{open_profile, read_service};
-use catalogue::Batch;
+use catalogue::{Batch, Catalogue};
 use editions::{Edition, NextError};
 use omaha_arguments::{Review, Source};
 use profile_toml::read_script;
 use reviews::{
-    Reviewed, TrackReview, changes, newly_stuck_total, review_catalogue, stuck_total,
-    write_changes, write_review,
+    Change, Reviewed, TrackReview, changes, newly_stuck_total, review_catalogue, stuck_total,
+    write_change_objects, write_changes, write_review, write_review_objects,
 };
 use std::alloc::{AllocError, Global};
 use std::thread::Threads;
@@ -27,10 +27,10 @@ use values::{ReadError, Text};
 const MAX_STUCK: usize = 40;
 
 /// How many bytes a script may have.
-const MAX_SCRIPT: u32 = 262144;
+pub(crate) const MAX_SCRIPT: u32 = 262144;
 
 /// The script that asks a server for its edition: no edition has the number 0, so that no server publishes it.
-const PROBE: &[u8] = b"schema = 1\nbase = 0\n";
+pub(crate) const PROBE: &[u8] = b"schema = 1\nbase = 0\n";
 
 // How a review ends.
 #[derive(Clone, Copy)]
@@ -61,20 +61,57 @@ fn reviews_of(alloc: Global, edition: &Edition) -> Result<Vec<TrackReview>, Allo
     review_catalogue(alloc, edition.catalogue(), edition.tables())
 }
 
+// What is printed of the reviews of a catalogue's tracks.
+fn review_bytes(
+    alloc: Global,
+    asked: &Review,
+    catalogue: &Catalogue,
+    reviews: &[TrackReview],
+) -> Result<Vec<u8>, AllocError>
+    ensures { IfOk result (λ text. text.items ≡ review_bytes asked.now catalogue.now reviews.now) }
+{
+    if asked.json {
+        write_review_objects(alloc, catalogue, reviews)
+    } else {
+        write_review(alloc, catalogue, limit_of(asked), reviews)
+    }
+}
+
+// What is printed of the changes to the reviews of a later catalogue.
+fn change_bytes(
+    alloc: Global,
+    asked: &Review,
+    after: &Reviewed<'_>,
+    changes: &[Change],
+) -> Result<Vec<u8>, AllocError>
+    ensures { IfOk result (λ text. text.items ≡ change_bytes asked.now after.now.catalogue.now after.now.tracks.now changes.now) }
+{
+    if asked.json {
+        write_change_objects(alloc, after, changes)
+    } else {
+        write_changes(alloc, after, changes)
+    }
+}
+
 // What the review of an edition finds.
-fn review_edition(alloc: Global, edition: &Edition, limit: usize) -> Result<Findings, AllocError>
-    ensures { IfOk result (IsReviewed edition.now limit) }
+fn review_edition(alloc: Global, asked: &Review, edition: &Edition) -> Result<Findings, AllocError>
+    ensures { IfOk result (IsReviewed asked.now edition.now) }
 {
     let reviews = reviews_of(alloc, edition)?;
     Ok(Findings {
-        text: write_review(alloc, edition.catalogue(), limit, reviews.as_slice())?,
+        text: review_bytes(alloc, asked, edition.catalogue(), reviews.as_slice())?,
         verdict: Verdict::StuckReleases(stuck_total(reviews.as_slice())),
     })
 }
 
 // What the review of a change from one edition to another finds.
-fn review_change(alloc: Global, before: &Edition, after: &Edition) -> Result<Findings, AllocError>
-    ensures { IfOk result (IsReviewedChange before.now after.now) }
+fn review_change(
+    alloc: Global,
+    asked: &Review,
+    before: &Edition,
+    after: &Edition,
+) -> Result<Findings, AllocError>
+    ensures { IfOk result (IsReviewedChange asked.now before.now after.now) }
 {
     let old = reviews_of(alloc, before)?;
     let new = reviews_of(alloc, after)?;
@@ -88,23 +125,28 @@ fn review_change(alloc: Global, before: &Edition, after: &Edition) -> Result<Fin
     };
     let changes = changes(alloc, &old, &new)?;
     Ok(Findings {
-        text: write_changes(alloc, &new, changes.as_slice())?,
+        text: change_bytes(alloc, asked, &new, changes.as_slice())?,
         verdict: Verdict::StuckReleases(newly_stuck_total(changes.as_slice()) as u128),
     })
 }
 
 // What the review of a change finds, unless memory runs out.
-fn review_next(alloc: Global, before: &Edition, after: &Edition) -> Result<Findings, Failure>
-    ensures { FindsNext before.now after.now result }
+fn review_next(
+    alloc: Global,
+    asked: &Review,
+    before: &Edition,
+    after: &Edition,
+) -> Result<Findings, Failure>
+    ensures { FindsNext asked.now before.now after.now result }
 {
-    match review_change(alloc, before, after) {
+    match review_change(alloc, asked, before, after) {
         Ok(findings) => Ok(findings),
         Err(_) => Err(Failure::Memory),
     }
 }
 
 // Why an edition has no next one, as a failure.
-fn failure_of(error: NextError) -> Failure
+pub(crate) fn failure_of(error: NextError) -> Failure
     ensures { result ≡ failure_of_next error }
 {
     match error {
@@ -117,23 +159,24 @@ fn failure_of(error: NextError) -> Failure
 // What the review of a batch finds that is written for an edition of a number.
 fn review_batch(
     alloc: Global,
+    asked: &Review,
     edition: &Edition,
     base: u64,
     batch: Batch,
 ) -> Result<Findings, Failure>
-    ensures { FindsInBatch edition.now base batch result }
+    ensures { FindsInBatch asked.now edition.now base batch result }
 {
     if base != edition.number() {
         return Err(Failure::Stale(edition.number()));
     }
     match edition.next(batch) {
-        Ok(next) => review_next(alloc, edition, &next),
+        Ok(next) => review_next(alloc, asked, edition, &next),
         Err(error) => Err(failure_of(error)),
     }
 }
 
 // Reads a script.
-fn script_in(alloc: Global, script: &[u8]) -> Result<(u64, Batch), Failure>
+pub(crate) fn script_in(alloc: Global, script: &[u8]) -> Result<(u64, Batch), Failure>
     ensures ok { IfOk result (λ read. script_of_bytes script.now ≡ Ok read) }
     ensures err { IfErr result (λ failure. IsUnreadScript script.now failure) }
 {
@@ -148,7 +191,7 @@ fn script_in(alloc: Global, script: &[u8]) -> Result<(u64, Batch), Failure>
 fn review_whole(alloc: Global, asked: &Review, edition: &Edition) -> Result<Findings, Failure>
     ensures { FindsWhole asked.now edition.now result }
 {
-    match review_edition(alloc, edition, limit_of(asked)) {
+    match review_edition(alloc, asked, edition) {
         Ok(findings) => Ok(findings),
         Err(_) => Err(Failure::Memory),
     }
@@ -165,7 +208,7 @@ fn review_by(
 {
     match script {
         None => review_whole(alloc, asked, edition),
-        Some((base, batch)) => review_batch(alloc, edition, base, batch),
+        Some((base, batch)) => review_batch(alloc, asked, edition, base, batch),
     }
 }
 
@@ -195,7 +238,12 @@ fn declined(reply: Reply) -> Findings
 }
 
 // What an operator's listener replies to a body.
-fn ask<R: Connector>(rt: &R, alloc: Global, to: &Text, body: &[u8]) -> Result<Reply, Failure>
+pub(crate) fn ask<R: Connector>(
+    rt: &R,
+    alloc: Global,
+    to: &Text,
+    body: &[u8],
+) -> Result<Reply, Failure>
     ensures ok { IfOk result (λ reply. R.operated rt.now to.now body.now reply) }
     ensures err { IfErr result (λ failure. IsUnanswered to.now (Err failure)) }
 {
@@ -360,7 +408,10 @@ fn review_source<R: Disk + Connector + AllocGlobal + Threads + Sync>(
 }
 
 // Reads the script of a file.
-fn read_script_file<R: Disk + AllocGlobal>(rt: &R, path: &Text) -> Result<(u64, Batch), Failure>
+pub(crate) fn read_script_file<R: Disk + AllocGlobal>(
+    rt: &R,
+    path: &Text,
+) -> Result<(u64, Batch), Failure>
     ensures ok { IfOk result (λ script. IsScriptOf (R.file_at rt.now) path.now (Ok script)) }
     ensures err { IfErr result (λ failure. IsScriptOf (R.file_at rt.now) path.now (Err failure)) }
 {

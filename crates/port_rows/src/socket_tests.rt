@@ -11,7 +11,7 @@ use http_ports::{Terms, run};
 use http_sessions::Buffers;
 use http_talks::{Talk, Talks, Watched, WatchedTalks};
 use http_wire::Unwatched;
-use mio_ports::MioPort;
+use mio_ports::{Listener, MioPort};
 use std::alloc::Global;
 use std::io::{Read, Write};
 use std::net::{Net, Shutdown, TcpListener, TcpStream};
@@ -84,7 +84,7 @@ fn serve<R: Wait + Net + Clock + AllocGlobal>(
     let mut desk = Echo { alloc };
     let mut room = Buffers::new(alloc).ok()?;
     let mut conns: [Option<Talk>; 2] = [None, None];
-    let listener = Arc::new(alloc, listener).ok()?;
+    let listener = Arc::new(alloc, Listener::Tcp(listener)).ok()?;
     let mut port = MioPort::new(rt, listener, terms_of(limit))?;
     Some(run(
         rt,
@@ -163,7 +163,7 @@ fn serve_logged<R: Wait + Net + Clock + AllocGlobal>(
     let mut desk = Echo { alloc };
     let mut room = Buffers::new(alloc).ok()?;
     let mut conns: [Option<Watched<Seen>>; 2] = [None, None];
-    let listener = Arc::new(alloc, listener).ok()?;
+    let listener = Arc::new(alloc, Listener::Tcp(listener)).ok()?;
     let mut port = MioPort::new(rt, listener, terms_of(2))?;
     Some(run(
         rt,

@@ -63,9 +63,21 @@ is_same_lane Target Held = false
 is_same_lane Held Target = false
 is_same_lane Held Held = true
 
+-- two tracks are of the same cohort
+abbrev pub is_same_cohort : TrackKey → TrackKey → Bool
+is_same_cohort one other = one.app == other.app && one.cohort == other.cohort
+
 -- two tracks are of the same lane of a cohort
 abbrev pub is_same_lane_of : TrackKey → TrackKey → Bool
-is_same_lane_of one other = one.app == other.app && (one.cohort == other.cohort && is_same_lane one.lane other.lane)
+is_same_lane_of one other = is_same_cohort one other && is_same_lane one.lane other.lane
+
+-- the lane of a track has a target
+abbrev pub has_lane : List TrackReview → TrackKey → Bool
+has_lane reviews key = list_any (λ (review : TrackReview). is_same_lane_of review.key key) reviews
+
+-- the cohort of a track has a target, on whatever lane
+abbrev pub has_cohort : List TrackReview → TrackKey → Bool
+has_cohort reviews key = list_any (λ (review : TrackReview). is_same_cohort review.key key) reviews
 
 -- the lane of a track has one of the clients who allow a downgrade
 abbrev pub has_downgrades : List TrackReview → TrackKey → Bool
@@ -75,11 +87,17 @@ has_downgrades reviews key = list_any (λ (review : TrackReview). is_same_lane_o
 abbrev pub is_served : List TrackReview → TrackKey → Bool → Bool
 is_served reviews key rollback = if rollback then key.rollback || not (has_downgrades reviews key) else not key.rollback
 
+-- rule: Lane before a change
+-- the clients of a lane were on it if it had a target before a change, else on the other lane of their cohort
+abbrev pub is_lane_before : List TrackReview → TrackKey → TrackKey → Bool
+is_lane_before before old new =
+    is_same_cohort old new && (is_same_lane old.lane new.lane || not (has_lane before new))
+
 -- rule: Same clients
 -- the clients who allow a downgrade, or those who don't, are on the first track before a change and on the second after it
 abbrev pub are_same_clients : List TrackReview → List TrackReview → TrackReview → TrackReview → Bool
 are_same_clients before after old new =
-    is_same_lane_of old.key new.key
+    is_lane_before before old.key new.key
     && (is_served before old.key (old.key.rollback || new.key.rollback)
     && is_served after new.key (old.key.rollback || new.key.rollback))
 
@@ -141,7 +159,7 @@ changes_to before after olds news new =
     (λ (old : TrackReview). if are_same_clients olds news old new then changes_of_pair before after old new else [])
     olds
 
--- the change of a release of a track whose lane had no target before; it counts if it was there or is below the target
+-- the change of a release of a track whose cohort had no target before; it counts if it was there or is below the target
 abbrev pub arrival_at : List Release → App → TrackReview → ℕ → Option Change
 arrival_at before after new index =
     option_and_then
@@ -160,14 +178,10 @@ abbrev pub arrivals_of : List App → List App → TrackReview → List Change
 arrivals_of before after new =
     option_map_or (λ (app : App). arrivals_between (releases_at before new.key.app) app new) (slice_get after new.key.app) []
 
--- the lane of a track has a target
-abbrev pub has_lane : List TrackReview → TrackKey → Bool
-has_lane reviews key = list_any (λ (review : TrackReview). is_same_lane_of review.key key) reviews
-
 -- the changes of the clients of a track after the change
 abbrev pub changes_on : List App → List App → List TrackReview → List TrackReview → TrackReview → List Change
 changes_on before after olds news new =
-    if has_lane olds new.key then changes_to before after olds news new else arrivals_of before after new
+    if has_cohort olds new.key then changes_to before after olds news new else arrivals_of before after new
 
 -- those of some tracks after it
 abbrev pub changes_from : List App → List App → List TrackReview → List TrackReview → List TrackReview → List Change

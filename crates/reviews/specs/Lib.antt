@@ -1,8 +1,10 @@
 pub mod ChangeLines
+pub mod ChangeObjects
 pub mod Changes
 pub mod Largest
 pub mod Lifts
 pub mod Lines
+pub mod Objects
 pub mod Reasons
 pub mod ReviewLines
 pub mod Reviews

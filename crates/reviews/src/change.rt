@@ -5,7 +5,7 @@ ghost use Rattle.std.specs.List.{cons_option, flat_map, range_with_len};
 ghost use Rattle.values.specs.Ordered.{ascend};
 ghost use Rattle.records.specs.Lookups.{releases_at};
 ghost use Rattle.records.specs.Validity.{is_release_below};
-ghost use Rattle.reviews.specs.Changes.{are_same_clients, arrival_at, arrival_by, arrivals_between, arrivals_of, change_at, change_by, change_from, changes_between, changes_of, changes_of_pair, changes_on, changes_to, clients_of, has_downgrades, has_lane, is_changed, is_same_form, is_same_lane, is_same_lane_of, is_same_payload, is_same_version, is_served, version_to, was_at};
+ghost use Rattle.reviews.specs.Changes.{are_same_clients, arrival_at, arrival_by, arrivals_between, arrivals_of, change_at, change_by, change_from, changes_between, changes_of, changes_of_pair, changes_on, changes_to, clients_of, has_cohort, has_downgrades, has_lane, is_changed, is_lane_before, is_same_cohort, is_same_form, is_same_lane, is_same_lane_of, is_same_payload, is_same_version, is_served, version_to, was_at};
 ghost use Rattle.reviews.specs.declared.review.TrackReview.{TrackReview};
 
 use crate::line::find_app;
@@ -39,7 +39,7 @@ pub struct Change {
     pub clients: Clients,
     /// The index of the release after the change.
     pub release: usize,
-    /// Where its clients were, `None` if the release or a target of their lane wasn't there.
+    /// Where its clients were, `None` if the release or a target of their cohort wasn't there.
     pub was: Option<Outcome>,
     /// Where they are after the change.
     pub becomes: Outcome,
@@ -108,10 +108,32 @@ fn is_same_lane(one: Lane, other: Lane) -> bool
     }
 }
 
+fn is_same_cohort(one: &TrackKey, other: &TrackKey) -> bool
+    ensures { result ≡ is_same_cohort one.now other.now }
+{
+    one.app == other.app && one.cohort == other.cohort
+}
+
 fn is_same_lane_of(one: &TrackKey, other: &TrackKey) -> bool
     ensures { result ≡ is_same_lane_of one.now other.now }
 {
-    one.app == other.app && (one.cohort == other.cohort && is_same_lane(one.lane, other.lane))
+    is_same_cohort(one, other) && is_same_lane(one.lane, other.lane)
+}
+
+fn has_lane(reviews: &[TrackReview], key: &TrackKey) -> bool
+    ensures { result ≡ has_lane reviews.now key.now }
+{
+    reviews
+        .iter()
+        .any(|review| is_same_lane_of(&review.key, key))
+}
+
+fn has_cohort(reviews: &[TrackReview], key: &TrackKey) -> bool
+    ensures { result ≡ has_cohort reviews.now key.now }
+{
+    reviews
+        .iter()
+        .any(|review| is_same_cohort(&review.key, key))
 }
 
 fn has_downgrades(reviews: &[TrackReview], key: &TrackKey) -> bool
@@ -130,6 +152,13 @@ fn is_served(reviews: &[TrackReview], key: &TrackKey, rollback: bool) -> bool
     }
 }
 
+// rule: Lane before a change
+fn is_lane_before(before: &[TrackReview], old: &TrackKey, new: &TrackKey) -> bool
+    ensures { result ≡ is_lane_before before.now old.now new.now }
+{
+    is_same_cohort(old, new) && (is_same_lane(old.lane, new.lane) || !has_lane(before, new))
+}
+
 // rule: Same clients
 fn are_same_clients(
     before: &[TrackReview],
@@ -140,7 +169,7 @@ fn are_same_clients(
     ensures { result ≡ are_same_clients before.now after.now old.now new.now }
 {
     let rollback = old.key.rollback || new.key.rollback;
-    is_same_lane_of(&old.key, &new.key)
+    is_lane_before(before, &old.key, &new.key)
         && (is_served(before, &old.key, rollback) && is_served(after, &new.key, rollback))
 }
 
@@ -280,7 +309,7 @@ fn releases_at(catalogue: &Catalogue, app: usize) -> &[Release]
     }
 }
 
-// The change of a release of a track whose lane had no target before, if there is one.
+// The change of a release of a track whose cohort had no target before, if there is one.
 fn arrival_at(before: &[Release], after: &App, new: &TrackReview, index: usize) -> Option<Change>
     requires { ascend is_release_below before.now ≡ true }
     ensures { result ≡ arrival_at before.now after.now new.now index }
@@ -347,14 +376,6 @@ fn push_track(
     Ok(())
 }
 
-fn has_lane(reviews: &[TrackReview], key: &TrackKey) -> bool
-    ensures { result ≡ has_lane reviews.now key.now }
-{
-    reviews
-        .iter()
-        .any(|review| is_same_lane_of(&review.key, key))
-}
-
 // Adds the changes of the clients of a track after the change.
 fn push_changes_on(
     changes: &mut Vec<Change>,
@@ -364,7 +385,7 @@ fn push_changes_on(
 ) -> Result<(), AllocError>
     ensures { OnOk result (changes.new.items ≡ changes.old.items ++ changes_on before.now.catalogue.now after.now.catalogue.now before.now.tracks.now after.now.tracks.now new.now) }
 {
-    if has_lane(before.tracks, &new.key) {
+    if has_cohort(before.tracks, &new.key) {
         push_track(changes, before, after, new)
     } else {
         push_arrivals_of(changes, before.catalogue, after.catalogue, new)

@@ -12,8 +12,8 @@ use crate::stuck::{is_stuck, totals_string};
 use catalogue::{App, Catalogue};
 use std::alloc::{AllocError, Global};
 
-// Whether clients were stuck before a change.
-fn was_stuck(was: &Option<Outcome>) -> bool
+/// Whether clients were stuck before a change.
+pub(crate) fn was_stuck(was: &Option<Outcome>) -> bool
     ensures { result ≡ was_stuck was.now }
 {
     match was {
@@ -23,7 +23,8 @@ fn was_stuck(was: &Option<Outcome>) -> bool
 }
 
 // rule: Newly stuck
-fn is_newly_stuck(change: &Change) -> bool
+/// Whether a release is newly stuck.
+pub(crate) fn is_newly_stuck(change: &Change) -> bool
     ensures { result ≡ is_newly_stuck change.now }
 {
     is_stuck(&change.becomes) && !was_stuck(&change.was)
@@ -40,7 +41,8 @@ pub fn newly_stuck_total(changes: &[Change]) -> usize
         .count()
 }
 
-fn bytes_of(outcome: &Outcome) -> u64
+/// How many bytes clients download up to the target, 0 if they are stuck.
+pub(crate) fn bytes_of(outcome: &Outcome) -> u64
     ensures { result ≡ bytes_of outcome.now }
 {
     match outcome {
@@ -49,7 +51,8 @@ fn bytes_of(outcome: &Outcome) -> u64
     }
 }
 
-fn bytes_before(was: &Option<Outcome>) -> u64
+/// The same of where clients were, 0 if they were on no track.
+pub(crate) fn bytes_before(was: &Option<Outcome>) -> u64
     ensures { result ≡ bytes_before was.now }
 {
     match was {

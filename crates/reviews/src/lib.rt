@@ -3,11 +3,12 @@
 //! A `TrackReview` says of a track with a target where the clients at each release are, its `Outcome`: at the target,
 //! before a chain of the least sum, or stuck for a `Reason`. `review_catalogue` makes one for each track. A reason
 //! is the first of the rules, the `Cause`s, without which the release would have a chain. `changes` compares the reviews
-//! of two catalogues. `write_review`, `write_changes` and `write_warnings` write them as lines. Read
+//! of two catalogues. `write_review`, `write_changes` and `write_warnings` write them as lines,
+//! `write_review_objects` and `write_change_objects` as JSON. Read
 //! `specs/Reviews.antt` for what a review says, `specs/Reasons.antt` for reasons, `specs/Steps.antt` for the steps of
 //! chains, `specs/Lifts.antt` for tracks without a rule and `specs/Changes.antt` for changes; `specs/Routes.antt` has the
 //! ways by which a track without a rule is searched, `specs/ReviewLines.antt`, `specs/ChangeLines.antt` and
-//! `specs/Warnings.antt` the lines.
+//! `specs/Warnings.antt` the lines, `specs/Objects.antt` and `specs/ChangeObjects.antt` the JSON objects.
 //!
 //! It reads no file, prints nothing, and decides no offer.
 
@@ -16,9 +17,11 @@
 mod cause;
 mod change;
 mod change_lines;
+mod change_objects;
 mod largest;
 mod lifting;
 mod line;
+mod objects;
 mod outcome;
 mod reasons;
 mod review;
@@ -31,7 +34,9 @@ mod warnings;
 pub use crate::cause::{Cause, Reason};
 pub use crate::change::{Change, Clients, Reviewed, changes};
 pub use crate::change_lines::{newly_stuck_total, write_changes};
+pub use crate::change_objects::write_change_objects;
 pub use crate::largest::Largest;
+pub use crate::objects::write_review_objects;
 pub use crate::outcome::Outcome;
 pub use crate::review::{TrackReview, review_catalogue};
 pub use crate::review_lines::write_review;

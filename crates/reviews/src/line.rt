@@ -26,7 +26,8 @@ impl fmt::Display for Reason {
     }
 }
 
-fn lane_word(lane: Lane) -> &'static str
+/// The word of a lane.
+pub(crate) fn lane_word(lane: Lane) -> &'static str
     ensures { result.now ≡ lane_word lane }
 {
     match lane {

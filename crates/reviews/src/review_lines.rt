@@ -14,7 +14,8 @@ use payload_graph::TrackKey;
 use quotes::Quote;
 use std::alloc::{AllocError, Global};
 
-fn clients_on(key: &TrackKey) -> Clients
+/// The clients of a track.
+pub(crate) fn clients_on(key: &TrackKey) -> Clients
     ensures { result ≡ clients_on key.now }
 {
     Clients {
@@ -77,7 +78,8 @@ fn push_stuck_part(
     push_more(alloc, text, track, stuck.len().saturating_sub(limit))
 }
 
-fn steps_from(review: &TrackReview, release: usize) -> u64
+/// The steps of the release at an index of a track, 0 if it has none.
+pub(crate) fn steps_from(review: &TrackReview, release: usize) -> u64
     ensures { result ≡ steps_from review.now release }
 {
     match review.steps.as_slice().get(release) {
@@ -86,7 +88,8 @@ fn steps_from(review: &TrackReview, release: usize) -> u64
     }
 }
 
-fn bytes_from(review: &TrackReview, release: usize) -> u64
+/// Its bytes up to the target, 0 if it has none.
+pub(crate) fn bytes_from(review: &TrackReview, release: usize) -> u64
     ensures { result ≡ bytes_from review.now release }
 {
     match review.outcomes.as_slice().get(release) {

@@ -66,8 +66,8 @@ pub(crate) fn count_stuck(outcomes: &[Outcome]) -> usize
     outcomes.iter().filter(|outcome| is_stuck(outcome)).count()
 }
 
-// How many releases all tracks have, one for each track that it is on.
-fn release_total(reviews: &[TrackReview]) -> u128
+/// How many releases all tracks have, one for each track that it is on.
+pub(crate) fn release_total(reviews: &[TrackReview]) -> u128
     ensures { result ≡ release_total reviews.now }
 {
     let mut total: u128 = 0;

@@ -9,13 +9,14 @@ use http_devices::{Folder, SystemClock};
 use http_ports::{Terms, WatchEach};
 use http_talks::{Connections, serve_port};
 use http_wire::Unwatched;
-use mio_ports::MioPort;
+use mio_ports::{Listener, MioPort};
 use std::alloc::Global;
-use std::fs::{File, OpenOptions};
+use std::fs::{File, OpenOptions, Permissions};
 use std::io;
 use std::io::ErrorKind;
 use std::net::{Net, TcpListener, TcpStream};
-use std::os::unix::fs::FileTypeExt;
+use std::os::unix::fs::{FileTypeExt, PermissionsExt};
+use std::os::unix::net::{UnixListener, UnixStream};
 use std::rt::Files;
 use std::sync::{Arc, Wait};
 use std::time::Clock;
@@ -24,6 +25,9 @@ use streams::Disk;
 // How many files a server opens beside its connections: standard streams, the log, and for each worker what watches its
 // sockets and a package.
 const OTHER_FILES: u64 = 48;
+
+// The mode of the file of a socket: its owner and its group may connect.
+const SOCKET_MODE: u32 = 0o660;
 
 /// A runtime's file, of which a log can be made.
 pub trait LogFile {
@@ -57,18 +61,52 @@ fn file_limit<R: Disk + AllocGlobal>(rt: &R) -> Option<u64> {
     text.lines().find_map(limit_in)
 }
 
-// Binds an address.
-fn bind<R: Net<Listener = TcpListener, Stream = TcpStream>>(
+// Whether nobody listens at a socket any more.
+fn is_left_over<R: Net>(rt: &R, path: &str) -> bool {
+    match UnixStream::connect(rt, path) {
+        Ok(_) => false,
+        Err(error) => error.kind() == ErrorKind::ConnectionRefused,
+    }
+}
+
+// Whether a listener may take a path: there is nothing, or a socket that a server left.
+fn may_take<R: Files + Net>(rt: &R, path: &str) -> bool {
+    match rt.symlink_metadata(path) {
+        Ok(found) => found.file_type().is_socket() && is_left_over(rt, path),
+        Err(error) => error.kind() == ErrorKind::NotFound,
+    }
+}
+
+// Listens at a path. The socket gets its name once its mode is set.
+fn bind_path<R: Files + Net + AllocGlobal>(rt: &R, path: &str) -> io::Result<UnixListener> {
+    if !may_take(rt, path) {
+        return Err(io::Error::from(ErrorKind::AddrInUse));
+    }
+    let Ok(new) = format!(in rt.alloc(); "{path}.new") else {
+        return Err(io::Error::from(ErrorKind::OutOfMemory));
+    };
+    let _ = rt.remove_file(&new);
+    let listener = UnixListener::bind(rt, &new)?;
+    rt.set_permissions(&new, Permissions::from_mode(SOCKET_MODE))?;
+    rt.rename(&new, path)?;
+    Ok(listener)
+}
+
+// Binds an address, or a path after `unix:`.
+fn bind<R: Net<Listener = TcpListener, Stream = TcpStream> + Files + AllocGlobal>(
     rt: &R,
     address: &str,
-) -> io::Result<TcpListener> {
-    let listener = TcpListener::bind(rt, address)?;
+) -> io::Result<Listener> {
+    let listener = match address.strip_prefix("unix:") {
+        Some(path) => Listener::Unix(bind_path(rt, path)?),
+        None => Listener::Tcp(TcpListener::bind(rt, address)?),
+    };
     listener.set_nonblocking(true)?;
     Ok(listener)
 }
 
 // Whether two more files may be opened: a connection and a package take one each, and without them nobody would be served.
-fn has_room(listener: &TcpListener) -> bool {
+fn has_room(listener: &Listener) -> bool {
     let connection = listener.try_clone();
     let package = listener.try_clone();
     connection.is_ok() && package.is_ok()
@@ -77,7 +115,7 @@ fn has_room(listener: &TcpListener) -> bool {
 // Opens a port of a listener.
 fn open_one<'a, R: Net + Clock + Wait + AllocGlobal>(
     rt: &'a R,
-    listener: &Arc<TcpListener, Global>,
+    listener: &Arc<Listener, Global>,
     terms: Terms,
 ) -> Result<MioPort<'a, R>, OpenError>
     ensures terms { IfOk result (λ port. port.terms ≡ terms) }
@@ -93,7 +131,7 @@ fn open_one<'a, R: Net + Clock + Wait + AllocGlobal>(
 // Opens a port of a listener for each of these terms.
 fn open_all<'a, R: Net + Clock + Wait + AllocGlobal>(
     rt: &'a R,
-    listener: &Arc<TcpListener, Global>,
+    listener: &Arc<Listener, Global>,
     terms: &[Terms],
 ) -> Result<Vec<MioPort<'a, R>>, OpenError>
     ensures terms { IfOk result (λ ports. map (λ port. port.terms) ports.items ≡ terms.now) }
@@ -146,6 +184,12 @@ where
             return Err(OpenError::Memory);
         };
         open_all(self.rt, &listener, terms)
+    }
+
+    fn close_address(&self, address: &str) {
+        if let Some(path) = address.strip_prefix("unix:") {
+            let _ = self.rt.remove_file(path);
+        }
     }
 
     fn open_log(&self, path: &str) -> io::Result<File> {

@@ -45,12 +45,17 @@ pub trait System<P: Port> {
     fn capacity(&self, connections: u64, ports: usize) -> usize;
 
     // rule: Ports of a server
-    /// Binds an address, `HOST:PORT` with an IPv6 address in brackets, and opens a port for each of these terms, whose
-    /// connections are those of the address.
+    /// Binds an address, and opens a port for each of these terms, whose connections are those of the address.
+    ///
+    /// It is `HOST:PORT` with an IPv6 address in brackets, or `unix:PATH`. A socket is made at such a path, which its
+    /// owner and its group may connect to. It replaces one that nobody listens to, and no other file.
     fn open_ports(&self, address: &str, terms: &[Terms]) -> Result<Vec<P>, OpenError>
         ensures terms { IfOk result (λ ports. map P.terms ports.items ≡ terms.now) }
         ensures bound { IfOk result (λ _. All (λ t. (edges self.now).listens address.now t.listener) terms.now) }
         ensures new { IfOk result (λ ports. All (IsNew P.terms P.slots P.accepted P.is_over) ports.items) };
+
+    /// Lets go what an address has in the system once its ports are closed: the socket at a path.
+    fn close_address(&self, _address: &str) {}
 
     /// Opens the file at a path for lines at its end, and makes it if there is none.
     ///

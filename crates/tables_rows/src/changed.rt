@@ -50,10 +50,13 @@ const CHANGES: &str =
 { do = "add_cohort", app = "demo", cohort = "lts" }, { do = "set_target", app = "demo", cohort = "lts", target = "3.0" }|stuck   demo lts target no: 4.0, above the target without a downgrade;total   5 tracks, 20 releases, 1 changed, 1 newly stuck
 { do = "add_release", app = "demo", version = "5.0", name = "demo-5.0.bin", size = 7, sha256 = "5555555555555555555555555555555555555555555555555555555555555555" }, { do = "add_cohort", app = "demo", cohort = "lts" }, { do = "set_target", app = "demo", cohort = "lts", target = "4.0" }|total   5 tracks, 25 releases, 0 changed, 0 newly stuck
 { do = "add_release", app = "demo", version = "2.5", name = "demo-2.5.bin", size = 1700, sha256 = "5555555555555555555555555555555555555555555555555555555555555555" }, { do = "set_withdrawn", app = "demo", version = "4.0", on = true }|stuck   demo stable target no: 2.5, the target is withdrawn;total   4 tracks, 20 releases, 4 changed, 4 newly stuck
+{ do = "set_share", app = "demo", cohort = "beta", share = 100 }, { do = "set_target", app = "demo", cohort = "beta", target = "4.0", held = "3.0" }|freed   demo beta target no: 4.0, stuck to 0 bytes;smaller demo beta target yes: 4.0, 1400 bytes to 0 bytes;total   6 tracks, 24 releases, 8 changed, 0 newly stuck
+{ do = "set_target", app = "demo", cohort = "beta", target = "3.0", held = "2.0" }|stuck   demo beta held no: 3.0, above the target without a downgrade;smaller demo beta held no: 1.0, 500 bytes to 300 bytes;larger  demo beta held yes: 3.0, 0 bytes to 1200 bytes;smaller demo beta held yes: 4.0, 1400 bytes to 1200 bytes;total   6 tracks, 24 releases, 7 changed, 1 newly stuck
 { do = "set_share", app = "demo", cohort = "stable", share = 500 }|total   4 tracks, 16 releases, 0 changed, 0 newly stuck"#;
 
 // rule: Review of a change
 // rule: Changed release
+// rule: Lane before a change
 // rule: Same clients
 // rule: Newly stuck
 // rule: Printed change

@@ -1,6 +1,6 @@
 use Rattle.std.proofs.Common.{List, ℕ, Ok, Err, refl, subst}
 use Rattle.omaha_commands.specs.Operating.{Calls}
-use Rattle.omaha_commands.proofs.operating.publish_on.Goals as goal
+use Rattle.omaha_commands.proofs.operating.post_script.Goals as goal
 
 pub returns-in-Ok : goal.returns-in-Ok
 returns-in-Ok g c =

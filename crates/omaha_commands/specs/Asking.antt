@@ -1,0 +1,55 @@
+-- The number of a server's edition, as its operator's listener names it; this project's profile.
+use Rattle.std.specs.Prelude.{◌≡◌, ◌⊎◌, ⊤, ℕ, ◌-◌, Bool, true, false, bytes_eq, if◌then◌else◌, codes, decimal, drop, length, List, ◌++◌, Option, Some, None, Result, Ok, Err, take}
+use Rattle.std.specs.Str.{is_utf8}
+use Rattle.streams.specs.Streams.{Known}
+use Rattle.streams.specs.Writing.{IsWritten}
+use Rattle.omaha_arguments.specs.Options.{number_of}
+use Rattle.update_client.specs.declared.posting.Reply.{Reply}
+use Rattle.omaha_commands.specs.Operating.{Listeners}
+use Rattle.omaha_commands.specs.Reviewing.{IsUnanswered, probe_script}
+use Rattle.omaha_commands.specs.declared.failure.Failure.{Failure}
+
+-- the bytes without the line feed at their end, if there is one
+abbrev pub before_feed : List ℕ → Option (List ℕ)
+before_feed rest =
+    if bytes_eq (drop (length rest - 1) rest) (codes "\n") then Some (take (length rest - 1) rest) else None
+
+-- the bytes between `stale ` and a line feed, if the body is that
+abbrev pub digits_said : List ℕ → Option (List ℕ)
+digits_said body = if bytes_eq (take 6 body) (codes "stale ") then before_feed (drop 6 body) else None
+
+-- the number that digits write
+abbrev pub number_by : Option (List ℕ) → Option ℕ
+number_by None = None
+number_by (Some digits) = if is_utf8 digits then number_of digits else None
+
+-- rule: Edition of a server
+-- the number of the edition that a reply names: `stale N`
+abbrev pub edition_named : List ℕ → Option ℕ
+edition_named body = number_by (digits_said body)
+
+-- the listener named that edition in its reply to a script that no server publishes
+abbrev pub HasEdition : Listeners → List ℕ → ℕ → Type 0
+HasEdition listeners to number =
+    (reply : Reply) × listeners to probe_script reply × (edition_named reply.body.items ≡ Some number)
+
+-- the listener can't be reached, or its reply isn't the one that was asked for
+abbrev pub FailsAsked : {A : Type 0} → List ℕ → Result A Failure → Type 0
+FailsAsked to found = (refusal : Failure) × IsUnanswered to (Err refusal) × (found ≡ Err refusal)
+
+-- the line of an edition
+abbrev pub edition_line : ℕ → List ℕ → List ℕ
+edition_line number to = codes "omaha: edition " ++ decimal number ++ codes " at " ++ to ++ codes "\n"
+
+-- the number of the server's edition is printed after a dump, unless memory ran out
+abbrev pub IsNoted : Listeners → List ℕ → Known → Known → Result (Unit {0}) Failure → Type 0
+IsNoted listeners to before after (Ok done) =
+    (number : ℕ) × HasEdition listeners to number
+    × (IsWritten before after (edition_line number to) ⊎ (after ≡ before))
+IsNoted listeners to before after (Err refusal) = after ≡ before
+
+-- rule: Verbose dump
+-- it is printed only if that is asked for
+abbrev pub Notes : Bool → Listeners → List ℕ → Known → Known → Result (Unit {0}) Failure → Type 0
+Notes true listeners to before after result = IsNoted listeners to before after result
+Notes false listeners to before after result = after ≡ before

@@ -1,0 +1,86 @@
+// The number of a server's edition.
+
+ghost use Rattle.std.specs.Prelude.{◌≡◌, ◌⊎◌, Err, IfErr, IfOk, IfSome, option_map};
+ghost use Rattle.std.specs.Option.{is_some};
+ghost use Rattle.std.specs.Str.{is_utf8};
+ghost use Rattle.omaha_commands.specs.Asking.{HasEdition, digits_said, edition_line, edition_named};
+ghost use Rattle.omaha_commands.specs.Reviewing.{IsUnanswered};
+ghost use Rattle.streams.specs.Writing.{IsWritten};
+
+use crate::failure::Failure;
+use crate::reviewing::{PROBE, ask};
+use omaha_arguments::number_of;
+use std::alloc::Global;
+use std::str;
+use streams::{WriteWhole, offer};
+use update_client::Connector;
+use values::Text;
+
+// The bytes between `stale ` and a line feed.
+fn digits_said(body: &[u8]) -> Option<&[u8]>
+    ensures { option_map (λ digits. digits.now) result ≡ digits_said body.now }
+{
+    let rest = body.strip_prefix(b"stale ")?;
+    rest.strip_suffix(b"\n")
+}
+
+// The bytes as a string, if they are UTF-8.
+fn as_string(bytes: &[u8]) -> Option<&str>
+    ensures same { IfSome result (λ string. string.now ≡ bytes.now) }
+    ensures utf8 { is_some result ≡ is_utf8 bytes.now }
+{
+    match str::from_utf8(bytes) {
+        Ok(string) => Some(string),
+        Err(_) => None,
+    }
+}
+
+// rule: Edition of a server
+// The number of the edition that a reply names.
+fn edition_named(body: &[u8]) -> Option<u64>
+    ensures { result ≡ edition_named body.now }
+{
+    match digits_said(body) {
+        None => None,
+        Some(digits) => match as_string(digits) {
+            None => None,
+            Some(digits) => number_of(digits),
+        },
+    }
+}
+
+// The failure of a listener that sends another reply than the one that was asked for.
+pub(crate) fn unanswered(to: &Text) -> Failure
+    ensures { IsUnanswered to.now (Err result) }
+{
+    match to.clone() {
+        Ok(to) => Failure::Net(to),
+        Err(_) => Failure::Memory,
+    }
+}
+
+/// The number of the edition that the server of an operator's listener has.
+///
+/// Fails with `Net` if the listener can't be reached, or names no edition.
+pub(crate) fn edition_at<R: Connector>(rt: &R, alloc: Global, to: &Text) -> Result<u64, Failure>
+    ensures ok { IfOk result (λ number. HasEdition (R.operated rt.now) to.now number) }
+    ensures err { IfErr result (λ failure. IsUnanswered to.now (Err failure)) }
+{
+    match ask(rt, alloc, to, PROBE) {
+        Ok(reply) => match edition_named(reply.body.as_slice()) {
+            Some(number) => Ok(number),
+            None => Err(unanswered(to)),
+        },
+        Err(failure) => Err(failure),
+    }
+}
+
+/// Prints the line of an edition, if memory suffices.
+pub(crate) fn note_edition<E: WriteWhole>(alloc: Global, number: u64, to: &Text, errors: &mut E)
+    ensures { IsWritten (E.output errors.old) (E.output errors.new) (edition_line number to.now) ⊎ (E.output errors.new ≡ E.output errors.old) }
+{
+    let at = to.as_str();
+    if let Ok(line) = format!(in alloc; "omaha: edition {number} at {at}\n") {
+        offer(errors, line.as_bytes());
+    }
+}
