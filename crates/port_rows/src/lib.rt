@@ -1,4 +1,5 @@
 //! Rows of connections: `http_ports::run` serves the peers of a script of `port_scripts` by the sessions of `http_talks`.
+//! Others are over the loopback: clients of a port, posts and downloads by a client, and a client whose devices fail.
 //!
 //! Each row says what peers send and how they behave, and then how each connection ends and what its peer gets.
 //!
@@ -7,9 +8,19 @@
 #![tactic(auto)]
 
 #[cfg(test)]
+mod client;
+#[cfg(test)]
+mod connection_tests;
+#[cfg(test)]
+mod counter;
+#[cfg(test)]
 mod desk;
 #[cfg(test)]
 mod download_tests;
+#[cfg(test)]
+mod exchange_tests;
+#[cfg(test)]
+mod failing_client_tests;
 #[cfg(test)]
 mod lines;
 #[cfg(test)]
@@ -17,7 +28,11 @@ mod log_tests;
 #[cfg(test)]
 mod peers;
 #[cfg(test)]
+mod port_server;
+#[cfg(test)]
 mod rows;
+#[cfg(test)]
+mod server;
 #[cfg(test)]
 mod socket_tests;
 #[cfg(test)]
