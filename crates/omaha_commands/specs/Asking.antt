@@ -41,11 +41,14 @@ FailsAsked to found = (refusal : Failure) × IsUnanswered to (Err refusal) × (f
 abbrev pub edition_line : ℕ → List ℕ → List ℕ
 edition_line number to = codes "omaha: edition " ++ decimal number ++ codes " at " ++ to ++ codes "\n"
 
--- the number of the server's edition is printed after a dump, unless memory ran out
+-- the line of the edition that the server has
+abbrev pub IsEditionLine : Listeners → List ℕ → List ℕ → Type 0
+IsEditionLine listeners to line = (number : ℕ) × HasEdition listeners to number × (line ≡ edition_line number to)
+
+-- that line is printed after a dump, and nothing if there was none
 abbrev pub IsNoted : Listeners → List ℕ → Known → Known → Result (Unit {0}) Failure → Type 0
 IsNoted listeners to before after (Ok done) =
-    (number : ℕ) × HasEdition listeners to number
-    × (IsWritten before after (edition_line number to) ⊎ (after ≡ before))
+    (line : List ℕ) × IsEditionLine listeners to line × IsWritten before after line
 IsNoted listeners to before after (Err refusal) = after ≡ before
 
 -- rule: Verbose dump
