@@ -1,6 +1,5 @@
 -- The number of a server's edition, as its operator's listener names it; this project's profile.
 use Rattle.std.specs.Prelude.{◌≡◌, ◌⊎◌, ⊤, ℕ, ◌-◌, Bool, true, false, bytes_eq, if◌then◌else◌, codes, decimal, drop, length, List, ◌++◌, Option, Some, None, Result, Ok, Err, take}
-use Rattle.std.specs.Str.{is_utf8}
 use Rattle.streams.specs.Streams.{Known}
 use Rattle.streams.specs.Writing.{IsWritten}
 use Rattle.omaha_arguments.specs.Options.{number_of}
@@ -21,7 +20,7 @@ digits_said body = if bytes_eq (take 6 body) (codes "stale ") then before_feed (
 -- the number that digits write
 abbrev pub number_by : Option (List ℕ) → Option ℕ
 number_by None = None
-number_by (Some digits) = if is_utf8 digits then number_of digits else None
+number_by (Some digits) = number_of digits
 
 -- rule: Edition of a server
 -- the number of the edition that a reply names: `stale N`

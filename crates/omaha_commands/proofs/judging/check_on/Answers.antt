@@ -10,17 +10,17 @@ returns-in-Ok-judge g c = record {
   printed = c.print_valid.ensures (g.I.ReadWhole.input c.read_checked.new.reader);
 }
 
-pub returns-in-Err : goal.returns-in-Err
-returns-in-Err g c = record {
+pub returns-in-Err-judge : goal.returns-in-Err-judge
+returns-in-Err-judge g c = record {
   read = Ok c.in-Ok.script;
   script = c.in-Ok.ensures.ok;
-  judged = Err c.in-Err.failure;
-  is = c.in-Err.ensures;
+  judged = Err c.in-Err-judge.failure;
+  is = c.in-Err-judge.ensures;
   printed = (refl, refl);
 }
 
-pub returns-in-Err-read_checked : goal.returns-in-Err-read_checked
-returns-in-Err-read_checked g c = record {
+pub returns-in-Err : goal.returns-in-Err
+returns-in-Err g c = record {
   read = Err c.in-Err.failure;
   script = c.in-Err.ensures.err;
   judged = Err c.in-Err.failure;
