@@ -5,8 +5,9 @@ use Rattle.omaha_arguments.specs.Commands.{faults_of}
 use Rattle.omaha_arguments.specs.Errors.{IsWhy}
 use Rattle.omaha_arguments.specs.declared.error.ArgumentError.{ArgumentError}
 use Rattle.omaha_arguments.specs.declared.error.ArgumentError.TheVariants as argument
+use Rattle.omaha_commands.specs.Operating.{Listeners}
 use Rattle.omaha_cli.specs.Worlds.{World}
-use Rattle.omaha_cli.specs.Running.{Ends, EndsBy, code_of, status_of}
+use Rattle.omaha_cli.specs.Running.{Ends, EndsBy, IsLogged, code_of, status_of}
 use Rattle.omaha_cli.specs.declared.running.Ending.{Ending}
 use Rattle.omaha_cli.specs.declared.running.Ending.TheVariants as ending
 use Rattle.omaha_cli.specs.declared.running.Status.{Status}
@@ -36,3 +37,14 @@ pub Usage-two : (ended : Ending) (returned : Status) (code : ℕ) → code ≡ c
 Usage-two ended status.Success code is of two = cc
 Usage-two ended status.Failure code is of two = cc
 Usage-two ended status.Usage code is of two = cc
+
+-- such a run printed nothing on the standard error before
+pub IsLogged-without_command :
+    (listeners : Listeners) (words : List (List ℕ)) (before after errors : Known) (error : ArgumentError) (ended : Ending) →
+    EndsBy error before after ended → IsLogged listeners words ended errors errors
+IsLogged-without_command listeners words before after errors error ending.Shown ends = refl
+IsLogged-without_command listeners words before after errors error (ending.Mistaken text) ends = refl
+IsLogged-without_command listeners words before after errors error (ending.Failed refusal) ends = inl refl
+IsLogged-without_command listeners words before after errors (argument.Shown text) ending.Replied ends = absurd ends
+IsLogged-without_command listeners words before after errors (argument.Invalid text) ending.Replied ends = absurd (cc ends.0)
+IsLogged-without_command listeners words before after errors argument.Memory ending.Replied ends = absurd (cc ends.0)

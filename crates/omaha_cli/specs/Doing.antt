@@ -1,12 +1,14 @@
 -- What a command does; this project's profile.
-use Rattle.std.specs.Prelude.{◌≡◌, ⊤, false, Result}
+use Rattle.std.specs.Prelude.{◌≡◌, Result}
+use Rattle.streams.specs.Streams.{Known}
 use Rattle.omaha_server.specs.Serving.{IsSilent}
 use Rattle.omaha_commands.specs.Comparing.{Compares}
 use Rattle.omaha_commands.specs.Describing.{PrintsDescriptions}
 use Rattle.omaha_commands.specs.Explaining.{Explains}
 use Rattle.omaha_histories.specs.Histories.{PrintsHistory}
 use Rattle.omaha_once.specs.Once.{Responds}
-use Rattle.omaha_commands.specs.Operating.{Dumps, Raises}
+use Rattle.omaha_commands.specs.Asking.{Notes}
+use Rattle.omaha_commands.specs.Operating.{Dumps, Listeners, Raises}
 use Rattle.omaha_commands.specs.Judging.{Publishes}
 use Rattle.omaha_commands.specs.Reports.{Reports}
 use Rattle.omaha_commands.specs.Reviewing.{Reviews}
@@ -38,8 +40,9 @@ Does world (command.Raise asked) old new result =
 Does world (command.Dump asked) old new result =
     Dumps world.operated asked.to old.output new.output result × (new.input ≡ old.input)
 
--- the command prints nothing on the standard error itself: it logs nothing there, and no edition's number is asked for
-abbrev pub IsSilentCommand : Command → Type 0
-IsSilentCommand (command.Serve serve) = IsSilent serve.log
-IsSilentCommand (command.Dump asked) = asked.verbose ≡ false
-IsSilentCommand other = ⊤
+-- what the command prints on the standard error itself: a server may log its replies there, a verbose dump prints the
+-- line of the edition, and any other command prints nothing
+abbrev pub Logs : Listeners → Command → Known → Known → Result (Unit {0}) Failure → Type 0
+Logs listeners (command.Serve serve) before after result = IsSilent serve.log → after ≡ before
+Logs listeners (command.Dump asked) before after result = Notes asked.verbose listeners asked.to before after result
+Logs listeners other before after result = after ≡ before

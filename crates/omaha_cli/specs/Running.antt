@@ -7,8 +7,9 @@ use Rattle.omaha_arguments.specs.Commands.{command_of, faults_of}
 use Rattle.omaha_arguments.specs.Errors.{AsksToShow, HasMistake}
 use Rattle.omaha_arguments.specs.declared.error.ArgumentError.{ArgumentError}
 use Rattle.omaha_arguments.specs.declared.error.ArgumentError.TheVariants as argument
-use Rattle.omaha_cli.specs.Doing.{Does, IsSilentCommand}
+use Rattle.omaha_cli.specs.Doing.{Does, Logs}
 use Rattle.omaha_commands.specs.Failures.{failure_string, is_declined}
+use Rattle.omaha_commands.specs.Operating.{Listeners}
 use Rattle.omaha_commands.specs.Streams.{Streams}
 use Rattle.omaha_cli.specs.Worlds.{World}
 use Rattle.omaha_commands.specs.declared.failure.Failure.{Failure}
@@ -81,18 +82,21 @@ IsReported (ending.Failed refusal) before after =
     ⊎ ((is_declined refusal ≡ false) × IsPrinted refusal before after)
 IsReported (ending.Mistaken text) before after = IsWritten before after text
 
--- a command, if the arguments ask for one, logs nothing to the standard error
-abbrev pub IsSilentRun : List (List ℕ) → Type 0
-IsSilentRun words = faults_of words ≡ [] → IsSilentCommand (command_of words)
+-- what was printed on the standard error before an ending: what the command printed there, or nothing if there was none
+abbrev pub IsLogged : Listeners → List (List ℕ) → Ending → Known → Known → Type 0
+IsLogged listeners words ending.Replied before after = Logs listeners (command_of words) before after (Ok tt)
+IsLogged listeners words (ending.Failed refusal) before after =
+    (after ≡ before) ⊎ ((faults_of words ≡ []) × Logs listeners (command_of words) before after (Err refusal))
+IsLogged listeners words other before after = after ≡ before
 
 -- rule: Status of the program
--- a whole run: it ends in one of these ways, reports that after what was logged to the standard error, and returns its
--- status
+-- a whole run: it ends in one of these ways, reports that after what the command printed on the standard error, and
+-- returns its status
 pub record Runs (world : World) (words : List (List ℕ)) (old new : Streams) (before after : Known) (code : ℕ) : Type 0 where
   pub ended : Ending
   pub ends : Ends world words old new ended
   pub between : Known
-  pub logged : IsSilentRun words → between ≡ before
+  pub logged : IsLogged world.operated words ended before between
   pub reported : IsReported ended between after
   pub status : code ≡ code_of (status_of ended)
 

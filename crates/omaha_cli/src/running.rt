@@ -2,8 +2,8 @@
 
 ghost use Rattle.std.specs.Prelude.{◌≡◌, map, string_bytes};
 ghost use Rattle.omaha_arguments.specs.WalkArguments.{IsAskable};
-ghost use Rattle.omaha_cli.specs.Doing.{Does, IsSilentCommand};
-ghost use Rattle.omaha_cli.specs.Running.{Ends, EndsBy, IsMistaken, IsReported, IsPrinted, IsSilentRun, Runs, Shows, code_of, status_of};
+ghost use Rattle.omaha_cli.specs.Doing.{Does, Logs};
+ghost use Rattle.omaha_cli.specs.Running.{Ends, EndsBy, IsLogged, IsMistaken, IsReported, IsPrinted, Runs, Shows, code_of, status_of};
 
 use crate::serving::serve_profile;
 use http_ports::Port;
@@ -117,7 +117,7 @@ fn obey<
     errors: &mut F,
 ) -> Result<(), Failure>
     requires { IsAskable command.now }
-    ensures silent { IsSilentCommand command.now → errors.new ≡ errors.old }
+    ensures logs { Logs (R.operated rt.now) command.now (F.output errors.old) (F.output errors.new) result }
     ensures does { Does (record { files = R.file_at rt.now; storage = R.storage rt.now; stored = H.found stores.now; edges = S.edges system.now; replies = R.replies rt.now; operated = R.operated rt.now }) command.now
         (record { input = I.input reader.old; output = W.output writer.old })
         (record { input = I.input reader.new; output = W.output writer.new }) result }
@@ -157,7 +157,7 @@ fn carry_out<
     writer: &mut W,
     errors: &mut F,
 ) -> Ending
-    ensures silent { IsSilentRun (map string_bytes arguments.now) → errors.new ≡ errors.old }
+    ensures logged { IsLogged (R.operated rt.now) (map string_bytes arguments.now) result (F.output errors.old) (F.output errors.new) }
     ensures ends { Ends (record { files = R.file_at rt.now; storage = R.storage rt.now; stored = H.found stores.now; edges = S.edges system.now; replies = R.replies rt.now; operated = R.operated rt.now }) (map string_bytes arguments.now)
         (record { input = I.input reader.old; output = W.output writer.old })
         (record { input = I.input reader.new; output = W.output writer.new }) result }

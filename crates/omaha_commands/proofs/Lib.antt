@@ -1,2 +1,3 @@
 mod DescriptionLemmas
+mod NumberLemmas
 mod ReviewLemmas

@@ -1,6 +1,5 @@
 -- The number of a server's edition, as its operator's listener names it; this project's profile.
 use Rattle.std.specs.Prelude.{◌≡◌, ◌⊎◌, ⊤, ℕ, ◌-◌, Bool, true, false, bytes_eq, if◌then◌else◌, codes, decimal, drop, length, List, ◌++◌, Option, Some, None, Result, Ok, Err, take}
-use Rattle.std.specs.Str.{is_utf8}
 use Rattle.streams.specs.Streams.{Known}
 use Rattle.streams.specs.Writing.{IsWritten}
 use Rattle.omaha_arguments.specs.Options.{number_of}
@@ -21,7 +20,7 @@ digits_said body = if bytes_eq (take 6 body) (codes "stale ") then before_feed (
 -- the number that digits write
 abbrev pub number_by : Option (List ℕ) → Option ℕ
 number_by None = None
-number_by (Some digits) = if is_utf8 digits then number_of digits else None
+number_by (Some digits) = number_of digits
 
 -- rule: Edition of a server
 -- the number of the edition that a reply names: `stale N`
@@ -41,11 +40,14 @@ FailsAsked to found = (refusal : Failure) × IsUnanswered to (Err refusal) × (f
 abbrev pub edition_line : ℕ → List ℕ → List ℕ
 edition_line number to = codes "omaha: edition " ++ decimal number ++ codes " at " ++ to ++ codes "\n"
 
--- the number of the server's edition is printed after a dump, unless memory ran out
+-- the line of the edition that the server has
+abbrev pub IsEditionLine : Listeners → List ℕ → List ℕ → Type 0
+IsEditionLine listeners to line = (number : ℕ) × HasEdition listeners to number × (line ≡ edition_line number to)
+
+-- that line is printed after a dump, and nothing if there was none
 abbrev pub IsNoted : Listeners → List ℕ → Known → Known → Result (Unit {0}) Failure → Type 0
 IsNoted listeners to before after (Ok done) =
-    (number : ℕ) × HasEdition listeners to number
-    × (IsWritten before after (edition_line number to) ⊎ (after ≡ before))
+    (line : List ℕ) × IsEditionLine listeners to line × IsWritten before after line
 IsNoted listeners to before after (Err refusal) = after ≡ before
 
 -- rule: Verbose dump

@@ -1,18 +1,16 @@
 // The number of a server's edition.
 
-ghost use Rattle.std.specs.Prelude.{◌≡◌, ◌⊎◌, Err, IfErr, IfOk, IfSome, option_map};
+ghost use Rattle.std.specs.Prelude.{◌≡◌, Err, IfErr, IfOk, IfSome, option_map, string_bytes};
 ghost use Rattle.std.specs.Option.{is_some};
 ghost use Rattle.std.specs.Str.{is_utf8};
-ghost use Rattle.omaha_commands.specs.Asking.{HasEdition, digits_said, edition_line, edition_named};
+ghost use Rattle.omaha_commands.specs.Asking.{HasEdition, IsEditionLine, digits_said, edition_line, edition_named};
 ghost use Rattle.omaha_commands.specs.Reviewing.{IsUnanswered};
-ghost use Rattle.streams.specs.Writing.{IsWritten};
 
 use crate::failure::Failure;
 use crate::reviewing::{PROBE, ask};
 use omaha_arguments::number_of;
-use std::alloc::Global;
+use std::alloc::{AllocError, Global};
 use std::str;
-use streams::{WriteWhole, offer};
 use update_client::Connector;
 use values::Text;
 
@@ -75,12 +73,27 @@ pub(crate) fn edition_at<R: Connector>(rt: &R, alloc: Global, to: &Text) -> Resu
     }
 }
 
-/// Prints the line of an edition, if memory suffices.
-pub(crate) fn note_edition<E: WriteWhole>(alloc: Global, number: u64, to: &Text, errors: &mut E)
-    ensures { IsWritten (E.output errors.old) (E.output errors.new) (edition_line number to.now) ⊎ (E.output errors.new ≡ E.output errors.old) }
+// The line of an edition of a server.
+fn line_of(alloc: Global, number: u64, to: &Text) -> Result<String, AllocError>
+    ensures { IfOk result (λ line. string_bytes line ≡ edition_line number to.now) }
 {
     let at = to.as_str();
-    if let Ok(line) = format!(in alloc; "omaha: edition {number} at {at}\n") {
-        offer(errors, line.as_bytes());
+    format!(in alloc; "omaha: edition {number} at {at}\n")
+}
+
+/// The line of a server's edition.
+///
+/// Fails with `Net` if the listener can't be reached, or names no edition.
+pub(crate) fn edition_line<R: Connector>(
+    rt: &R,
+    alloc: Global,
+    to: &Text,
+) -> Result<String, Failure>
+    ensures ok { IfOk result (λ line. IsEditionLine (R.operated rt.now) to.now (string_bytes line)) }
+    ensures err { IfErr result (λ failure. IsUnanswered to.now (Err failure)) }
+{
+    match edition_at(rt, alloc, to) {
+        Ok(number) => Ok(line_of(alloc, number, to)?),
+        Err(failure) => Err(failure),
     }
 }

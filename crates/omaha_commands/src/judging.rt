@@ -1,7 +1,7 @@
 // The command `publish`, if it only checks a script.
 
-ghost use Rattle.std.specs.Prelude.{◌≡◌, Err, IfErr, IfOk, Ok};
-ghost use Rattle.omaha_commands.specs.Judging.{Checks, IsPublished, IsScriptBy, IsScriptIn, Judges, JudgesBy, JudgesFor, PrintsValid};
+ghost use Rattle.std.specs.Prelude.{◌≡◌, Err, IfErr, IfOk, Ok, string_bytes};
+ghost use Rattle.omaha_commands.specs.Judging.{Checks, IsPublished, IsScriptBy, IsScriptIn, Judges, JudgesBy, JudgesFor, PrintsValid, valid_line};
 ghost use Rattle.omaha_commands.specs.Operating.{is_input};
 ghost use Rattle.streams.specs.Streams.{Known};
 
@@ -16,7 +16,7 @@ use catalogue::Batch;
 use editions::Edition;
 use omaha_arguments::Publication;
 use services::Service;
-use std::alloc::Global;
+use std::alloc::{AllocError, Global};
 use std::thread::Threads;
 use streams::{Disk, ReadWhole, WriteWhole};
 use update_client::Connector;
@@ -106,13 +106,20 @@ fn read_checked<R: Disk + AllocGlobal, I: ReadWhole>(
     }
 }
 
+// What is printed of a valid script.
+fn valid_line(alloc: Global, number: u64) -> Result<String, AllocError>
+    ensures { IfOk result (λ line. string_bytes line ≡ valid_line number) }
+{
+    format!(in alloc; "valid for edition {number}\n")
+}
+
 // Prints which edition a script is valid for.
 fn print_valid<W: WriteWhole>(alloc: Global, number: u64, writer: &mut W) -> Result<(), Failure>
     ensures { (input : Known) → PrintsValid number
         (record { input = input; output = W.output writer.old })
         (record { input = input; output = W.output writer.new }) result }
 {
-    match format!(in alloc; "valid for edition {number}\n") {
+    match valid_line(alloc, number) {
         Ok(line) => print(line.as_bytes(), writer),
         Err(_) => Err(Failure::Memory),
     }

@@ -5,14 +5,14 @@ ghost use Rattle.omaha_commands.specs.Asking.{IsNoted, Notes};
 ghost use Rattle.omaha_commands.specs.Judging.{Publishes};
 ghost use Rattle.omaha_commands.specs.Operating.{Calls, Dumps, IsRead, IsScript, Posts, PrintsReply, Raises, is_input};
 
-use crate::asking::{edition_at, note_edition};
+use crate::asking::edition_line;
 use crate::failure::Failure;
 use crate::judging::check_on;
 use crate::profile::MAX_PROFILE;
 use omaha_arguments::{DumpAsked, Publication, Raise};
 use std::alloc::Global;
 use std::thread::Threads;
-use streams::{Disk, ReadFailure, ReadWhole, WriteWhole};
+use streams::{Disk, ReadFailure, ReadWhole, WriteWhole, offer};
 use update_client::{Connector, LinkFault, Reply};
 use values::Text;
 
@@ -146,7 +146,7 @@ pub fn raise_on<R: Connector, W: WriteWhole>(
 }
 
 // rule: Verbose dump
-// Prints the profile that an operator's listener dumps, and then the number of the edition that the server had before.
+// Prints the profile that an operator's listener dumps, and then the line of the edition that the server had before.
 fn dump_verbosely<R: Connector, W: WriteWhole, E: WriteWhole>(
     rt: &R,
     alloc: Global,
@@ -156,12 +156,11 @@ fn dump_verbosely<R: Connector, W: WriteWhole, E: WriteWhole>(
 ) -> Result<(), Failure>
     ensures dumps { Dumps (R.operated rt.now) to.now (W.output writer.old) (W.output writer.new) result }
     ensures noted { IsNoted (R.operated rt.now) to.now (E.output errors.old) (E.output errors.new) result }
-    ensures silent { IfErr result (λ _. errors.new ≡ errors.old) }
 {
-    match edition_at(rt, alloc, to) {
-        Ok(number) => match call(rt, alloc, to, b"dump", writer) {
+    match edition_line(rt, alloc, to) {
+        Ok(line) => match call(rt, alloc, to, b"dump", writer) {
             Ok(()) => {
-                note_edition(alloc, number, to, errors);
+                offer(errors, line.as_bytes());
                 Ok(())
             }
             Err(failure) => Err(failure),
