@@ -8,3 +8,4 @@ mod ReasonLemmas
 mod ReviewLemmas
 mod RouteLemmas
 mod StepLemmas
+mod VersionLemmas

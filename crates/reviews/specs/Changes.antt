@@ -100,12 +100,12 @@ abbrev pub has_clients_on : List App → TrackKey → Bool
 has_clients_on apps key =
     option_map_or (λ (cohort : Cohort). has_clients cohort key.lane) (slice_get (cohorts_at apps key.app) key.cohort) false
 
--- rule: Target before a change
--- the clients of a track had a target before a change: that of a track of their lane, or that of the other lane of their
--- cohort if it had clients
+-- a track before a change has the lane of one after it, or it had clients and has the other lane of its cohort
 abbrev pub is_target_of : List App → TrackKey → TrackKey → Bool
 is_target_of before old new = is_same_cohort old new && (is_same_lane old.lane new.lane || has_clients_on before old)
 
+-- rule: Target before a change
+-- the clients of a track had a target before a change, that of their lane or that of the other lane of their cohort
 abbrev pub had_target : List App → List TrackReview → TrackKey → Bool
 had_target before olds new = list_any (λ (old : TrackReview). is_target_of before old.key new) olds
 

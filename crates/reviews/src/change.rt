@@ -1,9 +1,9 @@
 //! What a change of a catalogue makes of its clients.
 
-ghost use Rattle.std.specs.Prelude.{◌≡◌, ◌++◌, ◌||◌, [], true, if◌then◌else◌, IfOk, OnOk, filter_map, length};
+ghost use Rattle.std.specs.Prelude.{◌≡◌, ◌++◌, ◌||◌, [], true, if◌then◌else◌, IfOk, OnOk, filter_map, length, position};
 ghost use Rattle.std.specs.List.{cons_option, flat_map, range_with_len};
 ghost use Rattle.values.specs.Ordered.{ascend};
-ghost use Rattle.records.specs.Lookups.{cohorts_at, releases_at};
+ghost use Rattle.records.specs.Lookups.{cohorts_at, is_release, releases_at};
 ghost use Rattle.records.specs.Validity.{is_release_below};
 ghost use Rattle.reviews.specs.Changes.{are_same_clients, arrival_at, arrival_by, arrivals_between, arrivals_of, change_at, change_by, change_from, changes_between, changes_of, changes_of_pair, changes_on, changes_to, clients_of, had_target, has_clients, has_clients_on, has_downgrades, has_lane, is_changed, is_lane_before, is_same_cohort, is_same_form, is_same_lane, is_same_lane_of, is_same_payload, is_same_version, is_served, is_target_of, version_to, was_at};
 ghost use Rattle.reviews.specs.declared.review.TrackReview.{TrackReview};
@@ -258,12 +258,24 @@ fn arrival_by(clients: Clients, counts: bool, release: usize, becomes: Outcome) 
     })
 }
 
-// Where the clients of a track were at the release of a version.
-fn was_at(before: &App, old: &TrackReview, version: &Version) -> Option<Outcome>
+// The index of the release of a version, which is the first one to be looked at.
+fn index_of_release(releases: &[Release], first: usize, version: &Version) -> Option<usize>
+    requires { ascend is_release_below releases.now ≡ true }
+    ensures { result ≡ position (is_release version.now) releases.now }
+{
+    version::laws::order();
+    match releases.get(first) {
+        Some(release) if version.is_equal(&release.version) => Some(first),
+        _ => lookup::index_of_release(releases, version),
+    }
+}
+
+// Where the clients of a track were at the release of a version, whose index is mostly the one that it has now.
+fn was_at(before: &App, old: &TrackReview, index: usize, version: &Version) -> Option<Outcome>
     requires { ascend is_release_below before.now.releases ≡ true }
     ensures { result ≡ was_at before.now old.now version.now }
 {
-    let from = lookup::index_of_release(before.releases.as_slice(), version)?;
+    let from = index_of_release(before.releases.as_slice(), index, version)?;
     let was = old.outcomes.as_slice().get(from)?;
     Some(*was)
 }
@@ -282,7 +294,7 @@ fn change_at(
     let release = after.releases.as_slice().get(index)?;
     let becomes = *new.outcomes.as_slice().get(index)?;
     let clients = clients_of(&old.key, &new.key);
-    match was_at(before, old, &release.version) {
+    match was_at(before, old, index, &release.version) {
         Some(was) => change_by(before, after, clients, index, was, becomes),
         None => arrival_by(clients, index < new.target, index, becomes),
     }
