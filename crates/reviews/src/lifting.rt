@@ -41,14 +41,17 @@ fn is_open_to(cohort: &Cohort, release: &Release) -> bool
     }
 }
 
-// Whether a release is offered to a cohort's clients without a rule.
+// Whether a release is offered to a cohort's clients without a rule. Versions are compared only if the rule counts.
 fn is_offered_without(cause: Cause, cohort: &Cohort, target: &Version, release: &Release) -> bool
     ensures { result ≡ is_offered (lifted_cohort cause cohort.now) pin.Any (lifted_release cause target.now release.now) }
 {
-    let is_target = target.is_equal(&release.version);
     match cause {
-        Cause::Withdrawn if is_target => is_open_to(cohort, release),
-        Cause::Audience if is_target => !release.withdrawn,
+        Cause::Withdrawn if release.withdrawn && target.is_equal(&release.version) => {
+            is_open_to(cohort, release)
+        }
+        Cause::Audience if release.audience.is_some() && target.is_equal(&release.version) => {
+            !release.withdrawn
+        }
         _ => is_offered(cohort, &Pin::Any, release),
     }
 }
