@@ -1,5 +1,6 @@
 mod ChainLemmas
 mod ChangeLemmas
+mod IdleLemmas
 mod LargestLemmas
 mod LiftLemmas
 mod ListLemmas
