@@ -1,5 +1,6 @@
 mod ChainLemmas
 mod ChangeLemmas
+mod IdleLemmas
 mod LargestLemmas
 mod LiftLemmas
 mod ListLemmas
@@ -8,3 +9,4 @@ mod ReasonLemmas
 mod ReviewLemmas
 mod RouteLemmas
 mod StepLemmas
+mod VersionLemmas

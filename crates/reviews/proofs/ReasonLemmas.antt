@@ -88,7 +88,7 @@ pub AreFirst-none : (app : App) (key : TrackKey) → AreFirst app key [] (replic
 AreFirst-none app key =
     record {
       sized = length-replicate (length app.releases) Several;
-      first = λ release within. get_or-replicate (length app.releases) release Several Several within;
+      first = λ release within stuck. get_or-replicate (length app.releases) release Several Several within;
     }
 
 -- one rule more, before those that were looked at
@@ -103,8 +103,9 @@ AreFirst-marked app key cause causes flags old new freed same marked first =
     let count = first.sized in
     record {
       sized = same ∙ first.sized;
-      first = λ release within.
-          by_flag release (flag_at flags release) (freed.each release within) (marked release (omega arith)) (first.first release within);
+      first = λ release within stuck.
+          by_flag release (flag_at flags release) (freed.each release within) (marked release (omega arith))
+          (first.first release within stuck);
     }
   where
     by_flag :

@@ -3,8 +3,9 @@ use Rattle.std.specs.Prelude.{ℕ, ◌==◌, ◌&&◌, ◌||◌, not, Bool, true
 use Rattle.std.specs.List.{flat_map, list_any, range_with_len}
 use Rattle.std.specs.Option.{option_map_or}
 use Rattle.std.specs.Str.{bytes_eq}
-use Rattle.records.specs.Lookups.{has_release, is_release, releases_at}
+use Rattle.records.specs.Lookups.{cohorts_at, has_release, is_release, releases_at}
 use Rattle.records.specs.declared.content.App.{App}
+use Rattle.records.specs.declared.content.Cohort.{Cohort}
 use Rattle.records.specs.declared.content.Diff.{Diff}
 use Rattle.records.specs.declared.content.Release.{Release}
 use Rattle.cohorts.specs.declared.track.Lane.{Lane}
@@ -75,10 +76,6 @@ is_same_lane_of one other = is_same_cohort one other && is_same_lane one.lane ot
 abbrev pub has_lane : List TrackReview → TrackKey → Bool
 has_lane reviews key = list_any (λ (review : TrackReview). is_same_lane_of review.key key) reviews
 
--- the cohort of a track has a target, on whatever lane
-abbrev pub has_cohort : List TrackReview → TrackKey → Bool
-has_cohort reviews key = list_any (λ (review : TrackReview). is_same_cohort review.key key) reviews
-
 -- the lane of a track has one of the clients who allow a downgrade
 abbrev pub has_downgrades : List TrackReview → TrackKey → Bool
 has_downgrades reviews key = list_any (λ (review : TrackReview). is_same_lane_of review.key key && review.key.rollback) reviews
@@ -92,6 +89,25 @@ is_served reviews key rollback = if rollback then key.rollback || not (has_downg
 abbrev pub is_lane_before : List TrackReview → TrackKey → TrackKey → Bool
 is_lane_before before old new =
     is_same_cohort old new && (is_same_lane old.lane new.lane || not (has_lane before new))
+
+-- by the share of a cohort some of the 1000 buckets are on a lane
+abbrev pub has_clients : Cohort → Lane → Bool
+has_clients cohort Target = nat_lt 0 cohort.share
+has_clients cohort Held = nat_lt cohort.share 1000
+
+-- the same of the lane of a track; none are if its cohort isn't there
+abbrev pub has_clients_on : List App → TrackKey → Bool
+has_clients_on apps key =
+    option_map_or (λ (cohort : Cohort). has_clients cohort key.lane) (slice_get (cohorts_at apps key.app) key.cohort) false
+
+-- a track before a change has the lane of one after it, or it had clients and has the other lane of its cohort
+abbrev pub is_target_of : List App → TrackKey → TrackKey → Bool
+is_target_of before old new = is_same_cohort old new && (is_same_lane old.lane new.lane || has_clients_on before old)
+
+-- rule: Target before a change
+-- the clients of a track had a target before a change, that of their lane or that of the other lane of their cohort
+abbrev pub had_target : List App → List TrackReview → TrackKey → Bool
+had_target before olds new = list_any (λ (old : TrackReview). is_target_of before old.key new) olds
 
 -- rule: Same clients
 -- the clients who allow a downgrade, or those who don't, are on the first track before a change and on the second after it
@@ -159,7 +175,7 @@ changes_to before after olds news new =
     (λ (old : TrackReview). if are_same_clients olds news old new then changes_of_pair before after old new else [])
     olds
 
--- the change of a release of a track whose cohort had no target before; it counts if it was there or is below the target
+-- the change of a release of a track whose clients had no target before; it counts if it was there or is below the target
 abbrev pub arrival_at : List Release → App → TrackReview → ℕ → Option Change
 arrival_at before after new index =
     option_and_then
@@ -181,7 +197,7 @@ arrivals_of before after new =
 -- the changes of the clients of a track after the change
 abbrev pub changes_on : List App → List App → List TrackReview → List TrackReview → TrackReview → List Change
 changes_on before after olds news new =
-    if has_cohort olds new.key then changes_to before after olds news new else arrivals_of before after new
+    if had_target before olds new.key then changes_to before after olds news new else arrivals_of before after new
 
 -- those of some tracks after it
 abbrev pub changes_from : List App → List App → List TrackReview → List TrackReview → List TrackReview → List Change

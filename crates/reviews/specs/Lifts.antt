@@ -1,6 +1,8 @@
 -- A track as it would be without one of the rules that may leave its clients stuck; this project's profile.
-use Rattle.std.specs.Prelude.{ℕ, ◌&&◌, not, true, false, if◌then◌else◌, List, [], map, None}
-use Rattle.std.specs.Option.{option_map_or}
+use Rattle.std.specs.Prelude.{ℕ, ◌&&◌, not, Bool, true, false, if◌then◌else◌, List, [], map, None}
+use Rattle.std.specs.List.{list_all}
+use Rattle.std.specs.Option.{is_some, option_map_or}
+use Rattle.std.specs.Str.{bytes_eq}
 use Rattle.version.specs.Versions.{zero_version}
 use Rattle.records.specs.Lookups.{is_release}
 use Rattle.records.specs.declared.content.App.{App}
@@ -25,6 +27,14 @@ lifted_release Audience target release =
 lifted_release Stone target release = record release { stone = false }
 lifted_release Floor target release = record release { floor = zero_version }
 lifted_release Downgrade target release = release
+
+-- the releases of an app are the same without a rule, by the version of a track's target
+abbrev pub is_idle : Cause → List ℕ → List Release → Bool
+is_idle Withdrawn target releases = list_all (λ (release : Release). not (release.withdrawn && is_release target release)) releases
+is_idle Audience target releases = list_all (λ (release : Release). not (is_some release.audience && is_release target release)) releases
+is_idle Stone target releases = list_all (λ (release : Release). not release.stone) releases
+is_idle Floor target releases = list_all (λ (release : Release). bytes_eq release.floor zero_version) releases
+is_idle Downgrade target releases = false
 
 -- a cohort without a rule: it allows downgrades
 abbrev pub lifted_cohort : Cause → Cohort → Cohort

@@ -50,10 +50,12 @@ IsReason app key release reason = IsFirst app key release all_causes reason
 abbrev pub reason_at : List Reason → ℕ → Reason
 reason_at reasons release = slice_index_or reasons release Several
 
--- each release has the first rule of a list that frees it
+-- each stuck release has the first rule of a list that frees it
 pub record AreFirst (app : App) (key : TrackKey) (causes : List Cause) (reasons : List Reason) : Type 0 where
   pub sized : length reasons ≡ length app.releases
-  pub first : (release : ℕ) → release < length app.releases → IsFirst app key release causes (reason_at reasons release)
+  pub first :
+      (release : ℕ) → release < length app.releases → IsStuck app key release →
+      IsFirst app key release causes (reason_at reasons release)
 
 -- a flag says whether some chain leads from a release to the target
 abbrev pub IsChainedAs : App → TrackKey → ℕ → Bool → Type 0

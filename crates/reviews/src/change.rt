@@ -1,18 +1,18 @@
 //! What a change of a catalogue makes of its clients.
 
-ghost use Rattle.std.specs.Prelude.{◌≡◌, ◌++◌, ◌||◌, [], true, if◌then◌else◌, IfOk, OnOk, filter_map, length};
+ghost use Rattle.std.specs.Prelude.{◌≡◌, ◌++◌, ◌||◌, [], true, if◌then◌else◌, IfOk, OnOk, filter_map, length, position};
 ghost use Rattle.std.specs.List.{cons_option, flat_map, range_with_len};
 ghost use Rattle.values.specs.Ordered.{ascend};
-ghost use Rattle.records.specs.Lookups.{releases_at};
+ghost use Rattle.records.specs.Lookups.{cohorts_at, is_release, releases_at};
 ghost use Rattle.records.specs.Validity.{is_release_below};
-ghost use Rattle.reviews.specs.Changes.{are_same_clients, arrival_at, arrival_by, arrivals_between, arrivals_of, change_at, change_by, change_from, changes_between, changes_of, changes_of_pair, changes_on, changes_to, clients_of, has_cohort, has_downgrades, has_lane, is_changed, is_lane_before, is_same_cohort, is_same_form, is_same_lane, is_same_lane_of, is_same_payload, is_same_version, is_served, version_to, was_at};
+ghost use Rattle.reviews.specs.Changes.{are_same_clients, arrival_at, arrival_by, arrivals_between, arrivals_of, change_at, change_by, change_from, changes_between, changes_of, changes_of_pair, changes_on, changes_to, clients_of, had_target, has_clients, has_clients_on, has_downgrades, has_lane, is_changed, is_lane_before, is_same_cohort, is_same_form, is_same_lane, is_same_lane_of, is_same_payload, is_same_version, is_served, is_target_of, version_to, was_at};
 ghost use Rattle.reviews.specs.declared.review.TrackReview.{TrackReview};
 
 use crate::line::find_app;
 use crate::outcome::Outcome;
 use crate::review::TrackReview;
 use crate::stuck::is_stuck;
-use catalogue::{App, Catalogue, Release};
+use catalogue::{App, Catalogue, Cohort, Release};
 use cohorts::Lane;
 use payload_graph::{Payload, TrackKey};
 use records::lookup;
@@ -39,7 +39,7 @@ pub struct Change {
     pub clients: Clients,
     /// The index of the release after the change.
     pub release: usize,
-    /// Where its clients were, `None` if the release or a target of their cohort wasn't there.
+    /// Where its clients were, `None` if the release wasn't there or they had no target.
     pub was: Option<Outcome>,
     /// Where they are after the change.
     pub becomes: Outcome,
@@ -128,14 +128,6 @@ fn has_lane(reviews: &[TrackReview], key: &TrackKey) -> bool
         .any(|review| is_same_lane_of(&review.key, key))
 }
 
-fn has_cohort(reviews: &[TrackReview], key: &TrackKey) -> bool
-    ensures { result ≡ has_cohort reviews.now key.now }
-{
-    reviews
-        .iter()
-        .any(|review| is_same_cohort(&review.key, key))
-}
-
 fn has_downgrades(reviews: &[TrackReview], key: &TrackKey) -> bool
     ensures { result ≡ has_downgrades reviews.now key.now }
 {
@@ -157,6 +149,50 @@ fn is_lane_before(before: &[TrackReview], old: &TrackKey, new: &TrackKey) -> boo
     ensures { result ≡ is_lane_before before.now old.now new.now }
 {
     is_same_cohort(old, new) && (is_same_lane(old.lane, new.lane) || !has_lane(before, new))
+}
+
+fn has_clients(cohort: &Cohort, lane: Lane) -> bool
+    ensures { result ≡ has_clients cohort.now lane }
+{
+    match lane {
+        Lane::Target => 0 < cohort.share,
+        Lane::Held => cohort.share < 1000,
+    }
+}
+
+// The cohorts of an app before a change, none if it wasn't there.
+fn cohorts_at(catalogue: &Catalogue, app: usize) -> &[Cohort]
+    ensures { result.now ≡ cohorts_at catalogue.now app }
+{
+    match catalogue.apps().get(app) {
+        Some(there) => there.cohorts.as_slice(),
+        None => &[],
+    }
+}
+
+fn has_clients_on(catalogue: &Catalogue, key: &TrackKey) -> bool
+    ensures { result ≡ has_clients_on catalogue.now key.now }
+{
+    match cohorts_at(catalogue, key.app).get(key.cohort) {
+        Some(cohort) => has_clients(cohort, key.lane),
+        None => false,
+    }
+}
+
+fn is_target_of(before: &Catalogue, old: &TrackKey, new: &TrackKey) -> bool
+    ensures { result ≡ is_target_of before.now old.now new.now }
+{
+    is_same_cohort(old, new) && (is_same_lane(old.lane, new.lane) || has_clients_on(before, old))
+}
+
+// rule: Target before a change
+fn had_target(before: &Reviewed<'_>, new: &TrackKey) -> bool
+    ensures { result ≡ had_target before.now.catalogue.now before.now.tracks.now new.now }
+{
+    before
+        .tracks
+        .iter()
+        .any(|old| is_target_of(before.catalogue, &old.key, new))
 }
 
 // rule: Same clients
@@ -222,12 +258,24 @@ fn arrival_by(clients: Clients, counts: bool, release: usize, becomes: Outcome) 
     })
 }
 
-// Where the clients of a track were at the release of a version.
-fn was_at(before: &App, old: &TrackReview, version: &Version) -> Option<Outcome>
+// The index of the release of a version, which is the first one to be looked at.
+fn index_of_release(releases: &[Release], first: usize, version: &Version) -> Option<usize>
+    requires { ascend is_release_below releases.now ≡ true }
+    ensures { result ≡ position (is_release version.now) releases.now }
+{
+    version::laws::order();
+    match releases.get(first) {
+        Some(release) if version.is_equal(&release.version) => Some(first),
+        _ => lookup::index_of_release(releases, version),
+    }
+}
+
+// Where the clients of a track were at the release of a version, whose index is mostly the one that it has now.
+fn was_at(before: &App, old: &TrackReview, index: usize, version: &Version) -> Option<Outcome>
     requires { ascend is_release_below before.now.releases ≡ true }
     ensures { result ≡ was_at before.now old.now version.now }
 {
-    let from = lookup::index_of_release(before.releases.as_slice(), version)?;
+    let from = index_of_release(before.releases.as_slice(), index, version)?;
     let was = old.outcomes.as_slice().get(from)?;
     Some(*was)
 }
@@ -246,7 +294,7 @@ fn change_at(
     let release = after.releases.as_slice().get(index)?;
     let becomes = *new.outcomes.as_slice().get(index)?;
     let clients = clients_of(&old.key, &new.key);
-    match was_at(before, old, &release.version) {
+    match was_at(before, old, index, &release.version) {
         Some(was) => change_by(before, after, clients, index, was, becomes),
         None => arrival_by(clients, index < new.target, index, becomes),
     }
@@ -309,7 +357,7 @@ fn releases_at(catalogue: &Catalogue, app: usize) -> &[Release]
     }
 }
 
-// The change of a release of a track whose cohort had no target before, if there is one.
+// The change of a release of a track whose clients had no target before, if there is one.
 fn arrival_at(before: &[Release], after: &App, new: &TrackReview, index: usize) -> Option<Change>
     requires { ascend is_release_below before.now ≡ true }
     ensures { result ≡ arrival_at before.now after.now new.now index }
@@ -385,7 +433,7 @@ fn push_changes_on(
 ) -> Result<(), AllocError>
     ensures { OnOk result (changes.new.items ≡ changes.old.items ++ changes_on before.now.catalogue.now after.now.catalogue.now before.now.tracks.now after.now.tracks.now new.now) }
 {
-    if has_cohort(before.tracks, &new.key) {
+    if had_target(before, &new.key) {
         push_track(changes, before, after, new)
     } else {
         push_arrivals_of(changes, before.catalogue, after.catalogue, new)

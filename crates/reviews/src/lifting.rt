@@ -1,7 +1,8 @@
 //! The full packages of a track without one of its rules.
 
-ghost use Rattle.std.specs.Prelude.{◌≡◌, ◌<◌, true, IfOk, Some, length, map, slice_get};
-ghost use Rattle.std.specs.List.{enumerate_from, list_any};
+ghost use Rattle.std.specs.Prelude.{◌≡◌, ◌<◌, ◌&&◌, not, true, IfOk, Some, length, map, slice_get};
+ghost use Rattle.std.specs.List.{enumerate_from, list_all, list_any};
+ghost use Rattle.std.specs.Option.{is_some};
 ghost use Rattle.std.specs.Str.{bytes_eq};
 ghost use Rattle.values.specs.Ordered.{ascend};
 ghost use Rattle.version.specs.Versions.{zero_version};
@@ -12,7 +13,7 @@ ghost use Rattle.cohorts.specs.Offers.{is_offered, is_open_to};
 ghost use Rattle.cohorts.specs.declared.pin.Pin.TheVariants as pin;
 ghost use Rattle.payload_graph.specs.Net.{door_of, doors_of};
 ghost use Rattle.payload_graph.specs.Permitted.{rolls_back};
-ghost use Rattle.reviews.specs.Lifts.{lifted_cohort, lifted_key, lifted_release, lifted_releases};
+ghost use Rattle.reviews.specs.Lifts.{is_idle, lifted_cohort, lifted_key, lifted_release, lifted_releases};
 ghost use Rattle.reviews.specs.Routes.{lifted_door, AreRoads};
 
 use crate::cause::Cause;
@@ -41,14 +42,17 @@ fn is_open_to(cohort: &Cohort, release: &Release) -> bool
     }
 }
 
-// Whether a release is offered to a cohort's clients without a rule.
+// Whether a release is offered to a cohort's clients without a rule. Versions are compared only if the rule counts.
 fn is_offered_without(cause: Cause, cohort: &Cohort, target: &Version, release: &Release) -> bool
     ensures { result ≡ is_offered (lifted_cohort cause cohort.now) pin.Any (lifted_release cause target.now release.now) }
 {
-    let is_target = target.is_equal(&release.version);
     match cause {
-        Cause::Withdrawn if is_target => is_open_to(cohort, release),
-        Cause::Audience if is_target => !release.withdrawn,
+        Cause::Withdrawn if release.withdrawn && target.is_equal(&release.version) => {
+            is_open_to(cohort, release)
+        }
+        Cause::Audience if release.audience.is_some() && target.is_equal(&release.version) => {
+            !release.withdrawn
+        }
         _ => is_offered(cohort, &Pin::Any, release),
     }
 }
@@ -156,4 +160,58 @@ pub(crate) fn roads_without(
         rollback: rolls_back_without(cause, cohort, key),
         doors,
     })
+}
+
+fn is_withdrawn_target(target: &Version, release: &Release) -> bool
+    ensures { result ≡ (release.now.withdrawn && is_release target.now release.now) }
+{
+    release.withdrawn && target.is_equal(&release.version)
+}
+
+fn is_closed_target(target: &Version, release: &Release) -> bool
+    ensures { result ≡ (is_some release.now.audience && is_release target.now release.now) }
+{
+    release.audience.is_some() && target.is_equal(&release.version)
+}
+
+fn is_offered_if_target(target: &Version, releases: &[Release]) -> bool
+    ensures { result ≡ list_all (λ release. not (release.withdrawn && is_release target.now release)) releases.now }
+{
+    releases
+        .iter()
+        .all(|release| !is_withdrawn_target(target, release))
+}
+
+fn is_open_if_target(target: &Version, releases: &[Release]) -> bool
+    ensures { result ≡ list_all (λ release. not (is_some release.audience && is_release target.now release)) releases.now }
+{
+    releases
+        .iter()
+        .all(|release| !is_closed_target(target, release))
+}
+
+fn has_no_stone(releases: &[Release]) -> bool
+    ensures { result ≡ list_all (λ release. not release.stone) releases.now }
+{
+    releases.iter().all(|release| !release.stone)
+}
+
+fn has_no_floor(releases: &[Release]) -> bool
+    ensures { result ≡ list_all (λ release. bytes_eq release.floor zero_version) releases.now }
+{
+    let zero = Version::zero();
+    releases.iter().all(|release| release.floor.is_equal(&zero))
+}
+
+/// Whether the releases of a track are the same without a rule.
+pub(crate) fn is_idle(cause: Cause, target: &Version, releases: &[Release]) -> bool
+    ensures { result ≡ is_idle cause target.now releases.now }
+{
+    match cause {
+        Cause::Withdrawn => is_offered_if_target(target, releases),
+        Cause::Audience => is_open_if_target(target, releases),
+        Cause::Stone => has_no_stone(releases),
+        Cause::Floor => has_no_floor(releases),
+        Cause::Downgrade => false,
+    }
 }

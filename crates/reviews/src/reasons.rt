@@ -9,7 +9,7 @@ ghost use Rattle.reviews.specs.declared.cause.Cause.{Cause};
 ghost use Rattle.reviews.specs.declared.cause.Reason.TheVariants.{Alone};
 
 use crate::cause::{Cause, Reason};
-use crate::lifting::roads_without;
+use crate::lifting::{is_idle, roads_without};
 use catalogue::{App, Cohort};
 use payload_graph::TrackKey;
 use std::alloc::{AllocError, Global};
@@ -60,6 +60,27 @@ impl Subject<'_> {
         Ok(next)
     }
 
+    // Does the same, and searches only if some release isn't the same without the rule.
+    fn lift_unless_idle(
+        &self,
+        alloc: Global,
+        cause: Cause,
+        reasons: Vec<Reason>,
+    ) -> Result<Vec<Reason>, AllocError>
+        requires track { IsTrackOf self.now.app.now self.now.key.now self.now.cohort.now self.now.target }
+        requires sized { length reasons.items ≡ length self.now.app.now.releases }
+        ensures first { IfOk result (λ next. (causes : List Cause) → AreFirst self.now.app.now self.now.key.now causes reasons.items →
+            AreFirst self.now.app.now self.now.key.now (cause ∷ causes) next.items) }
+        ensures sized { IfOk result (λ next. length next.items ≡ length self.now.app.now.releases) }
+    {
+        let releases = self.app.releases.as_slice();
+        if is_idle(cause, &releases[self.target].version, releases) {
+            Ok(reasons)
+        } else {
+            self.lift(alloc, cause, reasons)
+        }
+    }
+
     // rule: Reason of a stuck release
     /// The reason of each release of the app, which counts if the release is stuck.
     pub(crate) fn reasons(&self, alloc: Global) -> Result<Vec<Reason>, AllocError>
@@ -68,10 +89,10 @@ impl Subject<'_> {
     {
         let none = vec![in alloc; Reason::Several; self.app.releases.as_slice().len()]?;
         let downgrade = self.lift(alloc, Cause::Downgrade, none)?;
-        let floor = self.lift(alloc, Cause::Floor, downgrade)?;
-        let stone = self.lift(alloc, Cause::Stone, floor)?;
-        let audience = self.lift(alloc, Cause::Audience, stone)?;
-        let withdrawn = self.lift(alloc, Cause::Withdrawn, audience)?;
+        let floor = self.lift_unless_idle(alloc, Cause::Floor, downgrade)?;
+        let stone = self.lift_unless_idle(alloc, Cause::Stone, floor)?;
+        let audience = self.lift_unless_idle(alloc, Cause::Audience, stone)?;
+        let withdrawn = self.lift_unless_idle(alloc, Cause::Withdrawn, audience)?;
         Ok(withdrawn)
     }
 }
