@@ -1,9 +1,9 @@
 -- How reviews are written as JSON objects, one on each line; this project's profile. Members are in byte order of their
 -- names, as `serde_json` writes them.
-use Rattle.std.specs.Prelude.{ℕ, ◌-◌, ◌^◌, Bool, if◌then◌else◌, codes, List, [], ◌++◌, length, nat_le, slice_get, Option, None, Some}
+use Rattle.std.specs.Prelude.{ℕ, ◌-◌, ◌^◌, if◌then◌else◌, codes, List, [], ◌++◌, length, nat_le, slice_get, Option, None, Some}
 use Rattle.std.specs.List.{count_by, flat_map}
 use Rattle.std.specs.Option.{option_map_or}
-use Rattle.serde_json.specs.Data.{Data, Members, boolean, member, no_members, null, number, object, string, unsigned}
+use Rattle.serde_json.specs.Data.{Data, boolean, member, no_members, null, number, object, string, unsigned}
 use Rattle.serde_json.specs.Written.{compact_text}
 use Rattle.records.specs.declared.content.App.{App}
 use Rattle.quotes.specs.declared.quote.Quote.{Quote}
