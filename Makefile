@@ -72,7 +72,7 @@ cluster:
 	tests/cluster.py
 
 install:
-	@echo "proves the libraries of the program, $(JOBS) side by side; less than an hour on four processors the first time"
+	@echo "proves the libraries of the program, $(JOBS) side by side; about an hour on four processors the first time"
 	cd crates/omaha && rt all check --jobs $(JOBS)
 	cd crates/omaha && rt run < stdin
 	install -d $(DESTDIR)$(PREFIX)/bin
