@@ -11,6 +11,14 @@ use Rattle.clap.specs.declared.builder.command.Command.{Command}
 abbrev pub IsMade : {E : Type 0} → App → Result Command E → Type 0
 IsMade app made = IfOk made (λ command. app_of command ≡ app)
 
+-- an argument, perhaps one that has to be given
+abbrev pub argument_named : List ℕ → Bool → Rule
+argument_named name required = record (new_rule name) { required = required }
+
+-- an option `--name VALUE`, perhaps one that has to be given
+abbrev pub valued_option : List ℕ → Bool → Rule
+valued_option name required = record (new_rule name) { long = Some name; value_names = 1; required = required }
+
 -- an option `--name VALUE`
 abbrev pub option_named : List ℕ → Rule
 option_named name = record (new_rule name) { long = Some name; value_names = 1 }

@@ -1,8 +1,8 @@
 // The options and arguments of a command, as `clap` reads them.
 
-ghost use Rattle.std.specs.Prelude.{◌≡◌, IfOk, map};
-ghost use Rattle.clap.specs.Words.{App, first_of, found_of, new_app, new_rule, rows_of, with_rule};
-ghost use Rattle.omaha_arguments.specs.Options.{IsMade, flag_in, flag_named, has_plus, number_in, number_of, option_named, string_in, strings_in, wanted, wanted_list, wanted_option, workers_in, workers_of};
+ghost use Rattle.std.specs.Prelude.{◌≡◌, false, IfOk, map};
+ghost use Rattle.clap.specs.Words.{App, first_of, found_of, new_app, new_rule, rule_of, rows_of, with_rule};
+ghost use Rattle.omaha_arguments.specs.Options.{IsMade, argument_named, flag_in, flag_named, has_plus, number_in, number_of, option_named, string_in, strings_in, valued_option, wanted, wanted_list, wanted_option, workers_in, workers_of};
 
 use clap::{Arg, ArgAction, ArgMatches};
 use std::alloc::{AllocError, Global};
@@ -26,6 +26,24 @@ pub(crate) fn titled<'a>(
     Ok(command)
 }
 
+// The command with one more argument.
+fn with_arg<'a>(command: Making<'a>, argument: Arg<'a>) -> Making<'a>
+    ensures { (app : App) → argument.entry.global ≡ false → IsMade app command.entry → IsMade (with_rule app (rule_of argument.entry)) result }
+{
+    match command {
+        Ok(command) => command.arg(argument),
+        Err(error) => Err(error),
+    }
+}
+
+// An argument, perhaps one that has to be given.
+fn argument<'a>(alloc: Global, name: &'a str, required: bool, help: &'a str) -> Arg<'a>
+    ensures rule { rule_of result ≡ argument_named name.entry.now required }
+    ensures local { result.global ≡ false }
+{
+    Arg::new(alloc, name).required(required).help(help)
+}
+
 /// The command with one more argument, which has to be given.
 pub(crate) fn with_wanted<'a>(
     alloc: Global,
@@ -35,9 +53,7 @@ pub(crate) fn with_wanted<'a>(
 ) -> Making<'a>
     ensures { (app : App) → IsMade app command.entry → IsMade (with_rule app (wanted name.entry.now)) result }
 {
-    let argument = Arg::new(alloc, name).required(true).help(help);
-    let more = command?.arg(argument)?;
-    Ok(more)
+    with_arg(command, argument(alloc, name, true, help))
 }
 
 /// The command with one more argument, which may be left out.
@@ -49,9 +65,23 @@ pub(crate) fn with_argument<'a>(
 ) -> Making<'a>
     ensures { (app : App) → IsMade app command.entry → IsMade (with_rule app (new_rule name.entry.now)) result }
 {
-    let argument = Arg::new(alloc, name).help(help);
-    let more = command?.arg(argument)?;
-    Ok(more)
+    with_arg(command, argument(alloc, name, false, help))
+}
+
+// An option with a value, perhaps one that has to be given.
+fn option<'a>(
+    alloc: Global,
+    name: &'a str,
+    value: &'a str,
+    required: bool,
+    help: &'a str,
+) -> Arg<'a>
+    ensures rule { rule_of result ≡ valued_option name.entry.now required }
+    ensures local { result.global ≡ false }
+{
+    argument(alloc, name, required, help)
+        .long(name)
+        .value_name(value)
 }
 
 /// The command with one more option, which has a value and has to be given.
@@ -64,13 +94,7 @@ pub(crate) fn with_wanted_option<'a>(
 ) -> Making<'a>
     ensures { (app : App) → IsMade app command.entry → IsMade (with_rule app (wanted_option name.entry.now)) result }
 {
-    let option = Arg::new(alloc, name)
-        .long(name)
-        .value_name(value)
-        .required(true)
-        .help(help);
-    let more = command?.arg(option)?;
-    Ok(more)
+    with_arg(command, option(alloc, name, value, true, help))
 }
 
 /// The command with one more option, which has a value.
@@ -83,12 +107,7 @@ pub(crate) fn with_option<'a>(
 ) -> Making<'a>
     ensures { (app : App) → IsMade app command.entry → IsMade (with_rule app (option_named name.entry.now)) result }
 {
-    let option = Arg::new(alloc, name)
-        .long(name)
-        .value_name(value)
-        .help(help);
-    let more = command?.arg(option)?;
-    Ok(more)
+    with_arg(command, option(alloc, name, value, false, help))
 }
 
 // Whether a string begins with a `+`.
@@ -164,6 +183,16 @@ pub(crate) fn optional_string(
     }
 }
 
+// An option without a value.
+fn flag<'a>(alloc: Global, name: &'a str, help: &'a str) -> Arg<'a>
+    ensures rule { rule_of result ≡ flag_named name.entry.now }
+    ensures local { result.global ≡ false }
+{
+    argument(alloc, name, false, help)
+        .long(name)
+        .action(ArgAction::Count)
+}
+
 /// The command with one more flag, an option without a value.
 pub(crate) fn with_flag<'a>(
     alloc: Global,
@@ -173,12 +202,15 @@ pub(crate) fn with_flag<'a>(
 ) -> Making<'a>
     ensures { (app : App) → IsMade app command.entry → IsMade (with_rule app (flag_named name.entry.now)) result }
 {
-    let flag = Arg::new(alloc, name)
-        .long(name)
-        .action(ArgAction::Count)
-        .help(help);
-    let more = command?.arg(flag)?;
-    Ok(more)
+    with_arg(command, flag(alloc, name, help))
+}
+
+// An argument that has to be given and may be given several times.
+fn wanted_list<'a>(alloc: Global, name: &'a str, help: &'a str) -> Arg<'a>
+    ensures rule { rule_of result ≡ wanted_list name.entry.now }
+    ensures local { result.global ≡ false }
+{
+    argument(alloc, name, true, help).action(ArgAction::Append)
 }
 
 /// The command with one more argument, which has to be given and may be given several times.
@@ -190,12 +222,7 @@ pub(crate) fn with_wanted_list<'a>(
 ) -> Making<'a>
     ensures { (app : App) → IsMade app command.entry → IsMade (with_rule app (wanted_list name.entry.now)) result }
 {
-    let argument = Arg::new(alloc, name)
-        .required(true)
-        .action(ArgAction::Append)
-        .help(help);
-    let more = command?.arg(argument)?;
-    Ok(more)
+    with_arg(command, wanted_list(alloc, name, help))
 }
 
 /// Whether a flag is given.

@@ -1,14 +1,16 @@
 // The arguments of the command `review`, as `clap` reads them.
 
-ghost use Rattle.std.specs.Prelude.{◌≡◌, IfOk};
-ghost use Rattle.clap.specs.Words.{FailsBy, found_of, kind_of, rows_of};
+ghost use Rattle.std.specs.Prelude.{◌≡◌, [], ◌∷◌, IfOk};
+ghost use Rattle.clap.specs.Words.{FailsBy, HasKind, found_of, rows_of};
 ghost use Rattle.omaha_arguments.specs.Options.{IsMade};
 ghost use Rattle.omaha_arguments.specs.ReviewArguments.{faults_of_review, is_one_source, review_app, review_in, source_in};
+ghost use Rattle.omaha_arguments.specs.WalkArguments.{IsAskable};
 
-use crate::command::{Review, Source};
+use crate::command::{Command, Review, Source};
 use crate::options::{
     Making, flag_in, optional_string, string_in, titled, with_argument, with_flag, with_option,
 };
+use crate::rejections::{out_of_memory, rejection};
 use crate::serve_arguments::is_given;
 use clap::error::ErrorKind;
 use clap::{ArgMatches, Error};
@@ -112,12 +114,13 @@ fn source_in(alloc: Global, matches: &ArgMatches<'_>) -> Result<Source, AllocErr
     }
 }
 
-// The error of a review of no catalogue, or of two, built like the errors of `clap`.
-fn invalid_source(alloc: Global) -> Result<Error, AllocError>
-    ensures { IfOk result (λ error. kind_of error ≡ ErrorKind.ValueValidation) }
+// The error of a review of no catalogue, or of two.
+fn invalid_source(alloc: Global) -> Error
+    ensures { HasKind (ErrorKind.ValueValidation ∷ []) result }
 {
-    let mut command = review_command(alloc)?.bin_name("omaha review")?;
-    command.error(
+    rejection(
+        review_command(alloc),
+        "omaha review",
         ErrorKind::ValueValidation,
         "name a profile F, or a server by --to <ADDR>, and not both",
     )
@@ -140,12 +143,16 @@ fn review_of(alloc: Global, matches: &ArgMatches<'_>) -> Result<Review, AllocErr
 
 // rule: Arguments of a review
 /// Reads the arguments of `review`.
-pub(crate) fn read_review(alloc: Global, matches: &ArgMatches<'_>) -> Result<Review, Error>
+pub(crate) fn read_review(alloc: Global, matches: &ArgMatches<'_>) -> Result<Command, Error>
     ensures faults { FailsBy (faults_of_review (rows_of (found_of matches.now))) result }
-    ensures review { IfOk result (λ review. review ≡ review_in (rows_of (found_of matches.now))) }
+    ensures command { IfOk result (λ command. command ≡ Command.Review (review_in (rows_of (found_of matches.now)))) }
+    ensures named { IfOk result IsAskable }
 {
     if !is_one_source(matches) {
-        return Err(invalid_source(alloc)?);
+        return Err(invalid_source(alloc));
     }
-    Ok(review_of(alloc, matches)?)
+    match review_of(alloc, matches) {
+        Ok(review) => Ok(Command::Review(review)),
+        Err(error) => Err(out_of_memory(error)),
+    }
 }
