@@ -84,21 +84,25 @@ check_in options =
     (comparison_in (unwrap_or (workers_in options) 1) options)
     (command.Report (report_in (codes "check") (unwrap_or (workers_in options) 1) options))
 
+-- the command of a name that is no operator's
+unfoldable pub other_name_of : List ℕ → Name
+other_name_of name =
+    if bytes_eq name (codes "once") then kind.Once
+    else (if bytes_eq name (codes "check") then kind.Check
+    else (if bytes_eq name (codes "review") then kind.Review
+    else (if bytes_eq name (codes "walk") then kind.Walk
+    else (if bytes_eq name (codes "describe") then kind.Describe
+    else (if bytes_eq name (codes "explain") then kind.Explain else kind.Other)))))
+
 -- the command of a name
 unfoldable pub name_of : List ℕ → Name
 name_of name =
-    if bytes_eq name (codes "once") then kind.Once
-    else (if bytes_eq name (codes "serve") then kind.Serve
+    if bytes_eq name (codes "serve") then kind.Serve
     else (if bytes_eq name (codes "publish") then kind.Publish
     else (if bytes_eq name (codes "script") then kind.Script
     else (if bytes_eq name (codes "raise") then kind.Raise
     else (if bytes_eq name (codes "dump") then kind.Dump
-    else (if bytes_eq name (codes "history") then kind.History
-    else (if bytes_eq name (codes "explain") then kind.Explain
-    else (if bytes_eq name (codes "walk") then kind.Walk
-    else (if bytes_eq name (codes "describe") then kind.Describe
-    else (if bytes_eq name (codes "check") then kind.Check
-    else (if bytes_eq name (codes "review") then kind.Review else kind.Other)))))))))))
+    else (if bytes_eq name (codes "history") then kind.History else other_name_of name)))))
 
 -- what a command is asked to do; any other one is to report on a profile, by its name
 abbrev pub command_named : Name → List ℕ → List Row → Command

@@ -2,7 +2,7 @@
 
 ghost use Rattle.std.specs.Prelude.{◌≡◌, [], true, IfErr, IfOk, map, string_bytes};
 ghost use Rattle.clap.specs.Words.{App, FailsBy, app_of, found_of, rows_of, with_subcommand};
-ghost use Rattle.omaha_arguments.specs.Commands.{check_in, command_in, command_of, faults_in, faults_of, name_of, omaha_app, plain_app};
+ghost use Rattle.omaha_arguments.specs.Commands.{check_in, command_in, command_of, faults_in, faults_of, name_of, omaha_app, other_name_of, plain_app};
 ghost use Rattle.omaha_arguments.specs.Errors.{IsWhy};
 ghost use Rattle.omaha_arguments.specs.Options.{IsMade};
 ghost use Rattle.omaha_arguments.specs.ReportArguments.{faults_of_check};
@@ -122,13 +122,36 @@ enum Name {
     Other,
 }
 
-#[tactic(auto, unfolding(crate::specs::Commands::name_of))]
-fn name_of(name: &str) -> Name
-    ensures { result ≡ name_of name.now }
+// A command that is no operator's.
+#[tactic(auto, unfolding(crate::specs::Commands::other_name_of))]
+fn other_name_of(name: &str) -> Name
+    ensures { result ≡ other_name_of name.now }
 {
     if name == "once" {
         return Name::Once;
     }
+    if name == "check" {
+        return Name::Check;
+    }
+    if name == "review" {
+        return Name::Review;
+    }
+    if name == "walk" {
+        return Name::Walk;
+    }
+    if name == "describe" {
+        return Name::Describe;
+    }
+    if name == "explain" {
+        return Name::Explain;
+    }
+    Name::Other
+}
+
+#[tactic(auto, unfolding(crate::specs::Commands::name_of))]
+fn name_of(name: &str) -> Name
+    ensures { result ≡ name_of name.now }
+{
     if name == "serve" {
         return Name::Serve;
     }
@@ -147,22 +170,7 @@ fn name_of(name: &str) -> Name
     if name == "history" {
         return Name::History;
     }
-    if name == "explain" {
-        return Name::Explain;
-    }
-    if name == "walk" {
-        return Name::Walk;
-    }
-    if name == "describe" {
-        return Name::Describe;
-    }
-    if name == "check" {
-        return Name::Check;
-    }
-    if name == "review" {
-        return Name::Review;
-    }
-    Name::Other
+    other_name_of(name)
 }
 
 // Reads the arguments of a command.

@@ -7,7 +7,7 @@ ghost use Rattle.omaha_arguments.specs.Options.{IsMade};
 ghost use Rattle.omaha_arguments.specs.WalkArguments.{IsAskable};
 
 use crate::command::{Command, HistoryAction, HistoryAsked};
-use crate::options::{Making, strings_in, titled, with_option, with_wanted_list};
+use crate::options::{Entry, Making, strings_in, titled, with_entries};
 use crate::rejections::{out_of_memory, rejection};
 use crate::serve_arguments::limit_in;
 use clap::error::ErrorKind;
@@ -42,8 +42,11 @@ pub(crate) fn history_command<'a>(alloc: Global) -> Making<'a>
     ensures { IsMade history_app result }
 {
     let command = titled(alloc, "history", HISTORY, AFTER_HISTORY);
-    let command = with_option(alloc, command, "edition", "N", EDITION);
-    with_wanted_list(alloc, command, "F", WORDS)
+    let entries = [
+        Entry::PlainOption("edition", "N", EDITION),
+        Entry::WantedList("F", WORDS),
+    ];
+    with_entries(alloc, command, &entries)
 }
 
 // What a word asks for.

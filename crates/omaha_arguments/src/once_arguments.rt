@@ -7,7 +7,7 @@ ghost use Rattle.omaha_arguments.specs.Options.{IsMade};
 ghost use Rattle.omaha_arguments.specs.WalkArguments.{IsAskable};
 
 use crate::command::{Command, Once};
-use crate::options::{Making, number_in, optional_string, titled, with_option};
+use crate::options::{Entry, Making, number_in, optional_string, titled, with_entries};
 use crate::rejections::{out_of_memory, rejection};
 use clap::error::ErrorKind;
 use clap::{ArgMatches, Error};
@@ -49,8 +49,11 @@ pub(crate) fn once_command<'a>(alloc: Global) -> Making<'a>
     ensures { IsMade once_app result }
 {
     let command = titled(alloc, "once", ONCE, AFTER_ONCE);
-    let command = with_option(alloc, command, "profile", "F", PROFILE);
-    with_option(alloc, command, "moment", "N", TIMESTAMP)
+    let entries = [
+        Entry::PlainOption("profile", "F", PROFILE),
+        Entry::PlainOption("moment", "N", TIMESTAMP),
+    ];
+    with_entries(alloc, command, &entries)
 }
 
 // What is said of a `--moment` that is no such number.

@@ -7,9 +7,7 @@ ghost use Rattle.omaha_arguments.specs.OperatorArguments.{dump_app, dump_in, pub
 ghost use Rattle.omaha_arguments.specs.WalkArguments.{IsAskable};
 
 use crate::command::{Command, DumpAsked, Publication, Raise};
-use crate::options::{
-    Making, flag_in, string_in, titled, with_flag, with_wanted, with_wanted_option,
-};
+use crate::options::{Entry, Making, flag_in, string_in, titled, with_entries};
 use crate::rejections::out_of_memory;
 use clap::{ArgMatches, Error};
 use std::alloc::{AllocError, Global};
@@ -122,26 +120,35 @@ pub(crate) fn publish_command<'a>(alloc: Global) -> Making<'a>
     ensures { IsMade publish_app result }
 {
     let command = titled(alloc, "publish", PUBLISH, AFTER_PUBLISH);
-    let command = with_wanted_option(alloc, command, "to", "ADDR", TO);
-    let command = with_flag(alloc, command, "check", CHECK);
-    with_wanted(alloc, command, "F", SCRIPT)
+    let entries = [
+        Entry::WantedOption("to", "ADDR", TO),
+        Entry::Flag("check", CHECK),
+        Entry::Wanted("F", SCRIPT),
+    ];
+    with_entries(alloc, command, &entries)
 }
 
 pub(crate) fn raise_command<'a>(alloc: Global) -> Making<'a>
     ensures { IsMade raise_app result }
 {
     let command = titled(alloc, "raise", RAISE, AFTER_RAISE);
-    let command = with_wanted_option(alloc, command, "to", "ADDR", TO);
-    let command = with_wanted(alloc, command, "NAME", NAME);
-    with_wanted(alloc, command, "BUDGET", BUDGET)
+    let entries = [
+        Entry::WantedOption("to", "ADDR", TO),
+        Entry::Wanted("NAME", NAME),
+        Entry::Wanted("BUDGET", BUDGET),
+    ];
+    with_entries(alloc, command, &entries)
 }
 
 pub(crate) fn dump_command<'a>(alloc: Global) -> Making<'a>
     ensures { IsMade dump_app result }
 {
     let command = titled(alloc, "dump", DUMP, AFTER_DUMP);
-    let command = with_wanted_option(alloc, command, "to", "ADDR", TO);
-    with_flag(alloc, command, "verbose", VERBOSE)
+    let entries = [
+        Entry::WantedOption("to", "ADDR", TO),
+        Entry::Flag("verbose", VERBOSE),
+    ];
+    with_entries(alloc, command, &entries)
 }
 
 fn publication_in(alloc: Global, matches: &ArgMatches<'_>) -> Result<Publication, AllocError>

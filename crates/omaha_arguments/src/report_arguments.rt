@@ -8,8 +8,8 @@ ghost use Rattle.omaha_arguments.specs.WalkArguments.{IsAskable};
 
 use crate::command::{Command, Comparison, Question, Report};
 use crate::options::{
-    Making, flag_in, optional_string, string_in, strings_in, titled, with_argument, with_flag,
-    with_option, with_wanted, with_wanted_list, workers_in,
+    Entry, Making, flag_in, optional_string, string_in, strings_in, titled, with_entries,
+    workers_in,
 };
 use crate::rejections::{out_of_memory, rejection};
 use crate::serve_arguments::is_given;
@@ -130,53 +130,67 @@ pub(crate) fn check_command<'a>(alloc: Global) -> Making<'a>
     ensures { IsMade check_app result }
 {
     let command = titled(alloc, "check", CHECK, AFTER_CHECK);
-    let command = with_wanted(alloc, command, "F", "The profile");
-    let help = "The folder of the packages [default: they are not compared]";
-    let command = with_option(alloc, command, "packages", "DIR", help);
-    let help = "How many threads make the tables of prices, 1 to 8 [default: 1]";
-    let command = with_option(alloc, command, "workers", "N", help);
-    let help = "Warn of targets that no client can reach";
-    let command = with_flag(alloc, command, "warn", help);
-    let help = "The script that is applied to the profile, and checked [default: none]";
-    with_option(alloc, command, "script", "S", help)
+    let entries = [
+        Entry::Wanted("F", "The profile"),
+        Entry::PlainOption(
+            "packages",
+            "DIR",
+            "The folder of the packages [default: they are not compared]",
+        ),
+        Entry::PlainOption(
+            "workers",
+            "N",
+            "How many threads make the tables of prices, 1 to 8 [default: 1]",
+        ),
+        Entry::Flag("warn", "Warn of targets that no client can reach"),
+        Entry::PlainOption(
+            "script",
+            "S",
+            "The script that is applied to the profile, and checked [default: none]",
+        ),
+    ];
+    with_entries(alloc, command, &entries)
 }
 
 pub(crate) fn describe_command<'a>(alloc: Global) -> Making<'a>
     ensures { IsMade describe_app result }
 {
     let command = titled(alloc, "describe", DESCRIBE, AFTER_DESCRIBE);
-    with_wanted_list(alloc, command, "FILE", "A package")
+    let entries = [Entry::WantedList("FILE", "A package")];
+    with_entries(alloc, command, &entries)
 }
 
 pub(crate) fn certify_command<'a>(alloc: Global) -> Making<'a>
     ensures { IsMade certify_app result }
 {
     let command = titled(alloc, "certify", CERTIFY, AFTER_CERTIFY);
-    let command = with_wanted(alloc, command, "F", "The profile");
-    let command = with_wanted(alloc, command, "APP", "The app's identifier");
-    let command = with_wanted(alloc, command, "COHORT", "The cohort's name");
-    let command = with_wanted(alloc, command, "LANE", "`target` or `held`");
-    with_wanted(alloc, command, "ROLLBACK", "`yes` or `no`")
+    let entries = [
+        Entry::Wanted("F", "The profile"),
+        Entry::Wanted("APP", "The app's identifier"),
+        Entry::Wanted("COHORT", "The cohort's name"),
+        Entry::Wanted("LANE", "`target` or `held`"),
+        Entry::Wanted("ROLLBACK", "`yes` or `no`"),
+    ];
+    with_entries(alloc, command, &entries)
 }
 
 pub(crate) fn verify_command<'a>(alloc: Global) -> Making<'a>
     ensures { IsMade verify_app result }
 {
     let command = titled(alloc, "verify", VERIFY, AFTER_VERIFY);
-    let command = with_wanted(alloc, command, "F", "The profile");
-    with_wanted(alloc, command, "CERT", "The certificate")
+    let entries = [
+        Entry::Wanted("F", "The profile"),
+        Entry::Wanted("CERT", "The certificate"),
+    ];
+    with_entries(alloc, command, &entries)
 }
 
 pub(crate) fn explain_command<'a>(alloc: Global) -> Making<'a>
     ensures { IsMade explain_app result }
 {
     let command = titled(alloc, "explain", EXPLAIN, AFTER_EXPLAIN);
-    with_argument(
-        alloc,
-        command,
-        "CODE",
-        "The code, or the first word of the line",
-    )
+    let entries = [Entry::Optional("CODE", "The code, or the first word of the line")];
+    with_entries(alloc, command, &entries)
 }
 
 /// Reads the arguments of `describe`.

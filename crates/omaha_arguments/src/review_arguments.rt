@@ -7,9 +7,7 @@ ghost use Rattle.omaha_arguments.specs.ReviewArguments.{faults_of_review, is_one
 ghost use Rattle.omaha_arguments.specs.WalkArguments.{IsAskable};
 
 use crate::command::{Command, Review, Source};
-use crate::options::{
-    Making, flag_in, optional_string, string_in, titled, with_argument, with_flag, with_option,
-};
+use crate::options::{Entry, Making, flag_in, optional_string, string_in, titled, with_entries};
 use crate::rejections::{out_of_memory, rejection};
 use crate::serve_arguments::is_given;
 use clap::error::ErrorKind;
@@ -84,12 +82,15 @@ pub(crate) fn review_command<'a>(alloc: Global) -> Making<'a>
     ensures { IsMade review_app result }
 {
     let command = titled(alloc, "review", REVIEW, AFTER_REVIEW);
-    let command = with_argument(alloc, command, "F", "The profile");
-    let command = with_option(alloc, command, "to", "ADDR", TO);
-    let command = with_option(alloc, command, "script", "S", SCRIPT);
-    let command = with_flag(alloc, command, "all", ALL);
-    let command = with_flag(alloc, command, "json", JSON);
-    with_flag(alloc, command, "strict", STRICT)
+    let entries = [
+        Entry::Optional("F", "The profile"),
+        Entry::PlainOption("to", "ADDR", TO),
+        Entry::PlainOption("script", "S", SCRIPT),
+        Entry::Flag("all", ALL),
+        Entry::Flag("json", JSON),
+        Entry::Flag("strict", STRICT),
+    ];
+    with_entries(alloc, command, &entries)
 }
 
 // Whether a profile is named, or a server, and not both.

@@ -7,9 +7,7 @@ ghost use Rattle.omaha_arguments.specs.ScriptArguments.{base_in, faults_of_scrip
 ghost use Rattle.omaha_arguments.specs.WalkArguments.{IsAskable};
 
 use crate::command::{Base, Command, Script};
-use crate::options::{
-    Making, number_in, optional_string, strings_in, titled, with_option, with_wanted_list,
-};
+use crate::options::{Entry, Making, number_in, optional_string, strings_in, titled, with_entries};
 use crate::rejections::{out_of_memory, rejection};
 use crate::serve_arguments::is_given;
 use clap::error::ErrorKind;
@@ -63,9 +61,12 @@ pub(crate) fn script_command<'a>(alloc: Global) -> Making<'a>
     ensures { IsMade script_app result }
 {
     let command = titled(alloc, "script", SCRIPT, AFTER_SCRIPT);
-    let command = with_option(alloc, command, "base", "N", BASE);
-    let command = with_option(alloc, command, "to", "ADDR", TO);
-    with_wanted_list(alloc, command, "WORD", WORDS)
+    let entries = [
+        Entry::PlainOption("base", "N", BASE),
+        Entry::PlainOption("to", "ADDR", TO),
+        Entry::WantedList("WORD", WORDS),
+    ];
+    with_entries(alloc, command, &entries)
 }
 
 // The number of `--base`.

@@ -9,8 +9,8 @@ ghost use Rattle.omaha_arguments.specs.WalkArguments.{IsAskable};
 
 use crate::command::{Command, Serve};
 use crate::options::{
-    Making, flag_in, number_in, number_of, optional_string, string_in, titled, with_flag,
-    with_option, with_wanted_option, workers_in,
+    Entry, Making, flag_in, number_in, number_of, optional_string, string_in, titled, with_entries,
+    workers_in,
 };
 use crate::rejections::{out_of_memory, rejection};
 use clap::error::ErrorKind;
@@ -95,27 +95,33 @@ Example:
 fn with_places<'a>(alloc: Global, command: Making<'a>) -> Making<'a>
     ensures { (app : App) → IsMade app command.entry → IsMade (with_places app) result }
 {
-    let command = with_option(alloc, command, "profile", "F", PROFILE);
-    let command = with_option(alloc, command, "history", "FILE", HISTORY);
-    let command = with_option(alloc, command, "history-limit", "BYTES", HISTORY_LIMIT);
-    let command = with_wanted_option(alloc, command, "packages", "DIR", PACKAGES);
-    let command = with_wanted_option(alloc, command, "listen", "ADDR", LISTEN);
-    let command = with_option(alloc, command, "operator", "ADDR", OPERATOR);
-    with_flag(alloc, command, "operator-anywhere", ANYWHERE)
+    let entries = [
+        Entry::PlainOption("profile", "F", PROFILE),
+        Entry::PlainOption("history", "FILE", HISTORY),
+        Entry::PlainOption("history-limit", "BYTES", HISTORY_LIMIT),
+        Entry::WantedOption("packages", "DIR", PACKAGES),
+        Entry::WantedOption("listen", "ADDR", LISTEN),
+        Entry::PlainOption("operator", "ADDR", OPERATOR),
+        Entry::Flag("operator-anywhere", ANYWHERE),
+    ];
+    with_entries(alloc, command, &entries)
 }
 
 // The command with the options of how much it serves, and of the log.
 fn with_limits<'a>(alloc: Global, command: Making<'a>) -> Making<'a>
     ensures { (app : App) → IsMade app command.entry → IsMade (with_limits app) result }
 {
-    let command = with_option(alloc, command, "workers", "N", WORKERS);
-    let command = with_option(alloc, command, "sessions", "K", SESSIONS);
-    let command = with_option(alloc, command, "edits", "M", EDITS);
-    let command = with_option(alloc, command, "timeout", "SECONDS", TIMEOUT);
-    let command = with_option(alloc, command, "idle", "SECONDS", IDLE);
-    let command = with_option(alloc, command, "connections", "COUNT", CONNECTIONS);
-    let command = with_option(alloc, command, "pinned-tables", "COUNT", PINNED);
-    with_option(alloc, command, "log", "FILE", LOG)
+    let entries = [
+        Entry::PlainOption("workers", "N", WORKERS),
+        Entry::PlainOption("sessions", "K", SESSIONS),
+        Entry::PlainOption("edits", "M", EDITS),
+        Entry::PlainOption("timeout", "SECONDS", TIMEOUT),
+        Entry::PlainOption("idle", "SECONDS", IDLE),
+        Entry::PlainOption("connections", "COUNT", CONNECTIONS),
+        Entry::PlainOption("pinned-tables", "COUNT", PINNED),
+        Entry::PlainOption("log", "FILE", LOG),
+    ];
+    with_entries(alloc, command, &entries)
 }
 
 pub(crate) fn serve_command<'a>(alloc: Global) -> Making<'a>

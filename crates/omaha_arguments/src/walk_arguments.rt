@@ -6,9 +6,7 @@ ghost use Rattle.omaha_arguments.specs.Options.{IsMade};
 ghost use Rattle.omaha_arguments.specs.WalkArguments.{IsAskable, asked_in, client_in, faults_of_walk, is_appid, walk_app, walk_in};
 
 use crate::command::{Command, Walk};
-use crate::options::{
-    Making, flag_in, string_in, titled, with_flag, with_option, with_wanted_option,
-};
+use crate::options::{Entry, Making, flag_in, string_in, titled, with_entries};
 use crate::rejections::{out_of_memory, rejection};
 use clap::error::ErrorKind;
 use clap::{ArgMatches, Error};
@@ -70,14 +68,17 @@ pub(crate) fn walk_command<'a>(alloc: Global) -> Making<'a>
     ensures { IsMade walk_app result }
 {
     let command = titled(alloc, "walk", WALK, AFTER_WALK);
-    let command = with_wanted_option(alloc, command, "to", "ADDR", TO);
-    let command = with_wanted_option(alloc, command, "app", "A", APP);
-    let command = with_wanted_option(alloc, command, "version", "V", INSTALLED);
-    let command = with_option(alloc, command, "fp", "FP", FP);
-    let command = with_option(alloc, command, "cohort", "C", COHORT);
-    let command = with_option(alloc, command, "session", "S", SESSION);
-    let command = with_option(alloc, command, "prefix", "P", PREFIX);
-    with_flag(alloc, command, "rollback", ROLLBACK)
+    let entries = [
+        Entry::WantedOption("to", "ADDR", TO),
+        Entry::WantedOption("app", "A", APP),
+        Entry::WantedOption("version", "V", INSTALLED),
+        Entry::PlainOption("fp", "FP", FP),
+        Entry::PlainOption("cohort", "C", COHORT),
+        Entry::PlainOption("session", "S", SESSION),
+        Entry::PlainOption("prefix", "P", PREFIX),
+        Entry::Flag("rollback", ROLLBACK),
+    ];
+    with_entries(alloc, command, &entries)
 }
 
 // The error for an identifier of another length.

@@ -1,9 +1,0 @@
-use Rattle.clap.specs.Words.{Rule, with_rule}
-use Rattle.std.proofs.Common.{subst}
-use Rattle.omaha_arguments.specs.Options.{IsMade}
-use Rattle.omaha_arguments.proofs.options.with_wanted.Goals as goal
-
-pub returns : goal.returns
-returns c app made =
-    subst (λ (rule : Rule). IsMade (with_rule app rule) c.with_arg.result) c.argument.ensures.rule
-    (c.with_arg.ensures app c.argument.ensures.local made)

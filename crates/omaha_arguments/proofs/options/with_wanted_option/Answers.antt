@@ -1,9 +1,0 @@
-use Rattle.clap.specs.Words.{Rule, with_rule}
-use Rattle.std.proofs.Common.{subst}
-use Rattle.omaha_arguments.specs.Options.{IsMade}
-use Rattle.omaha_arguments.proofs.options.with_wanted_option.Goals as goal
-
-pub returns : goal.returns
-returns c app made =
-    subst (λ (rule : Rule). IsMade (with_rule app rule) c.with_arg.result) c.option.ensures.rule
-    (c.with_arg.ensures app c.option.ensures.local made)
