@@ -17,6 +17,8 @@ use Rattle.omaha_arguments.specs.WalkArguments.{faults_of_walk, walk_app, walk_i
 use Rattle.omaha_arguments.specs.declared.command.Command.{Command}
 use Rattle.omaha_arguments.specs.declared.command.Command.TheVariants as command
 use Rattle.omaha_arguments.specs.declared.command.Once.{Once}
+use Rattle.omaha_arguments.specs.declared.command_line.Name.{Name}
+use Rattle.omaha_arguments.specs.declared.command_line.Name.TheVariants as kind
 
 -- the command `once`, with its two options
 abbrev pub once_app : App
@@ -59,13 +61,13 @@ omaha_app =
 abbrev pub timestamp_in : List Row → Option ℕ
 timestamp_in options = number_in (codes "moment") 0 options
 
+-- what the options of `once` ask for, at a time
+abbrev pub once_at : ℕ → List Row → Once
+once_at moment options = record { profile = first_of (codes "profile") options; moment = moment }
+
 -- what the options of `once` ask for
 abbrev pub once_in : List Row → Once
-once_in options =
-    record {
-      profile = first_of (codes "profile") options;
-      moment = unwrap_or (timestamp_in options) 0;
-    }
+once_in options = once_at (unwrap_or (timestamp_in options) 0) options
 
 -- what is wrong with the options of `once`
 abbrev pub faults_of_once : List Row → Kinds
@@ -82,38 +84,65 @@ check_in options =
     (comparison_in (unwrap_or (workers_in options) 1) options)
     (command.Report (report_in (codes "check") (unwrap_or (workers_in options) 1) options))
 
+-- the command of a name that is no operator's
+unfoldable pub other_name_of : List ℕ → Name
+other_name_of name =
+    if bytes_eq name (codes "once") then kind.Once
+    else (if bytes_eq name (codes "check") then kind.Check
+    else (if bytes_eq name (codes "review") then kind.Review
+    else (if bytes_eq name (codes "walk") then kind.Walk
+    else (if bytes_eq name (codes "describe") then kind.Describe
+    else (if bytes_eq name (codes "explain") then kind.Explain else kind.Other)))))
+
+-- the command of a name
+unfoldable pub name_of : List ℕ → Name
+name_of name =
+    if bytes_eq name (codes "serve") then kind.Serve
+    else (if bytes_eq name (codes "publish") then kind.Publish
+    else (if bytes_eq name (codes "script") then kind.Script
+    else (if bytes_eq name (codes "raise") then kind.Raise
+    else (if bytes_eq name (codes "dump") then kind.Dump
+    else (if bytes_eq name (codes "history") then kind.History else other_name_of name)))))
+
+-- what a command is asked to do; any other one is to report on a profile, by its name
+abbrev pub command_named : Name → List ℕ → List Row → Command
+command_named kind.Once name options = command.Once (once_in options)
+command_named kind.Serve name options = command.Serve (serve_in options)
+command_named kind.Publish name options = command.Publish (publication_in options)
+command_named kind.Script name options = command.Script (script_in options)
+command_named kind.Raise name options = command.Raise (raise_in options)
+command_named kind.Dump name options = command.Dump (dump_in options)
+command_named kind.History name options = command.History (asked_in options)
+command_named kind.Explain name options = command.Explain (first_of (codes "CODE") options)
+command_named kind.Walk name options = command.Walk (walk_in options)
+command_named kind.Describe name options = command.Describe (strings_in (codes "FILE") options)
+command_named kind.Check name options = check_in options
+command_named kind.Review name options = command.Review (review_in options)
+command_named kind.Other name options = command.Report (report_in name 1 options)
+
+-- what is wrong with the options of a command
+abbrev pub faults_named : Name → List ℕ → List Row → Kinds
+faults_named kind.Once name options = faults_of_once options
+faults_named kind.Serve name options = faults_of_serve options
+faults_named kind.Publish name options = []
+faults_named kind.Script name options = faults_of_script options
+faults_named kind.Raise name options = []
+faults_named kind.Dump name options = []
+faults_named kind.History name options = faults_of_history options
+faults_named kind.Explain name options = []
+faults_named kind.Walk name options = faults_of_walk options
+faults_named kind.Describe name options = []
+faults_named kind.Check name options = faults_of_check options
+faults_named kind.Review name options = faults_of_review options
+faults_named kind.Other name options = faults_of_report name options
+
 -- what the command of a name is asked to do
 abbrev pub command_in : List ℕ → List Row → Command
-command_in name options =
-    if bytes_eq name (codes "once") then command.Once (once_in options)
-    else (if bytes_eq name (codes "serve") then command.Serve (serve_in options)
-    else (if bytes_eq name (codes "publish") then command.Publish (publication_in options)
-    else (if bytes_eq name (codes "script") then command.Script (script_in options)
-    else (if bytes_eq name (codes "raise") then command.Raise (raise_in options)
-    else (if bytes_eq name (codes "dump") then command.Dump (dump_in options)
-    else (if bytes_eq name (codes "history") then command.History (asked_in options)
-    else (if bytes_eq name (codes "explain") then command.Explain (first_of (codes "CODE") options)
-    else (if bytes_eq name (codes "walk") then command.Walk (walk_in options)
-    else (if bytes_eq name (codes "describe") then command.Describe (strings_in (codes "FILE") options)
-    else (if bytes_eq name (codes "check") then check_in options
-    else (if bytes_eq name (codes "review") then command.Review (review_in options)
-    else command.Report (report_in name 1 options))))))))))))
+command_in name options = command_named (name_of name) name options
 
 -- what is wrong with the options of the command of a name
 abbrev pub faults_in : List ℕ → List Row → Kinds
-faults_in name options =
-    if bytes_eq name (codes "once") then faults_of_once options
-    else (if bytes_eq name (codes "serve") then faults_of_serve options
-    else (if bytes_eq name (codes "publish") then []
-    else (if bytes_eq name (codes "script") then faults_of_script options
-    else (if bytes_eq name (codes "raise") then []
-    else (if bytes_eq name (codes "dump") then []
-    else (if bytes_eq name (codes "history") then faults_of_history options
-    else (if bytes_eq name (codes "explain") then []
-    else (if bytes_eq name (codes "walk") then faults_of_walk options
-    else (if bytes_eq name (codes "describe") then []
-    else (if bytes_eq name (codes "check") then faults_of_check options
-    else (if bytes_eq name (codes "review") then faults_of_review options else faults_of_report name options)))))))))))
+faults_in name options = faults_named (name_of name) name options
 
 -- rule: Arguments of the command line
 -- what the arguments ask for

@@ -1,8 +1,8 @@
 -- The arguments of the command `history`; this project's profile.
 use Rattle.std.specs.Prelude.{ℕ, ◌-◌, ◌==◌, if◌then◌else◌, List, [], ◌∷◌, codes, is_some, length, slice_index_or, Option, None, Some, unwrap_or}
-use Rattle.std.specs.Option.{option_and_then, option_map_or}
+use Rattle.std.specs.Option.{option_and_then}
 use Rattle.std.specs.Str.{bytes_eq}
-use Rattle.clap.specs.Words.{App, Kinds, Row, first_of, new_app, with_rule}
+use Rattle.clap.specs.Words.{App, Kinds, Row, new_app, with_rule}
 use Rattle.clap.specs.declared.error.kind.ErrorKind.TheVariants.{ValueValidation}
 use Rattle.omaha_arguments.specs.Options.{option_named, strings_in, wanted_list}
 use Rattle.omaha_arguments.specs.ServeArguments.{limit_in}
@@ -45,6 +45,14 @@ asked_in options = record {
   path = last_of (strings_in (codes "F") options);
   action = unwrap_or (action_asked options) action.List;
 }
+
+-- what the arguments F ask for, with an edition
+abbrev pub asked_by : List (List ℕ) → Option ℕ → HistoryAsked
+asked_by words edition = record { path = last_of words; action = unwrap_or (action_in words edition) action.List }
+
+-- what is wrong with the arguments F
+abbrev pub faults_by : List (List ℕ) → Option ℕ → Kinds
+faults_by words edition = if is_some (action_in words edition) then [] else ValueValidation ∷ []
 
 -- what is wrong with them
 abbrev pub faults_of_history : List Row → Kinds

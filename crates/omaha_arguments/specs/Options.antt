@@ -1,15 +1,26 @@
 -- The options and arguments of a command, and what their values say; this project's profile.
 use Rattle.std.specs.Prelude.{ℕ, ◌≡◌, ◌^◌, ◌==◌, ◌&&◌, Bool, true, List, [], codes, length, nat_lt, slice_index, if◌then◌else◌, Option, Some, None, unwrap_or, IfOk, Result}
+use Rattle.std.specs.List.{fold}
 use Rattle.std.specs.Option.{option_map_or}
 use Rattle.std.specs.Str.{all_ascii_digits}
 use Rattle.std.specs.Str.Parse.{digits_value}
-use Rattle.clap.specs.Words.{App, Row, Rule, all_of, app_of, count_of, first_of, new_rule}
+use Rattle.clap.specs.Words.{App, Row, Rule, all_of, app_of, count_of, first_of, new_rule, with_rule}
 use Rattle.clap.specs.declared.builder.action.ArgAction.TheVariants.{Append, Count}
 use Rattle.clap.specs.declared.builder.command.Command.{Command}
+use Rattle.omaha_arguments.specs.declared.options.Entry.{Entry}
+use Rattle.omaha_arguments.specs.declared.options.Entry.TheVariants as entry
 
 -- the command, if memory sufficed for it, is of that shape
 abbrev pub IsMade : {E : Type 0} → App → Result Command E → Type 0
 IsMade app made = IfOk made (λ command. app_of command ≡ app)
+
+-- an argument, perhaps one that has to be given
+abbrev pub argument_named : List ℕ → Bool → Rule
+argument_named name required = record (new_rule name) { required = required }
+
+-- an option `--name VALUE`, perhaps one that has to be given
+abbrev pub valued_option : List ℕ → Bool → Rule
+valued_option name required = record (new_rule name) { long = Some name; value_names = 1; required = required }
 
 -- an option `--name VALUE`
 abbrev pub option_named : List ℕ → Rule
@@ -30,6 +41,19 @@ flag_named name = record (new_rule name) { long = Some name; action = Some Count
 -- an argument that has to be given, perhaps several times
 abbrev pub wanted_list : List ℕ → Rule
 wanted_list name = record (new_rule name) { required = true; action = Some Append }
+
+-- what an entry says
+abbrev pub rule_in : Entry → Rule
+rule_in (entry.Wanted name help) = wanted name.now
+rule_in (entry.Optional name help) = new_rule name.now
+rule_in (entry.WantedList name help) = wanted_list name.now
+rule_in (entry.WantedOption name value help) = wanted_option name.now
+rule_in (entry.PlainOption name value help) = option_named name.now
+rule_in (entry.Flag name help) = flag_named name.now
+
+-- a command with some more arguments
+abbrev pub with_entries : App → List Entry → App
+with_entries app entries = fold (λ a one. with_rule a (rule_in one)) app entries
 
 -- the flag is given
 abbrev pub flag_in : List ℕ → List Row → Bool

@@ -56,24 +56,33 @@ yes_or_no word =
     if bytes_eq word (codes "yes") then Some true
     else (if bytes_eq word (codes "no") then Some false else None)
 
--- the names of a track
-abbrev pub names_in : List Row → TrackNames
-names_in options =
+-- the names of a track, with such a lane and rollback
+abbrev pub names_of : Lane → Bool → List Row → TrackNames
+names_of lane rollback options =
     record {
       app = string_in (codes "APP") options;
       cohort = string_in (codes "COHORT") options;
-      lane = unwrap_or (lane_of (string_in (codes "LANE") options)) Target;
-      rollback = unwrap_or (yes_or_no (string_in (codes "ROLLBACK") options)) false;
+      lane = lane;
+      rollback = rollback;
     }
+
+-- the names of a track
+abbrev pub names_in : List Row → TrackNames
+names_in options =
+    names_of (unwrap_or (lane_of (string_in (codes "LANE") options)) Target)
+    (unwrap_or (yes_or_no (string_in (codes "ROLLBACK") options)) false) options
 
 -- the question of `check` without a script
 abbrev pub plain_question_in : List Row → Question
 plain_question_in options = if flag_in (codes "warn") options then Warn else Check
 
+-- the question of `check`, perhaps with a script
+abbrev pub question_with : Option (List ℕ) → List Row → Question
+question_with script options = option_map_or (λ path. Script path) script (plain_question_in options)
+
 -- the question of `check`
 abbrev pub check_question_in : List Row → Question
-check_question_in options =
-    option_map_or (λ script. Script script) (first_of (codes "script") options) (plain_question_in options)
+check_question_in options = question_with (first_of (codes "script") options) options
 
 -- the question of the command of a name
 abbrev pub question_in : List ℕ → List Row → Question
@@ -82,11 +91,15 @@ question_in name options =
     else (if bytes_eq name (codes "certify") then Certify (names_in options)
     else Verify (string_in (codes "CERT") options))
 
+-- what is asked about a profile, with so many threads and such a question
+abbrev pub report_on : ℕ → Question → List Row → Report
+report_on workers question options =
+    record { profile = string_in (codes "F") options; workers = workers; question = question }
+
 -- rule: Arguments of a report
 -- what the command of a name asks about a profile, with so many threads
 abbrev pub report_in : List ℕ → ℕ → List Row → Report
-report_in name workers options =
-    record { profile = string_in (codes "F") options; workers = workers; question = question_in name options }
+report_in name workers options = report_on workers (question_in name options) options
 
 -- rule: Arguments of a comparison
 -- what `check` is asked to compare: the packages of the profile with the files of the folder, if one is given

@@ -29,14 +29,14 @@ is_one_base options =
     if is_some (first_of (codes "to") options) then not (is_some (first_of (codes "base") options))
     else is_some (first_of (codes "base") options)
 
+-- what the arguments of `script` ask for, with such a number
+abbrev pub script_for : ℕ → List Row → Script
+script_for number options = record { base = base_in number options; words = strings_in (codes "WORD") options }
+
 -- rule: Arguments of a script
 -- what the arguments of `script` ask for
 abbrev pub script_in : List Row → Script
-script_in options =
-    record {
-      base = base_in (unwrap_or (number_of_base options) 1) options;
-      words = strings_in (codes "WORD") options;
-    }
+script_in options = script_for (unwrap_or (number_of_base options) 1) options
 
 -- what is wrong with them
 abbrev pub faults_of_script : List Row → Kinds

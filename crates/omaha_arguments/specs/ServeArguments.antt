@@ -6,37 +6,46 @@ use Rattle.clap.specs.Words.{App, Kinds, Row, first_of, new_app, with_rule}
 use Rattle.clap.specs.declared.error.kind.ErrorKind.TheVariants.{MissingRequiredArgument, ValueValidation}
 use Rattle.omaha_arguments.specs.Options.{flag_in, flag_named, number_in, number_of, option_named, string_in, wanted_option, workers_in}
 use Rattle.omaha_arguments.specs.declared.command.Serve.{Serve}
+use Rattle.omaha_arguments.specs.declared.serve_arguments.Bounds.{Bounds}
+use Rattle.omaha_arguments.specs.declared.serve_arguments.Counts.{Counts}
+use Rattle.omaha_arguments.specs.declared.serve_arguments.Files.{Files}
+use Rattle.omaha_arguments.specs.declared.serve_arguments.Places.{Places}
 
--- the command `serve`, with its fifteen options and flags
-abbrev pub serve_app : App
-serve_app =
+-- the command with the options of what it serves and where
+abbrev pub with_places : App → App
+with_places app =
+    with_rule
+    (with_rule
+    (with_rule
+    (with_rule
+    (with_rule
+    (with_rule (with_rule app (option_named (codes "profile"))) (option_named (codes "history")))
+    (option_named (codes "history-limit")))
+    (wanted_option (codes "packages")))
+    (wanted_option (codes "listen")))
+    (option_named (codes "operator")))
+    (flag_named (codes "operator-anywhere"))
+
+-- the command with the options of how much it serves, and of the log
+abbrev pub with_limits : App → App
+with_limits app =
     with_rule
     (with_rule
     (with_rule
     (with_rule
     (with_rule
     (with_rule
-    (with_rule
-    (with_rule
-    (with_rule
-    (with_rule
-    (with_rule
-    (with_rule
-    (with_rule
-    (with_rule (with_rule (new_app (codes "serve")) (option_named (codes "profile"))) (option_named (codes "history")))
-    (option_named (codes "history-limit")))
-    (wanted_option (codes "packages")))
-    (wanted_option (codes "listen")))
-    (option_named (codes "operator")))
-    (flag_named (codes "operator-anywhere")))
-    (option_named (codes "workers")))
-    (option_named (codes "sessions")))
+    (with_rule (with_rule app (option_named (codes "workers"))) (option_named (codes "sessions")))
     (option_named (codes "edits")))
     (option_named (codes "timeout")))
     (option_named (codes "idle")))
     (option_named (codes "connections")))
     (option_named (codes "pinned-tables")))
     (option_named (codes "log"))
+
+-- the command `serve`, with its fifteen options and flags
+abbrev pub serve_app : App
+serve_app = with_limits (with_places (new_app (codes "serve")))
 
 -- the number of sessions that a string says, if it is a number
 abbrev pub limit_of : List ℕ → Option (Option ℕ)
@@ -66,29 +75,92 @@ connections_of count = if nat_lt 0 count && nat_lt count 1048577 then Some count
 abbrev pub connections_in : List Row → Option ℕ
 connections_in options = option_map_or connections_of (number_in (codes "connections") 16384 options) None
 
--- rule: Options of the server
--- what the options of `serve` ask for
-abbrev pub serve_in : List Row → Serve
-serve_in options =
+-- the numbers of workers and sessions, and the time limit of a message, are valid
+unfoldable pub has_counts : List Row → Bool
+has_counts options =
+    is_some (workers_in options) && is_some (limit_in (codes "sessions") options)
+    && is_some (limit_in (codes "edits") options) && is_some (seconds_in (codes "timeout") 30 options)
+
+-- those numbers
+unfoldable pub counts_of : List Row → Counts
+counts_of options =
     record {
-      profile = first_of (codes "profile") options;
-      history = first_of (codes "history") options;
-      history_limit = unwrap_or (number_in (codes "history-limit") 67108864 options) 0;
-      packages = string_in (codes "packages") options;
-      listen = string_in (codes "listen") options;
-      operator = first_of (codes "operator") options;
       workers = unwrap_or (workers_in options) 0;
       sessions = unwrap_or (limit_in (codes "sessions") options) None;
       edits = unwrap_or (limit_in (codes "edits") options) None;
       timeout = unwrap_or (seconds_in (codes "timeout") 30 options) 0;
+    }
+
+-- those numbers, if they are valid
+abbrev pub counts_in : List Row → Option Counts
+counts_in options = if has_counts options then Some (counts_of options) else None
+
+-- the time limit between messages, and the numbers of connections, tables and bytes, are valid
+unfoldable pub has_bounds : List Row → Bool
+has_bounds options =
+    is_some (seconds_in (codes "idle") 60 options) && is_some (connections_in options)
+    && is_some (number_in (codes "pinned-tables") 256 options)
+    && is_some (number_in (codes "history-limit") 67108864 options)
+
+-- those numbers
+unfoldable pub bounds_of : List Row → Bounds
+bounds_of options =
+    record {
       idle = unwrap_or (seconds_in (codes "idle") 60 options) 0;
       connections = unwrap_or (connections_in options) 0;
       pinned_tables = unwrap_or (number_in (codes "pinned-tables") 256 options) 0;
+      history_limit = unwrap_or (number_in (codes "history-limit") 67108864 options) 0;
+    }
+
+-- those numbers, if they are valid
+abbrev pub bounds_in : List Row → Option Bounds
+bounds_in options = if has_bounds options then Some (bounds_of options) else None
+
+-- the files that the server reads and writes
+abbrev pub files_in : List Row → Files
+files_in options =
+    record {
+      profile = first_of (codes "profile") options;
+      history = first_of (codes "history") options;
       log = first_of (codes "log") options;
     }
 
+-- the folder that it sends, and the addresses that it listens on
+abbrev pub places_in : List Row → Places
+places_in options =
+    record {
+      packages = string_in (codes "packages") options;
+      listen = string_in (codes "listen") options;
+      operator = first_of (codes "operator") options;
+    }
+
+-- what the options of `serve` ask for, with such numbers
+abbrev pub serve_with : Counts → Bounds → List Row → Serve
+serve_with counts bounds options =
+    record {
+      profile = first_of (codes "profile") options;
+      history = first_of (codes "history") options;
+      history_limit = bounds.history_limit;
+      packages = string_in (codes "packages") options;
+      listen = string_in (codes "listen") options;
+      operator = first_of (codes "operator") options;
+      workers = counts.workers;
+      sessions = counts.sessions;
+      edits = counts.edits;
+      timeout = counts.timeout;
+      idle = bounds.idle;
+      connections = bounds.connections;
+      pinned_tables = bounds.pinned_tables;
+      log = first_of (codes "log") options;
+    }
+
+-- rule: Options of the server
+-- what the options of `serve` ask for
+abbrev pub serve_in : List Row → Serve
+serve_in options = serve_with (counts_of options) (bounds_of options) options
+
 -- a profile or a history is named
-abbrev pub is_named : List Row → Bool
+unfoldable pub is_named : List Row → Bool
 is_named options = is_some (first_of (codes "profile") options) || is_some (first_of (codes "history") options)
 
 -- the digits begin with a zero that could be left out; some programs read them as an octal number
@@ -96,7 +168,7 @@ abbrev pub has_leading_zero : List ℕ → Bool
 has_leading_zero text = nat_lt 1 (length text) && slice_index text 0 == 48
 
 -- a decimal number below 256 without leading zeros
-abbrev pub is_octet : List ℕ → Bool
+unfoldable pub is_octet : List ℕ → Bool
 is_octet text = option_map_or (λ number. nat_lt number 256 && not (has_leading_zero text)) (number_of text) false
 
 -- the string before the first such byte, or all of it
@@ -108,12 +180,12 @@ abbrev pub after : ℕ → List ℕ → List ℕ
 after mark text = after_first (λ byte. byte == mark) text
 
 -- three such numbers, with dots between them
-abbrev pub are_three_octets : List ℕ → Bool
+unfoldable pub are_three_octets : List ℕ → Bool
 are_three_octets text =
     is_octet (before 46 text) && is_octet (before 46 (after 46 text)) && is_octet (after 46 (after 46 text))
 
 -- the host is of 127.0.0.0/8 (RFC 1122, section 3.2.1.3): 127 and three numbers
-abbrev pub is_loopback_host : List ℕ → Bool
+unfoldable pub is_loopback_host : List ℕ → Bool
 is_loopback_host host = bytes_eq (before 46 host) (codes "127") && are_three_octets (after 46 host)
 
 -- the address is of the loopback: it begins with `[::1]:`, or the host before its colon is of 127.0.0.0/8; a name never is
@@ -135,16 +207,12 @@ is_operator_local options = option_map_or is_local (first_of (codes "operator") 
 
 -- rule: Address of an operator
 -- there is no operator, or its address is local or may be any
-abbrev pub is_operator_allowed : List Row → Bool
+unfoldable pub is_operator_allowed : List Row → Bool
 is_operator_allowed options = flag_in (codes "operator-anywhere") options || is_operator_local options
 
 -- what is wrong with the options of `serve`
 abbrev pub faults_of_serve : List Row → Kinds
 faults_of_serve options =
-    if is_some (workers_in options) && is_some (limit_in (codes "sessions") options)
-    && is_some (limit_in (codes "edits") options) && is_some (seconds_in (codes "timeout") 30 options)
-    && is_some (seconds_in (codes "idle") 60 options) && is_some (connections_in options)
-    && is_some (number_in (codes "pinned-tables") 256 options)
-    && is_some (number_in (codes "history-limit") 67108864 options)
+    if has_counts options && has_bounds options
     then (if is_named options && is_operator_allowed options then [] else MissingRequiredArgument ∷ [])
     else ValueValidation ∷ []

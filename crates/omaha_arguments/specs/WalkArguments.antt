@@ -7,6 +7,8 @@ use Rattle.omaha_arguments.specs.Options.{flag_in, flag_named, option_named, str
 use Rattle.omaha_arguments.specs.declared.command.Command.{Command}
 use Rattle.omaha_arguments.specs.declared.command.Command.TheVariants as command
 use Rattle.omaha_arguments.specs.declared.command.Walk.{Walk}
+use Rattle.omaha_arguments.specs.declared.walk_arguments.Asked.{Asked}
+use Rattle.omaha_arguments.specs.declared.walk_arguments.Client.{Client}
 
 -- the command `walk`, with its eight options
 abbrev pub walk_app : App
@@ -24,6 +26,25 @@ walk_app =
     (option_named (codes "session")))
     (option_named (codes "prefix")))
     (flag_named (codes "rollback"))
+
+-- the server that is asked, for which app and in which session
+abbrev pub asked_in : List Row → Asked
+asked_in options =
+    record {
+      to = string_in (codes "to") options;
+      app = string_in (codes "app") options;
+      session = string_in (codes "session") options;
+    }
+
+-- what the client has, and may have
+abbrev pub client_in : List Row → Client
+client_in options =
+    record {
+      version = string_in (codes "version") options;
+      fp = string_in (codes "fp") options;
+      cohort = string_in (codes "cohort") options;
+      prefix = string_in (codes "prefix") options;
+    }
 
 -- rule: Options of a walk
 -- what the options of `walk` ask for

@@ -1,8 +1,8 @@
 // The command line, as `clap` reads it.
 
 ghost use Rattle.std.specs.Prelude.{◌≡◌, [], true, IfErr, IfOk, map, string_bytes};
-ghost use Rattle.clap.specs.Words.{App, FailsBy, found_of, rows_of, with_subcommand};
-ghost use Rattle.omaha_arguments.specs.Commands.{check_in, command_in, command_of, faults_in, faults_of, omaha_app, plain_app};
+ghost use Rattle.clap.specs.Words.{App, FailsBy, app_of, found_of, rows_of, with_subcommand};
+ghost use Rattle.omaha_arguments.specs.Commands.{check_in, command_in, command_of, faults_in, faults_of, name_of, omaha_app, other_name_of, plain_app};
 ghost use Rattle.omaha_arguments.specs.Errors.{IsWhy};
 ghost use Rattle.omaha_arguments.specs.Options.{IsMade};
 ghost use Rattle.omaha_arguments.specs.ReportArguments.{faults_of_check};
@@ -15,10 +15,10 @@ use crate::once_arguments::{once_command, read_once};
 use crate::operator_arguments::{
     dump_command, publish_command, raise_command, read_dump, read_publication, read_raise,
 };
-use crate::options::{Making, optional_string, strings_in};
+use crate::options::Making;
 use crate::report_arguments::{
-    certify_command, check_command, describe_command, explain_command, read_comparison,
-    read_report, read_workers, verify_command,
+    certify_command, check_command, describe_command, explain_command, read_code, read_comparison,
+    read_paths, read_report, read_workers, verify_command,
 };
 use crate::review_arguments::{read_review, review_command};
 use crate::script_arguments::{read_script, script_command};
@@ -48,14 +48,26 @@ fn plain_command<'a>(alloc: Global) -> Making<'a>
     command.bin_name("omaha")
 }
 
+// The program with one more command, which is made.
+fn with_made<'a>(program: Making<'a>, command: clap::Command<'a>) -> Making<'a>
+    ensures { (app own : App) → own.top.is_plain ≡ true → IsMade app program.entry → app_of command.entry ≡ own →
+        IsMade (with_subcommand app own.top) result }
+{
+    match program {
+        Ok(program) => program.subcommand(command),
+        Err(error) => Err(error),
+    }
+}
+
 // The program with one more command.
 fn with_command<'a>(program: Making<'a>, command: Making<'a>) -> Making<'a>
     ensures { (app own : App) → own.top.is_plain ≡ true → IsMade app program.entry → IsMade own command.entry →
         IsMade (with_subcommand app own.top) result }
 {
-    let command = command?;
-    let more = program?.subcommand(command)?;
-    Ok(more)
+    match command {
+        Ok(command) => with_made(program, command),
+        Err(error) => Err(error),
+    }
 }
 
 // The program with its commands, those for operators first.
@@ -88,8 +100,77 @@ fn read_check(alloc: Global, matches: &ArgMatches<'_>) -> Result<Command, Error>
     let workers = read_workers(alloc, matches)?;
     match read_comparison(alloc, workers, matches)? {
         Some(comparison) => Ok(Command::Compare(comparison)),
-        None => Ok(Command::Report(read_report(alloc, "check", workers, matches)?)),
+        None => read_report(alloc, "check", workers, matches),
     }
+}
+
+// A command by its name.
+#[derive(Clone, Copy)]
+enum Name {
+    Once,
+    Serve,
+    Publish,
+    Script,
+    Raise,
+    Dump,
+    History,
+    Explain,
+    Walk,
+    Describe,
+    Check,
+    Review,
+    Other,
+}
+
+// A command that is no operator's.
+#[tactic(auto, unfolding(crate::specs::Commands::other_name_of))]
+fn other_name_of(name: &str) -> Name
+    ensures { result ≡ other_name_of name.now }
+{
+    if name == "once" {
+        return Name::Once;
+    }
+    if name == "check" {
+        return Name::Check;
+    }
+    if name == "review" {
+        return Name::Review;
+    }
+    if name == "walk" {
+        return Name::Walk;
+    }
+    if name == "describe" {
+        return Name::Describe;
+    }
+    if name == "explain" {
+        return Name::Explain;
+    }
+    Name::Other
+}
+
+#[tactic(auto, unfolding(crate::specs::Commands::name_of))]
+fn name_of(name: &str) -> Name
+    ensures { result ≡ name_of name.now }
+{
+    if name == "serve" {
+        return Name::Serve;
+    }
+    if name == "publish" {
+        return Name::Publish;
+    }
+    if name == "script" {
+        return Name::Script;
+    }
+    if name == "raise" {
+        return Name::Raise;
+    }
+    if name == "dump" {
+        return Name::Dump;
+    }
+    if name == "history" {
+        return Name::History;
+    }
+    other_name_of(name)
 }
 
 // Reads the arguments of a command.
@@ -98,43 +179,21 @@ fn read_command(alloc: Global, name: &str, matches: &ArgMatches<'_>) -> Result<C
     ensures command { IfOk result (λ command. command ≡ command_in name.now (rows_of (found_of matches.now))) }
     ensures named { IfOk result IsAskable }
 {
-    if name == "once" {
-        return Ok(Command::Once(read_once(alloc, matches)?));
+    match name_of(name) {
+        Name::Once => read_once(alloc, matches),
+        Name::Serve => read_serve(alloc, matches),
+        Name::Publish => read_publication(alloc, matches),
+        Name::Script => read_script(alloc, matches),
+        Name::Raise => read_raise(alloc, matches),
+        Name::Dump => read_dump(alloc, matches),
+        Name::History => read_history(alloc, matches),
+        Name::Explain => read_code(alloc, matches),
+        Name::Walk => read_walk(alloc, matches),
+        Name::Describe => read_paths(alloc, matches),
+        Name::Check => read_check(alloc, matches),
+        Name::Review => read_review(alloc, matches),
+        Name::Other => read_report(alloc, name, 1, matches),
     }
-    if name == "serve" {
-        return Ok(Command::Serve(read_serve(alloc, matches)?));
-    }
-    if name == "publish" {
-        return Ok(Command::Publish(read_publication(alloc, matches)?));
-    }
-    if name == "script" {
-        return Ok(Command::Script(read_script(alloc, matches)?));
-    }
-    if name == "raise" {
-        return Ok(Command::Raise(read_raise(alloc, matches)?));
-    }
-    if name == "dump" {
-        return Ok(Command::Dump(read_dump(alloc, matches)?));
-    }
-    if name == "history" {
-        return Ok(Command::History(read_history(alloc, matches)?));
-    }
-    if name == "explain" {
-        return Ok(Command::Explain(optional_string(alloc, matches, "CODE")?));
-    }
-    if name == "walk" {
-        return Ok(Command::Walk(read_walk(alloc, matches)?));
-    }
-    if name == "describe" {
-        return Ok(Command::Describe(strings_in(alloc, matches, "FILE")?));
-    }
-    if name == "check" {
-        return read_check(alloc, matches);
-    }
-    if name == "review" {
-        return Ok(Command::Review(read_review(alloc, matches)?));
-    }
-    Ok(Command::Report(read_report(alloc, name, 1, matches)?))
 }
 
 // Reads the arguments after the program's name, or has `clap`'s error.

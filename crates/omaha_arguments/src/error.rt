@@ -20,15 +20,20 @@ pub enum ArgumentError {
     Memory,
 }
 
+// Writes a line without control characters.
+fn write_line(shown: &mut String, line: &str) -> Result<(), AllocError> {
+    if !line.is_empty() {
+        let line = Shown { string: line };
+        write!(shown, "{line}")?;
+    }
+    shown.push_str("\n")
+}
+
 // Writes the lines of a message, each without control characters.
 fn shown_lines(alloc: Global, message: &str) -> Result<String, AllocError> {
     let mut shown = String::new(alloc);
     for line in message.lines() {
-        if !line.is_empty() {
-            let line = Shown { string: line };
-            write!(shown, "{line}")?;
-        }
-        shown.push_str("\n")?;
+        write_line(&mut shown, line)?;
     }
     Ok(shown)
 }

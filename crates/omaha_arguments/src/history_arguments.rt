@@ -1,12 +1,14 @@
 // The arguments of the command `history`, as `clap` reads them.
 
-ghost use Rattle.std.specs.Prelude.{◌≡◌, IfOk};
-ghost use Rattle.clap.specs.Words.{FailsBy, found_of, kind_of, rows_of};
-ghost use Rattle.omaha_arguments.specs.HistoryArguments.{action_in, action_named, asked_in, edition_in, faults_of_history, history_app, last_of};
+ghost use Rattle.std.specs.Prelude.{◌≡◌, [], ◌∷◌, IfOk};
+ghost use Rattle.clap.specs.Words.{FailsBy, HasKind, found_of, rows_of};
+ghost use Rattle.omaha_arguments.specs.HistoryArguments.{action_in, action_named, asked_by, asked_in, edition_in, faults_by, faults_of_history, history_app, last_of};
 ghost use Rattle.omaha_arguments.specs.Options.{IsMade};
+ghost use Rattle.omaha_arguments.specs.WalkArguments.{IsAskable};
 
-use crate::command::{HistoryAction, HistoryAsked};
-use crate::options::{Making, strings_in, titled, with_option, with_wanted_list};
+use crate::command::{Command, HistoryAction, HistoryAsked};
+use crate::options::{Entry, Making, strings_in, titled, with_entries};
+use crate::rejections::{out_of_memory, rejection};
 use crate::serve_arguments::limit_in;
 use clap::error::ErrorKind;
 use clap::{ArgMatches, Error};
@@ -40,8 +42,11 @@ pub(crate) fn history_command<'a>(alloc: Global) -> Making<'a>
     ensures { IsMade history_app result }
 {
     let command = titled(alloc, "history", HISTORY, AFTER_HISTORY);
-    let command = with_option(alloc, command, "edition", "N", EDITION);
-    with_wanted_list(alloc, command, "F", WORDS)
+    let entries = [
+        Entry::PlainOption("edition", "N", EDITION),
+        Entry::WantedList("F", WORDS),
+    ];
+    with_entries(alloc, command, &entries)
 }
 
 // What a word asks for.
@@ -87,29 +92,44 @@ fn edition_in(matches: &ArgMatches<'_>) -> Option<Option<u64>>
     limit_in(matches, "edition")
 }
 
-// The error for words that ask for nothing, built like the errors of `clap`.
-fn invalid_words(alloc: Global) -> Result<Error, AllocError>
-    ensures { IfOk result (λ error. kind_of error ≡ ErrorKind.ValueValidation) }
+// The error for words that ask for nothing.
+fn invalid_words(alloc: Global) -> Error
+    ensures { HasKind (ErrorKind.ValueValidation ∷ []) result }
 {
-    let mut command = history_command(alloc)?.bin_name("omaha history")?;
-    command.error(
+    rejection(
+        history_command(alloc),
+        "omaha history",
         ErrorKind::ValueValidation,
         "name a history, after `export` or `compact` if that is wanted, and a number of an edition",
     )
 }
 
-/// Reads the arguments of `history`.
-pub(crate) fn read_history(alloc: Global, matches: &ArgMatches<'_>) -> Result<HistoryAsked, Error>
-    ensures faults { FailsBy (faults_of_history (rows_of (found_of matches.now))) result }
-    ensures asked { IfOk result (λ asked. asked ≡ asked_in (rows_of (found_of matches.now))) }
+// Reads what some words ask for.
+fn read_words(alloc: Global, words: &[Text], edition: Option<u64>) -> Result<Command, Error>
+    ensures faults { FailsBy (faults_by words.now edition) result }
+    ensures command { IfOk result (λ command. command ≡ Command.History (asked_by words.now edition)) }
+    ensures named { IfOk result IsAskable }
 {
-    let words = strings_in(alloc, matches, "F")?;
+    let Some(action) = action_in(words, edition) else {
+        return Err(invalid_words(alloc));
+    };
+    match last_of(alloc, words) {
+        Ok(path) => Ok(Command::History(HistoryAsked { path, action })),
+        Err(error) => Err(out_of_memory(error)),
+    }
+}
+
+/// Reads the arguments of `history`.
+pub(crate) fn read_history(alloc: Global, matches: &ArgMatches<'_>) -> Result<Command, Error>
+    ensures faults { FailsBy (faults_of_history (rows_of (found_of matches.now))) result }
+    ensures command { IfOk result (λ command. command ≡ Command.History (asked_in (rows_of (found_of matches.now)))) }
+    ensures named { IfOk result IsAskable }
+{
     let Some(edition) = edition_in(matches) else {
-        return Err(invalid_words(alloc)?);
+        return Err(invalid_words(alloc));
     };
-    let Some(action) = action_in(words.as_slice(), edition) else {
-        return Err(invalid_words(alloc)?);
-    };
-    let path = last_of(alloc, words.as_slice())?;
-    Ok(HistoryAsked { path, action })
+    match strings_in(alloc, matches, "F") {
+        Ok(words) => read_words(alloc, words.as_slice(), edition),
+        Err(error) => Err(out_of_memory(error)),
+    }
 }

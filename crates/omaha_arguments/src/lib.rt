@@ -18,6 +18,7 @@ mod history_arguments;
 mod once_arguments;
 mod operator_arguments;
 mod options;
+mod rejections;
 mod report_arguments;
 mod review_arguments;
 mod script_arguments;

@@ -1,12 +1,14 @@
 // The options of the command `once`.
 
-ghost use Rattle.std.specs.Prelude.{◌≡◌, codes, IfOk};
-ghost use Rattle.clap.specs.Words.{FailsBy, found_of, kind_of, rows_of};
-ghost use Rattle.omaha_arguments.specs.Commands.{faults_of_once, timestamp_in, once_app, once_in};
+ghost use Rattle.std.specs.Prelude.{◌≡◌, [], ◌∷◌, IfOk};
+ghost use Rattle.clap.specs.Words.{FailsBy, HasKind, found_of, rows_of};
+ghost use Rattle.omaha_arguments.specs.Commands.{faults_of_once, once_app, once_at, once_in, timestamp_in};
 ghost use Rattle.omaha_arguments.specs.Options.{IsMade};
+ghost use Rattle.omaha_arguments.specs.WalkArguments.{IsAskable};
 
-use crate::command::Once;
-use crate::options::{Making, number_in, optional_string, titled, with_option};
+use crate::command::{Command, Once};
+use crate::options::{Entry, Making, number_in, optional_string, titled, with_entries};
+use crate::rejections::{out_of_memory, rejection};
 use clap::error::ErrorKind;
 use clap::{ArgMatches, Error};
 use std::alloc::{AllocError, Global};
@@ -47,19 +49,31 @@ pub(crate) fn once_command<'a>(alloc: Global) -> Making<'a>
     ensures { IsMade once_app result }
 {
     let command = titled(alloc, "once", ONCE, AFTER_ONCE);
-    let command = with_option(alloc, command, "profile", "F", PROFILE);
-    with_option(alloc, command, "moment", "N", TIMESTAMP)
+    let entries = [
+        Entry::PlainOption("profile", "F", PROFILE),
+        Entry::PlainOption("moment", "N", TIMESTAMP),
+    ];
+    with_entries(alloc, command, &entries)
 }
 
-// The error for a `--moment` that is no such number, built like the errors of `clap`.
-fn invalid_timestamp(alloc: Global, text: &str) -> Result<Error, AllocError>
-    ensures { IfOk result (λ error. kind_of error ≡ ErrorKind.ValueValidation) }
+// What is said of a `--moment` that is no such number.
+fn invalid_number(alloc: Global, text: &str) -> Result<String, AllocError> {
+    format!(in alloc; "invalid value '{text}' for '--moment <N>': no decimal number below 2^64")
+}
+
+// The error for a `--moment` that is no such number.
+fn invalid_timestamp(alloc: Global, text: &str) -> Error
+    ensures { HasKind (ErrorKind.ValueValidation ∷ []) result }
 {
-    let message = format!(in alloc;
-        "invalid value '{text}' for '--moment <N>': no decimal number below 2^64"
-    )?;
-    let mut command = once_command(alloc)?.bin_name("omaha once")?;
-    command.error(ErrorKind::ValueValidation, message.as_str())
+    match invalid_number(alloc, text) {
+        Ok(message) => rejection(
+            once_command(alloc),
+            "omaha once",
+            ErrorKind::ValueValidation,
+            message.as_str(),
+        ),
+        Err(error) => out_of_memory(error),
+    }
 }
 
 // The number of `--moment`.
@@ -69,15 +83,26 @@ fn timestamp_in(matches: &ArgMatches<'_>) -> Option<u64>
     number_in(matches, "moment", 0)
 }
 
+// Reads the profile's path, beside the time.
+fn once_at(alloc: Global, moment: u64, matches: &ArgMatches<'_>) -> Result<Once, AllocError>
+    ensures { IfOk result (λ once. once ≡ once_at moment (rows_of (found_of matches.now))) }
+{
+    let profile = optional_string(alloc, matches, "profile")?;
+    Ok(Once { profile, moment })
+}
+
 /// Reads the options of `once`.
-pub(crate) fn read_once(alloc: Global, matches: &ArgMatches<'_>) -> Result<Once, Error>
+pub(crate) fn read_once(alloc: Global, matches: &ArgMatches<'_>) -> Result<Command, Error>
     ensures faults { FailsBy (faults_of_once (rows_of (found_of matches.now))) result }
-    ensures once { IfOk result (λ once. once ≡ once_in (rows_of (found_of matches.now))) }
+    ensures command { IfOk result (λ command. command ≡ Command.Once (once_in (rows_of (found_of matches.now)))) }
+    ensures named { IfOk result IsAskable }
 {
     let Some(moment) = timestamp_in(matches) else {
         let text = matches.get_str("moment").unwrap_or("");
-        return Err(invalid_timestamp(alloc, text)?);
+        return Err(invalid_timestamp(alloc, text));
     };
-    let profile = optional_string(alloc, matches, "profile")?;
-    Ok(Once { profile, moment })
+    match once_at(alloc, moment, matches) {
+        Ok(once) => Ok(Command::Once(once)),
+        Err(error) => Err(out_of_memory(error)),
+    }
 }

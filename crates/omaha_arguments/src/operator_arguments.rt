@@ -1,15 +1,15 @@
 // The arguments of the operator's commands `publish`, `raise` and `dump`, as `clap` reads them.
 
-ghost use Rattle.std.specs.Prelude.{◌≡◌, IfOk};
-ghost use Rattle.clap.specs.Words.{found_of, rows_of};
+ghost use Rattle.std.specs.Prelude.{◌≡◌, [], IfOk};
+ghost use Rattle.clap.specs.Words.{FailsBy, found_of, rows_of};
 ghost use Rattle.omaha_arguments.specs.Options.{IsMade};
 ghost use Rattle.omaha_arguments.specs.OperatorArguments.{dump_app, dump_in, publication_in, publish_app, raise_app, raise_in};
+ghost use Rattle.omaha_arguments.specs.WalkArguments.{IsAskable};
 
-use crate::command::{DumpAsked, Publication, Raise};
-use crate::options::{
-    Making, flag_in, string_in, titled, with_flag, with_wanted, with_wanted_option,
-};
-use clap::ArgMatches;
+use crate::command::{Command, DumpAsked, Publication, Raise};
+use crate::options::{Entry, Making, flag_in, string_in, titled, with_entries};
+use crate::rejections::out_of_memory;
+use clap::{ArgMatches, Error};
 use std::alloc::{AllocError, Global};
 use values::Text;
 
@@ -120,33 +120,38 @@ pub(crate) fn publish_command<'a>(alloc: Global) -> Making<'a>
     ensures { IsMade publish_app result }
 {
     let command = titled(alloc, "publish", PUBLISH, AFTER_PUBLISH);
-    let command = with_wanted_option(alloc, command, "to", "ADDR", TO);
-    let command = with_flag(alloc, command, "check", CHECK);
-    with_wanted(alloc, command, "F", SCRIPT)
+    let entries = [
+        Entry::WantedOption("to", "ADDR", TO),
+        Entry::Flag("check", CHECK),
+        Entry::Wanted("F", SCRIPT),
+    ];
+    with_entries(alloc, command, &entries)
 }
 
 pub(crate) fn raise_command<'a>(alloc: Global) -> Making<'a>
     ensures { IsMade raise_app result }
 {
     let command = titled(alloc, "raise", RAISE, AFTER_RAISE);
-    let command = with_wanted_option(alloc, command, "to", "ADDR", TO);
-    let command = with_wanted(alloc, command, "NAME", NAME);
-    with_wanted(alloc, command, "BUDGET", BUDGET)
+    let entries = [
+        Entry::WantedOption("to", "ADDR", TO),
+        Entry::Wanted("NAME", NAME),
+        Entry::Wanted("BUDGET", BUDGET),
+    ];
+    with_entries(alloc, command, &entries)
 }
 
 pub(crate) fn dump_command<'a>(alloc: Global) -> Making<'a>
     ensures { IsMade dump_app result }
 {
     let command = titled(alloc, "dump", DUMP, AFTER_DUMP);
-    let command = with_wanted_option(alloc, command, "to", "ADDR", TO);
-    with_flag(alloc, command, "verbose", VERBOSE)
+    let entries = [
+        Entry::WantedOption("to", "ADDR", TO),
+        Entry::Flag("verbose", VERBOSE),
+    ];
+    with_entries(alloc, command, &entries)
 }
 
-/// Reads the arguments of `publish`.
-pub(crate) fn read_publication(
-    alloc: Global,
-    matches: &ArgMatches<'_>,
-) -> Result<Publication, AllocError>
+fn publication_in(alloc: Global, matches: &ArgMatches<'_>) -> Result<Publication, AllocError>
     ensures { IfOk result (λ publication. publication ≡ publication_in (rows_of (found_of matches.now))) }
 {
     let to = Text::copy_of(alloc, string_in(matches, "to"))?;
@@ -155,8 +160,19 @@ pub(crate) fn read_publication(
     Ok(Publication { to, script, check })
 }
 
-/// Reads the arguments of `raise`.
-pub(crate) fn read_raise(alloc: Global, matches: &ArgMatches<'_>) -> Result<Raise, AllocError>
+/// Reads the arguments of `publish`.
+pub(crate) fn read_publication(alloc: Global, matches: &ArgMatches<'_>) -> Result<Command, Error>
+    ensures faults { FailsBy [] result }
+    ensures command { IfOk result (λ command. command ≡ Command.Publish (publication_in (rows_of (found_of matches.now)))) }
+    ensures named { IfOk result IsAskable }
+{
+    match publication_in(alloc, matches) {
+        Ok(publication) => Ok(Command::Publish(publication)),
+        Err(error) => Err(out_of_memory(error)),
+    }
+}
+
+fn raise_in(alloc: Global, matches: &ArgMatches<'_>) -> Result<Raise, AllocError>
     ensures { IfOk result (λ raise. raise ≡ raise_in (rows_of (found_of matches.now))) }
 {
     let to = Text::copy_of(alloc, string_in(matches, "to"))?;
@@ -165,11 +181,34 @@ pub(crate) fn read_raise(alloc: Global, matches: &ArgMatches<'_>) -> Result<Rais
     Ok(Raise { to, name, budget })
 }
 
-/// Reads the arguments of `dump`.
-pub(crate) fn read_dump(alloc: Global, matches: &ArgMatches<'_>) -> Result<DumpAsked, AllocError>
+/// Reads the arguments of `raise`.
+pub(crate) fn read_raise(alloc: Global, matches: &ArgMatches<'_>) -> Result<Command, Error>
+    ensures faults { FailsBy [] result }
+    ensures command { IfOk result (λ command. command ≡ Command.Raise (raise_in (rows_of (found_of matches.now)))) }
+    ensures named { IfOk result IsAskable }
+{
+    match raise_in(alloc, matches) {
+        Ok(raise) => Ok(Command::Raise(raise)),
+        Err(error) => Err(out_of_memory(error)),
+    }
+}
+
+fn dump_in(alloc: Global, matches: &ArgMatches<'_>) -> Result<DumpAsked, AllocError>
     ensures { IfOk result (λ asked. asked ≡ dump_in (rows_of (found_of matches.now))) }
 {
     let to = Text::copy_of(alloc, string_in(matches, "to"))?;
     let verbose = flag_in(matches, "verbose");
     Ok(DumpAsked { to, verbose })
+}
+
+/// Reads the arguments of `dump`.
+pub(crate) fn read_dump(alloc: Global, matches: &ArgMatches<'_>) -> Result<Command, Error>
+    ensures faults { FailsBy [] result }
+    ensures command { IfOk result (λ command. command ≡ Command.Dump (dump_in (rows_of (found_of matches.now)))) }
+    ensures named { IfOk result IsAskable }
+{
+    match dump_in(alloc, matches) {
+        Ok(asked) => Ok(Command::Dump(asked)),
+        Err(error) => Err(out_of_memory(error)),
+    }
 }

@@ -1,8 +1,8 @@
 // The options and arguments of a command, as `clap` reads them.
 
-ghost use Rattle.std.specs.Prelude.{◌≡◌, IfOk, map};
-ghost use Rattle.clap.specs.Words.{App, first_of, found_of, new_app, new_rule, rows_of, with_rule};
-ghost use Rattle.omaha_arguments.specs.Options.{IsMade, flag_in, flag_named, has_plus, number_in, number_of, option_named, string_in, strings_in, wanted, wanted_list, wanted_option, workers_in, workers_of};
+ghost use Rattle.std.specs.Prelude.{◌≡◌, false, IfOk, map};
+ghost use Rattle.clap.specs.Words.{App, first_of, found_of, new_app, rows_of, rule_of, with_rule};
+ghost use Rattle.omaha_arguments.specs.Options.{IsMade, argument_named, flag_in, flag_named, has_plus, number_in, number_of, rule_in, string_in, strings_in, valued_option, wanted_list, with_entries, workers_in, workers_of};
 
 use clap::{Arg, ArgAction, ArgMatches};
 use std::alloc::{AllocError, Global};
@@ -26,69 +26,103 @@ pub(crate) fn titled<'a>(
     Ok(command)
 }
 
-/// The command with one more argument, which has to be given.
-pub(crate) fn with_wanted<'a>(
-    alloc: Global,
-    command: Making<'a>,
-    name: &'a str,
-    help: &'a str,
-) -> Making<'a>
-    ensures { (app : App) → IsMade app command.entry → IsMade (with_rule app (wanted name.entry.now)) result }
+// The command with one more argument.
+fn with_arg<'a>(command: Making<'a>, argument: Arg<'a>) -> Making<'a>
+    ensures { (app : App) → argument.entry.global ≡ false → IsMade app command.entry → IsMade (with_rule app (rule_of argument.entry)) result }
 {
-    let argument = Arg::new(alloc, name).required(true).help(help);
-    let more = command?.arg(argument)?;
-    Ok(more)
+    match command {
+        Ok(command) => command.arg(argument),
+        Err(error) => Err(error),
+    }
 }
 
-/// The command with one more argument, which may be left out.
-pub(crate) fn with_argument<'a>(
-    alloc: Global,
-    command: Making<'a>,
-    name: &'a str,
-    help: &'a str,
-) -> Making<'a>
-    ensures { (app : App) → IsMade app command.entry → IsMade (with_rule app (new_rule name.entry.now)) result }
+// An argument, perhaps one that has to be given.
+fn argument<'a>(alloc: Global, name: &'a str, required: bool, help: &'a str) -> Arg<'a>
+    ensures rule { rule_of result ≡ argument_named name.entry.now required }
+    ensures local { result.global ≡ false }
 {
-    let argument = Arg::new(alloc, name).help(help);
-    let more = command?.arg(argument)?;
-    Ok(more)
+    Arg::new(alloc, name).required(required).help(help)
 }
 
-/// The command with one more option, which has a value and has to be given.
-pub(crate) fn with_wanted_option<'a>(
+// An option with a value, perhaps one that has to be given.
+fn option<'a>(
     alloc: Global,
-    command: Making<'a>,
     name: &'a str,
     value: &'a str,
+    required: bool,
     help: &'a str,
-) -> Making<'a>
-    ensures { (app : App) → IsMade app command.entry → IsMade (with_rule app (wanted_option name.entry.now)) result }
+) -> Arg<'a>
+    ensures rule { rule_of result ≡ valued_option name.entry.now required }
+    ensures local { result.global ≡ false }
 {
-    let option = Arg::new(alloc, name)
+    argument(alloc, name, required, help)
         .long(name)
         .value_name(value)
-        .required(true)
-        .help(help);
-    let more = command?.arg(option)?;
-    Ok(more)
 }
 
-/// The command with one more option, which has a value.
-pub(crate) fn with_option<'a>(
+// An option without a value.
+fn flag<'a>(alloc: Global, name: &'a str, help: &'a str) -> Arg<'a>
+    ensures rule { rule_of result ≡ flag_named name.entry.now }
+    ensures local { result.global ≡ false }
+{
+    argument(alloc, name, false, help)
+        .long(name)
+        .action(ArgAction::Count)
+}
+
+// An argument that has to be given and may be given several times.
+fn wanted_list<'a>(alloc: Global, name: &'a str, help: &'a str) -> Arg<'a>
+    ensures rule { rule_of result ≡ wanted_list name.entry.now }
+    ensures local { result.global ≡ false }
+{
+    argument(alloc, name, true, help).action(ArgAction::Append)
+}
+
+/// An argument of a command: its name, that of its value, and its help.
+#[derive(Clone, Copy)]
+pub(crate) enum Entry<'a> {
+    /// An argument that has to be given.
+    Wanted(&'a str, &'a str),
+    /// An argument that may be left out.
+    Optional(&'a str, &'a str),
+    /// An argument that has to be given and may be given several times.
+    WantedList(&'a str, &'a str),
+    /// An option that has a value and has to be given.
+    WantedOption(&'a str, &'a str, &'a str),
+    /// An option that has a value.
+    PlainOption(&'a str, &'a str, &'a str),
+    /// An option without a value.
+    Flag(&'a str, &'a str),
+}
+
+// The argument as `clap` has it.
+fn argument_of<'a>(alloc: Global, entry: Entry<'a>) -> Arg<'a>
+    ensures rule { rule_of result ≡ rule_in entry.entry }
+    ensures local { result.global ≡ false }
+{
+    match entry {
+        Entry::Wanted(name, help) => argument(alloc, name, true, help),
+        Entry::Optional(name, help) => argument(alloc, name, false, help),
+        Entry::WantedList(name, help) => wanted_list(alloc, name, help),
+        Entry::WantedOption(name, value, help) => option(alloc, name, value, true, help),
+        Entry::PlainOption(name, value, help) => option(alloc, name, value, false, help),
+        Entry::Flag(name, help) => flag(alloc, name, help),
+    }
+}
+
+/// The command with some more arguments.
+pub(crate) fn with_entries<'a>(
     alloc: Global,
     command: Making<'a>,
-    name: &'a str,
-    value: &'a str,
-    help: &'a str,
+    entries: &[Entry<'a>],
 ) -> Making<'a>
-    ensures { (app : App) → IsMade app command.entry → IsMade (with_rule app (option_named name.entry.now)) result }
+    ensures { (app : App) → IsMade app command.entry → IsMade (with_entries app entries.now) result }
 {
-    let option = Arg::new(alloc, name)
-        .long(name)
-        .value_name(value)
-        .help(help);
-    let more = command?.arg(option)?;
-    Ok(more)
+    let mut made = command;
+    for entry in entries {
+        made = with_arg(made, argument_of(alloc, *entry));
+    }
+    made
 }
 
 // Whether a string begins with a `+`.
@@ -162,40 +196,6 @@ pub(crate) fn optional_string(
         None => Ok(None),
         Some(text) => Ok(Some(Text::copy_of(alloc, text)?)),
     }
-}
-
-/// The command with one more flag, an option without a value.
-pub(crate) fn with_flag<'a>(
-    alloc: Global,
-    command: Making<'a>,
-    name: &'a str,
-    help: &'a str,
-) -> Making<'a>
-    ensures { (app : App) → IsMade app command.entry → IsMade (with_rule app (flag_named name.entry.now)) result }
-{
-    let flag = Arg::new(alloc, name)
-        .long(name)
-        .action(ArgAction::Count)
-        .help(help);
-    let more = command?.arg(flag)?;
-    Ok(more)
-}
-
-/// The command with one more argument, which has to be given and may be given several times.
-pub(crate) fn with_wanted_list<'a>(
-    alloc: Global,
-    command: Making<'a>,
-    name: &'a str,
-    help: &'a str,
-) -> Making<'a>
-    ensures { (app : App) → IsMade app command.entry → IsMade (with_rule app (wanted_list name.entry.now)) result }
-{
-    let argument = Arg::new(alloc, name)
-        .required(true)
-        .action(ArgAction::Append)
-        .help(help);
-    let more = command?.arg(argument)?;
-    Ok(more)
 }
 
 /// Whether a flag is given.

@@ -1,18 +1,20 @@
 // The arguments of the commands that report on a profile, as `clap` reads them.
 
-ghost use Rattle.std.specs.Prelude.{◌≡◌, [], codes, IfOk, unwrap_or};
-ghost use Rattle.clap.specs.Words.{FailsBy, found_of, kind_of, rows_of};
-ghost use Rattle.omaha_arguments.specs.Options.{IsMade, workers_in};
-ghost use Rattle.omaha_arguments.specs.ReportArguments.{yes_or_no, certify_app, check_app, check_question_in, comparison_in, describe_app, explain_app, faults_of_certify, faults_of_check, faults_of_report, is_one_check, is_script_alone, lane_of, names_in, plain_question_in, question_in, report_in, verify_app};
+ghost use Rattle.std.specs.Prelude.{◌≡◌, [], ◌∷◌, codes, IfOk, unwrap_or};
+ghost use Rattle.clap.specs.Words.{FailsBy, HasKind, first_of, found_of, rows_of};
+ghost use Rattle.omaha_arguments.specs.Options.{IsMade, string_in, strings_in, workers_in};
+ghost use Rattle.omaha_arguments.specs.ReportArguments.{yes_or_no, certify_app, check_app, check_question_in, comparison_in, describe_app, explain_app, faults_of_certify, faults_of_check, faults_of_report, is_one_check, is_script_alone, lane_of, names_in, names_of, plain_question_in, question_in, question_with, report_in, report_on, verify_app};
+ghost use Rattle.omaha_arguments.specs.WalkArguments.{IsAskable};
 
-use crate::command::{Comparison, Question, Report};
+use crate::command::{Command, Comparison, Question, Report};
 use crate::options::{
-    Making, flag_in, optional_string, string_in, titled, with_flag, with_option, with_wanted,
-    with_wanted_list, workers_in,
+    Entry, Making, flag_in, optional_string, string_in, strings_in, titled, with_entries,
+    workers_in,
 };
+use crate::rejections::{out_of_memory, rejection};
 use crate::serve_arguments::is_given;
 use clap::error::ErrorKind;
-use clap::{Arg, ArgMatches, Error};
+use clap::{ArgMatches, Error};
 use cohorts::{Lane, TrackNames};
 use std::alloc::{AllocError, Global};
 use values::Text;
@@ -55,6 +57,8 @@ Examples:
   omaha check profile.toml --workers 4
   omaha check profile.toml --warn
   omaha check profile.toml --script stage.toml";
+
+const INVALID_WORKERS: &str = "N is a decimal number from 1 to 8";
 
 const WARN_AND_PACKAGES: &str = "--warn goes without --packages";
 
@@ -126,49 +130,91 @@ pub(crate) fn check_command<'a>(alloc: Global) -> Making<'a>
     ensures { IsMade check_app result }
 {
     let command = titled(alloc, "check", CHECK, AFTER_CHECK);
-    let command = with_wanted(alloc, command, "F", "The profile");
-    let help = "The folder of the packages [default: they are not compared]";
-    let command = with_option(alloc, command, "packages", "DIR", help);
-    let help = "How many threads make the tables of prices, 1 to 8 [default: 1]";
-    let command = with_option(alloc, command, "workers", "N", help);
-    let help = "Warn of targets that no client can reach";
-    let command = with_flag(alloc, command, "warn", help);
-    let help = "The script that is applied to the profile, and checked [default: none]";
-    with_option(alloc, command, "script", "S", help)
+    let entries = [
+        Entry::Wanted("F", "The profile"),
+        Entry::PlainOption(
+            "packages",
+            "DIR",
+            "The folder of the packages [default: they are not compared]",
+        ),
+        Entry::PlainOption(
+            "workers",
+            "N",
+            "How many threads make the tables of prices, 1 to 8 [default: 1]",
+        ),
+        Entry::Flag("warn", "Warn of targets that no client can reach"),
+        Entry::PlainOption(
+            "script",
+            "S",
+            "The script that is applied to the profile, and checked [default: none]",
+        ),
+    ];
+    with_entries(alloc, command, &entries)
 }
 
 pub(crate) fn describe_command<'a>(alloc: Global) -> Making<'a>
     ensures { IsMade describe_app result }
 {
     let command = titled(alloc, "describe", DESCRIBE, AFTER_DESCRIBE);
-    with_wanted_list(alloc, command, "FILE", "A package")
+    let entries = [Entry::WantedList("FILE", "A package")];
+    with_entries(alloc, command, &entries)
 }
 
 pub(crate) fn certify_command<'a>(alloc: Global) -> Making<'a>
     ensures { IsMade certify_app result }
 {
     let command = titled(alloc, "certify", CERTIFY, AFTER_CERTIFY);
-    let command = with_wanted(alloc, command, "F", "The profile");
-    let command = with_wanted(alloc, command, "APP", "The app's identifier");
-    let command = with_wanted(alloc, command, "COHORT", "The cohort's name");
-    let command = with_wanted(alloc, command, "LANE", "`target` or `held`");
-    with_wanted(alloc, command, "ROLLBACK", "`yes` or `no`")
+    let entries = [
+        Entry::Wanted("F", "The profile"),
+        Entry::Wanted("APP", "The app's identifier"),
+        Entry::Wanted("COHORT", "The cohort's name"),
+        Entry::Wanted("LANE", "`target` or `held`"),
+        Entry::Wanted("ROLLBACK", "`yes` or `no`"),
+    ];
+    with_entries(alloc, command, &entries)
 }
 
 pub(crate) fn verify_command<'a>(alloc: Global) -> Making<'a>
     ensures { IsMade verify_app result }
 {
     let command = titled(alloc, "verify", VERIFY, AFTER_VERIFY);
-    let command = with_wanted(alloc, command, "F", "The profile");
-    with_wanted(alloc, command, "CERT", "The certificate")
+    let entries = [
+        Entry::Wanted("F", "The profile"),
+        Entry::Wanted("CERT", "The certificate"),
+    ];
+    with_entries(alloc, command, &entries)
 }
 
 pub(crate) fn explain_command<'a>(alloc: Global) -> Making<'a>
     ensures { IsMade explain_app result }
 {
     let command = titled(alloc, "explain", EXPLAIN, AFTER_EXPLAIN);
-    let code = Arg::new(alloc, "CODE").help("The code, or the first word of the line");
-    command?.arg(code)
+    let entries = [Entry::Optional("CODE", "The code, or the first word of the line")];
+    with_entries(alloc, command, &entries)
+}
+
+/// Reads the arguments of `describe`.
+pub(crate) fn read_paths(alloc: Global, matches: &ArgMatches<'_>) -> Result<Command, Error>
+    ensures faults { FailsBy [] result }
+    ensures command { IfOk result (λ command. command ≡ Command.Describe (strings_in (codes "FILE") (rows_of (found_of matches.now)))) }
+    ensures named { IfOk result IsAskable }
+{
+    match strings_in(alloc, matches, "FILE") {
+        Ok(paths) => Ok(Command::Describe(paths)),
+        Err(error) => Err(out_of_memory(error)),
+    }
+}
+
+/// Reads the arguments of `explain`.
+pub(crate) fn read_code(alloc: Global, matches: &ArgMatches<'_>) -> Result<Command, Error>
+    ensures faults { FailsBy [] result }
+    ensures command { IfOk result (λ command. command ≡ Command.Explain (first_of (codes "CODE") (rows_of (found_of matches.now)))) }
+    ensures named { IfOk result IsAskable }
+{
+    match optional_string(alloc, matches, "CODE") {
+        Ok(code) => Ok(Command::Explain(code)),
+        Err(error) => Err(out_of_memory(error)),
+    }
 }
 
 // The lane of a word, if it is one.
@@ -197,33 +243,60 @@ fn yes_or_no(word: &str) -> Option<bool>
     }
 }
 
-// The error for a LANE or a ROLLBACK of another word, built like the errors of `clap`.
-fn invalid_words(alloc: Global) -> Result<Error, AllocError>
-    ensures { IfOk result (λ error. kind_of error ≡ ErrorKind.ValueValidation) }
+// The error for a LANE or a ROLLBACK of another word.
+fn invalid_words(alloc: Global) -> Error
+    ensures { HasKind (ErrorKind.ValueValidation ∷ []) result }
 {
-    let mut command = certify_command(alloc)?.bin_name("omaha certify")?;
-    command.error(
+    rejection(
+        certify_command(alloc),
+        "omaha certify",
         ErrorKind::ValueValidation,
         "LANE is `target` or `held`, and ROLLBACK is `yes` or `no`",
     )
 }
 
-// Reads the names of a track.
-fn read_names(alloc: Global, matches: &ArgMatches<'_>) -> Result<TrackNames, Error>
-    ensures faults { FailsBy (faults_of_certify (rows_of (found_of matches.now))) result }
-    ensures names { IfOk result (λ names. names ≡ names_in (rows_of (found_of matches.now))) }
+// Reads the names of an app and a cohort, beside the lane and the rollback.
+fn names_of(
+    alloc: Global,
+    lane: Lane,
+    rollback: bool,
+    matches: &ArgMatches<'_>,
+) -> Result<TrackNames, AllocError>
+    ensures { IfOk result (λ names. names ≡ names_of lane rollback (rows_of (found_of matches.now))) }
 {
-    let lane = lane_of(string_in(matches, "LANE"));
-    let rollback = yes_or_no(string_in(matches, "ROLLBACK"));
-    let (Some(lane), Some(rollback)) = (lane, rollback) else {
-        return Err(invalid_words(alloc)?);
-    };
     Ok(TrackNames {
         app: Text::copy_of(alloc, string_in(matches, "APP"))?,
         cohort: Text::copy_of(alloc, string_in(matches, "COHORT"))?,
         lane,
         rollback,
     })
+}
+
+// Reads the names of a track.
+fn read_names(alloc: Global, matches: &ArgMatches<'_>) -> Result<Question, Error>
+    ensures faults { FailsBy (faults_of_certify (rows_of (found_of matches.now))) result }
+    ensures question { IfOk result (λ question. question ≡ Question.Certify (names_in (rows_of (found_of matches.now)))) }
+{
+    let lane = lane_of(string_in(matches, "LANE"));
+    let rollback = yes_or_no(string_in(matches, "ROLLBACK"));
+    let (Some(lane), Some(rollback)) = (lane, rollback) else {
+        return Err(invalid_words(alloc));
+    };
+    match names_of(alloc, lane, rollback, matches) {
+        Ok(names) => Ok(Question::Certify(names)),
+        Err(error) => Err(out_of_memory(error)),
+    }
+}
+
+// Reads the path of a certificate.
+fn read_certificate(alloc: Global, matches: &ArgMatches<'_>) -> Result<Question, Error>
+    ensures faults { FailsBy [] result }
+    ensures question { IfOk result (λ question. question ≡ Question.Verify (string_in (codes "CERT") (rows_of (found_of matches.now)))) }
+{
+    match Text::copy_of(alloc, string_in(matches, "CERT")) {
+        Ok(path) => Ok(Question::Verify(path)),
+        Err(error) => Err(out_of_memory(error)),
+    }
 }
 
 // The question of `check` without a script.
@@ -237,13 +310,24 @@ fn plain_question_in(matches: &ArgMatches<'_>) -> Question
     }
 }
 
-// Reads the question of `check`.
-fn check_question_in(alloc: Global, matches: &ArgMatches<'_>) -> Result<Question, AllocError>
-    ensures { IfOk result (λ question. question ≡ check_question_in (rows_of (found_of matches.now))) }
+// The question of `check`, perhaps with a script.
+fn question_with(script: Option<Text>, matches: &ArgMatches<'_>) -> Question
+    ensures { result ≡ question_with script (rows_of (found_of matches.now)) }
 {
-    match optional_string(alloc, matches, "script")? {
-        Some(script) => Ok(Question::Script(script)),
-        None => Ok(plain_question_in(matches)),
+    match script {
+        Some(script) => Question::Script(script),
+        None => plain_question_in(matches),
+    }
+}
+
+// Reads the question of `check`.
+fn check_question_in(alloc: Global, matches: &ArgMatches<'_>) -> Result<Question, Error>
+    ensures faults { FailsBy [] result }
+    ensures question { IfOk result (λ question. question ≡ check_question_in (rows_of (found_of matches.now))) }
+{
+    match optional_string(alloc, matches, "script") {
+        Ok(script) => Ok(question_with(script, matches)),
+        Err(error) => Err(out_of_memory(error)),
     }
 }
 
@@ -253,12 +337,33 @@ fn read_question(alloc: Global, name: &str, matches: &ArgMatches<'_>) -> Result<
     ensures question { IfOk result (λ question. question ≡ question_in name.now (rows_of (found_of matches.now))) }
 {
     if name == "check" {
-        return Ok(check_question_in(alloc, matches)?);
+        return check_question_in(alloc, matches);
     }
     if name == "certify" {
-        return Ok(Question::Certify(read_names(alloc, matches)?));
+        return read_names(alloc, matches);
     }
-    Ok(Question::Verify(Text::copy_of(alloc, string_in(matches, "CERT"))?))
+    read_certificate(alloc, matches)
+}
+
+// Reads the profile's path, beside the question.
+fn report_on(
+    alloc: Global,
+    workers: usize,
+    question: Question,
+    matches: &ArgMatches<'_>,
+) -> Result<Command, Error>
+    ensures faults { FailsBy [] result }
+    ensures command { IfOk result (λ command. command ≡ Command.Report (report_on workers question (rows_of (found_of matches.now)))) }
+    ensures named { IfOk result IsAskable }
+{
+    match Text::copy_of(alloc, string_in(matches, "F")) {
+        Ok(profile) => Ok(Command::Report(Report {
+            profile,
+            workers,
+            question,
+        })),
+        Err(error) => Err(out_of_memory(error)),
+    }
 }
 
 // rule: Arguments of a report
@@ -268,36 +373,27 @@ pub(crate) fn read_report(
     name: &str,
     workers: usize,
     matches: &ArgMatches<'_>,
-) -> Result<Report, Error>
+) -> Result<Command, Error>
     ensures faults { FailsBy (faults_of_report name.now (rows_of (found_of matches.now))) result }
-    ensures report { IfOk result (λ report. report ≡ report_in name.now workers (rows_of (found_of matches.now))) }
+    ensures command { IfOk result (λ command. command ≡ Command.Report (report_in name.now workers (rows_of (found_of matches.now)))) }
+    ensures named { IfOk result IsAskable }
 {
-    let question = read_question(alloc, name, matches)?;
-    let profile = Text::copy_of(alloc, string_in(matches, "F"))?;
-    Ok(Report {
-        profile,
-        workers,
-        question,
-    })
+    match read_question(alloc, name, matches) {
+        Ok(question) => report_on(alloc, workers, question, matches),
+        Err(error) => Err(error),
+    }
 }
 
-// The error for a number of threads that is none, built like the errors of `clap`.
-fn invalid_workers(alloc: Global) -> Result<Error, AllocError>
-    ensures { IfOk result (λ error. kind_of error ≡ ErrorKind.ValueValidation) }
+// The error of the options of `check`.
+fn invalid_check(alloc: Global, message: &str) -> Error
+    ensures { HasKind (ErrorKind.ValueValidation ∷ []) result }
 {
-    let mut command = check_command(alloc)?.bin_name("omaha check")?;
-    command.error(
+    rejection(
+        check_command(alloc),
+        "omaha check",
         ErrorKind::ValueValidation,
-        "N is a decimal number from 1 to 8",
+        message,
     )
-}
-
-// The error for two options that go alone, built like the errors of `clap`.
-fn two_checks(alloc: Global, message: &str) -> Result<Error, AllocError>
-    ensures { IfOk result (λ error. kind_of error ≡ ErrorKind.ValueValidation) }
-{
-    let mut command = check_command(alloc)?.bin_name("omaha check")?;
-    command.error(ErrorKind::ValueValidation, message)
 }
 
 // Whether `--warn` and `--packages` aren't given together.
@@ -326,13 +422,13 @@ pub(crate) fn read_workers(alloc: Global, matches: &ArgMatches<'_>) -> Result<us
     ensures workers { IfOk result (λ workers. workers ≡ unwrap_or (workers_in (rows_of (found_of matches.now))) 1) }
 {
     let Some(workers) = workers_in(matches) else {
-        return Err(invalid_workers(alloc)?);
+        return Err(invalid_check(alloc, INVALID_WORKERS));
     };
     if !is_one_check(matches) {
-        return Err(two_checks(alloc, WARN_AND_PACKAGES)?);
+        return Err(invalid_check(alloc, WARN_AND_PACKAGES));
     }
     if !is_script_alone(matches) {
-        return Err(two_checks(alloc, SCRIPT_ALONE)?);
+        return Err(invalid_check(alloc, SCRIPT_ALONE));
     }
     Ok(workers as usize)
 }

@@ -1,14 +1,14 @@
 // The arguments of the command `review`, as `clap` reads them.
 
-ghost use Rattle.std.specs.Prelude.{◌≡◌, IfOk};
-ghost use Rattle.clap.specs.Words.{FailsBy, found_of, kind_of, rows_of};
+ghost use Rattle.std.specs.Prelude.{◌≡◌, [], ◌∷◌, IfOk};
+ghost use Rattle.clap.specs.Words.{FailsBy, HasKind, found_of, rows_of};
 ghost use Rattle.omaha_arguments.specs.Options.{IsMade};
 ghost use Rattle.omaha_arguments.specs.ReviewArguments.{faults_of_review, is_one_source, review_app, review_in, source_in};
+ghost use Rattle.omaha_arguments.specs.WalkArguments.{IsAskable};
 
-use crate::command::{Review, Source};
-use crate::options::{
-    Making, flag_in, optional_string, string_in, titled, with_argument, with_flag, with_option,
-};
+use crate::command::{Command, Review, Source};
+use crate::options::{Entry, Making, flag_in, optional_string, string_in, titled, with_entries};
+use crate::rejections::{out_of_memory, rejection};
 use crate::serve_arguments::is_given;
 use clap::error::ErrorKind;
 use clap::{ArgMatches, Error};
@@ -82,12 +82,15 @@ pub(crate) fn review_command<'a>(alloc: Global) -> Making<'a>
     ensures { IsMade review_app result }
 {
     let command = titled(alloc, "review", REVIEW, AFTER_REVIEW);
-    let command = with_argument(alloc, command, "F", "The profile");
-    let command = with_option(alloc, command, "to", "ADDR", TO);
-    let command = with_option(alloc, command, "script", "S", SCRIPT);
-    let command = with_flag(alloc, command, "all", ALL);
-    let command = with_flag(alloc, command, "json", JSON);
-    with_flag(alloc, command, "strict", STRICT)
+    let entries = [
+        Entry::Optional("F", "The profile"),
+        Entry::PlainOption("to", "ADDR", TO),
+        Entry::PlainOption("script", "S", SCRIPT),
+        Entry::Flag("all", ALL),
+        Entry::Flag("json", JSON),
+        Entry::Flag("strict", STRICT),
+    ];
+    with_entries(alloc, command, &entries)
 }
 
 // Whether a profile is named, or a server, and not both.
@@ -112,12 +115,13 @@ fn source_in(alloc: Global, matches: &ArgMatches<'_>) -> Result<Source, AllocErr
     }
 }
 
-// The error of a review of no catalogue, or of two, built like the errors of `clap`.
-fn invalid_source(alloc: Global) -> Result<Error, AllocError>
-    ensures { IfOk result (λ error. kind_of error ≡ ErrorKind.ValueValidation) }
+// The error of a review of no catalogue, or of two.
+fn invalid_source(alloc: Global) -> Error
+    ensures { HasKind (ErrorKind.ValueValidation ∷ []) result }
 {
-    let mut command = review_command(alloc)?.bin_name("omaha review")?;
-    command.error(
+    rejection(
+        review_command(alloc),
+        "omaha review",
         ErrorKind::ValueValidation,
         "name a profile F, or a server by --to <ADDR>, and not both",
     )
@@ -140,12 +144,16 @@ fn review_of(alloc: Global, matches: &ArgMatches<'_>) -> Result<Review, AllocErr
 
 // rule: Arguments of a review
 /// Reads the arguments of `review`.
-pub(crate) fn read_review(alloc: Global, matches: &ArgMatches<'_>) -> Result<Review, Error>
+pub(crate) fn read_review(alloc: Global, matches: &ArgMatches<'_>) -> Result<Command, Error>
     ensures faults { FailsBy (faults_of_review (rows_of (found_of matches.now))) result }
-    ensures review { IfOk result (λ review. review ≡ review_in (rows_of (found_of matches.now))) }
+    ensures command { IfOk result (λ command. command ≡ Command.Review (review_in (rows_of (found_of matches.now)))) }
+    ensures named { IfOk result IsAskable }
 {
     if !is_one_source(matches) {
-        return Err(invalid_source(alloc)?);
+        return Err(invalid_source(alloc));
     }
-    Ok(review_of(alloc, matches)?)
+    match review_of(alloc, matches) {
+        Ok(review) => Ok(Command::Review(review)),
+        Err(error) => Err(out_of_memory(error)),
+    }
 }

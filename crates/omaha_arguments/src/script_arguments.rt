@@ -1,14 +1,14 @@
 // The arguments of the command `script`, as `clap` reads them.
 
-ghost use Rattle.std.specs.Prelude.{◌≡◌, IfOk};
-ghost use Rattle.clap.specs.Words.{FailsBy, found_of, kind_of, rows_of};
+ghost use Rattle.std.specs.Prelude.{◌≡◌, [], ◌∷◌, IfOk};
+ghost use Rattle.clap.specs.Words.{FailsBy, HasKind, found_of, rows_of};
 ghost use Rattle.omaha_arguments.specs.Options.{IsMade};
-ghost use Rattle.omaha_arguments.specs.ScriptArguments.{base_in, faults_of_script, is_one_base, number_of_base, script_app, script_in};
+ghost use Rattle.omaha_arguments.specs.ScriptArguments.{base_in, faults_of_script, is_one_base, number_of_base, script_app, script_for, script_in};
+ghost use Rattle.omaha_arguments.specs.WalkArguments.{IsAskable};
 
-use crate::command::{Base, Script};
-use crate::options::{
-    Making, number_in, optional_string, strings_in, titled, with_option, with_wanted_list,
-};
+use crate::command::{Base, Command, Script};
+use crate::options::{Entry, Making, number_in, optional_string, strings_in, titled, with_entries};
+use crate::rejections::{out_of_memory, rejection};
 use crate::serve_arguments::is_given;
 use clap::error::ErrorKind;
 use clap::{ArgMatches, Error};
@@ -61,9 +61,12 @@ pub(crate) fn script_command<'a>(alloc: Global) -> Making<'a>
     ensures { IsMade script_app result }
 {
     let command = titled(alloc, "script", SCRIPT, AFTER_SCRIPT);
-    let command = with_option(alloc, command, "base", "N", BASE);
-    let command = with_option(alloc, command, "to", "ADDR", TO);
-    with_wanted_list(alloc, command, "WORD", WORDS)
+    let entries = [
+        Entry::PlainOption("base", "N", BASE),
+        Entry::PlainOption("to", "ADDR", TO),
+        Entry::WantedList("WORD", WORDS),
+    ];
+    with_entries(alloc, command, &entries)
 }
 
 // The number of `--base`.
@@ -95,41 +98,54 @@ fn base_in(alloc: Global, number: u64, matches: &ArgMatches<'_>) -> Result<Base,
     }
 }
 
-// The error of a script for no edition, or for two, built like the errors of `clap`.
-fn two_bases(alloc: Global) -> Result<Error, AllocError>
-    ensures { IfOk result (λ error. kind_of error ≡ ErrorKind.ValueValidation) }
+// The error of a script for no edition, or for two.
+fn two_bases(alloc: Global) -> Error
+    ensures { HasKind (ErrorKind.ValueValidation ∷ []) result }
 {
-    let mut command = script_command(alloc)?.bin_name("omaha script")?;
-    command.error(
+    rejection(
+        script_command(alloc),
+        "omaha script",
         ErrorKind::ValueValidation,
         "name an edition by --base <N>, or a server by --to <ADDR>, and not both",
     )
 }
 
-// The error for a `--base` that is no number, built like the errors of `clap`.
-fn invalid_base(alloc: Global) -> Result<Error, AllocError>
-    ensures { IfOk result (λ error. kind_of error ≡ ErrorKind.ValueValidation) }
+// The error for a `--base` that is no number.
+fn invalid_base(alloc: Global) -> Error
+    ensures { HasKind (ErrorKind.ValueValidation ∷ []) result }
 {
-    let mut command = script_command(alloc)?.bin_name("omaha script")?;
-    command.error(
+    rejection(
+        script_command(alloc),
+        "omaha script",
         ErrorKind::ValueValidation,
         "N is a decimal number below 2^64",
     )
 }
 
-// rule: Arguments of a script
-/// Reads the arguments of `script`.
-pub(crate) fn read_script(alloc: Global, matches: &ArgMatches<'_>) -> Result<Script, Error>
-    ensures faults { FailsBy (faults_of_script (rows_of (found_of matches.now))) result }
-    ensures script { IfOk result (λ script. script ≡ script_in (rows_of (found_of matches.now))) }
+// Reads the edition and the words, beside the number of `--base`.
+fn script_for(alloc: Global, number: u64, matches: &ArgMatches<'_>) -> Result<Script, AllocError>
+    ensures { IfOk result (λ script. script ≡ script_for number (rows_of (found_of matches.now))) }
 {
-    let Some(number) = number_of_base(matches) else {
-        return Err(invalid_base(alloc)?);
-    };
-    if !is_one_base(matches) {
-        return Err(two_bases(alloc)?);
-    }
     let base = base_in(alloc, number, matches)?;
     let words = strings_in(alloc, matches, "WORD")?;
     Ok(Script { base, words })
+}
+
+// rule: Arguments of a script
+/// Reads the arguments of `script`.
+pub(crate) fn read_script(alloc: Global, matches: &ArgMatches<'_>) -> Result<Command, Error>
+    ensures faults { FailsBy (faults_of_script (rows_of (found_of matches.now))) result }
+    ensures command { IfOk result (λ command. command ≡ Command.Script (script_in (rows_of (found_of matches.now)))) }
+    ensures named { IfOk result IsAskable }
+{
+    let Some(number) = number_of_base(matches) else {
+        return Err(invalid_base(alloc));
+    };
+    if !is_one_base(matches) {
+        return Err(two_bases(alloc));
+    }
+    match script_for(alloc, number, matches) {
+        Ok(script) => Ok(Command::Script(script)),
+        Err(error) => Err(out_of_memory(error)),
+    }
 }

@@ -1,16 +1,18 @@
 // The options of the command `serve`.
 
-ghost use Rattle.std.specs.Prelude.{◌≡◌, ◌<◌, ◌==◌, codes, IfOk, is_some};
+ghost use Rattle.std.specs.Prelude.{◌≡◌, ◌<◌, ◌==◌, [], ◌∷◌, codes, IfOk, is_some};
 ghost use Rattle.std.specs.List.{after_first, before_first};
-ghost use Rattle.clap.specs.Words.{FailsBy, first_of, found_of, kind_of, rows_of};
+ghost use Rattle.clap.specs.Words.{App, FailsBy, HasKind, first_of, found_of, rows_of};
 ghost use Rattle.omaha_arguments.specs.Options.{IsMade};
-ghost use Rattle.omaha_arguments.specs.ServeArguments.{connections_in, connections_of, faults_of_serve, are_three_octets, has_leading_zero, is_local, is_loopback, is_loopback_host, is_named, is_octet, is_operator_allowed, is_operator_local, is_path, limit_in, limit_of, seconds_in, seconds_of, serve_app, serve_in};
+ghost use Rattle.omaha_arguments.specs.ServeArguments.{are_three_octets, bounds_in, connections_in, connections_of, counts_in, faults_of_serve, files_in, has_leading_zero, is_local, is_loopback, is_loopback_host, is_named, is_octet, is_operator_allowed, is_operator_local, is_path, limit_in, limit_of, places_in, seconds_in, seconds_of, serve_app, serve_in, serve_with, with_limits, with_places};
+ghost use Rattle.omaha_arguments.specs.WalkArguments.{IsAskable};
 
-use crate::command::Serve;
+use crate::command::{Command, Serve};
 use crate::options::{
-    Making, flag_in, number_in, number_of, optional_string, string_in, titled, with_flag,
-    with_option, with_wanted_option, workers_in,
+    Entry, Making, flag_in, number_in, number_of, optional_string, string_in, titled, with_entries,
+    workers_in,
 };
+use crate::rejections::{out_of_memory, rejection};
 use clap::error::ErrorKind;
 use clap::{ArgMatches, Error};
 use std::alloc::{AllocError, Global};
@@ -89,33 +91,54 @@ Example:
   omaha serve --profile profile.toml --packages packages --listen 127.0.0.1:8080 \\
     --operator 127.0.0.1:8081 --workers 4";
 
+// The command with the options of what it serves and where.
+fn with_places<'a>(alloc: Global, command: Making<'a>) -> Making<'a>
+    ensures { (app : App) → IsMade app command.entry → IsMade (with_places app) result }
+{
+    let entries = [
+        Entry::PlainOption("profile", "F", PROFILE),
+        Entry::PlainOption("history", "FILE", HISTORY),
+        Entry::PlainOption("history-limit", "BYTES", HISTORY_LIMIT),
+        Entry::WantedOption("packages", "DIR", PACKAGES),
+        Entry::WantedOption("listen", "ADDR", LISTEN),
+        Entry::PlainOption("operator", "ADDR", OPERATOR),
+        Entry::Flag("operator-anywhere", ANYWHERE),
+    ];
+    with_entries(alloc, command, &entries)
+}
+
+// The command with the options of how much it serves, and of the log.
+fn with_limits<'a>(alloc: Global, command: Making<'a>) -> Making<'a>
+    ensures { (app : App) → IsMade app command.entry → IsMade (with_limits app) result }
+{
+    let entries = [
+        Entry::PlainOption("workers", "N", WORKERS),
+        Entry::PlainOption("sessions", "K", SESSIONS),
+        Entry::PlainOption("edits", "M", EDITS),
+        Entry::PlainOption("timeout", "SECONDS", TIMEOUT),
+        Entry::PlainOption("idle", "SECONDS", IDLE),
+        Entry::PlainOption("connections", "COUNT", CONNECTIONS),
+        Entry::PlainOption("pinned-tables", "COUNT", PINNED),
+        Entry::PlainOption("log", "FILE", LOG),
+    ];
+    with_entries(alloc, command, &entries)
+}
+
 pub(crate) fn serve_command<'a>(alloc: Global) -> Making<'a>
     ensures { IsMade serve_app result }
 {
     let command = titled(alloc, "serve", SERVE, AFTER_SERVE);
-    let command = with_option(alloc, command, "profile", "F", PROFILE);
-    let command = with_option(alloc, command, "history", "FILE", HISTORY);
-    let command = with_option(alloc, command, "history-limit", "BYTES", HISTORY_LIMIT);
-    let command = with_wanted_option(alloc, command, "packages", "DIR", PACKAGES);
-    let command = with_wanted_option(alloc, command, "listen", "ADDR", LISTEN);
-    let command = with_option(alloc, command, "operator", "ADDR", OPERATOR);
-    let command = with_flag(alloc, command, "operator-anywhere", ANYWHERE);
-    let command = with_option(alloc, command, "workers", "N", WORKERS);
-    let command = with_option(alloc, command, "sessions", "K", SESSIONS);
-    let command = with_option(alloc, command, "edits", "M", EDITS);
-    let command = with_option(alloc, command, "timeout", "SECONDS", TIMEOUT);
-    let command = with_option(alloc, command, "idle", "SECONDS", IDLE);
-    let command = with_option(alloc, command, "connections", "COUNT", CONNECTIONS);
-    let command = with_option(alloc, command, "pinned-tables", "COUNT", PINNED);
-    with_option(alloc, command, "log", "FILE", LOG)
+    let command = with_places(alloc, command);
+    with_limits(alloc, command)
 }
 
-// The error for a number that is none, built like the errors of `clap`.
-fn invalid_number(alloc: Global) -> Result<Error, AllocError>
-    ensures { IfOk result (λ error. kind_of error ≡ ErrorKind.ValueValidation) }
+// The error for a number of workers or sessions, or a time limit, that is none.
+fn invalid_number(alloc: Global) -> Error
+    ensures { HasKind (ErrorKind.ValueValidation ∷ []) result }
 {
-    let mut command = serve_command(alloc)?.bin_name("omaha serve")?;
-    command.error(
+    rejection(
+        serve_command(alloc),
+        "omaha serve",
         ErrorKind::ValueValidation,
         "N is a decimal number from 1 to 8, K and M are below 2^64, and SECONDS is from 1 to 86400",
     )
@@ -184,11 +207,12 @@ fn connections_in(matches: &ArgMatches<'_>) -> Option<u64>
 }
 
 // The error for a bound that is none.
-fn invalid_bound(alloc: Global) -> Result<Error, AllocError>
-    ensures { IfOk result (λ error. kind_of error ≡ ErrorKind.ValueValidation) }
+fn invalid_bound(alloc: Global) -> Error
+    ensures { HasKind (ErrorKind.ValueValidation ∷ []) result }
 {
-    let mut command = serve_command(alloc)?.bin_name("omaha serve")?;
-    command.error(
+    rejection(
+        serve_command(alloc),
+        "omaha serve",
         ErrorKind::ValueValidation,
         "SECONDS is from 1 to 86400, a COUNT of connections from 1 to 1048576, and of tables, and BYTES, below 2^64",
     )
@@ -205,6 +229,7 @@ pub(crate) fn is_given(matches: &ArgMatches<'_>, id: &str) -> bool
 }
 
 // Whether a profile or a history is named.
+#[tactic(auto, unfolding(crate::specs::ServeArguments::is_named))]
 fn is_named(matches: &ArgMatches<'_>) -> bool
     ensures { result ≡ is_named (rows_of (found_of matches.now)) }
 {
@@ -213,12 +238,16 @@ fn is_named(matches: &ArgMatches<'_>) -> bool
     by_profile || by_history
 }
 
-// The error of an option that has to be given, built like the errors of `clap`.
-fn missing_option(alloc: Global, message: &str) -> Result<Error, AllocError>
-    ensures { IfOk result (λ error. kind_of error ≡ ErrorKind.MissingRequiredArgument) }
+// The error of an option that has to be given.
+fn missing_option(alloc: Global, message: &str) -> Error
+    ensures { HasKind (ErrorKind.MissingRequiredArgument ∷ []) result }
 {
-    let mut command = serve_command(alloc)?.bin_name("omaha serve")?;
-    command.error(ErrorKind::MissingRequiredArgument, message)
+    rejection(
+        serve_command(alloc),
+        "omaha serve",
+        ErrorKind::MissingRequiredArgument,
+        message,
+    )
 }
 
 // The strings before and after the first such character, or all and nothing.
@@ -241,6 +270,7 @@ fn has_leading_zero(text: &str) -> bool
 }
 
 // Whether a string is a decimal number below 256 without leading zeros.
+#[tactic(auto, unfolding(crate::specs::ServeArguments::is_octet))]
 fn is_octet(text: &str) -> bool
     ensures { result ≡ is_octet text.now }
 {
@@ -251,6 +281,7 @@ fn is_octet(text: &str) -> bool
 }
 
 // Whether a string is three such numbers, with dots between them.
+#[tactic(auto, unfolding(crate::specs::ServeArguments::are_three_octets))]
 fn are_three_octets(text: &str) -> bool
     ensures { result ≡ are_three_octets text.now }
 {
@@ -260,6 +291,7 @@ fn are_three_octets(text: &str) -> bool
 }
 
 // Whether a host is of 127.0.0.0/8.
+#[tactic(auto, unfolding(crate::specs::ServeArguments::is_loopback_host))]
 fn is_loopback_host(host: &str) -> bool
     ensures { result ≡ is_loopback_host host.now }
 {
@@ -304,6 +336,7 @@ fn is_operator_local(matches: &ArgMatches<'_>) -> bool
 
 // rule: Address of an operator
 // Whether the operator's address, if there is one, is reached by this machine alone or may be any.
+#[tactic(auto, unfolding(crate::specs::ServeArguments::is_operator_allowed))]
 fn is_operator_allowed(matches: &ArgMatches<'_>) -> bool
     ensures { result ≡ is_operator_allowed (rows_of (found_of matches.now)) }
 {
@@ -312,11 +345,19 @@ fn is_operator_allowed(matches: &ArgMatches<'_>) -> bool
     may_be_any || is_local
 }
 
-// rule: Options of the server
-/// Reads the options of `serve`.
-pub(crate) fn read_serve(alloc: Global, matches: &ArgMatches<'_>) -> Result<Serve, Error>
-    ensures faults { FailsBy (faults_of_serve (rows_of (found_of matches.now))) result }
-    ensures serve { IfOk result (λ serve. serve ≡ serve_in (rows_of (found_of matches.now))) }
+// How many workers and sessions there are, and the time limit of a message.
+#[derive(Clone, Copy)]
+struct Counts {
+    workers: u64,
+    sessions: Option<u64>,
+    edits: Option<u64>,
+    timeout: u64,
+}
+
+// Reads them, if they are valid.
+#[tactic(auto, unfolding(crate::specs::ServeArguments::has_counts, crate::specs::ServeArguments::counts_of))]
+fn counts_in(matches: &ArgMatches<'_>) -> Option<Counts>
+    ensures { result ≡ counts_in (rows_of (found_of matches.now)) }
 {
     let (Some(workers), Some(sessions), Some(edits), Some(timeout)) = (
         workers_in(matches),
@@ -324,38 +365,140 @@ pub(crate) fn read_serve(alloc: Global, matches: &ArgMatches<'_>) -> Result<Serv
         limit_in(matches, "edits"),
         seconds_in(matches, "timeout", 30),
     ) else {
-        return Err(invalid_number(alloc)?);
+        return None;
     };
-    let (Some(idle), Some(connections), Some(pinned_tables)) = (
-        seconds_in(matches, "idle", 60),
-        connections_in(matches),
-        number_in(matches, "pinned-tables", 256),
-    ) else {
-        return Err(invalid_bound(alloc)?);
-    };
-    let Some(history_limit) = number_in(matches, "history-limit", 67108864) else {
-        return Err(invalid_bound(alloc)?);
-    };
-    if !is_named(matches) {
-        return Err(missing_option(alloc, NO_PROFILE)?);
-    }
-    if !is_operator_allowed(matches) {
-        return Err(missing_option(alloc, OPEN_OPERATOR)?);
-    }
-    Ok(Serve {
-        profile: optional_string(alloc, matches, "profile")?,
-        history: optional_string(alloc, matches, "history")?,
-        history_limit,
-        packages: Text::copy_of(alloc, string_in(matches, "packages"))?,
-        listen: Text::copy_of(alloc, string_in(matches, "listen"))?,
-        operator: optional_string(alloc, matches, "operator")?,
+    Some(Counts {
         workers,
         sessions,
         edits,
         timeout,
+    })
+}
+
+// The time limit between messages, and how many connections, tables and bytes there may be.
+#[derive(Clone, Copy)]
+struct Bounds {
+    idle: u64,
+    connections: u64,
+    pinned_tables: u64,
+    history_limit: u64,
+}
+
+// Reads them, if they are valid.
+#[tactic(auto, unfolding(crate::specs::ServeArguments::has_bounds, crate::specs::ServeArguments::bounds_of))]
+fn bounds_in(matches: &ArgMatches<'_>) -> Option<Bounds>
+    ensures { result ≡ bounds_in (rows_of (found_of matches.now)) }
+{
+    let (Some(idle), Some(connections), Some(pinned_tables), Some(history_limit)) = (
+        seconds_in(matches, "idle", 60),
+        connections_in(matches),
+        number_in(matches, "pinned-tables", 256),
+        number_in(matches, "history-limit", 67108864),
+    ) else {
+        return None;
+    };
+    Some(Bounds {
         idle,
         connections,
         pinned_tables,
+        history_limit,
+    })
+}
+
+// The files that the server reads and writes.
+#[derive(Drop)]
+struct Files {
+    profile: Option<Text>,
+    history: Option<Text>,
+    log: Option<Text>,
+}
+
+fn files_in(alloc: Global, matches: &ArgMatches<'_>) -> Result<Files, AllocError>
+    ensures { IfOk result (λ files. files ≡ files_in (rows_of (found_of matches.now))) }
+{
+    Ok(Files {
+        profile: optional_string(alloc, matches, "profile")?,
+        history: optional_string(alloc, matches, "history")?,
         log: optional_string(alloc, matches, "log")?,
     })
+}
+
+// The folder that the server sends, and the addresses that it listens on.
+#[derive(Drop)]
+struct Places {
+    packages: Text,
+    listen: Text,
+    operator: Option<Text>,
+}
+
+fn places_in(alloc: Global, matches: &ArgMatches<'_>) -> Result<Places, AllocError>
+    ensures { IfOk result (λ places. places ≡ places_in (rows_of (found_of matches.now))) }
+{
+    Ok(Places {
+        packages: Text::copy_of(alloc, string_in(matches, "packages"))?,
+        listen: Text::copy_of(alloc, string_in(matches, "listen"))?,
+        operator: optional_string(alloc, matches, "operator")?,
+    })
+}
+
+// Reads the options that are no numbers, beside those that are.
+fn serve_with(
+    alloc: Global,
+    counts: Counts,
+    bounds: Bounds,
+    matches: &ArgMatches<'_>,
+) -> Result<Serve, AllocError>
+    ensures { IfOk result (λ serve. serve ≡ serve_with counts bounds (rows_of (found_of matches.now))) }
+{
+    let Files {
+        profile,
+        history,
+        log,
+    } = files_in(alloc, matches)?;
+    let Places {
+        packages,
+        listen,
+        operator,
+    } = places_in(alloc, matches)?;
+    Ok(Serve {
+        profile,
+        history,
+        history_limit: bounds.history_limit,
+        packages,
+        listen,
+        operator,
+        workers: counts.workers,
+        sessions: counts.sessions,
+        edits: counts.edits,
+        timeout: counts.timeout,
+        idle: bounds.idle,
+        connections: bounds.connections,
+        pinned_tables: bounds.pinned_tables,
+        log,
+    })
+}
+
+// rule: Options of the server
+/// Reads the options of `serve`.
+pub(crate) fn read_serve(alloc: Global, matches: &ArgMatches<'_>) -> Result<Command, Error>
+    ensures faults { FailsBy (faults_of_serve (rows_of (found_of matches.now))) result }
+    ensures command { IfOk result (λ command. command ≡ Command.Serve (serve_in (rows_of (found_of matches.now)))) }
+    ensures named { IfOk result IsAskable }
+{
+    let Some(counts) = counts_in(matches) else {
+        return Err(invalid_number(alloc));
+    };
+    let Some(bounds) = bounds_in(matches) else {
+        return Err(invalid_bound(alloc));
+    };
+    if !is_named(matches) {
+        return Err(missing_option(alloc, NO_PROFILE));
+    }
+    if !is_operator_allowed(matches) {
+        return Err(missing_option(alloc, OPEN_OPERATOR));
+    }
+    match serve_with(alloc, counts, bounds, matches) {
+        Ok(serve) => Ok(Command::Serve(serve)),
+        Err(error) => Err(out_of_memory(error)),
+    }
 }

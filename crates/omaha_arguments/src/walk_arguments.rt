@@ -1,15 +1,13 @@
 // The options of the command `walk`.
 
-ghost use Rattle.std.specs.Prelude.{◌≡◌, codes, IfOk};
-ghost use Rattle.clap.specs.Words.{FailsBy, found_of, kind_of, rows_of};
-ghost use Rattle.omaha_json_client.specs.RequestWriting.{IsAppid};
+ghost use Rattle.std.specs.Prelude.{◌≡◌, [], ◌∷◌, IfOk};
+ghost use Rattle.clap.specs.Words.{FailsBy, HasKind, found_of, rows_of};
 ghost use Rattle.omaha_arguments.specs.Options.{IsMade};
-ghost use Rattle.omaha_arguments.specs.WalkArguments.{faults_of_walk, is_appid, walk_app, walk_in};
+ghost use Rattle.omaha_arguments.specs.WalkArguments.{IsAskable, asked_in, client_in, faults_of_walk, is_appid, walk_app, walk_in};
 
-use crate::command::Walk;
-use crate::options::{
-    Making, flag_in, string_in, titled, with_flag, with_option, with_wanted_option,
-};
+use crate::command::{Command, Walk};
+use crate::options::{Entry, Making, flag_in, string_in, titled, with_entries};
+use crate::rejections::{out_of_memory, rejection};
 use clap::error::ErrorKind;
 use clap::{ArgMatches, Error};
 use std::alloc::{AllocError, Global};
@@ -70,22 +68,26 @@ pub(crate) fn walk_command<'a>(alloc: Global) -> Making<'a>
     ensures { IsMade walk_app result }
 {
     let command = titled(alloc, "walk", WALK, AFTER_WALK);
-    let command = with_wanted_option(alloc, command, "to", "ADDR", TO);
-    let command = with_wanted_option(alloc, command, "app", "A", APP);
-    let command = with_wanted_option(alloc, command, "version", "V", INSTALLED);
-    let command = with_option(alloc, command, "fp", "FP", FP);
-    let command = with_option(alloc, command, "cohort", "C", COHORT);
-    let command = with_option(alloc, command, "session", "S", SESSION);
-    let command = with_option(alloc, command, "prefix", "P", PREFIX);
-    with_flag(alloc, command, "rollback", ROLLBACK)
+    let entries = [
+        Entry::WantedOption("to", "ADDR", TO),
+        Entry::WantedOption("app", "A", APP),
+        Entry::WantedOption("version", "V", INSTALLED),
+        Entry::PlainOption("fp", "FP", FP),
+        Entry::PlainOption("cohort", "C", COHORT),
+        Entry::PlainOption("session", "S", SESSION),
+        Entry::PlainOption("prefix", "P", PREFIX),
+        Entry::Flag("rollback", ROLLBACK),
+    ];
+    with_entries(alloc, command, &entries)
 }
 
-// The error for an identifier of another length, built like the errors of `clap`.
-fn invalid_app(alloc: Global) -> Result<Error, AllocError>
-    ensures { IfOk result (λ error. kind_of error ≡ ErrorKind.ValueValidation) }
+// The error for an identifier of another length.
+fn invalid_app(alloc: Global) -> Error
+    ensures { HasKind (ErrorKind.ValueValidation ∷ []) result }
 {
-    let mut command = walk_command(alloc)?.bin_name("omaha walk")?;
-    command.error(
+    rejection(
+        walk_command(alloc),
+        "omaha walk",
         ErrorKind::ValueValidation,
         "A is an identifier of 1 to 256 bytes",
     )
@@ -98,24 +100,80 @@ fn is_appid(app: &str) -> bool
     0 < app.len() && app.len() < 257
 }
 
-// rule: Options of a walk
-/// Reads the options of `walk`.
-pub(crate) fn read_walk(alloc: Global, matches: &ArgMatches<'_>) -> Result<Walk, Error>
-    ensures faults { FailsBy (faults_of_walk (rows_of (found_of matches.now))) result }
-    ensures walk { IfOk result (λ walk. walk ≡ walk_in (rows_of (found_of matches.now))) }
-    ensures named { IfOk result (λ walk. IsAppid walk.app) }
+// The server that is asked, for which app and in which session.
+#[derive(Drop)]
+struct Asked {
+    to: Text,
+    app: Text,
+    session: Text,
+}
+
+fn asked_in(alloc: Global, matches: &ArgMatches<'_>) -> Result<Asked, AllocError>
+    ensures { IfOk result (λ asked. asked ≡ asked_in (rows_of (found_of matches.now))) }
 {
-    if !is_appid(string_in(matches, "app")) {
-        return Err(invalid_app(alloc)?);
-    }
-    Ok(Walk {
+    Ok(Asked {
         to: Text::copy_of(alloc, string_in(matches, "to"))?,
         app: Text::copy_of(alloc, string_in(matches, "app"))?,
+        session: Text::copy_of(alloc, string_in(matches, "session"))?,
+    })
+}
+
+// What the client has, and may have.
+#[derive(Drop)]
+struct Client {
+    version: Text,
+    fp: Text,
+    cohort: Text,
+    prefix: Text,
+}
+
+fn client_in(alloc: Global, matches: &ArgMatches<'_>) -> Result<Client, AllocError>
+    ensures { IfOk result (λ client. client ≡ client_in (rows_of (found_of matches.now))) }
+{
+    Ok(Client {
         version: Text::copy_of(alloc, string_in(matches, "version"))?,
         fp: Text::copy_of(alloc, string_in(matches, "fp"))?,
         cohort: Text::copy_of(alloc, string_in(matches, "cohort"))?,
-        session: Text::copy_of(alloc, string_in(matches, "session"))?,
         prefix: Text::copy_of(alloc, string_in(matches, "prefix"))?,
-        rollback: flag_in(matches, "rollback"),
     })
+}
+
+// Reads the options, whatever the identifier is.
+fn walk_in(alloc: Global, matches: &ArgMatches<'_>) -> Result<Walk, AllocError>
+    ensures { IfOk result (λ walk. walk ≡ walk_in (rows_of (found_of matches.now))) }
+{
+    let Asked { to, app, session } = asked_in(alloc, matches)?;
+    let Client {
+        version,
+        fp,
+        cohort,
+        prefix,
+    } = client_in(alloc, matches)?;
+    let rollback = flag_in(matches, "rollback");
+    Ok(Walk {
+        to,
+        app,
+        version,
+        fp,
+        cohort,
+        session,
+        prefix,
+        rollback,
+    })
+}
+
+// rule: Options of a walk
+/// Reads the options of `walk`.
+pub(crate) fn read_walk(alloc: Global, matches: &ArgMatches<'_>) -> Result<Command, Error>
+    ensures faults { FailsBy (faults_of_walk (rows_of (found_of matches.now))) result }
+    ensures command { IfOk result (λ command. command ≡ Command.Walk (walk_in (rows_of (found_of matches.now)))) }
+    ensures named { IfOk result IsAskable }
+{
+    if !is_appid(string_in(matches, "app")) {
+        return Err(invalid_app(alloc));
+    }
+    match walk_in(alloc, matches) {
+        Ok(walk) => Ok(Command::Walk(walk)),
+        Err(error) => Err(out_of_memory(error)),
+    }
 }
