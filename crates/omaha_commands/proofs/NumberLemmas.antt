@@ -1,5 +1,5 @@
 -- Decimal digits are UTF-8.
-use Rattle.std.proofs.Common.{◌≡◌, ◌<◌, ℕ, true, false, List, [], ◌∷◌, Option, None, get_or, zero, suc, sym, ◌∙◌, arith}
+use Rattle.std.proofs.Common.{◌≡◌, ◌<◌, ℕ, true, false, List, [], ◌∷◌, None, get_or, zero, suc, arith}
 use Rattle.std.specs.Str.{all_ascii_digits, is_utf8}
 use Rattle.std.proofs.lemmas.Bool.{false_from_ne_true}
 use Rattle.std.proofs.lemmas.Bool.Decides.{nat_tests}

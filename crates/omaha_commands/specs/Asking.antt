@@ -1,5 +1,5 @@
 -- The number of a server's edition, as its operator's listener names it; this project's profile.
-use Rattle.std.specs.Prelude.{◌≡◌, ◌⊎◌, ⊤, ℕ, ◌-◌, Bool, true, false, bytes_eq, if◌then◌else◌, codes, decimal, drop, length, List, ◌++◌, Option, Some, None, Result, Ok, Err, take}
+use Rattle.std.specs.Prelude.{◌≡◌, ℕ, ◌-◌, Bool, true, false, bytes_eq, if◌then◌else◌, codes, decimal, drop, length, List, ◌++◌, Option, Some, None, Result, Ok, Err, take}
 use Rattle.streams.specs.Streams.{Known}
 use Rattle.streams.specs.Writing.{IsWritten}
 use Rattle.omaha_arguments.specs.Options.{number_of}

@@ -26,11 +26,11 @@ returns-in-Ok-obey-clause-logged g c =
     (g.F.WriteWhole.output c.args.errors.now) (g.F.WriteWhole.output c.obey.new.errors) (Ok tt) in
     subst P c.in-Ok.ensures.command.1 c.in-Ok-obey.ensures.logs
 
-pub returns-in-Err-clause-logged : goal.returns-in-Err-clause-logged
-returns-in-Err-clause-logged g c =
+pub returns-in-Ok-clause-logged : goal.returns-in-Ok-clause-logged
+returns-in-Ok-clause-logged g c =
     let P : Command → Type 0 = λ command. Logs (g.R.Connector.operated c.args.rt.now) command
-    (g.F.WriteWhole.output c.args.errors.now) (g.F.WriteWhole.output c.obey.new.errors) (Err c.in-Err.failure) in
-    inr (c.in-Ok.ensures.command.0, subst P c.in-Ok.ensures.command.1 c.in-Err.ensures.logs)
+    (g.F.WriteWhole.output c.args.errors.now) (g.F.WriteWhole.output c.obey.new.errors) (Err c.in-Err-obey.failure) in
+    inr (c.in-Ok.ensures.command.0, subst P c.in-Ok.ensures.command.1 c.in-Err-obey.ensures.logs)
 
 pub returns-clause-logged : goal.returns-clause-logged
 returns-clause-logged g c =

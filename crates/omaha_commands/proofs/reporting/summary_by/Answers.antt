@@ -1,4 +1,4 @@
-use Rattle.std.proofs.Common.{◌≡◌, ℕ, Ok, Err, refl, subst, length}
+use Rattle.std.proofs.Common.{ℕ, Err, refl, subst}
 use Rattle.omaha_commands.specs.Applying.{Applies}
 use Rattle.omaha_commands.proofs.reporting.summary_by.Goals as goal
 
