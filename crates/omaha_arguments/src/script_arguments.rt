@@ -22,6 +22,10 @@ const TO: &str = "A running server in place of N: its operator's address, such a
 
 const WORDS: &str = "What an edit does, and then its keys with their values: KEY=VALUE";
 
+const NO_NUMBER: &str = "N is a decimal number below 2^64";
+
+const TWO_BASES: &str = "name an edition by --base <N>, or a server by --to <ADDR>, and not both";
+
 const AFTER_SCRIPT: &str =
     "A word without `=` begins an edit, and each word KEY=VALUE after it is one of its keys:
   add_app        app default
@@ -98,27 +102,15 @@ fn base_in(alloc: Global, number: u64, matches: &ArgMatches<'_>) -> Result<Base,
     }
 }
 
-// The error of a script for no edition, or for two.
-fn two_bases(alloc: Global) -> Error
+// The error for a `--base` that is no number, or of a script for no edition or for two.
+fn invalid_base(alloc: Global, message: &str) -> Error
     ensures { HasKind (ErrorKind.ValueValidation ∷ []) result }
 {
     rejection(
         script_command(alloc),
         "omaha script",
         ErrorKind::ValueValidation,
-        "name an edition by --base <N>, or a server by --to <ADDR>, and not both",
-    )
-}
-
-// The error for a `--base` that is no number.
-fn invalid_base(alloc: Global) -> Error
-    ensures { HasKind (ErrorKind.ValueValidation ∷ []) result }
-{
-    rejection(
-        script_command(alloc),
-        "omaha script",
-        ErrorKind::ValueValidation,
-        "N is a decimal number below 2^64",
+        message,
     )
 }
 
@@ -139,10 +131,10 @@ pub(crate) fn read_script(alloc: Global, matches: &ArgMatches<'_>) -> Result<Com
     ensures named { IfOk result IsAskable }
 {
     let Some(number) = number_of_base(matches) else {
-        return Err(invalid_base(alloc));
+        return Err(invalid_base(alloc, NO_NUMBER));
     };
     if !is_one_base(matches) {
-        return Err(two_bases(alloc));
+        return Err(invalid_base(alloc, TWO_BASES));
     }
     match script_for(alloc, number, matches) {
         Ok(script) => Ok(Command::Script(script)),

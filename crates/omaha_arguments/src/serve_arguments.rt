@@ -50,6 +50,12 @@ const PINNED: &str = "How many tables of pinned clients each worker keeps [defau
 
 const LOG: &str = "Where to log replies: a file, or - for standard error [default: none]";
 
+const INVALID_COUNT: &str =
+    "N is a decimal number from 1 to 8, K and M are below 2^64, and SECONDS is from 1 to 86400";
+
+const INVALID_BOUND: &str =
+    "SECONDS is from 1 to 86400, a COUNT of connections from 1 to 1048576, and of tables, and BYTES, below 2^64";
+
 const NO_PROFILE: &str = "name a profile by --profile <F>, or a history by --history <FILE>";
 
 const OPEN_OPERATOR: &str =
@@ -132,18 +138,6 @@ pub(crate) fn serve_command<'a>(alloc: Global) -> Making<'a>
     with_limits(alloc, command)
 }
 
-// The error for a number of workers or sessions, or a time limit, that is none.
-fn invalid_number(alloc: Global) -> Error
-    ensures { HasKind (ErrorKind.ValueValidation ∷ []) result }
-{
-    rejection(
-        serve_command(alloc),
-        "omaha serve",
-        ErrorKind::ValueValidation,
-        "N is a decimal number from 1 to 8, K and M are below 2^64, and SECONDS is from 1 to 86400",
-    )
-}
-
 // The number of sessions that a string says.
 fn limit_of(text: &str) -> Option<Option<u64>>
     ensures { result ≡ limit_of text.now }
@@ -206,18 +200,6 @@ fn connections_in(matches: &ArgMatches<'_>) -> Option<u64>
     }
 }
 
-// The error for a bound that is none.
-fn invalid_bound(alloc: Global) -> Error
-    ensures { HasKind (ErrorKind.ValueValidation ∷ []) result }
-{
-    rejection(
-        serve_command(alloc),
-        "omaha serve",
-        ErrorKind::ValueValidation,
-        "SECONDS is from 1 to 86400, a COUNT of connections from 1 to 1048576, and of tables, and BYTES, below 2^64",
-    )
-}
-
 /// Whether an option or an argument is given.
 pub(crate) fn is_given(matches: &ArgMatches<'_>, id: &str) -> bool
     ensures { result ≡ is_some (first_of id.now (rows_of (found_of matches.now))) }
@@ -238,16 +220,11 @@ fn is_named(matches: &ArgMatches<'_>) -> bool
     by_profile || by_history
 }
 
-// The error of an option that has to be given.
-fn missing_option(alloc: Global, message: &str) -> Error
-    ensures { HasKind (ErrorKind.MissingRequiredArgument ∷ []) result }
+// The error of an option, of a kind.
+fn rejected_option(alloc: Global, kind: ErrorKind, message: &str) -> Error
+    ensures { HasKind (kind ∷ []) result }
 {
-    rejection(
-        serve_command(alloc),
-        "omaha serve",
-        ErrorKind::MissingRequiredArgument,
-        message,
-    )
+    rejection(serve_command(alloc), "omaha serve", kind, message)
 }
 
 // The strings before and after the first such character, or all and nothing.
@@ -486,16 +463,16 @@ pub(crate) fn read_serve(alloc: Global, matches: &ArgMatches<'_>) -> Result<Comm
     ensures named { IfOk result IsAskable }
 {
     let Some(counts) = counts_in(matches) else {
-        return Err(invalid_number(alloc));
+        return Err(rejected_option(alloc, ErrorKind::ValueValidation, INVALID_COUNT));
     };
     let Some(bounds) = bounds_in(matches) else {
-        return Err(invalid_bound(alloc));
+        return Err(rejected_option(alloc, ErrorKind::ValueValidation, INVALID_BOUND));
     };
     if !is_named(matches) {
-        return Err(missing_option(alloc, NO_PROFILE));
+        return Err(rejected_option(alloc, ErrorKind::MissingRequiredArgument, NO_PROFILE));
     }
     if !is_operator_allowed(matches) {
-        return Err(missing_option(alloc, OPEN_OPERATOR));
+        return Err(rejected_option(alloc, ErrorKind::MissingRequiredArgument, OPEN_OPERATOR));
     }
     match serve_with(alloc, counts, bounds, matches) {
         Ok(serve) => Ok(Command::Serve(serve)),
