@@ -19,6 +19,7 @@ use cohorts::track_target;
 use payload_graph::{Place, TrackKey};
 use price_cert::{Certified, Row};
 use quotes::{Quote, quote_at, quote_from};
+use records::lookup;
 use std::alloc::{AllocError, Global};
 use version::Version;
 
@@ -52,7 +53,7 @@ fn find_subject<'a>(catalogue: &'a Catalogue, key: &'a TrackKey) -> Option<Subje
     let app = catalogue.apps().get(key.app)?;
     let cohort = app.cohorts.as_slice().get(key.cohort)?;
     let version = track_target(app.releases.as_slice(), cohort, key.lane, &key.pin)?;
-    let target = app.find_release(&version)?;
+    let target = lookup::index_of_release(app.releases.as_slice(), &version)?;
     Some(Subject {
         app,
         key,
