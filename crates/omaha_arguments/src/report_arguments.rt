@@ -58,7 +58,7 @@ Examples:
   omaha check profile.toml --warn
   omaha check profile.toml --script stage.toml";
 
-const INVALID_WORKERS: &str = "N is a decimal number from 1 to 8";
+const INVALID_WORKERS: &str = "--workers is a number from 1 to 8";
 
 const WARN_AND_PACKAGES: &str = "--warn goes without --packages";
 
@@ -248,6 +248,7 @@ fn invalid_words(alloc: Global) -> Error
     ensures { HasKind (ErrorKind.ValueValidation ∷ []) result }
 {
     rejection(
+        alloc,
         certify_command(alloc),
         "omaha certify",
         ErrorKind::ValueValidation,
@@ -389,6 +390,7 @@ fn invalid_check(alloc: Global, message: &str) -> Error
     ensures { HasKind (ErrorKind.ValueValidation ∷ []) result }
 {
     rejection(
+        alloc,
         check_command(alloc),
         "omaha check",
         ErrorKind::ValueValidation,

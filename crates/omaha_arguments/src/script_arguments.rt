@@ -22,7 +22,7 @@ const TO: &str = "A running server in place of N: its operator's address, such a
 
 const WORDS: &str = "What an edit does, and then its keys with their values: KEY=VALUE";
 
-const NO_NUMBER: &str = "N is a decimal number below 2^64";
+const NO_NUMBER: &str = "--base is a number below 2^64";
 
 const TWO_BASES: &str = "name an edition by --base <N>, or a server by --to <ADDR>, and not both";
 
@@ -107,6 +107,7 @@ fn invalid_base(alloc: Global, message: &str) -> Error
     ensures { HasKind (ErrorKind.ValueValidation ∷ []) result }
 {
     rejection(
+        alloc,
         script_command(alloc),
         "omaha script",
         ErrorKind::ValueValidation,
