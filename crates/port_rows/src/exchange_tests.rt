@@ -8,6 +8,7 @@ use std::net::{Net, TcpListener, TcpStream};
 use std::str;
 use std::test::Fail;
 use std::thread::{Threads, join};
+use std::time::Clock;
 use update_client::{HttpLink, Link};
 
 // What a link comes to that posts: the reply's body, or `failed`.
@@ -41,9 +42,9 @@ fn open_by<L: Link>(link: &mut L, alloc: Global, address: &str) -> Option<&'stat
     str::from_utf8(bytes.leak()).ok()
 }
 
-// What a download from an address comes to, or a post to a host if the address is empty. A read or a write may take so
-// many seconds.
-fn ask<R: Net<Listener = TcpListener, Stream = TcpStream>>(
+// What a download from an address comes to, or a post to a host if the address is empty. A post, or 64 KiB of a
+// download, may take so many seconds.
+fn ask<R: Net<Listener = TcpListener, Stream = TcpStream> + Clock>(
     rt: &R,
     alloc: Global,
     host: &str,
@@ -77,7 +78,7 @@ fn is_request(request: &str, host: &str, is_post: bool) -> bool {
 }
 
 // Whether a host gets the request, and it comes to what its row says. It is a post if the address is empty.
-fn comes_to<R: Net<Listener = TcpListener, Stream = TcpStream> + Threads + Sync>(
+fn comes_to<R: Net<Listener = TcpListener, Stream = TcpStream> + Clock + Threads + Sync>(
     rt: &R,
     alloc: Global,
     listener: &TcpListener,
@@ -164,7 +165,7 @@ fn downloads_over_the_loopback(rt: HostRuntime) -> Result<(), Fail> {
     Ok(())
 }
 
-// Whether a post to a host fails, or a download. A read or a write may take a second.
+// Whether a post to a host fails, or a download, each of which may take a second.
 fn fails(rt: &HostRuntime, host: &str, address: &str) -> bool {
     ask(rt, rt.alloc(), host, address, 1) == Some("failed")
 }
