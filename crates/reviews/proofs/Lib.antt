@@ -1,9 +1,11 @@
 mod ChainLemmas
 mod ChangeLemmas
+mod CopyLemmas
 mod IdleLemmas
 mod LargestLemmas
 mod LiftLemmas
 mod ListLemmas
+mod OpenLemmas
 mod PinLemmas
 mod ReasonLemmas
 mod ReviewLemmas

@@ -1,9 +1,10 @@
 -- What a certified table says of a track's releases, and the reviews of tables.
-use Rattle.std.proofs.Common.{◌≡◌, ℕ, ◌+◌, ◌<◌, ◌++◌, inl, inr, true, false, List, [], ◌∷◌, get_or, length, Option, None, Some, IfSome, refl, sym, ap, ◌∙◌, subst, arith}
-use Rattle.std.specs.List.{list_any, slice_get}
+use Rattle.std.proofs.Common.{◌≡◌, ℕ, ◌+◌, ◌<◌, ◌≤◌, ◌++◌, inl, inr, true, false, List, [], ◌∷◌, get_or, length, map, take, Option, None, Some, IfSome, refl, sym, ap, ◌∙◌, subst, arith}
+use Rattle.std.specs.List.{All, list_any, slice_get}
 use Rattle.std.specs.Option.{option_and_then, option_map}
 use Rattle.std.proofs.lemmas.Bool.{cases_lt, false≢true}
-use Rattle.std.proofs.lemmas.List.{get_or_append_left, get_or_push}
+use Rattle.std.proofs.lemmas.List.{get_or_append_left, get_or_push, map_more, map_push, take_all}
+use Rattle.std.proofs.lemmas.List.Elements.{All-push}
 use Rattle.std.proofs.lemmas.List.Folds.{list_any_at}
 use Rattle.records.specs.declared.content.App.{App}
 use Rattle.records.specs.declared.content.Cohort.{Cohort}
@@ -12,9 +13,11 @@ use Rattle.payload_graph.specs.Net.{Net, net_among, net_in, net_of}
 use Rattle.payload_graph.specs.declared.payload.TrackKey.{TrackKey}
 use Rattle.payload_graph.specs.declared.place.Place.{Place}
 use Rattle.payload_graph.specs.declared.place.Place.TheVariants.{At}
+use Rattle.par_tables.specs.Tables.{AreTables, net_of_table}
 use Rattle.price_cert.specs.Laws.{ArePrices}
 use Rattle.price_cert.specs.Rows.{price_at, price_of, row_at}
 use Rattle.price_cert.specs.Rules.{AreCertified}
+use Rattle.price_cert.specs.Tables.{Certificate}
 use Rattle.price_cert.specs.declared.row.Row.{Row}
 use Rattle.price_cert.specs.declared.row.Row.TheVariants as row
 use Rattle.quotes.specs.Quotes.{IsQuote, IsQuoteAmong}
@@ -23,7 +26,8 @@ use Rattle.quotes.specs.declared.quote.Quote.{Quote}
 use Rattle.quotes.specs.declared.quote.Quote.TheVariants as quote
 use Rattle.reviews.proofs.ChainLemmas.{length-doors_of}
 use Rattle.reviews.specs.Reasons.{Explains, IsReason, IsStuck}
-use Rattle.reviews.specs.Reviews.{IsOutcome, IsTrackReview, IsTrackReviewAmong, is_unpriced, outcome_by}
+use Rattle.reviews.proofs.ListLemmas.{map-mapped}
+use Rattle.reviews.specs.Reviews.{AreReviews, IsOutcome, IsTrackReview, IsTrackReviewAmong, is_unpriced, outcome_by}
 use Rattle.reviews.specs.Tracks.{IsTrackOf}
 use Rattle.reviews.specs.declared.cause.Reason.{Reason}
 use Rattle.reviews.specs.declared.review.TrackReview.{TrackReview}
@@ -119,3 +123,47 @@ pub IsTrackReviewAmong-there :
     (apps : List App) (app : App) (review : TrackReview) → slice_get apps review.key.app ≡ Some app → IsTrackReview app review →
     IsTrackReviewAmong apps review
 IsTrackReviewAmong-there apps app review there is = subst (λ (o : Option App). IfSome o (λ a. IsTrackReview a review)) (sym there) is
+
+abbrev key_of : TrackReview → TrackKey
+key_of review = review.key
+
+abbrev key_of_table : Certificate → TrackKey
+key_of_table table = table.net.key
+
+-- the reviews of the first tables, in their order
+pub record AreReviewed (apps : List App) (tables : List Certificate) (count : ℕ) (reviews : List TrackReview) : Type 0 where
+  pub tracks : map key_of reviews ≡ map key_of_table (take count tables)
+  pub each : All (IsTrackReviewAmong apps) reviews
+
+-- one review more
+pub AreReviewed-more :
+    (apps : List App) (tables : List Certificate) (count : ℕ) (reviews next : List TrackReview) (review : TrackReview) (table : Certificate) →
+    count < length tables → table ≡ get_or tables count table → review.key ≡ table.net.key → IsTrackReviewAmong apps review →
+    next ≡ reviews ++ review ∷ [] → AreReviewed apps tables count reviews → AreReviewed apps tables (count + 1) next
+AreReviewed-more apps tables count reviews next review table within at own is pushed are =
+    let keys : List TrackKey = map key_of_table (take count tables) in
+    record {
+      tracks =
+          ap (λ (xs : List TrackReview). map key_of xs) pushed
+          ∙ map_push key_of reviews review
+          ∙ ap (λ (xs : List TrackKey). xs ++ review.key ∷ []) are.tracks
+          ∙ ap (λ (k : TrackKey). keys ++ k ∷ []) (own ∙ ap key_of_table at)
+          ∙ sym (map_more key_of_table tables count table within);
+      each =
+          subst (λ (xs : List TrackReview). All (IsTrackReviewAmong apps) xs) (sym pushed)
+          (All-push (IsTrackReviewAmong apps) reviews review are.each is);
+    }
+
+-- those of all tables
+pub AreReviews-tables :
+    (apps : List App) (tables : List Certificate) (count : ℕ) (reviews : List TrackReview) → AreTables apps tables → length tables ≤ count →
+    AreReviewed apps tables count reviews → AreReviews apps reviews
+AreReviews-tables apps tables count reviews tabled all are =
+    record {
+      tracks =
+          are.tracks
+          ∙ ap (λ (xs : List Certificate). map key_of_table xs) (take_all count tables all)
+          ∙ map-mapped net_of_table (λ (net : Net). net.key) tables
+          ∙ ap (λ (nets : List Net). map (λ (net : Net). net.key) nets) tabled.nets;
+      each = are.each;
+    }

@@ -139,7 +139,7 @@ arrival_by clients counts release becomes =
 -- where the clients of a track were at the release of a version; nowhere if the app didn't have it
 abbrev pub was_at : App → TrackReview → List ℕ → Option Outcome
 was_at before old version =
-    option_and_then (λ from. slice_get old.outcomes.items from) (position (is_release version) before.releases)
+    option_and_then (λ from. slice_get old.outcomes from) (position (is_release version) before.releases)
 
 -- the change of a release by where its clients were; one that wasn't there counts if it is below the target
 abbrev pub change_from : App → App → Clients → ℕ → ℕ → Outcome → Option Outcome → Option Change
@@ -153,7 +153,7 @@ change_at before after old new index =
     option_and_then
     (λ (release : Release). option_and_then
     (λ becomes. change_from before after (clients_of old.key new.key) new.target index becomes (was_at before old release.version))
-    (slice_get new.outcomes.items index))
+    (slice_get new.outcomes index))
     (slice_get after.releases index)
 
 -- the changes of the releases of a track, by ascending version
@@ -181,7 +181,7 @@ arrival_at before after new index =
     option_and_then
     (λ (release : Release). option_and_then
     (λ becomes. arrival_by (clients_of new.key new.key) (nat_lt index new.target || has_release before release.version) index becomes)
-    (slice_get new.outcomes.items index))
+    (slice_get new.outcomes index))
     (slice_get after.releases index)
 
 -- the changes of the releases of such a track, by ascending version

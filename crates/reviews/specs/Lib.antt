@@ -1,6 +1,7 @@
 pub mod ChangeLines
 pub mod ChangeObjects
 pub mod Changes
+pub mod Copies
 pub mod Largest
 pub mod Lifts
 pub mod Lines

@@ -1,13 +1,15 @@
 -- A track as it would be without one of the rules that may leave its clients stuck; this project's profile.
-use Rattle.std.specs.Prelude.{ℕ, ◌&&◌, not, Bool, true, false, if◌then◌else◌, List, [], map, None}
+use Rattle.std.specs.Prelude.{ℕ, ◌==◌, ◌&&◌, not, Bool, true, false, if◌then◌else◌, List, [], map, None}
 use Rattle.std.specs.List.{list_all}
 use Rattle.std.specs.Option.{is_some, option_map_or}
 use Rattle.std.specs.Str.{bytes_eq}
 use Rattle.version.specs.Versions.{zero_version}
-use Rattle.records.specs.Lookups.{is_release}
+use Rattle.records.specs.Lookups.{is_release, place_of}
 use Rattle.records.specs.declared.content.App.{App}
 use Rattle.records.specs.declared.content.Cohort.{Cohort}
 use Rattle.records.specs.declared.content.Release.{Release}
+use Rattle.cohorts.specs.Offers.{is_offered}
+use Rattle.cohorts.specs.declared.pin.Pin.TheVariants as pin
 use Rattle.payload_graph.specs.Chains.{target_index}
 use Rattle.payload_graph.specs.Net.{version_of_index}
 use Rattle.payload_graph.specs.declared.payload.TrackKey.{TrackKey}
@@ -64,3 +66,9 @@ lifted cause app key =
       cohorts = map (lifted_cohort cause) app.cohorts;
       releases = lifted_releases cause (target_version app key) app.releases;
     }
+
+-- no release is a stone, and a release is offered to a cohort's clients whatever their version: so its full package leads
+-- there from each other one, if downgrades are allowed
+abbrev pub is_open_way : Cohort → List Release → Release → Bool
+is_open_way cohort releases release =
+    is_idle Stone release.version releases && (is_offered cohort pin.Any release && place_of release.floor releases == 0)

@@ -42,8 +42,8 @@ track_data app review =
     (member (codes "downgrade") (boolean review.key.rollback)
     (member (codes "kind") (string (codes "track"))
     (member (codes "lane") (string (lane_word review.key.lane))
-    (member (codes "releases") (whole (length review.outcomes.items))
-    (member (codes "stuck") (whole (count_by is_stuck review.outcomes.items))
+    (member (codes "releases") (whole (length review.outcomes))
+    (member (codes "stuck") (whole (count_by is_stuck review.outcomes))
     (member (codes "target") (string (spelled_at app review.target))
     no_members))))))))
 
@@ -117,7 +117,7 @@ chain_objects app review =
 abbrev pub track_objects : App → TrackReview → List ℕ
 track_objects app review =
     object_line (track_data app review)
-    ++ (stuck_objects app (clients_on review.key) (stuck_of review.outcomes.items) ++ chain_objects app review)
+    ++ (stuck_objects app (clients_on review.key) (stuck_of review.outcomes) ++ chain_objects app review)
 
 -- the lines of a track of a content; none if its app isn't there
 abbrev pub track_objects_among : List App → TrackReview → List ℕ

@@ -38,7 +38,7 @@ clients_on key = record { app = key.app; cohort = key.cohort; lane = key.lane; r
 
 -- how many releases all tracks have, one for each track that it is on
 abbrev pub release_total : List TrackReview → ℕ
-release_total reviews = sum_by (λ (review : TrackReview). length review.outcomes.items) reviews
+release_total reviews = sum_by (λ (review : TrackReview). length review.outcomes) reviews
 
 -- how many tracks there are, and how many releases they have
 abbrev pub totals_string : List TrackReview → List ℕ
@@ -48,13 +48,13 @@ totals_string reviews =
 -- rule: Number of stuck releases
 -- how many releases are stuck, one for each track on which it is stuck
 abbrev pub stuck_total : List TrackReview → ℕ
-stuck_total reviews = sum_by (λ (review : TrackReview). count_by is_stuck review.outcomes.items) reviews
+stuck_total reviews = sum_by (λ (review : TrackReview). count_by is_stuck review.outcomes) reviews
 
 -- a track's target, how many releases it has, and how many of them are stuck
 abbrev pub track_facts : App → TrackReview → List ℕ
 track_facts app review =
-    codes "target " ++ (spelled_at app review.target ++ (codes ", " ++ (decimal (length review.outcomes.items)
-    ++ (codes " releases, " ++ (decimal (count_by is_stuck review.outcomes.items) ++ codes " stuck")))))
+    codes "target " ++ (spelled_at app review.target ++ (codes ", " ++ (decimal (length review.outcomes)
+    ++ (codes " releases, " ++ (decimal (count_by is_stuck review.outcomes) ++ codes " stuck")))))
 
 -- a line for each of some stuck releases
 abbrev pub stuck_lines : App → List ℕ → List StuckRelease → List ℕ
@@ -71,11 +71,11 @@ stuck_part app track limit stuck = stuck_lines app track (take limit stuck) ++ m
 
 -- the steps of the release at an index of a track; 0 if it has none
 abbrev pub steps_from : TrackReview → ℕ → ℕ
-steps_from review release = unwrap_or (value_at review.steps.items release) 0
+steps_from review release = unwrap_or (value_at review.steps release) 0
 
 -- its bytes up to the target; 0 if it has none
 abbrev pub bytes_from : TrackReview → ℕ → ℕ
-bytes_from review release = unwrap_or (option_and_then sum_of (slice_get review.outcomes.items release)) 0
+bytes_from review release = unwrap_or (option_and_then sum_of (slice_get review.outcomes release)) 0
 
 -- rule: Printed chain
 -- the chain from a release: its release, its steps and its bytes; or that there is none
@@ -103,7 +103,7 @@ chain_lines app track review =
 abbrev pub named_lines : App → List ℕ → ℕ → TrackReview → List ℕ
 named_lines app track limit review =
     line_string track_word track (track_facts app review)
-    ++ (stuck_part app track limit (stuck_of review.outcomes.items)
+    ++ (stuck_part app track limit (stuck_of review.outcomes)
     ++ chain_lines app track review)
 
 -- the lines of a track; none if its app isn't there

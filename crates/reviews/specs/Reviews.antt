@@ -51,10 +51,10 @@ pub record AreOutcomes (app : App) (key : TrackKey) (outcomes : List Outcome) : 
 -- clients outside of all releases are offered from version 0
 pub record IsTrackReview (app : App) (review : TrackReview) : Type 0 where
   pub target : target_index app review.key ≡ Some review.target
-  pub outcomes : AreOutcomes app review.key review.outcomes.items
-  pub steps : review.steps.items ≡ all_steps app review.outcomes.items
-  pub largest : IsLargest (map sum_of review.outcomes.items) review.largest
-  pub longest : IsLargest review.steps.items review.longest
+  pub outcomes : AreOutcomes app review.key review.outcomes
+  pub steps : review.steps ≡ all_steps app review.outcomes
+  pub largest : IsLargest (map sum_of review.outcomes) review.largest
+  pub longest : IsLargest review.steps review.longest
   pub newcomers : IsQuote app review.key (Outside zero_version) review.newcomers
 
 -- the same of a content, which has the track's app

@@ -25,7 +25,7 @@ has_no_chain quote.NoChain = true
 -- rule: Target out of reach
 -- no client can reach a track's target: none at another release, and none outside of all releases, from version 0
 abbrev pub is_out_of_reach : TrackReview → Bool
-is_out_of_reach review = not (list_any has_next review.outcomes.items) && has_no_chain review.newcomers
+is_out_of_reach review = not (list_any has_next review.outcomes) && has_no_chain review.newcomers
 
 -- the line of a track whose target is out of reach
 abbrev pub warning_line : App → TrackReview → List ℕ

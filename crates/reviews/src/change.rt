@@ -186,7 +186,8 @@ fn is_target_of(before: &Catalogue, old: &TrackKey, new: &TrackKey) -> bool
 }
 
 // rule: Target before a change
-fn had_target(before: &Reviewed<'_>, new: &TrackKey) -> bool
+/// Whether the clients of a track had a target before a change.
+pub(crate) fn had_target(before: &Reviewed<'_>, new: &TrackKey) -> bool
     ensures { result ≡ had_target before.now.catalogue.now before.now.tracks.now new.now }
 {
     before
@@ -196,7 +197,8 @@ fn had_target(before: &Reviewed<'_>, new: &TrackKey) -> bool
 }
 
 // rule: Same clients
-fn are_same_clients(
+/// Whether the clients who allow a downgrade, or those who don't, are on one track before a change and on another after it.
+pub(crate) fn are_same_clients(
     before: &[TrackReview],
     after: &[TrackReview],
     old: &TrackReview,
@@ -327,7 +329,8 @@ fn push_changes(
     Ok(())
 }
 
-fn push_pair(
+/// Adds the changes of the clients of one track before and one after, none if an app isn't there.
+pub(crate) fn push_pair(
     changes: &mut Vec<Change>,
     before: &Catalogue,
     after: &Catalogue,
@@ -384,7 +387,8 @@ fn push_arrivals(
     Ok(())
 }
 
-fn push_arrivals_of(
+/// Adds the changes of a track whose clients had no target before.
+pub(crate) fn push_arrivals_of(
     changes: &mut Vec<Change>,
     before: &Catalogue,
     after: &Catalogue,
@@ -405,55 +409,4 @@ pub struct Reviewed<'a> {
     pub catalogue: &'a Catalogue,
     /// The reviews of its tracks.
     pub tracks: &'a [TrackReview],
-}
-
-// Adds the changes of the clients of the tracks before that are on a track after the change.
-fn push_track(
-    changes: &mut Vec<Change>,
-    before: &Reviewed<'_>,
-    after: &Reviewed<'_>,
-    new: &TrackReview,
-) -> Result<(), AllocError>
-    ensures { OnOk result (changes.new.items ≡ changes.old.items ++ changes_to before.now.catalogue.now after.now.catalogue.now before.now.tracks.now after.now.tracks.now new.now) }
-{
-    for old in before.tracks {
-        if are_same_clients(before.tracks, after.tracks, old, new) {
-            push_pair(changes, before.catalogue, after.catalogue, old, new)?;
-        }
-    }
-    Ok(())
-}
-
-// Adds the changes of the clients of a track after the change.
-fn push_changes_on(
-    changes: &mut Vec<Change>,
-    before: &Reviewed<'_>,
-    after: &Reviewed<'_>,
-    new: &TrackReview,
-) -> Result<(), AllocError>
-    ensures { OnOk result (changes.new.items ≡ changes.old.items ++ changes_on before.now.catalogue.now after.now.catalogue.now before.now.tracks.now after.now.tracks.now new.now) }
-{
-    if had_target(before, &new.key) {
-        push_track(changes, before, after, new)
-    } else {
-        push_arrivals_of(changes, before.catalogue, after.catalogue, new)
-    }
-}
-
-// rule: Review of a change
-/// The changes from the reviews of a catalogue to those of a later one, by the tracks of the later one.
-///
-/// Out of memory is the only error.
-pub fn changes(
-    alloc: Global,
-    before: &Reviewed<'_>,
-    after: &Reviewed<'_>,
-) -> Result<Vec<Change>, AllocError>
-    ensures { IfOk result (λ changes. changes.items ≡ changes_of before.now.catalogue.now after.now.catalogue.now before.now.tracks.now after.now.tracks.now) }
-{
-    let mut changes = Vec::new(alloc);
-    for new in after.tracks {
-        push_changes_on(&mut changes, before, after, new)?;
-    }
-    Ok(changes)
 }

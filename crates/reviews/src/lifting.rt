@@ -13,7 +13,7 @@ ghost use Rattle.cohorts.specs.Offers.{is_offered, is_open_to};
 ghost use Rattle.cohorts.specs.declared.pin.Pin.TheVariants as pin;
 ghost use Rattle.payload_graph.specs.Net.{door_of, doors_of};
 ghost use Rattle.payload_graph.specs.Permitted.{rolls_back};
-ghost use Rattle.reviews.specs.Lifts.{is_idle, lifted_cohort, lifted_key, lifted_release, lifted_releases};
+ghost use Rattle.reviews.specs.Lifts.{is_idle, is_open_way, lifted_cohort, lifted_key, lifted_release, lifted_releases};
 ghost use Rattle.reviews.specs.Routes.{lifted_door, AreRoads};
 
 use crate::cause::Cause;
@@ -214,4 +214,14 @@ pub(crate) fn is_idle(cause: Cause, target: &Version, releases: &[Release]) -> b
         Cause::Floor => has_no_floor(releases),
         Cause::Downgrade => false,
     }
+}
+
+/// Whether no release is a stone and a release is offered to a cohort's clients whatever their version, so that its full
+/// package leads there from each other one, if downgrades are allowed.
+pub(crate) fn is_open_way(cohort: &Cohort, releases: &[Release], release: &Release) -> bool
+    requires { ascend is_release_below releases.now ≡ true }
+    ensures { result ≡ is_open_way cohort.now releases.now release.now }
+{
+    has_no_stone(releases)
+        && (is_offered(cohort, &Pin::Any, release) && floor_of(releases, &release.floor) == 0)
 }

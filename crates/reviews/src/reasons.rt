@@ -6,10 +6,11 @@ ghost use Rattle.reviews.specs.Reasons.{all_causes, reason_at, AreFirst, AreFree
 ghost use Rattle.reviews.specs.Routes.{flag_at};
 ghost use Rattle.reviews.specs.Tracks.{IsTrackOf};
 ghost use Rattle.reviews.specs.declared.cause.Cause.{Cause};
+ghost use Rattle.reviews.specs.declared.cause.Cause.TheVariants.{Downgrade};
 ghost use Rattle.reviews.specs.declared.cause.Reason.TheVariants.{Alone};
 
 use crate::cause::{Cause, Reason};
-use crate::lifting::{is_idle, roads_without};
+use crate::lifting::{is_idle, is_open_way, roads_without};
 use catalogue::{App, Cohort};
 use payload_graph::TrackKey;
 use std::alloc::{AllocError, Global};
@@ -28,8 +29,8 @@ pub(crate) struct Subject<'a> {
 }
 
 impl Subject<'_> {
-    // Flags the releases that have a chain without a rule.
-    fn freed_without(&self, alloc: Global, cause: Cause) -> Result<Vec<bool>, AllocError>
+    // Flags the releases that have a chain without a rule, by a search.
+    fn searched_without(&self, alloc: Global, cause: Cause) -> Result<Vec<bool>, AllocError>
         requires { IsTrackOf self.now.app.now self.now.key.now self.now.cohort.now self.now.target }
         ensures { IfOk result (λ flags. AreFreedAs self.now.app.now self.now.key.now cause flags.items) }
     {
@@ -39,6 +40,31 @@ impl Subject<'_> {
         let roads = roads_without(alloc, cause, self.cohort, self.key, releases, self.target)?;
         let flags = roads.flags(alloc)?;
         Ok(flags)
+    }
+
+    // Flags the releases that have a chain if downgrades are allowed; it searches only if one may have none.
+    fn freed_by_downgrades(&self, alloc: Global) -> Result<Vec<bool>, AllocError>
+        requires { IsTrackOf self.now.app.now self.now.key.now self.now.cohort.now self.now.target }
+        ensures { IfOk result (λ flags. AreFreedAs self.now.app.now self.now.key.now Downgrade flags.items) }
+    {
+        payload_graph::laws::fulls();
+        let releases = self.app.releases.as_slice();
+        if is_open_way(self.cohort, releases, &releases[self.target]) {
+            let flags = vec![in alloc; true; releases.len()]?;
+            return Ok(flags);
+        }
+        self.searched_without(alloc, Cause::Downgrade)
+    }
+
+    // Flags the releases that have a chain without a rule.
+    fn freed_without(&self, alloc: Global, cause: Cause) -> Result<Vec<bool>, AllocError>
+        requires { IsTrackOf self.now.app.now self.now.key.now self.now.cohort.now self.now.target }
+        ensures { IfOk result (λ flags. AreFreedAs self.now.app.now self.now.key.now cause flags.items) }
+    {
+        match cause {
+            Cause::Downgrade => self.freed_by_downgrades(alloc),
+            _ => self.searched_without(alloc, cause),
+        }
     }
 
     // Puts a rule before those that were looked at.

@@ -21,6 +21,7 @@ use price_cert::{Certified, Row};
 use quotes::{Quote, quote_at, quote_from};
 use records::lookup;
 use std::alloc::{AllocError, Global};
+use values::SharedItems;
 use version::Version;
 
 /// What is said of the clients of a track with a target.
@@ -31,9 +32,9 @@ pub struct TrackReview {
     /// The index of the track's target, by ascending version.
     pub target: usize,
     /// Where the clients at each release are, by ascending version.
-    pub outcomes: Vec<Outcome>,
+    pub outcomes: SharedItems<Outcome>,
     /// How many payloads lead from each release to the target, `None` at the target and if its clients are stuck.
-    pub steps: Vec<Option<u64>>,
+    pub steps: SharedItems<Option<u64>>,
     /// The largest of the least sums, in bytes, with the lowest release that has it; `None` if there is no sum.
     pub largest: Option<Largest>,
     /// The largest number of steps, with the lowest release that has it; `None` if there are no steps.
@@ -116,11 +117,11 @@ fn find_outcomes(
     subject: &Subject<'_>,
     table: &Certified,
     reasons: &[Reason],
-) -> Result<Vec<Outcome>, AllocError>
+) -> Result<SharedItems<Outcome>, AllocError>
     requires there { slice_get catalogue.now subject.now.key.now.app ≡ Some subject.now.app.now }
     requires table { net_among catalogue.now subject.now.key.now ≡ Some table.now.net }
     requires reasons { Explains subject.now.app.now subject.now.key.now reasons.now }
-    ensures { IfOk result (λ outcomes. AreOutcomes subject.now.app.now subject.now.key.now outcomes.items) }
+    ensures { IfOk result (AreOutcomes subject.now.app.now subject.now.key.now) }
 {
     let releases = subject.app.releases.as_slice();
     let mut outcomes = Vec::new(alloc);
@@ -128,7 +129,8 @@ fn find_outcomes(
         let quote = quote_at(catalogue, subject.key, release, table);
         outcomes.push(outcome_by(reason_at(reasons, release), quote))?;
     }
-    Ok(outcomes)
+    let shared = SharedItems::new(alloc, outcomes)?;
+    Ok(shared)
 }
 
 // rule: Review of a track
@@ -162,7 +164,8 @@ fn review_subject(
     })
 }
 
-fn review_table(
+/// The review of a track by its table.
+pub(crate) fn review_table(
     alloc: Global,
     catalogue: &Catalogue,
     table: &Certified,

@@ -19,7 +19,8 @@ pub(crate) struct Roads {
     pub(crate) doors: Vec<Door>,
 }
 
-fn flag_at(flags: &[bool], release: usize) -> bool
+/// The flag at an index, false if there is none.
+pub(crate) fn flag_at(flags: &[bool], release: usize) -> bool
     ensures { result ≡ flag_at flags.now release }
 {
     match flags.get(release) {

@@ -10,6 +10,7 @@ use catalogue::App;
 use payload_graph::Payload;
 use records::lookup;
 use std::alloc::{AllocError, Global};
+use values::SharedItems;
 
 fn release_to(app: &App, payload: Payload) -> Option<usize>
     requires { ascend is_release_below app.now.releases ≡ true }
@@ -71,13 +72,13 @@ pub(crate) fn all_steps(
     alloc: Global,
     app: &App,
     outcomes: &[Outcome],
-) -> Result<Vec<Option<u64>>, AllocError>
+) -> Result<SharedItems<Option<u64>>, AllocError>
     requires { ascend is_release_below app.now.releases ≡ true }
-    ensures { IfOk result (λ steps. steps.items ≡ all_steps app.now outcomes.now) }
+    ensures { IfOk result (λ steps. steps ≡ all_steps app.now outcomes.now) }
 {
     let mut all = Vec::new(alloc);
     for release in 0..outcomes.len() {
         all.push(steps_at(app, outcomes, release))?;
     }
-    Ok(all)
+    SharedItems::new(alloc, all)
 }

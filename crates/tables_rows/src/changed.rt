@@ -1,9 +1,16 @@
 // Reviews of changes of a small catalogue, worked by hand.
 
+ghost use Rattle.par_tables.specs.Tables.{AreTables};
+
 use crate::reviewed::{has_lines, reviews_of};
 use catalogue::Catalogue;
 use fixtures::{DEMO, catalogue_of_script, fields, keep};
-use reviews::{Change, Reviewed, changes, newly_stuck_total, write_changes};
+use par_tables::tables;
+use price_cert::Certified;
+use reviews::{
+    Change, LaterReviews, Reviewed, changes, newly_stuck_total, review_catalogue, review_later,
+    write_changes,
+};
 use std::alloc::Global;
 
 fn reviewed_of<'a>(alloc: Global, catalogue: &'a Catalogue) -> Option<Reviewed<'a>> {
@@ -19,7 +26,7 @@ fn printed(
 ) -> Option<(&'static Vec<Change>, &'static Vec<u8>)> {
     let before = reviewed_of(alloc, catalogue_of_script(alloc, script, "")?)?;
     let after = reviewed_of(alloc, catalogue_of_script(alloc, script, edits)?)?;
-    let changes = keep(alloc, changes(alloc, &before, &after).ok()?)?;
+    let changes = keep(alloc, changes(alloc, &before, &after, &[]).ok()?)?;
     let text = keep(
         alloc,
         write_changes(alloc, &after, changes.as_slice()).ok()?,
@@ -111,4 +118,50 @@ fn newly_stuck_releases_come_first(rt: HostRuntime) {
     let edits = r#"{ do = "set_withdrawn", app = "demo", version = "3.0", on = true }"#;
     let (_, text) = printed(rt.alloc(), DEMO, edits).expect(&rt, "a review of a change");
     assert!(rt; str::from_utf8(text.as_slice()).unwrap_or("") == WITHDRAWN);
+}
+
+// The reviews of a catalogue after no change, by its tables, with flags of the apps that it keeps.
+fn reviewed_again(
+    alloc: Global,
+    catalogue: &'static Catalogue,
+    tables: &[Certified],
+    kept: &[bool],
+) -> Option<&'static LaterReviews>
+    requires { AreTables catalogue.now tables.now }
+{
+    let reviews = keep(alloc, review_catalogue(alloc, catalogue, tables).ok()?)?;
+    let before = Reviewed {
+        catalogue,
+        tracks: reviews.as_slice(),
+    };
+    keep(
+        alloc,
+        review_later(alloc, &before, kept, catalogue, tables).ok()?,
+    )
+}
+
+// The same of a small catalogue.
+fn reviewed_twice(alloc: Global, kept: &[bool]) -> Option<&'static LaterReviews> {
+    let catalogue = catalogue_of_script(alloc, DEMO, "")?;
+    let tables = keep(alloc, tables(alloc, catalogue).ok()?)?;
+    reviewed_again(alloc, catalogue, tables.as_slice(), kept)
+}
+
+// How many of those reviews are copies.
+fn copies_of(later: &LaterReviews) -> usize {
+    later
+        .sources
+        .as_slice()
+        .iter()
+        .filter(|source| source.is_some())
+        .count()
+}
+
+// rule: Review of a catalogue
+#[test]
+fn reviews_of_a_kept_app_are_copies(rt: HostRuntime) {
+    let kept = reviewed_twice(rt.alloc(), &[true]).expect(&rt, "reviews after a change");
+    let anew = reviewed_twice(rt.alloc(), &[false]).expect(&rt, "reviews after a change");
+    assert!(rt; kept.tracks.len() == 4 && copies_of(kept) == 4);
+    assert!(rt; anew.tracks.len() == 4 && copies_of(anew) == 0);
 }

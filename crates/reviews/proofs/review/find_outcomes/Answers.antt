@@ -1,9 +1,9 @@
-use Rattle.std.proofs.Common.{ℕ, ◌+◌, ◌<◌, List, get_or, length, sym, ap, ◌∙◌, subst, arith}
+use Rattle.std.proofs.Common.{◌≡◌, ℕ, ◌+◌, ◌<◌, List, get_or, length, sym, ap, ◌∙◌, subst, arith}
 use Rattle.std.proofs.lemmas.List.{length_push}
 use Rattle.records.specs.declared.content.Release.{Release}
 use Rattle.payload_graph.specs.declared.place.Place.TheVariants.{At}
 use Rattle.reviews.specs.Reasons.{IsReason}
-use Rattle.reviews.specs.Reviews.{IsOutcome}
+use Rattle.reviews.specs.Reviews.{AreOutcomes, IsOutcome}
 use Rattle.reviews.specs.declared.outcome.Outcome.{Outcome}
 use Rattle.reviews.proofs.ReviewLemmas.{IsQuote-there, IsOutcome-quote, each_more}
 use Rattle.reviews.proofs.review.find_outcomes.Goals as goal
@@ -28,3 +28,13 @@ loop-release-preserved c =
           subst (λ (xs : List Outcome). (r : ℕ) (d : Outcome) → r < release + 1 → IsOutcome app key r (get_or xs r d)) (sym c.in_ok-push.ensures.items)
           (each_more (IsOutcome app key) before next release c.loop-release.invariant.sized c.loop-release.invariant.each outcome);
     }
+
+pub returns : goal.returns
+returns c =
+    let app = c.args.subject.now.app.now in
+    let key = c.args.subject.now.key.now in
+    let size = ap (λ (xs : List Release). length xs) c.as_slice-releases.ensures in
+    let kept = c.loop-release.invariant in
+    let all : c.loop-release.release ≡ length app.releases = omega arith in
+    subst (AreOutcomes app key) (sym c.in_ok-shared.ensures)
+    (record { sized = kept.sized ∙ all; each = λ release d within. kept.each release d (omega arith) })
