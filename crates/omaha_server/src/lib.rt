@@ -9,6 +9,7 @@
 
 #![tactic(auto)]
 
+mod checking;
 mod clients;
 mod crew;
 mod error;

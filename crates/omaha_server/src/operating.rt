@@ -8,6 +8,7 @@ ghost use Rattle.omaha_server.specs.Passages.{passage_of};
 ghost use Rattle.omaha_server.specs.Serving.{AreOperated};
 ghost use Rattle.service_desks.specs.States.{store};
 
+use crate::checking::Checked;
 use crate::new_port::NewPort;
 use crate::place::Place;
 use crate::ports::ServedPort;
@@ -17,8 +18,8 @@ use kept_records::Records;
 use log_queues::LineSender;
 use mirror_ledger::{BudgetJob, Budgets};
 use publisher::{Prepared, Press, Receipt};
-use service_desks::Operator;
 use std::alloc::AllocError;
+use std::marker::PhantomData;
 use std::sync::Wait;
 use std::thread::Threads;
 use std::time::Clock;
@@ -74,7 +75,7 @@ pub(crate) struct Operated<P> {
     pub(crate) left: Result<Receipt, AllocError>,
 }
 
-// Serves a port by the operator's desk.
+// Serves a port by the operator's desk, which looks for packages first.
 fn serve_desk<
     S: System<P>,
     R: Clock + Threads + Wait + AllocGlobal,
@@ -84,19 +85,20 @@ fn serve_desk<
 >(
     setup: &Setup<'_, S, R>,
     port: NewPort<P>,
-    desk: &mut Operator<'_, '_, '_, '_, '_, R, B, K>,
+    checked: &mut Checked<'_, '_, '_, '_, '_, '_, S, R, P, B, K>,
     lines: &mut Option<LineSender>,
 ) -> ServedPort<P>
-    ensures same_press { desk.new.press.ghost_name ≡ desk.old.press.ghost_name }
-    ensures same_budgets { desk.new.budgets.ghost_name ≡ desk.old.budgets.ghost_name }
-    ensures same_records { desk.new.records.ghost_name ≡ desk.old.records.ghost_name }
-    ensures same_due { desk.new.due.ghost_name ≡ desk.old.due.ghost_name }
+    requires { checked.old.setup.now ≡ setup.now }
+    ensures same_press { checked.new.press.ghost_name ≡ checked.old.press.ghost_name }
+    ensures same_budgets { checked.new.budgets.ghost_name ≡ checked.old.budgets.ghost_name }
+    ensures same_records { checked.new.records.ghost_name ≡ checked.old.records.ghost_name }
+    ensures same_due { checked.new.due.ghost_name ≡ checked.old.due.ghost_name }
     ensures operated { AreOperated (S.edges setup.now.system.now) setup.now.place.now (P.terms port)
-        (record { mirrors = B.present desk.old.budgets.now; history = desk.old.press.now; store = store (K.first desk.old.records.now) (K.kept desk.old.records.now) desk.old.due.now })
-        (record { mirrors = B.present desk.new.budgets.now; history = desk.new.press.now; store = store (K.first desk.new.records.now) (K.kept desk.new.records.now) desk.new.due.now })
+        (record { mirrors = B.present checked.old.budgets.now; history = checked.old.press.now; store = store (K.first checked.old.records.now) (K.kept checked.old.records.now) checked.old.due.now })
+        (record { mirrors = B.present checked.new.budgets.now; history = checked.new.press.now; store = store (K.first checked.new.records.now) (K.kept checked.new.records.now) checked.new.due.now })
         (passage_of P.terms P.slots P.accepted result) }
 {
-    serve_new(setup, port, desk, lines)
+    serve_new(setup, port, checked, lines)
 }
 
 // The same, over a press, records and budgets that may be raised.
@@ -123,15 +125,15 @@ fn operate<
         (record { mirrors = B.present budgets.new; history = press.new; store = store (K.first records.new) (K.kept records.new) due.new })
         (passage_of P.terms P.slots P.accepted result) }
 {
-    let mut desk = Operator {
-        rt: setup.rt,
+    let mut checked = Checked {
+        setup,
         press,
         budgets,
         records,
         due,
-        workers: setup.place.workers,
+        ports: PhantomData,
     };
-    serve_desk(setup, port, &mut desk, lines)
+    serve_desk(setup, port, &mut checked, lines)
 }
 
 // rule: Sessions of an operator

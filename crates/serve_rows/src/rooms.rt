@@ -136,6 +136,10 @@ impl<R: Clock + Wait + AllocGlobal> System<Script> for Rooms<'_, R> {
         true
     }
 
+    fn package_size(&self, _folder: &str, _name: &[u8]) -> Option<u64> {
+        None
+    }
+
     fn serve_port<'f, D: Desk, V: WatchEach>(
         &'f self,
         _folder: &'f str,

@@ -4,7 +4,7 @@ ghost use Rattle.std.specs.Prelude.{◌≡◌, All, IfOk, map};
 ghost use Rattle.systems.specs.Sockets.{IsNewSocketPort};
 
 use crate::system::{OpenError, System};
-use http_desks::{Desk, Site};
+use http_desks::{Desk, Packages, Site};
 use http_devices::{Folder, SystemClock};
 use http_ports::{Terms, WatchEach};
 use http_talks::{Connections, serve_port};
@@ -208,6 +208,10 @@ where
             Ok(found) => found.is_dir(),
             Err(_) => false,
         }
+    }
+
+    fn package_size(&self, folder: &str, name: &[u8]) -> Option<u64> {
+        Folder::new(self.rt.alloc(), self.rt, folder).size(name)
     }
 
     fn serve_port<'f, D: Desk, V: WatchEach>(

@@ -67,6 +67,11 @@ pub trait System<P: Port> {
     fn has_folder(&self, path: &str) -> bool
         ensures { IsTrue result → (edges self.now).folders path.now };
 
+    /// Returns the size of the file of a name in the folder at a path, or `None` if there is no regular one that can be
+    /// opened.
+    fn package_size(&self, folder: &str, name: &[u8]) -> Option<u64>
+        ensures { (edges self.now).sizes folder.now name.now result };
+
     // rule: Sessions of a port
     /// Serves the connections of a new port by a desk, with the packages of the folder at a path, until none will be
     /// accepted any more; returns for how many memory ran out.
