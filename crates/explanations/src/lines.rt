@@ -1,6 +1,6 @@
 // What there is to say of the lines of a server's operator and of reports, by their first words.
 
-pub(crate) const LINES: [(&str, &str); 17] = [
+pub(crate) const LINES: [(&str, &str); 18] = [
     (
         "edition",
         "edition N
@@ -143,6 +143,15 @@ Found in: the output of `review --strict`.
 N releases are stuck, or newly stuck by the script: no packages lead their clients to the target.
 Usual cause: A withdrawn target, a stone that can't be reached, a floor, or a target below a release.
 Remedy: `omaha review F` prints each of them with its reason, and `omaha review --help` explains the reasons.
+",
+    ),
+    (
+        "status",
+        "status N at ADDR
+Found in: the second line of a failed `publish`, `raise` or `dump`, with `--verbose` or at a terminal.
+Who listens at the address replied with the HTTP status N, and not as an operator's listener does to a script.
+Usual cause: The clients' address in place of the operator's (404), a script of over 262144 bytes (413), or a proxy.
+Remedy: Use the address that `serve --operator` was given, and no proxy before it.
 ",
     ),
     (

@@ -1,0 +1,57 @@
+-- What is said of a failure after its line: the value, its place, and what to do; this project's profile.
+use Rattle.std.specs.Prelude.{◌≡◌, ◌⊎◌, ℕ, List, [], codes, Option, Some, None, Ok, Err}
+use Rattle.streams.specs.Streams.{Known}
+use Rattle.streams.specs.Reading.{IsWhole}
+use Rattle.catalogue.specs.Batches.{outcome}
+use Rattle.catalogue.specs.declared.edit.Edit.{Edit}
+use Rattle.catalogue.specs.declared.fault.Refused.{Refused}
+use Rattle.omaha_arguments.specs.declared.command.Command.{Command}
+use Rattle.omaha_commands.specs.Failures.{failure_string}
+use Rattle.omaha_commands.specs.declared.failure.Failure.{Failure}
+use Rattle.omaha_commands.specs.declared.failure.Failure.TheVariants as failure
+use Rattle.advice.specs.Documents.{edits_in, max_file}
+use Rattle.advice.specs.Looks.{IsAddressAdvice, IsLook, Sights}
+use Rattle.advice.specs.Replies.{IsPathSaid, IsReplySaid, explained}
+use Rattle.advice.specs.Sources.{aim_of, profile_path, script_path}
+use Rattle.advice.specs.declared.documents.Notice.TheVariants as notice
+use Rattle.advice.specs.declared.looks.Aim.TheVariants as aim
+use Rattle.advice.specs.declared.tables.Kind.TheVariants as kind
+
+-- the profile at a path has that rejected edit
+abbrev pub IsRefused : (List ℕ → Known) → Option (List ℕ) → Refused → Type 0
+IsRefused files None refused = ⊥
+IsRefused files (Some path) refused =
+    (bytes : List ℕ) × (edits : List Edit) × IsWhole (files path) max_file bytes
+    × (edits_in kind.Profile bytes ≡ Ok edits) × (outcome edits [] ≡ Err refused)
+
+-- rule: Place of a rejected edit
+-- what is said of a rejected edit: of the command's profile if the command has no script, or if the profile's edits are
+-- rejected so; else of its script
+abbrev pub IsEditAdvice : (List ℕ → Known) → Command → Refused → List ℕ → Type 0
+IsEditAdvice files command refused said =
+    IsPathSaid files (script_path command) kind.Script (notice.Edit refused) said
+    ⊎ ((script_path command ≡ None ⊎ IsRefused files (profile_path command) refused)
+    × IsPathSaid files (profile_path command) kind.Profile (notice.Edit refused) said)
+
+-- what is said of a failure by the files at hand or a second look
+abbrev pub IsFound : (List ℕ → Known) → Sights → Command → Failure → List ℕ → Type 0
+IsFound files sights command (failure.Profile fault) said =
+    IsPathSaid files (profile_path command) kind.Profile (notice.Fault fault) said
+IsFound files sights command (failure.Script fault) said =
+    IsPathSaid files (script_path command) kind.Script (notice.Fault fault) said
+IsFound files sights command (failure.Edit refused) said = IsEditAdvice files command refused said
+IsFound files sights command (failure.Stale number) said =
+    IsPathSaid files (script_path command) kind.Script (notice.Stale number) said
+IsFound files sights command (failure.Net address) said = IsAddressAdvice sights (aim_of command) address said
+IsFound files sights command (failure.File path) said = IsLook sights aim.Read path (codes "file") said
+IsFound files sights command (failure.Declined reply) said =
+    IsReplySaid files command reply.status reply.body.items said
+IsFound files sights command (failure.Code code) said = said ≡ codes "omaha explain lists all codes"
+IsFound files sights command failure.NoPlace said = said ≡ codes "see omaha explain place"
+IsFound files sights command other said = ⊥
+
+-- rule: Advice on a failure
+-- what is found of a failure, else where the first word of its line is explained
+abbrev pub IsAdvice : (List ℕ → Known) → Sights → Command → Failure → List ℕ → Type 0
+IsAdvice files sights command failure said =
+    IsFound files sights command failure said ⊎ (explained (failure_string failure) ≡ Some said)

@@ -1,0 +1,12 @@
+pub mod Addresses
+pub mod Advising
+pub mod Documents
+pub mod Edits
+pub mod Entries
+pub mod Faults
+pub mod Looks
+pub mod Places
+pub mod Replies
+pub mod Sources
+pub mod Spots
+pub mod Tables

@@ -1,0 +1,52 @@
+-- Which files and addresses a command names; this project's profile.
+use Rattle.std.specs.Prelude.{ℕ, List, [], codes, if◌then◌else◌, bytes_eq, Option, Some, None}
+use Rattle.omaha_arguments.specs.declared.command.Command.{Command}
+use Rattle.omaha_arguments.specs.declared.command.Command.TheVariants as command
+use Rattle.omaha_arguments.specs.declared.command.Question.{Question}
+use Rattle.omaha_arguments.specs.declared.command.Question.TheVariants as question
+use Rattle.omaha_arguments.specs.declared.command.Source.{Source}
+use Rattle.omaha_arguments.specs.declared.command.Source.TheVariants as source
+use Rattle.advice.specs.declared.looks.Aim.{Aim}
+use Rattle.advice.specs.declared.looks.Aim.TheVariants as aim
+
+-- the profile of a source
+abbrev pub profile_in : Source → Option (List ℕ)
+profile_in (source.Profile path) = Some path
+profile_in (source.Server to) = None
+
+-- the path of a command's profile
+abbrev pub profile_path : Command → Option (List ℕ)
+profile_path (command.Once asked) = asked.profile
+profile_path (command.Report asked) = Some asked.profile
+profile_path (command.Compare asked) = Some asked.profile
+profile_path (command.Review asked) = profile_in asked.source
+profile_path (command.Serve asked) = asked.profile
+profile_path other = None
+
+-- the script of a question
+abbrev pub script_in : Question → Option (List ℕ)
+script_in (question.Script path) = Some path
+script_in other = None
+
+-- a path, unless it means the standard input
+abbrev pub unless_input : List ℕ → Option (List ℕ)
+unless_input path = if bytes_eq path (codes "-") then None else Some path
+
+-- the path of a command's script
+abbrev pub script_path : Command → Option (List ℕ)
+script_path (command.Report asked) = script_in asked.question
+script_path (command.Review asked) = asked.script
+script_path (command.Publish asked) = unless_input asked.script
+script_path other = None
+
+-- the address of a command's server
+abbrev pub server_of : Command → List ℕ
+server_of (command.Publish asked) = asked.to
+server_of (command.Raise asked) = asked.to
+server_of (command.Dump asked) = asked.to
+server_of other = []
+
+-- what a command does at an address
+abbrev pub aim_of : Command → Aim
+aim_of (command.Serve asked) = aim.Bind
+aim_of other = aim.Connect

@@ -1,0 +1,164 @@
+//! Advice on failures.
+
+ghost use Rattle.std.specs.Prelude.{◌≡◌, [], Err, IfOk, IfSome, List, None, Ok, option_map, string_bytes, true, ℕ};
+ghost use Rattle.advice.specs.Advising.{IsAdvice, IsEditAdvice, IsFound, IsRefused};
+ghost use Rattle.advice.specs.Documents.{edits_in, notice_of};
+ghost use Rattle.advice.specs.Replies.{IsPathSaid, explained};
+ghost use Rattle.advice.specs.Sources.{profile_path, script_path};
+ghost use Rattle.advice.specs.declared.tables.Kind.TheVariants as kind;
+ghost use Rattle.catalogue.specs.Batches.{outcome};
+ghost use Rattle.catalogue.specs.declared.edit.Edit.{Edit};
+ghost use Rattle.omaha_commands.specs.Failures.{failure_string};
+ghost use Rattle.streams.specs.Reading.{IsWhole};
+
+use crate::documents::{MAX_FILE, Trouble};
+use crate::looks::{Aim, Looks, address_advice, look_again};
+use crate::replies::{explained, path_said, reply_advice};
+use crate::sources::{aim_of, profile_path, script_path};
+use crate::tables::Kind;
+use catalogue::{Batch, Catalogue, Refused};
+use omaha_arguments::Command;
+use omaha_commands::Failure;
+use profile_toml::read_profile;
+use std::alloc::{AllocError, Global};
+use streams::Disk;
+use values::ReadError;
+
+// Whether a batch of the empty catalogue is rejected so.
+fn is_rejected_so(alloc: Global, batch: &Batch, refused: Refused) -> bool
+    ensures { result ≡ true → outcome batch.now [] ≡ Err refused }
+{
+    match Catalogue::empty(alloc).applied(batch) {
+        Err(ReadError::Fault(found)) => found == refused,
+        _ => false,
+    }
+}
+
+// Whether the edits of a profile are rejected so.
+fn rejects(alloc: Global, profile: &[u8], refused: Refused) -> bool
+    ensures { result ≡ true → (edits : List Edit) × (edits_in kind.Profile profile.now ≡ Ok edits) × (outcome edits [] ≡ Err refused) }
+{
+    match read_profile(alloc, profile) {
+        Ok((batch, _)) => is_rejected_so(alloc, &batch, refused),
+        Err(_) => false,
+    }
+}
+
+// Whether the profile at a path has that rejected edit.
+fn has_rejected<R: Disk>(rt: &R, alloc: Global, path: Option<&str>, refused: Refused) -> bool
+    ensures { result ≡ true → IsRefused (R.file_at rt.now) (option_map (λ path. path.now) path.entry) refused }
+{
+    match path {
+        Some(path) => match rt.read_file(alloc, path, MAX_FILE) {
+            Ok(profile) => rejects(alloc, &profile, refused),
+            Err(_) => false,
+        },
+        None => false,
+    }
+}
+
+// rule: Place of a rejected edit
+fn edit_advice<R: Disk>(
+    rt: &R,
+    alloc: Global,
+    command: &Command,
+    refused: Refused,
+) -> Option<String>
+    ensures { IfSome result (λ said. IsEditAdvice (R.file_at rt.now) command.now refused (string_bytes said)) }
+{
+    let (profile, script) = (profile_path(command), script_path(command));
+    let trouble = Trouble::Edit(refused);
+    if script.is_none() || has_rejected(rt, alloc, profile, refused) {
+        path_said(rt, alloc, profile, Kind::Profile, trouble)
+    } else {
+        path_said(rt, alloc, script, Kind::Script, trouble)
+    }
+}
+
+// What is wrong in the command's profile.
+fn profile_said<R: Disk>(
+    rt: &R,
+    alloc: Global,
+    command: &Command,
+    trouble: Trouble<'_>,
+) -> Option<String>
+    ensures { IfSome result (λ said. IsPathSaid (R.file_at rt.now) (profile_path command.now) kind.Profile (notice_of trouble.entry) (string_bytes said)) }
+{
+    path_said(rt, alloc, profile_path(command), Kind::Profile, trouble)
+}
+
+// What is wrong in the command's script.
+fn script_said<R: Disk>(
+    rt: &R,
+    alloc: Global,
+    command: &Command,
+    trouble: Trouble<'_>,
+) -> Option<String>
+    ensures { IfSome result (λ said. IsPathSaid (R.file_at rt.now) (script_path command.now) kind.Script (notice_of trouble.entry) (string_bytes said)) }
+{
+    path_said(rt, alloc, script_path(command), Kind::Script, trouble)
+}
+
+// A copy of a string.
+fn fixed(alloc: Global, text: &str) -> Option<String>
+    ensures { IfSome result (λ copy. string_bytes copy ≡ text.now) }
+{
+    String::from_str(alloc, text).ok()
+}
+
+// What is found of a failure.
+fn find<R: Disk + Looks + AllocGlobal>(
+    rt: &R,
+    command: &Command,
+    failure: &Failure,
+) -> Option<String>
+    ensures { IfSome result (λ said. IsFound (R.file_at rt.now) (R.sights rt.now) command.now failure.now (string_bytes said)) }
+{
+    let alloc = rt.alloc();
+    match failure {
+        Failure::Profile(fault) => profile_said(rt, alloc, command, Trouble::Fault(fault)),
+        Failure::Script(fault) => script_said(rt, alloc, command, Trouble::Fault(fault)),
+        Failure::Edit(refused) => edit_advice(rt, alloc, command, *refused),
+        Failure::Stale(number) => script_said(rt, alloc, command, Trouble::Stale(*number)),
+        Failure::Net(address) => { address_advice(rt, alloc, aim_of(command), address.as_str()) }
+        Failure::File(path) => look_again(rt, alloc, Aim::Read, path.as_str(), "file"),
+        Failure::Declined(reply) => {
+            reply_advice(rt, alloc, command, reply.status, reply.body.as_slice())
+        }
+        Failure::Code(_) => fixed(alloc, "omaha explain lists all codes"),
+        Failure::NoPlace => fixed(alloc, "see omaha explain place"),
+        _ => None,
+    }
+}
+
+// Says where the line of a failure is explained, if it is.
+fn explain_failure(alloc: Global, failure: &Failure) -> Result<Option<String>, AllocError>
+    ensures { IfOk result (λ said. option_map string_bytes said ≡ explained (failure_string failure.now)) }
+{
+    match format!(in alloc; "{failure}") {
+        Ok(line) => explained(alloc, line.as_str()),
+        Err(error) => Err(error),
+    }
+}
+
+// rule: Advice on a failure
+/// Says more of a failure of a command than its line: the value, its place and what to do; else where the line is
+/// explained. Nothing without memory, or if nothing is to be said.
+///
+/// Of an invalid script or profile it reads the file again. Of an address or a file it looks a second time: see
+/// `Looks::look`. It is one line without its end, and has no control characters.
+pub fn advice_on<R: Disk + Looks + AllocGlobal>(
+    rt: &R,
+    command: &Command,
+    failure: &Failure,
+) -> Option<String>
+    ensures { IfSome result (λ said. IsAdvice (R.file_at rt.now) (R.sights rt.now) command.now failure.now (string_bytes said)) }
+{
+    match find(rt, command, failure) {
+        Some(said) => Some(said),
+        None => match explain_failure(rt.alloc(), failure) {
+            Ok(said) => said,
+            Err(_) => None,
+        },
+    }
+}

@@ -1,0 +1,91 @@
+//! The files and addresses that commands name.
+
+ghost use Rattle.std.specs.Prelude.{◌≡◌, option_map};
+ghost use Rattle.advice.specs.Sources.{aim_of, profile_in, profile_path, script_in, script_path, server_of, unless_input};
+
+use crate::looks::Aim;
+use omaha_arguments::{Command, Question, Source};
+use values::Text;
+
+// The string that may be missing.
+fn string_of(text: &Option<Text>) -> Option<&str>
+    ensures { option_map (λ path. path.now) result ≡ text.now }
+{
+    match text {
+        Some(text) => Some(text.as_str()),
+        None => None,
+    }
+}
+
+fn profile_in(source: &Source) -> Option<&str>
+    ensures { option_map (λ path. path.now) result ≡ profile_in source.now }
+{
+    match source {
+        Source::Profile(path) => Some(path.as_str()),
+        Source::Server(_) => None,
+    }
+}
+
+/// The path of a command's profile.
+pub(crate) fn profile_path(command: &Command) -> Option<&str>
+    ensures { option_map (λ path. path.now) result ≡ profile_path command.now }
+{
+    match command {
+        Command::Once(asked) => string_of(&asked.profile),
+        Command::Report(asked) => Some(asked.profile.as_str()),
+        Command::Compare(asked) => Some(asked.profile.as_str()),
+        Command::Review(asked) => profile_in(&asked.source),
+        Command::Serve(asked) => string_of(&asked.profile),
+        _ => None,
+    }
+}
+
+fn script_in(question: &Question) -> Option<&str>
+    ensures { option_map (λ path. path.now) result ≡ script_in question.now }
+{
+    match question {
+        Question::Script(path) => Some(path.as_str()),
+        _ => None,
+    }
+}
+
+// A path, unless it means the standard input.
+fn unless_input(path: &str) -> Option<&str>
+    ensures { option_map (λ path. path.now) result ≡ unless_input path.now }
+{
+    if path == "-" { None } else { Some(path) }
+}
+
+/// The path of a command's script.
+pub(crate) fn script_path(command: &Command) -> Option<&str>
+    ensures { option_map (λ path. path.now) result ≡ script_path command.now }
+{
+    match command {
+        Command::Report(asked) => script_in(&asked.question),
+        Command::Review(asked) => string_of(&asked.script),
+        Command::Publish(asked) => unless_input(asked.script.as_str()),
+        _ => None,
+    }
+}
+
+/// The address of a command's server, or nothing.
+pub(crate) fn server_of(command: &Command) -> &str
+    ensures { result.now ≡ server_of command.now }
+{
+    match command {
+        Command::Publish(asked) => asked.to.as_str(),
+        Command::Raise(asked) => asked.to.as_str(),
+        Command::Dump(asked) => asked.to.as_str(),
+        _ => "",
+    }
+}
+
+/// What a command does at an address.
+pub(crate) fn aim_of(command: &Command) -> Aim
+    ensures { result ≡ aim_of command.now }
+{
+    match command {
+        Command::Serve(_) => Aim::Bind,
+        _ => Aim::Connect,
+    }
+}
