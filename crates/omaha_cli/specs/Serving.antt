@@ -3,6 +3,7 @@ use Rattle.std.specs.Prelude.{◌≡◌, ◌⊎◌, ℕ, max, min, List, Option,
 use Rattle.streams.specs.Streams.{Known}
 use Rattle.omaha_arguments.specs.declared.command.Serve.{Serve}
 use Rattle.systems.specs.Edges.{Edges}
+use Rattle.omaha_server.specs.Checks.{IsStockedFor}
 use Rattle.omaha_server.specs.Passages.{Passages}
 use Rattle.omaha_server.specs.Serving.{IsLogged, Serves}
 use Rattle.omaha_server.specs.declared.error.ServerError.{ServerError}
@@ -30,6 +31,7 @@ abbrev pub EndsBy : ServerError → Serve → Result (Unit {0}) Failure → Type
 EndsBy server.Net serve result = (result ≡ Err (failure.Net serve.listen)) ⊎ (result ≡ Err failure.Memory)
 EndsBy server.Log serve result = (named : Failure) × IsUnopened serve.log named × (result ≡ Err named)
 EndsBy server.Folder serve result = (result ≡ Err (failure.File serve.packages)) ⊎ (result ≡ Err failure.Memory)
+EndsBy (server.Package name what) serve result = result ≡ Err (failure.Package name what)
 EndsBy server.OperatorNet serve result = (named : Failure) × IsUnbound serve.operator named × (result ≡ Err named)
 EndsBy server.NoPlace serve result = result ≡ Err failure.NoPlace
 EndsBy server.Thread serve result = result ≡ Err failure.Thread
@@ -55,6 +57,7 @@ pub record IsPlaceOf (serve : Serve) (place : Place) : Type 0 where
   pub idle : place.idle ≡ max serve.idle 1
   pub connections : place.connections ≡ serve.connections
   pub pinned_tables : place.pinned_tables ≡ serve.pinned_tables
+  pub packages_must_exist : place.packages_must_exist ≡ serve.packages_must_exist
 
 -- what a server began with was served at that place to its end, or to an error; what is kept begins with its records
 pub record IsHostedAt (edges : Edges) (begins : Beginning) (serve : Serve) (old new : Known) (result : Result (Unit {0}) Failure) : Type 0 where
@@ -63,6 +66,7 @@ pub record IsHostedAt (edges : Edges) (begins : Beginning) (serve : Serve) (old 
   pub ended : Result Passages ServerError
   pub serves : Serves edges place begins.service (store begins.first begins.records None) old new ended
   pub logged : IsLogged edges place.log ended
+  pub stocked : IsStockedFor edges place begins.service.edition old new ended
   pub ends : EndsAs ended serve result
 
 -- the same, or memory ran out before

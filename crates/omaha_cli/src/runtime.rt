@@ -1,5 +1,6 @@
 // What a run needs of its runtime.
 
+use advice::Looks;
 use package_files::Folders;
 use std::sync::Wait;
 use std::thread::Threads;
@@ -11,6 +12,15 @@ use update_client::Connector;
 ///
 /// Such a caller has this bound and not those that the traits are implemented by, as `Net` and `Files`: the borrow
 /// checker follows a runtime to other threads by its own bounds.
-pub trait Runtime: Disk + Folders + Clock + Connector + AllocGlobal + Threads + Sync + Wait {}
+pub trait Runtime: Disk
+    + Folders
+    + Clock
+    + Connector
+    + Looks
+    + AllocGlobal
+    + Threads
+    + Sync
+    + Wait {}
 
-impl<R: Disk + Folders + Clock + Connector + AllocGlobal + Threads + Sync + Wait> Runtime for R {}
+impl<R: Disk + Folders + Clock + Connector + Looks + AllocGlobal + Threads + Sync + Wait> Runtime
+    for R {}

@@ -56,6 +56,7 @@ fn end_of<A: Drop>(ended: Result<A, ServerError>, asked: &Serve) -> Result<(), F
         Err(ServerError::OperatorNet) => Err(unbound(&asked.operator)),
         Err(ServerError::Log) => Err(unopened(&asked.log)),
         Err(ServerError::Folder) => Err(Failure::File(asked.packages.clone()?)),
+        Err(ServerError::Package(name, lack)) => Err(Failure::Package(name, lack)),
         Err(ServerError::NoPlace) => Err(Failure::NoPlace),
         Err(ServerError::Thread) => Err(Failure::Thread),
         Err(ServerError::Unpublished) => Err(Failure::Unpublished),
@@ -101,6 +102,7 @@ fn place_of(asked: &Serve) -> Result<Place, AllocError>
         idle: asked.idle.max(1),
         connections: asked.connections,
         pinned_tables: asked.pinned_tables,
+        packages_must_exist: asked.packages_must_exist,
     })
 }
 
@@ -109,8 +111,8 @@ fn place_of(asked: &Serve) -> Result<Place, AllocError>
 ///
 /// With a history each script and each raise is kept before it takes effect. Fails, in this order, with the history, the
 /// profile's file, another profile than the history's, the profile's first fault, its first rejected edit, the first record
-/// that doesn't follow, the log, the folder of packages, no place for a worker's view, the address, the operator's
-/// address, the writer, and a thread that can't be started; the writer may also fail after the last session. Replies are
+/// that doesn't follow, the log, the folder of packages, a package that must be there and isn't, no place for a worker's
+/// view, the address, the operator's address, the writer, and a thread that can't be started; the writer may also fail after the last session. Replies are
 /// logged on `errors` if the log is `-`; otherwise it is left as it is.
 pub(crate) fn serve_profile<
     P: Port + Send + Drop,

@@ -1,3 +1,4 @@
 mod DescriptionLemmas
+mod KeepingLemmas
 mod NumberLemmas
 mod ReviewLemmas

@@ -4,7 +4,8 @@ use Rattle.catalogue.specs.declared.edit.Edit.{Edit}
 use Rattle.catalogue_laws.specs.Histories.{History}
 use Rattle.editions.specs.Editions.{Continues}
 use Rattle.editions.specs.declared.fault.NextError.{NextError}
-use Rattle.omaha_commands.specs.Reviewing.{Script, failure_of_next}
+use Rattle.omaha_commands.specs.Reviewing.{failure_of_next}
+use Rattle.omaha_commands.specs.ScriptFiles.{Script}
 use Rattle.omaha_commands.specs.declared.failure.Failure.{Failure}
 use Rattle.omaha_commands.specs.declared.failure.Failure.TheVariants as failure
 

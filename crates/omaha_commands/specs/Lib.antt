@@ -6,11 +6,16 @@ pub mod Explaining
 pub mod Failures
 pub mod HistoryFaults
 pub mod Judging
+pub mod Keeping
 pub mod Operating
+pub mod Posting
 pub mod Profiles
 pub mod Rejections
 pub mod Reports
 pub mod Reviewing
+pub mod ScriptFiles
 pub mod Scripting
+pub mod ShownReplies
+pub mod Stocking
 pub mod Streams
 pub mod Walking

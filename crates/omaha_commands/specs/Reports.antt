@@ -17,7 +17,7 @@ use Rattle.values.specs.declared.read_error.ReadError.{ReadError}
 use Rattle.omaha_commands.specs.Applying.{Applies}
 use Rattle.omaha_commands.specs.Profiles.{Files, IsServed, IsUnreadable, max_profile}
 use Rattle.omaha_commands.specs.Rejections.{failure_of_certificate}
-use Rattle.omaha_commands.specs.Reviewing.{IsScriptOf, Script as Written}
+use Rattle.omaha_commands.specs.ScriptFiles.{IsScriptOf, Script as Written}
 use Rattle.omaha_commands.specs.Streams.{Streams}
 use Rattle.omaha_arguments.specs.declared.command.Question.{Question}
 use Rattle.omaha_arguments.specs.declared.command.Question.TheVariants.{Check, Warn, Script, Certify, Verify}

@@ -2,7 +2,6 @@
 use Rattle.std.specs.Prelude.{◌≡◌, ◌≢◌, ◌⊎◌, ⊤, ℕ, ◌-◌, ◌^◌, ◌==◌, ◌&&◌, Bool, true, false, bytes_eq, if◌then◌else◌, codes, decimal, List, ◌++◌, nat_lt, length, Option, Some, None, Result, Ok, Err}
 use Rattle.std.specs.Option.{option_map}
 use Rattle.std.specs.Io.KnownBytes.{Appends}
-use Rattle.streams.specs.Reading.{IsLonger, IsWhole}
 use Rattle.streams.specs.Writing.{Breaks}
 use Rattle.records.specs.declared.content.App.{App}
 use Rattle.catalogue.specs.declared.edit.Edit.{Edit}
@@ -11,7 +10,6 @@ use Rattle.editions.specs.Editions.{Continues, content_of}
 use Rattle.editions.specs.declared.fault.NextError.{NextError}
 use Rattle.editions.specs.declared.fault.NextError.TheVariants as next
 use Rattle.services.specs.declared.service.Service.{Service}
-use Rattle.profile_toml.specs.Reading.{script_of_bytes}
 use Rattle.reviews.specs.ChangeLines.{change_string, newly_stuck_total}
 use Rattle.reviews.specs.ChangeObjects.{change_objects}
 use Rattle.reviews.specs.Changes.{changes_of}
@@ -26,16 +24,13 @@ use Rattle.omaha_arguments.specs.declared.command.Source.TheVariants.{Profile, S
 use Rattle.update_client.specs.declared.posting.Reply.{Reply}
 use Rattle.omaha_commands.specs.Operating.{Listeners}
 use Rattle.omaha_commands.specs.Profiles.{Files, IsMade, IsServed, service_of_bytes}
+use Rattle.omaha_commands.specs.ScriptFiles.{IsScriptRead, Script}
 use Rattle.omaha_commands.specs.Streams.{Streams}
 use Rattle.omaha_commands.specs.declared.failure.Failure.{Failure}
 use Rattle.omaha_commands.specs.declared.failure.Failure.TheVariants as failure
 use Rattle.omaha_commands.specs.declared.reviewing.Findings.{Findings}
 use Rattle.omaha_commands.specs.declared.reviewing.Verdict.{Verdict}
 use Rattle.omaha_commands.specs.declared.reviewing.Verdict.TheVariants.{StuckReleases, Declined}
-
--- how many bytes a script may have
-abbrev pub max_script : ℕ
-max_script = 262144
 
 -- how many stuck releases of a track are printed: 40, or all
 abbrev pub limit_of : Review → ℕ
@@ -74,10 +69,6 @@ abbrev pub failure_of_next : NextError → Failure
 failure_of_next (next.Refused refused) = failure.Edit refused
 failure_of_next next.HistoryFull = failure.HistoryFull
 failure_of_next next.Memory = failure.Memory
-
--- a script: the number of the edition that it is written for, and its edits
-abbrev pub Script : Type 0
-Script = ℕ × List Edit
 
 -- what is found of a change, unless memory runs out
 abbrev pub FindsNext : Review → History → History → Result Findings Failure → Type 0
@@ -123,7 +114,7 @@ IsUnanswered to found = (found ≡ Err (failure.Net to)) ⊎ (found ≡ Err fail
 
 -- another reply than the one that is asked for is printed, and the review fails
 abbrev pub IsDeclined : Reply → Result Findings Failure → Type 0
-IsDeclined reply found = found ≡ Ok (record { text = reply.body; verdict = Declined })
+IsDeclined reply found = found ≡ Ok (record { text = reply.body; verdict = Declined reply.status })
 
 -- a script as if it were written for an edition
 abbrev pub based_on : History → Option Script → Option Script
@@ -188,30 +179,6 @@ abbrev pub FindsIn : Files → Listeners → Review → Source → Option Script
 FindsIn files listeners asked (Profile path) script found = FindsInProfile files path asked script found
 FindsIn files listeners asked (Server to) script found = FindsOnServer listeners to asked script found
 
--- why bytes aren't read as a script
-abbrev pub IsUnreadScript : List ℕ → Failure → Type 0
-IsUnreadScript bytes (failure.Script fault) = script_of_bytes bytes ≡ Err fault
-IsUnreadScript bytes failure.Memory = ⊤
-IsUnreadScript bytes refusal = ⊥
-
--- the script of a file; its first fault; or the file can't be read, or has too many bytes
-abbrev pub IsScriptOf : Files → List ℕ → Result Script Failure → Type 0
-IsScriptOf files path (Ok script) =
-    (bytes : List ℕ) × IsWhole (files path) max_script bytes × (script_of_bytes bytes ≡ Ok script)
-IsScriptOf files path (Err (failure.Script fault)) =
-    (bytes : List ℕ) × IsWhole (files path) max_script bytes × (script_of_bytes bytes ≡ Err fault)
-IsScriptOf files path (Err (failure.File named)) =
-    (named ≡ path) × (((files path).failed ≡ true) ⊎ IsLonger (files path) max_script)
-IsScriptOf files path (Err failure.Memory) = ⊤
-IsScriptOf files path (Err refusal) = ⊥
-
--- the script of a review, if it has one
-abbrev pub IsScriptRead : Files → Option (List ℕ) → Result (Option Script) Failure → Type 0
-IsScriptRead files None read = read ≡ Ok None
-IsScriptRead files (Some path) (Ok None) = ⊥
-IsScriptRead files (Some path) (Ok (Some script)) = IsScriptOf files path (Ok script)
-IsScriptRead files (Some path) (Err refusal) = IsScriptOf files path (Err refusal)
-
 -- what follows from the script that was read
 abbrev pub FindsWith : Files → Listeners → Review → Result (Option Script) Failure → Result Findings Failure → Type 0
 FindsWith files listeners asked (Ok script) found = FindsIn files listeners asked asked.source script found
@@ -223,16 +190,20 @@ pub record FindsReview (files : Files) (listeners : Listeners) (asked : Review) 
   pub script : IsScriptRead files asked.script read
   pub follows : FindsWith files listeners asked read found
 
+-- how the command ends that printed what it found, by its verdict
+abbrev pub end_by : Review → Findings → Verdict → Result (Unit {0}) Failure
+end_by asked found (StuckReleases stuck) = if asked.strict && nat_lt 0 stuck then Err (failure.Stuck stuck) else Ok tt
+end_by asked found (Declined status) = Err (failure.Declined (record { status = status; body = found.text }))
+
 -- rule: Strict review
 -- how the command ends that printed what it found
-abbrev pub end_of : Review → Verdict → Result (Unit {0}) Failure
-end_of asked (StuckReleases stuck) = if asked.strict && nat_lt 0 stuck then Err (failure.Stuck stuck) else Ok tt
-end_of asked Declined = Err failure.Declined
+abbrev pub end_of : Review → Findings → Result (Unit {0}) Failure
+end_of asked found = end_by asked found found.verdict
 
 -- what was found is printed, and the command ends by it; or the writer failed within it; or nothing is printed
 abbrev pub PrintsReview : Review → Result Findings Failure → Streams → Streams → Result (Unit {0}) Failure → Type 0
 PrintsReview asked (Ok findings) old new result =
-    (((result ≡ end_of asked findings.verdict) × Appends old.output.bytes new.output.bytes findings.text.items)
+    (((result ≡ end_of asked findings) × Appends old.output.bytes new.output.bytes findings.text.items)
     ⊎ ((result ≡ Err failure.Write) × Breaks old.output new.output findings.text.items))
     × (new.input ≡ old.input)
 PrintsReview asked (Err refusal) old new result = (result ≡ Err refusal) × (new ≡ old)

@@ -63,7 +63,8 @@ Replies service moment old new (Err (failure.Certificate error)) = ⊥
 Replies service moment old new (Err (failure.Code code)) = ⊥
 Replies service moment old new (Err (failure.Net address)) = ⊥
 Replies service moment old new (Err (failure.Walk fault)) = ⊥
-Replies service moment old new (Err failure.Declined) = ⊥
+Replies service moment old new (Err (failure.Declined reply)) = ⊥
+Replies service moment old new (Err (failure.Package name what)) = ⊥
 Replies service moment old new (Err (failure.History path fault)) = ⊥
 
 -- what follows from what was made of the profile: the service replies; without one nothing is read
