@@ -11,9 +11,8 @@ use Rattle.clap.specs.declared.parser.matches.ArgMatches.{ArgMatches}
 use Rattle.clap.specs.declared.parser.matches.ArgMatches.TheViews.{out-ArgMatches, out-SubCommand}
 use Rattle.clap.specs.declared.parser.matches.SubCommand.{SubCommand}
 use Rattle.clap.specs.declared.error.Error.{Error}
-use Rattle.omaha_arguments.specs.Commands.{command_in, command_of, faults_in, faults_of, omaha_app, plain_once}
-use Rattle.omaha_arguments.specs.declared.command.Command.{Command}
-use Rattle.omaha_arguments.specs.declared.command.Command.TheVariants.{Once}
+use Rattle.omaha_arguments.specs.Commands.{faults_in, faults_of, invocation_in, invocation_of, omaha_app, plain_invocation}
+use Rattle.omaha_arguments.specs.declared.command.Invocation.{Invocation}
 
 -- the third of three tests that are true says no to its question
 pub third_denies : (first second asked others : Bool) → (first && (second && (not asked && others))) ≡ true → asked ≡ false
@@ -35,13 +34,13 @@ has_first [] next error (inl memory) = inl memory
 has_first [] next error (inr among) = elim among [ ]
 has_first (kind ∷ kinds) next error has = has
 
-fails_first : (words : List Text) (result : Result Command Error) (error : Error) → HasKind (fault_of omaha_app words) error → IsErrAnd result (λ told. told ≡ error) → FailsBy (faults_of words) result
-fails_first words (Ok command) error has same = elim same [ ]
+fails_first : (words : List Text) (result : Result Invocation Error) (error : Error) → HasKind (fault_of omaha_app words) error → IsErrAnd result (λ told. told ≡ error) → FailsBy (faults_of words) result
+fails_first words (Ok asked) error has same = elim same [ ]
 fails_first words (Err told) error has same =
     subst (λ (e : Error). HasKind (faults_of words) e) (sym same) (has_first (fault_of omaha_app words) _ error has)
 
 -- what `clap` finds wrong with the arguments is wrong with them
-pub fails_by_clap : (app : App) (words : List Text) (result : Result Command Error) (error : Error) → app ≡ omaha_app → (is_simple_and_free app ≡ true → HasKind (fault_of app words) error) → IsErrAnd result (λ told. told ≡ error) → FailsBy (faults_of words) result
+pub fails_by_clap : (app : App) (words : List Text) (result : Result Invocation Error) (error : Error) → app ≡ omaha_app → (is_simple_and_free app ≡ true → HasKind (fault_of app words) error) → IsErrAnd result (λ told. told ≡ error) → FailsBy (faults_of words) result
 fails_by_clap app words result error is has same =
     fails_first words result error
     (subst (λ (a : App). is_simple_and_free a ≡ true → HasKind (fault_of a words) error) is has omaha_app-is_simple_and_free)
@@ -52,7 +51,7 @@ options_of name options None some = cc
 options_of name options (Some found) some = ap (λ (o : Option (Text × List Row)). option_map_or (λ named. faults_in named.0 named.1) o []) some
 
 -- if `clap` finds nothing wrong, what is wrong with the options of a command is wrong with the arguments
-pub fails_by_options : (app : App) (words : List Text) (name : Text) (options : List Row) (result : Result Command Error) (found : Option (Text × List Row)) → app ≡ omaha_app → (is_simple_and_free app ≡ true → fault_of app words ≡ []) → (is_simple app ≡ true → found ≡ subcommand_of app words) → found ≡ Some (name, options) → FailsBy (faults_in name options) result → FailsBy (faults_of words) result
+pub fails_by_options : (app : App) (words : List Text) (name : Text) (options : List Row) (result : Result Invocation Error) (found : Option (Text × List Row)) → app ≡ omaha_app → (is_simple_and_free app ≡ true → fault_of app words ≡ []) → (is_simple app ≡ true → found ≡ subcommand_of app words) → found ≡ Some (name, options) → FailsBy (faults_in name options) result → FailsBy (faults_of words) result
 fails_by_options app words name options result found is none names named fails =
     let nothing : fault_of omaha_app words ≡ [] =
     subst (λ (a : App). is_simple_and_free a ≡ true → fault_of a words ≡ []) is none omaha_app-is_simple_and_free in
@@ -76,20 +75,20 @@ no_faults app words found is none names without =
     ap₂ or_else nothing (ap (λ (o : Option (Text × List Row)). option_map_or (λ named. faults_in named.0 named.1) o []) met)
 
 -- if there is no command, the arguments ask for what `once` without options asks for
-pub without_command : (app : App) (words : List Text) (found : Option (Text × List Row)) → app ≡ omaha_app → (is_simple app ≡ true → found ≡ subcommand_of app words) → None ≡ option_map (λ named. named.0) found → Once plain_once ≡ command_of words
+pub without_command : (app : App) (words : List Text) (found : Option (Text × List Row)) → app ≡ omaha_app → (is_simple app ≡ true → found ≡ subcommand_of app words) → None ≡ option_map (λ named. named.0) found → plain_invocation ≡ invocation_of words
 without_command app words found is names without =
     let entered : found ≡ subcommand_of omaha_app words =
     subst (λ (a : App). is_simple a ≡ true → found ≡ subcommand_of a words) is names omaha_app-is_simple in
     let met : subcommand_of omaha_app words ≡ None = sym entered ∙ no_command found without in
-    sym (ap (λ (o : Option (Text × List Row)). option_map_or (λ named. command_in named.0 named.1) o (Once plain_once)) met)
+    sym (ap (λ (o : Option (Text × List Row)). option_map_or (λ named. invocation_in named.0 named.1) o plain_invocation) met)
 
 -- if `clap` found a command, what the arguments ask for is what its options ask for
-pub command_by_options : (app : App) (words : List Text) (name : Text) (options : List Row) (result : Result Command Error) (found : Option (Text × List Row)) → app ≡ omaha_app → (is_simple app ≡ true → found ≡ subcommand_of app words) → found ≡ Some (name, options) → IfOk result (λ command. command ≡ command_in name options) → IfOk result (λ command. command ≡ command_of words)
-command_by_options app words name options result found is names named same =
+pub invocation_by_options : (app : App) (words : List Text) (name : Text) (options : List Row) (result : Result Invocation Error) (found : Option (Text × List Row)) → app ≡ omaha_app → (is_simple app ≡ true → found ≡ subcommand_of app words) → found ≡ Some (name, options) → IfOk result (λ asked. asked ≡ invocation_in name options) → IfOk result (λ asked. asked ≡ invocation_of words)
+invocation_by_options app words name options result found is names named same =
     let entered : found ≡ subcommand_of omaha_app words =
     subst (λ (a : App). is_simple a ≡ true → found ≡ subcommand_of a words) is names omaha_app-is_simple in
     let met = sym entered ∙ named in
-    subst (λ (o : Option (Text × List Row)). IfOk result (λ command. command ≡ option_map_or (λ found. command_in found.0 found.1) o (Once plain_once)))
+    subst (λ (o : Option (Text × List Row)). IfOk result (λ asked. asked ≡ option_map_or (λ found. invocation_in found.0 found.1) o plain_invocation))
     (sym met) same
 
 -- a command's name and its options, as they are kept apart, are those that it was found with

@@ -1,5 +1,5 @@
 -- What the arguments of the command line ask for, as `clap` reads them; this project's profile.
-use Rattle.std.specs.Prelude.{ℕ, true, List, [], ◌∷◌, codes, if◌then◌else◌, Option, None, unwrap_or}
+use Rattle.std.specs.Prelude.{ℕ, Bool, true, false, List, [], ◌∷◌, codes, if◌then◌else◌, Option, None, unwrap_or}
 use Rattle.std.specs.Option.{option_map_or}
 use Rattle.std.specs.Str.{bytes_eq}
 use Rattle.clap.specs.Kinds.{or_else}
@@ -7,8 +7,8 @@ use Rattle.clap.specs.Simple.{on_top}
 use Rattle.clap.specs.Words.{App, Kinds, Row, Text, fault_of, first_of, new_app, subcommand_of, with_rule, with_subcommand}
 use Rattle.clap.specs.declared.error.kind.ErrorKind.TheVariants.{ValueValidation}
 use Rattle.omaha_arguments.specs.HistoryArguments.{asked_in, faults_of_history, history_app}
-use Rattle.omaha_arguments.specs.OperatorArguments.{dump_app, dump_in, publication_in, publish_app, raise_app, raise_in}
-use Rattle.omaha_arguments.specs.Options.{number_in, option_named, strings_in, workers_in}
+use Rattle.omaha_arguments.specs.OperatorArguments.{dump_app, dump_in, faults_of_timeout, publication_in, publish_app, raise_app, raise_in}
+use Rattle.omaha_arguments.specs.Options.{flag_in, number_in, option_named, strings_in, with_verbose, workers_in}
 use Rattle.omaha_arguments.specs.ReportArguments.{certify_app, check_app, comparison_in, describe_app, explain_app, faults_of_check, faults_of_report, report_in, verify_app}
 use Rattle.omaha_arguments.specs.ReviewArguments.{faults_of_review, review_app, review_in}
 use Rattle.omaha_arguments.specs.ScriptArguments.{faults_of_script, script_app, script_in}
@@ -16,6 +16,7 @@ use Rattle.omaha_arguments.specs.ServeArguments.{faults_of_serve, serve_app, ser
 use Rattle.omaha_arguments.specs.WalkArguments.{faults_of_walk, walk_app, walk_in}
 use Rattle.omaha_arguments.specs.declared.command.Command.{Command}
 use Rattle.omaha_arguments.specs.declared.command.Command.TheVariants as command
+use Rattle.omaha_arguments.specs.declared.command.Invocation.{Invocation}
 use Rattle.omaha_arguments.specs.declared.command.Once.{Once}
 use Rattle.omaha_arguments.specs.declared.command_line.Name.{Name}
 use Rattle.omaha_arguments.specs.declared.command_line.Name.TheVariants as kind
@@ -30,32 +31,36 @@ once_app =
 abbrev pub plain_app : App
 plain_app = on_top (λ top. record top { no_binary_name = true; has_version = true }) (new_app (codes "omaha"))
 
+-- a program with one more command, which has `--verbose` too
+abbrev pub with_own : App → App → App
+with_own app own = with_subcommand app (with_verbose own).top
+
 -- the program's commands
 abbrev pub omaha_app : App
 omaha_app =
-    with_subcommand
-    (with_subcommand
-    (with_subcommand
-    (with_subcommand
-    (with_subcommand
-    (with_subcommand
-    (with_subcommand
-    (with_subcommand
-    (with_subcommand
-    (with_subcommand
-    (with_subcommand
-    (with_subcommand (with_subcommand (with_subcommand plain_app serve_app.top) publish_app.top) script_app.top)
-    raise_app.top)
-    dump_app.top)
-    history_app.top)
-    check_app.top)
-    review_app.top)
-    walk_app.top)
-    describe_app.top)
-    certify_app.top)
-    verify_app.top)
-    explain_app.top)
-    once_app.top
+    with_own
+    (with_own
+    (with_own
+    (with_own
+    (with_own
+    (with_own
+    (with_own
+    (with_own
+    (with_own
+    (with_own
+    (with_own
+    (with_own (with_own (with_own plain_app serve_app) publish_app) script_app)
+    raise_app)
+    dump_app)
+    history_app)
+    check_app)
+    review_app)
+    walk_app)
+    describe_app)
+    certify_app)
+    verify_app)
+    explain_app)
+    once_app
 
 -- the number of `--moment`, or 0 without the option; none if it is no number
 abbrev pub timestamp_in : List Row → Option ℕ
@@ -124,10 +129,10 @@ command_named kind.Other name options = command.Report (report_in name 1 options
 abbrev pub faults_named : Name → List ℕ → List Row → Kinds
 faults_named kind.Once name options = faults_of_once options
 faults_named kind.Serve name options = faults_of_serve options
-faults_named kind.Publish name options = []
+faults_named kind.Publish name options = faults_of_timeout options
 faults_named kind.Script name options = faults_of_script options
-faults_named kind.Raise name options = []
-faults_named kind.Dump name options = []
+faults_named kind.Raise name options = faults_of_timeout options
+faults_named kind.Dump name options = faults_of_timeout options
 faults_named kind.History name options = faults_of_history options
 faults_named kind.Explain name options = []
 faults_named kind.Walk name options = faults_of_walk options
@@ -144,11 +149,26 @@ command_in name options = command_named (name_of name) name options
 abbrev pub faults_in : List ℕ → List Row → Kinds
 faults_in name options = faults_named (name_of name) name options
 
+-- what the command of a name is asked to do, and whether it says more
+abbrev pub invocation_in : List ℕ → List Row → Invocation
+invocation_in name options = record { command = command_in name options; verbose = flag_in (codes "verbose") options }
+
+-- without a command
+abbrev pub plain_invocation : Invocation
+plain_invocation = record { command = command.Once plain_once; verbose = false }
+
 -- rule: Arguments of the command line
 -- what the arguments ask for
+abbrev pub invocation_of : List Text → Invocation
+invocation_of words =
+    option_map_or (λ named. invocation_in named.0 named.1) (subcommand_of omaha_app words) plain_invocation
+
+-- what they ask to do, and whether `--verbose` is given
 abbrev pub command_of : List Text → Command
-command_of words =
-    option_map_or (λ named. command_in named.0 named.1) (subcommand_of omaha_app words) (command.Once plain_once)
+command_of words = (invocation_of words).command
+
+abbrev pub verbose_of : List Text → Bool
+verbose_of words = (invocation_of words).verbose
 
 -- what is wrong with the arguments, or the help or version that they ask for: what `clap` finds, else
 -- what is wrong with the options

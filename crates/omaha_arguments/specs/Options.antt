@@ -1,5 +1,5 @@
 -- The options and arguments of a command, and what their values say; this project's profile.
-use Rattle.std.specs.Prelude.{ℕ, ◌≡◌, ◌^◌, ◌==◌, ◌&&◌, Bool, true, List, [], codes, length, nat_lt, slice_index, if◌then◌else◌, Option, Some, None, unwrap_or, IfOk, Result}
+use Rattle.std.specs.Prelude.{ℕ, ◌≡◌, ◌^◌, ◌==◌, ◌&&◌, Bool, true, List, [], codes, length, nat_le, nat_lt, slice_index, if◌then◌else◌, Option, Some, None, unwrap_or, IfOk, Result}
 use Rattle.std.specs.List.{fold}
 use Rattle.std.specs.Option.{option_map_or}
 use Rattle.std.specs.Str.{all_ascii_digits}
@@ -51,6 +51,10 @@ rule_in (entry.WantedOption name value help) = wanted_option name.now
 rule_in (entry.PlainOption name value help) = option_named name.now
 rule_in (entry.Flag name help) = flag_named name.now
 
+-- a command with `--verbose`
+abbrev pub with_verbose : App → App
+with_verbose app = with_rule app (flag_named (codes "verbose"))
+
 -- a command with some more arguments
 abbrev pub with_entries : App → List Entry → App
 with_entries app entries = fold (λ a one. with_rule a (rule_in one)) app entries
@@ -84,15 +88,19 @@ number_of text = if is_number text then Some (digits_value 10 text) else None
 abbrev pub number_in : List ℕ → ℕ → List Row → Option ℕ
 number_in name default options = option_map_or number_of (first_of name options) (Some default)
 
--- there are 1 to 8 workers
-abbrev pub is_number_of_workers : ℕ → Bool
-is_number_of_workers workers = nat_lt 0 workers && nat_lt workers 9
+-- the number, if it is from 1 to that one
+abbrev pub number_up_to : ℕ → ℕ → Option ℕ
+number_up_to most number = if nat_lt 0 number && nat_le number most then Some number else None
 
--- the number, if so many workers there may be
-abbrev pub workers_of : ℕ → Option ℕ
-workers_of workers = if is_number_of_workers workers then Some workers else None
+-- the number of an option, or a default without the option, if it is from 1 to that one
+abbrev pub number_within : List ℕ → ℕ → ℕ → List Row → Option ℕ
+number_within name default most options = option_map_or (number_up_to most) (number_in name default options) None
 
 -- rule: Number of workers
--- how many workers `--workers` says, 1 without the option
+-- how many workers `--workers` says, 1 without the option; there are at most 8
 abbrev pub workers_in : List Row → Option ℕ
-workers_in options = option_map_or workers_of (number_in (codes "workers") 1 options) None
+workers_in options = number_within (codes "workers") 1 8 options
+
+-- the seconds of an option, 1 to 86400, or so many without it
+abbrev pub seconds_in : List ℕ → ℕ → List Row → Option ℕ
+seconds_in name default options = number_within name default 86400 options

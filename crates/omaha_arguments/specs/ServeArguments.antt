@@ -4,7 +4,7 @@ use Rattle.std.specs.List.{after_first, before_first, starts_with}
 use Rattle.std.specs.Option.{option_map, option_map_or}
 use Rattle.clap.specs.Words.{App, Kinds, Row, first_of, new_app, with_rule}
 use Rattle.clap.specs.declared.error.kind.ErrorKind.TheVariants.{MissingRequiredArgument, ValueValidation}
-use Rattle.omaha_arguments.specs.Options.{flag_in, flag_named, number_in, number_of, option_named, string_in, wanted_option, workers_in}
+use Rattle.omaha_arguments.specs.Options.{flag_in, flag_named, number_in, number_of, number_within, option_named, seconds_in, string_in, wanted_option, workers_in}
 use Rattle.omaha_arguments.specs.declared.command.Serve.{Serve}
 use Rattle.omaha_arguments.specs.declared.serve_arguments.Bounds.{Bounds}
 use Rattle.omaha_arguments.specs.declared.serve_arguments.Counts.{Counts}
@@ -19,9 +19,11 @@ with_places app =
     (with_rule
     (with_rule
     (with_rule
+    (with_rule
     (with_rule (with_rule app (option_named (codes "profile"))) (option_named (codes "history")))
     (option_named (codes "history-limit")))
     (wanted_option (codes "packages")))
+    (flag_named (codes "packages-must-exist")))
     (wanted_option (codes "listen")))
     (option_named (codes "operator")))
     (flag_named (codes "operator-anywhere"))
@@ -43,7 +45,7 @@ with_limits app =
     (option_named (codes "pinned-tables")))
     (option_named (codes "log"))
 
--- the command `serve`, with its fifteen options and flags
+-- the command `serve`, with its sixteen options and flags
 abbrev pub serve_app : App
 serve_app = with_limits (with_places (new_app (codes "serve")))
 
@@ -55,25 +57,9 @@ limit_of text = option_map Some (number_of text)
 abbrev pub limit_in : List ℕ → List Row → Option (Option ℕ)
 limit_in name options = option_map_or limit_of (first_of name options) (Some None)
 
--- a time limit has 1 to 86400 seconds
-abbrev pub is_limit : ℕ → Bool
-is_limit seconds = nat_lt 0 seconds && nat_lt seconds 86401
-
--- the number, if it is a time limit
-abbrev pub seconds_of : ℕ → Option ℕ
-seconds_of seconds = if is_limit seconds then Some seconds else None
-
--- the seconds of an option, or so many without it
-abbrev pub seconds_in : List ℕ → ℕ → List Row → Option ℕ
-seconds_in name default options = option_map_or seconds_of (number_in name default options) None
-
--- the number, if it is one of connections: 1 to 1048576
-abbrev pub connections_of : ℕ → Option ℕ
-connections_of count = if nat_lt 0 count && nat_lt count 1048577 then Some count else None
-
--- the number of `--connections`, 16384 without the option
+-- the number of `--connections`, 1 to 1048576, 16384 without the option
 abbrev pub connections_in : List Row → Option ℕ
-connections_in options = option_map_or connections_of (number_in (codes "connections") 16384 options) None
+connections_in options = number_within (codes "connections") 16384 1048576 options
 
 -- the numbers of workers and sessions, and the time limit of a message, are valid
 unfoldable pub has_counts : List Row → Bool
@@ -142,6 +128,7 @@ serve_with counts bounds options =
       history = first_of (codes "history") options;
       history_limit = bounds.history_limit;
       packages = string_in (codes "packages") options;
+      packages_must_exist = flag_in (codes "packages-must-exist") options;
       listen = string_in (codes "listen") options;
       operator = first_of (codes "operator") options;
       workers = counts.workers;

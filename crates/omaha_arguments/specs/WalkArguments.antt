@@ -3,6 +3,7 @@ use Rattle.std.specs.Prelude.{ℕ, ⊤, ◌&&◌, Bool, if◌then◌else◌, Lis
 use Rattle.clap.specs.Words.{App, Kinds, Row, new_app, with_rule}
 use Rattle.clap.specs.declared.error.kind.ErrorKind.TheVariants.{ValueValidation}
 use Rattle.omaha_json_client.specs.RequestWriting.{IsAppid}
+use Rattle.omaha_arguments.specs.OperatorArguments.{faults_of_timeout, seconds_of_timeout}
 use Rattle.omaha_arguments.specs.Options.{flag_in, flag_named, option_named, string_in, wanted_option}
 use Rattle.omaha_arguments.specs.declared.command.Command.{Command}
 use Rattle.omaha_arguments.specs.declared.command.Command.TheVariants as command
@@ -10,10 +11,11 @@ use Rattle.omaha_arguments.specs.declared.command.Walk.{Walk}
 use Rattle.omaha_arguments.specs.declared.walk_arguments.Asked.{Asked}
 use Rattle.omaha_arguments.specs.declared.walk_arguments.Client.{Client}
 
--- the command `walk`, with its eight options
+-- the command `walk`, with its nine options
 abbrev pub walk_app : App
 walk_app =
     with_rule
+    (with_rule
     (with_rule
     (with_rule
     (with_rule
@@ -25,7 +27,8 @@ walk_app =
     (option_named (codes "cohort")))
     (option_named (codes "session")))
     (option_named (codes "prefix")))
-    (flag_named (codes "rollback"))
+    (flag_named (codes "rollback")))
+    (option_named (codes "timeout"))
 
 -- the server that is asked, for which app and in which session
 abbrev pub asked_in : List Row → Asked
@@ -46,10 +49,9 @@ client_in options =
       prefix = string_in (codes "prefix") options;
     }
 
--- rule: Options of a walk
--- what the options of `walk` ask for
-abbrev pub walk_in : List Row → Walk
-walk_in options =
+-- what the options of `walk` ask for, within a time
+abbrev pub walk_with : ℕ → List Row → Walk
+walk_with timeout options =
     record {
       to = string_in (codes "to") options;
       app = string_in (codes "app") options;
@@ -59,7 +61,13 @@ walk_in options =
       session = string_in (codes "session") options;
       prefix = string_in (codes "prefix") options;
       rollback = flag_in (codes "rollback") options;
+      timeout = timeout;
     }
+
+-- rule: Options of a walk
+-- what the options of `walk` ask for
+abbrev pub walk_in : List Row → Walk
+walk_in options = walk_with (seconds_of_timeout options) options
 
 -- an identifier has 1 to 256 bytes
 abbrev pub is_appid : List ℕ → Bool
@@ -67,7 +75,8 @@ is_appid app = nat_lt 0 (length app) && nat_lt (length app) 257
 
 -- what is wrong with the options of `walk`
 abbrev pub faults_of_walk : List Row → Kinds
-faults_of_walk options = if is_appid (string_in (codes "app") options) then [] else ValueValidation ∷ []
+faults_of_walk options =
+    if is_appid (string_in (codes "app") options) then faults_of_timeout options else ValueValidation ∷ []
 
 -- the app of a walk has an identifier that a client can ask with
 abbrev pub IsAskable : Command → Type 0

@@ -3,6 +3,15 @@
 use cohorts::TrackNames;
 use values::{Items, Text};
 
+/// What the arguments ask for.
+#[derive(Drop)]
+pub struct Invocation {
+    /// What to do.
+    pub command: Command,
+    /// Whether `--verbose` is given: standard error then says more.
+    pub verbose: bool,
+}
+
 /// What a run of the program is asked to do.
 #[derive(Drop)]
 pub enum Command {
@@ -74,6 +83,8 @@ pub struct Serve {
     pub history_limit: u64,
     /// The path of the folder of packages.
     pub packages: Text,
+    /// Whether a release is published only if its packages are in the folder.
+    pub packages_must_exist: bool,
     /// The address to listen on.
     pub listen: Text,
     /// The address to listen on for the operator, or `None` for no operator.
@@ -105,6 +116,10 @@ pub struct Publication {
     pub script: Text,
     /// Whether the script is only checked, and not published.
     pub check: bool,
+    /// The path of the folder that has to have what the script adds, or `None` to look for nothing.
+    pub packages: Option<Text>,
+    /// How many seconds the whole exchange may take: 1 to 86400.
+    pub timeout: u64,
 }
 
 /// What the command `dump` is asked to do.
@@ -112,8 +127,8 @@ pub struct Publication {
 pub struct DumpAsked {
     /// The operator's listener, as `HOST:PORT`.
     pub to: Text,
-    /// Whether the number of the server's edition is printed on standard error.
-    pub verbose: bool,
+    /// How many seconds the whole exchange may take: 1 to 86400.
+    pub timeout: u64,
 }
 
 /// Which edition a script is written for.
@@ -143,6 +158,8 @@ pub struct Raise {
     pub name: Text,
     /// The budget in bytes, as it was given.
     pub budget: Text,
+    /// How many seconds the whole exchange may take: 1 to 86400.
+    pub timeout: u64,
 }
 
 /// What the command `check` is asked to do with a folder of packages.
@@ -199,6 +216,8 @@ pub struct Walk {
     pub prefix: Text,
     /// Whether a downgrade is allowed.
     pub rollback: bool,
+    /// How many seconds a whole update check may take, and 64 KiB of a download: 1 to 86400.
+    pub timeout: u64,
 }
 
 /// What is asked about a profile.

@@ -2,20 +2,20 @@
 
 ghost use Rattle.std.specs.Prelude.{◌≡◌, [], true, IfErr, IfOk, map, string_bytes};
 ghost use Rattle.clap.specs.Words.{App, FailsBy, app_of, found_of, rows_of, with_subcommand};
-ghost use Rattle.omaha_arguments.specs.Commands.{check_in, command_in, command_of, faults_in, faults_of, name_of, omaha_app, other_name_of, plain_app};
+ghost use Rattle.omaha_arguments.specs.Commands.{check_in, command_in, faults_in, faults_of, invocation_in, invocation_of, name_of, omaha_app, other_name_of, plain_app};
 ghost use Rattle.omaha_arguments.specs.Errors.{IsWhy};
-ghost use Rattle.omaha_arguments.specs.Options.{IsMade};
+ghost use Rattle.omaha_arguments.specs.Options.{IsMade, with_verbose};
 ghost use Rattle.omaha_arguments.specs.ReportArguments.{faults_of_check};
 ghost use Rattle.omaha_arguments.specs.WalkArguments.{IsAskable};
 
-use crate::command::{Command, Once};
+use crate::command::{Command, Invocation, Once};
 use crate::error::{ArgumentError, argument_error};
 use crate::history_arguments::{history_command, read_history};
 use crate::once_arguments::{once_command, read_once};
 use crate::operator_arguments::{
     dump_command, publish_command, raise_command, read_dump, read_publication, read_raise,
 };
-use crate::options::Making;
+use crate::options::{Making, flag_in, with_verbose};
 use crate::report_arguments::{
     certify_command, check_command, describe_command, explain_command, read_code, read_comparison,
     read_paths, read_report, read_workers, verify_command,
@@ -59,12 +59,12 @@ fn with_made<'a>(program: Making<'a>, command: clap::Command<'a>) -> Making<'a>
     }
 }
 
-// The program with one more command.
-fn with_command<'a>(program: Making<'a>, command: Making<'a>) -> Making<'a>
-    ensures { (app own : App) → own.top.is_plain ≡ true → IsMade app program.entry → IsMade own command.entry →
-        IsMade (with_subcommand app own.top) result }
+// The program with one more command, which has `--verbose` too.
+fn with_command<'a>(alloc: Global, program: Making<'a>, command: Making<'a>) -> Making<'a>
+    ensures { (app own : App) → (with_verbose own).top.is_plain ≡ true → IsMade app program.entry → IsMade own command.entry →
+        IsMade (with_subcommand app (with_verbose own).top) result }
 {
-    match command {
+    match with_verbose(alloc, command) {
         Ok(command) => with_made(program, command),
         Err(error) => Err(error),
     }
@@ -75,20 +75,20 @@ fn omaha_command<'a>(alloc: Global) -> Making<'a>
     ensures { IsMade omaha_app result }
 {
     let program = plain_command(alloc);
-    let program = with_command(program, serve_command(alloc));
-    let program = with_command(program, publish_command(alloc));
-    let program = with_command(program, script_command(alloc));
-    let program = with_command(program, raise_command(alloc));
-    let program = with_command(program, dump_command(alloc));
-    let program = with_command(program, history_command(alloc));
-    let program = with_command(program, check_command(alloc));
-    let program = with_command(program, review_command(alloc));
-    let program = with_command(program, walk_command(alloc));
-    let program = with_command(program, describe_command(alloc));
-    let program = with_command(program, certify_command(alloc));
-    let program = with_command(program, verify_command(alloc));
-    let program = with_command(program, explain_command(alloc));
-    with_command(program, once_command(alloc))
+    let program = with_command(alloc, program, serve_command(alloc));
+    let program = with_command(alloc, program, publish_command(alloc));
+    let program = with_command(alloc, program, script_command(alloc));
+    let program = with_command(alloc, program, raise_command(alloc));
+    let program = with_command(alloc, program, dump_command(alloc));
+    let program = with_command(alloc, program, history_command(alloc));
+    let program = with_command(alloc, program, check_command(alloc));
+    let program = with_command(alloc, program, review_command(alloc));
+    let program = with_command(alloc, program, walk_command(alloc));
+    let program = with_command(alloc, program, describe_command(alloc));
+    let program = with_command(alloc, program, certify_command(alloc));
+    let program = with_command(alloc, program, verify_command(alloc));
+    let program = with_command(alloc, program, explain_command(alloc));
+    with_command(alloc, program, once_command(alloc))
 }
 
 // Reads the arguments of `check`.
@@ -196,19 +196,35 @@ fn read_command(alloc: Global, name: &str, matches: &ArgMatches<'_>) -> Result<C
     }
 }
 
+// Reads the arguments of a command, and whether it says more.
+fn read_invocation(alloc: Global, name: &str, matches: &ArgMatches<'_>) -> Result<Invocation, Error>
+    ensures faults { FailsBy (faults_in name.now (rows_of (found_of matches.now))) result }
+    ensures invocation { IfOk result (λ asked. asked ≡ invocation_in name.now (rows_of (found_of matches.now))) }
+    ensures named { IfOk result (λ asked. IsAskable asked.command) }
+{
+    let verbose = flag_in(matches, "verbose");
+    match read_command(alloc, name, matches) {
+        Ok(command) => Ok(Invocation { command, verbose }),
+        Err(error) => Err(error),
+    }
+}
+
 // Reads the arguments after the program's name, or has `clap`'s error.
-fn parse(alloc: Global, arguments: &[String]) -> Result<Command, Error>
+fn parse(alloc: Global, arguments: &[String]) -> Result<Invocation, Error>
     ensures faults { FailsBy (faults_of (map string_bytes arguments.now)) result }
-    ensures command { IfOk result (λ command. command ≡ command_of (map string_bytes arguments.now)) }
-    ensures named { IfOk result IsAskable }
+    ensures invocation { IfOk result (λ asked. asked ≡ invocation_of (map string_bytes arguments.now)) }
+    ensures named { IfOk result (λ asked. IsAskable asked.command) }
 {
     let matches = omaha_command(alloc)?.try_get_matches_from(arguments)?;
     match matches.subcommand() {
-        None => Ok(Command::Once(Once {
-            profile: None,
-            moment: 0,
-        })),
-        Some((name, options)) => read_command(alloc, name, options),
+        None => Ok(Invocation {
+            command: Command::Once(Once {
+                profile: None,
+                moment: 0,
+            }),
+            verbose: false,
+        }),
+        Some((name, options)) => read_invocation(alloc, name, options),
     }
 }
 
@@ -218,16 +234,17 @@ fn parse(alloc: Global, arguments: &[String]) -> Result<Command, Error>
 ///
 /// Without arguments that is the command `once` without options. Fails with `Shown` if they ask for the help
 /// or the version; with `Invalid` if `clap` rejects them, if `--moment` is no decimal number below 2^64, if
-/// `--workers` is none from 1 to 8, if LANE is neither `target` nor `held`, if ROLLBACK is neither `yes` nor `no`, or
-/// if the `--app` of `walk` has not 1 to 256 bytes; and with `Memory` if an allocation fails.
-pub fn read_arguments(alloc: Global, arguments: &[String]) -> Result<Command, ArgumentError>
-    ensures command { IfOk result (λ command.
-        (faults_of (map string_bytes arguments.now) ≡ []) × (command ≡ command_of (map string_bytes arguments.now))) }
-    ensures named { IfOk result IsAskable }
+/// `--workers` is none from 1 to 8, if a `--timeout` is none from 1 to 86400, if LANE is neither `target` nor `held`, if
+/// ROLLBACK is neither `yes` nor `no`, or if the `--app` of `walk` has not 1 to 256 bytes; and with `Memory` if an
+/// allocation fails.
+pub fn read_arguments(alloc: Global, arguments: &[String]) -> Result<Invocation, ArgumentError>
+    ensures invocation { IfOk result (λ asked.
+        (faults_of (map string_bytes arguments.now) ≡ []) × (asked ≡ invocation_of (map string_bytes arguments.now))) }
+    ensures named { IfOk result (λ asked. IsAskable asked.command) }
     ensures error { IfErr result (λ error. IsWhy (faults_of (map string_bytes arguments.now)) error) }
 {
     match parse(alloc, arguments) {
-        Ok(command) => Ok(command),
+        Ok(asked) => Ok(asked),
         Err(error) => Err(argument_error(alloc, &error)),
     }
 }

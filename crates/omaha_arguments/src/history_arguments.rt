@@ -97,6 +97,7 @@ fn invalid_words(alloc: Global) -> Error
     ensures { HasKind (ErrorKind.ValueValidation ∷ []) result }
 {
     rejection(
+        alloc,
         history_command(alloc),
         "omaha history",
         ErrorKind::ValueValidation,

@@ -1,6 +1,6 @@
 //! The arguments of the program `omaha`: what they ask it to do.
 //!
-//! `read_arguments` reads them with `clap` and gives a `Command`, or why there is none: the help or the
+//! `read_arguments` reads them with `clap` and gives an `Invocation`, or why there is none: the help or the
 //! version was asked for, or they are invalid. What they mean is said by `specs/Commands.antt` and, for the
 //! commands that report on a profile, `specs/ReportArguments.antt`; for `serve`, `specs/ServeArguments.antt`; for
 //! `publish`, `raise` and `dump`, `specs/OperatorArguments.antt`; for `script`, `specs/ScriptArguments.antt`; for
@@ -26,8 +26,8 @@ mod serve_arguments;
 mod walk_arguments;
 
 pub use crate::command::{
-    Base, Command, Comparison, DumpAsked, HistoryAction, HistoryAsked, Once, Publication, Question,
-    Raise, Report, Review, Script, Serve, Source, Walk,
+    Base, Command, Comparison, DumpAsked, HistoryAction, HistoryAsked, Invocation, Once,
+    Publication, Question, Raise, Report, Review, Script, Serve, Source, Walk,
 };
 pub use crate::command_line::read_arguments;
 pub use crate::error::ArgumentError;

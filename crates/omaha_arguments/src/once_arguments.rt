@@ -67,6 +67,7 @@ fn invalid_timestamp(alloc: Global, text: &str) -> Error
 {
     match invalid_number(alloc, text) {
         Ok(message) => rejection(
+            alloc,
             once_command(alloc),
             "omaha once",
             ErrorKind::ValueValidation,

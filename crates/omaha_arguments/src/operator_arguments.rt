@@ -1,23 +1,34 @@
 // The arguments of the operator's commands `publish`, `raise` and `dump`, as `clap` reads them.
 
-ghost use Rattle.std.specs.Prelude.{◌≡◌, [], IfOk};
-ghost use Rattle.clap.specs.Words.{FailsBy, found_of, rows_of};
+ghost use Rattle.std.specs.Prelude.{◌≡◌, ◌∷◌, [], IfOk};
+ghost use Rattle.clap.specs.Words.{FailsBy, HasKind, found_of, rows_of};
 ghost use Rattle.omaha_arguments.specs.Options.{IsMade};
-ghost use Rattle.omaha_arguments.specs.OperatorArguments.{dump_app, dump_in, publication_in, publish_app, raise_app, raise_in};
+ghost use Rattle.omaha_arguments.specs.OperatorArguments.{dump_app, dump_in, dump_with, faults_of_timeout, publication_in, publication_with, publish_app, raise_app, raise_in, raise_with, timeout_in};
 ghost use Rattle.omaha_arguments.specs.WalkArguments.{IsAskable};
 
 use crate::command::{Command, DumpAsked, Publication, Raise};
-use crate::options::{Entry, Making, flag_in, string_in, titled, with_entries};
-use crate::rejections::out_of_memory;
+use crate::options::{
+    Entry, Making, flag_in, optional_string, seconds_in, string_in, titled, with_entries,
+};
+use crate::rejections::{out_of_memory, rejection};
+use clap::error::ErrorKind;
 use clap::{ArgMatches, Error};
 use std::alloc::{AllocError, Global};
 use values::Text;
 
 const TO: &str = "The operator's address of the server: 127.0.0.1:8081, unix:PATH";
 
+const TIMEOUT: &str = "Seconds that the whole exchange may take, 1 to 86400 [default: 30]";
+
+/// What is said of a time limit that is none.
+pub(crate) const INVALID_TIMEOUT: &str = "SECONDS is a decimal number from 1 to 86400";
+
 const SCRIPT: &str = "The script: a TOML file of at most 262144 bytes, or - for standard input";
 
 const CHECK: &str = "Check the script against what the server has published, and publish nothing";
+
+const PACKAGES: &str =
+    "The folder that must have the packages that the script adds [default: none]";
 
 const PUBLISH: &str = "Publishes a script to a running server.";
 
@@ -94,8 +105,6 @@ Exit status: 0 if the budget was raised, 1 if the server gave another reply or t
 Example, against `omaha serve` with `--operator 127.0.0.1:8081`:
   omaha raise --to 127.0.0.1:8081 eu 1000000000";
 
-const VERBOSE: &str = "Print the number of the server's edition on standard error";
-
 const DUMP: &str = "Prints the profile that a running server has published.";
 
 const AFTER_DUMP: &str = "The profile is a TOML file that `omaha serve` and `omaha check` read.
@@ -123,6 +132,8 @@ pub(crate) fn publish_command<'a>(alloc: Global) -> Making<'a>
     let entries = [
         Entry::WantedOption("to", "ADDR", TO),
         Entry::Flag("check", CHECK),
+        Entry::PlainOption("packages", "DIR", PACKAGES),
+        Entry::PlainOption("timeout", "SECONDS", TIMEOUT),
         Entry::Wanted("F", SCRIPT),
     ];
     with_entries(alloc, command, &entries)
@@ -134,6 +145,7 @@ pub(crate) fn raise_command<'a>(alloc: Global) -> Making<'a>
     let command = titled(alloc, "raise", RAISE, AFTER_RAISE);
     let entries = [
         Entry::WantedOption("to", "ADDR", TO),
+        Entry::PlainOption("timeout", "SECONDS", TIMEOUT),
         Entry::Wanted("NAME", NAME),
         Entry::Wanted("BUDGET", BUDGET),
     ];
@@ -146,68 +158,114 @@ pub(crate) fn dump_command<'a>(alloc: Global) -> Making<'a>
     let command = titled(alloc, "dump", DUMP, AFTER_DUMP);
     let entries = [
         Entry::WantedOption("to", "ADDR", TO),
-        Entry::Flag("verbose", VERBOSE),
+        Entry::PlainOption("timeout", "SECONDS", TIMEOUT),
     ];
     with_entries(alloc, command, &entries)
 }
 
-fn publication_in(alloc: Global, matches: &ArgMatches<'_>) -> Result<Publication, AllocError>
-    ensures { IfOk result (λ publication. publication ≡ publication_in (rows_of (found_of matches.now))) }
+// rule: Time limit of an exchange
+/// How many seconds an exchange with the server may take, 30 without the option.
+pub(crate) fn timeout_in(matches: &ArgMatches<'_>) -> Option<u64>
+    ensures { result ≡ timeout_in (rows_of (found_of matches.now)) }
+{
+    seconds_in(matches, "timeout", 30)
+}
+
+// The error for a time limit that is none, of the command of a full name.
+fn invalid_timeout(alloc: Global, command: Making<'_>, name: &str) -> Error
+    ensures { HasKind (ErrorKind.ValueValidation ∷ []) result }
+{
+    rejection(
+        alloc,
+        command,
+        name,
+        ErrorKind::ValueValidation,
+        INVALID_TIMEOUT,
+    )
+}
+
+// The script, how it is looked at, and where it is posted to.
+fn publication_with(
+    alloc: Global,
+    timeout: u64,
+    matches: &ArgMatches<'_>,
+) -> Result<Publication, AllocError>
+    ensures { IfOk result (λ publication. publication ≡ publication_with timeout (rows_of (found_of matches.now))) }
 {
     let to = Text::copy_of(alloc, string_in(matches, "to"))?;
     let script = Text::copy_of(alloc, string_in(matches, "F"))?;
+    let packages = optional_string(alloc, matches, "packages")?;
     let check = flag_in(matches, "check");
-    Ok(Publication { to, script, check })
+    Ok(Publication {
+        to,
+        script,
+        check,
+        packages,
+        timeout,
+    })
 }
 
 /// Reads the arguments of `publish`.
 pub(crate) fn read_publication(alloc: Global, matches: &ArgMatches<'_>) -> Result<Command, Error>
-    ensures faults { FailsBy [] result }
+    ensures faults { FailsBy (faults_of_timeout (rows_of (found_of matches.now))) result }
     ensures command { IfOk result (λ command. command ≡ Command.Publish (publication_in (rows_of (found_of matches.now)))) }
     ensures named { IfOk result IsAskable }
 {
-    match publication_in(alloc, matches) {
+    let Some(timeout) = timeout_in(matches) else {
+        return Err(invalid_timeout(alloc, publish_command(alloc), "omaha publish"));
+    };
+    match publication_with(alloc, timeout, matches) {
         Ok(publication) => Ok(Command::Publish(publication)),
         Err(error) => Err(out_of_memory(error)),
     }
 }
 
-fn raise_in(alloc: Global, matches: &ArgMatches<'_>) -> Result<Raise, AllocError>
-    ensures { IfOk result (λ raise. raise ≡ raise_in (rows_of (found_of matches.now))) }
+fn raise_with(alloc: Global, timeout: u64, matches: &ArgMatches<'_>) -> Result<Raise, AllocError>
+    ensures { IfOk result (λ raise. raise ≡ raise_with timeout (rows_of (found_of matches.now))) }
 {
     let to = Text::copy_of(alloc, string_in(matches, "to"))?;
     let name = Text::copy_of(alloc, string_in(matches, "NAME"))?;
     let budget = Text::copy_of(alloc, string_in(matches, "BUDGET"))?;
-    Ok(Raise { to, name, budget })
+    Ok(Raise {
+        to,
+        name,
+        budget,
+        timeout,
+    })
 }
 
 /// Reads the arguments of `raise`.
 pub(crate) fn read_raise(alloc: Global, matches: &ArgMatches<'_>) -> Result<Command, Error>
-    ensures faults { FailsBy [] result }
+    ensures faults { FailsBy (faults_of_timeout (rows_of (found_of matches.now))) result }
     ensures command { IfOk result (λ command. command ≡ Command.Raise (raise_in (rows_of (found_of matches.now)))) }
     ensures named { IfOk result IsAskable }
 {
-    match raise_in(alloc, matches) {
+    let Some(timeout) = timeout_in(matches) else {
+        return Err(invalid_timeout(alloc, raise_command(alloc), "omaha raise"));
+    };
+    match raise_with(alloc, timeout, matches) {
         Ok(raise) => Ok(Command::Raise(raise)),
         Err(error) => Err(out_of_memory(error)),
     }
 }
 
-fn dump_in(alloc: Global, matches: &ArgMatches<'_>) -> Result<DumpAsked, AllocError>
-    ensures { IfOk result (λ asked. asked ≡ dump_in (rows_of (found_of matches.now))) }
+fn dump_with(alloc: Global, timeout: u64, matches: &ArgMatches<'_>) -> Result<DumpAsked, AllocError>
+    ensures { IfOk result (λ asked. asked ≡ dump_with timeout (rows_of (found_of matches.now))) }
 {
     let to = Text::copy_of(alloc, string_in(matches, "to"))?;
-    let verbose = flag_in(matches, "verbose");
-    Ok(DumpAsked { to, verbose })
+    Ok(DumpAsked { to, timeout })
 }
 
 /// Reads the arguments of `dump`.
 pub(crate) fn read_dump(alloc: Global, matches: &ArgMatches<'_>) -> Result<Command, Error>
-    ensures faults { FailsBy [] result }
+    ensures faults { FailsBy (faults_of_timeout (rows_of (found_of matches.now))) result }
     ensures command { IfOk result (λ command. command ≡ Command.Dump (dump_in (rows_of (found_of matches.now)))) }
     ensures named { IfOk result IsAskable }
 {
-    match dump_in(alloc, matches) {
+    let Some(timeout) = timeout_in(matches) else {
+        return Err(invalid_timeout(alloc, dump_command(alloc), "omaha dump"));
+    };
+    match dump_with(alloc, timeout, matches) {
         Ok(asked) => Ok(Command::Dump(asked)),
         Err(error) => Err(out_of_memory(error)),
     }

@@ -2,11 +2,13 @@
 
 ghost use Rattle.std.specs.Prelude.{◌≡◌, false, IfOk, map};
 ghost use Rattle.clap.specs.Words.{App, first_of, found_of, new_app, rows_of, rule_of, with_rule};
-ghost use Rattle.omaha_arguments.specs.Options.{IsMade, argument_named, flag_in, flag_named, has_plus, number_in, number_of, rule_in, string_in, strings_in, valued_option, wanted_list, with_entries, workers_in, workers_of};
+ghost use Rattle.omaha_arguments.specs.Options.{IsMade, argument_named, flag_in, flag_named, has_plus, number_in, number_of, rule_in, string_in, strings_in, number_up_to, number_within, seconds_in, valued_option, wanted_list, with_entries, with_verbose, workers_in};
 
 use clap::{Arg, ArgAction, ArgMatches};
 use std::alloc::{AllocError, Global};
 use values::{Items, Text};
+
+const VERBOSE: &str = "Say more on standard error [default: if that is a terminal]";
 
 /// A command that is being made, or that memory ran out: each function below passes a failure on.
 pub(crate) type Making<'a> = Result<clap::Command<'a>, AllocError>;
@@ -110,6 +112,13 @@ fn argument_of<'a>(alloc: Global, entry: Entry<'a>) -> Arg<'a>
     }
 }
 
+/// The command with `--verbose`, which each command has.
+pub(crate) fn with_verbose<'a>(alloc: Global, command: Making<'a>) -> Making<'a>
+    ensures { (app : App) → IsMade app command.entry → IsMade (with_verbose app) result }
+{
+    with_arg(command, flag(alloc, "verbose", VERBOSE))
+}
+
 /// The command with some more arguments.
 pub(crate) fn with_entries<'a>(
     alloc: Global,
@@ -152,14 +161,29 @@ pub(crate) fn number_in(matches: &ArgMatches<'_>, id: &str, default: u64) -> Opt
     }
 }
 
-// A number, if so many workers there may be.
-fn workers_of(workers: u64) -> Option<u64>
-    ensures { result ≡ workers_of workers }
+// A number, if it is from 1 to that one.
+fn number_up_to(most: u64, number: u64) -> Option<u64>
+    ensures { result ≡ number_up_to most number }
 {
-    if 0 < workers && workers < 9 {
-        Some(workers)
+    if 0 < number && number <= most {
+        Some(number)
     } else {
         None
+    }
+}
+
+/// The number of an option, or a default without the option, if it is from 1 to that one.
+pub(crate) fn number_within(
+    matches: &ArgMatches<'_>,
+    id: &str,
+    default: u64,
+    most: u64,
+) -> Option<u64>
+    ensures { result ≡ number_within id.now default most (rows_of (found_of matches.now)) }
+{
+    match number_in(matches, id, default) {
+        None => None,
+        Some(number) => number_up_to(most, number),
     }
 }
 
@@ -168,10 +192,14 @@ fn workers_of(workers: u64) -> Option<u64>
 pub(crate) fn workers_in(matches: &ArgMatches<'_>) -> Option<u64>
     ensures { result ≡ workers_in (rows_of (found_of matches.now)) }
 {
-    match number_in(matches, "workers", 1) {
-        None => None,
-        Some(workers) => workers_of(workers),
-    }
+    number_within(matches, "workers", 1, 8)
+}
+
+/// The seconds of a time limit, or so many without the option.
+pub(crate) fn seconds_in(matches: &ArgMatches<'_>, id: &str, default: u64) -> Option<u64>
+    ensures { result ≡ seconds_in id.now default (rows_of (found_of matches.now)) }
+{
+    number_within(matches, id, default, 86400)
 }
 
 /// The value of an argument, or nothing.

@@ -3,10 +3,10 @@
 ghost use Rattle.std.specs.Prelude.{◌≡◌, [], ◌∷◌, IfOk};
 ghost use Rattle.clap.specs.Words.{HasKind, kind_of};
 
-use crate::options::Making;
+use crate::options::{Making, with_verbose};
 use clap::Error;
 use clap::error::ErrorKind;
-use std::alloc::AllocError;
+use std::alloc::{AllocError, Global};
 
 /// The error for memory that ran out.
 pub(crate) fn out_of_memory(error: AllocError) -> Error
@@ -25,6 +25,7 @@ fn with_name<'a>(command: Making<'a>, name: &str) -> Making<'a> {
 
 // The error of a kind, with the usage of a command under its full name.
 fn error_with_usage(
+    alloc: Global,
     command: Making<'_>,
     name: &str,
     kind: ErrorKind,
@@ -32,17 +33,23 @@ fn error_with_usage(
 ) -> Result<Error, AllocError>
     ensures { IfOk result (λ error. kind_of error ≡ kind) }
 {
-    match with_name(command, name) {
+    match with_name(with_verbose(alloc, command), name) {
         Ok(mut command) => command.error(kind, message),
         Err(error) => Err(error),
     }
 }
 
 /// The error of a kind, with the usage of a command under its full name, or that memory ran out.
-pub(crate) fn rejection(command: Making<'_>, name: &str, kind: ErrorKind, message: &str) -> Error
+pub(crate) fn rejection(
+    alloc: Global,
+    command: Making<'_>,
+    name: &str,
+    kind: ErrorKind,
+    message: &str,
+) -> Error
     ensures { HasKind (kind ∷ []) result }
 {
-    match error_with_usage(command, name, kind, message) {
+    match error_with_usage(alloc, command, name, kind, message) {
         Ok(error) => error,
         Err(error) => out_of_memory(error),
     }

@@ -248,6 +248,7 @@ fn invalid_words(alloc: Global) -> Error
     ensures { HasKind (ErrorKind.ValueValidation ∷ []) result }
 {
     rejection(
+        alloc,
         certify_command(alloc),
         "omaha certify",
         ErrorKind::ValueValidation,
@@ -389,6 +390,7 @@ fn invalid_check(alloc: Global, message: &str) -> Error
     ensures { HasKind (ErrorKind.ValueValidation ∷ []) result }
 {
     rejection(
+        alloc,
         check_command(alloc),
         "omaha check",
         ErrorKind::ValueValidation,

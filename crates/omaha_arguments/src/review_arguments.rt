@@ -120,6 +120,7 @@ fn invalid_source(alloc: Global) -> Error
     ensures { HasKind (ErrorKind.ValueValidation ∷ []) result }
 {
     rejection(
+        alloc,
         review_command(alloc),
         "omaha review",
         ErrorKind::ValueValidation,

@@ -107,6 +107,7 @@ fn invalid_base(alloc: Global, message: &str) -> Error
     ensures { HasKind (ErrorKind.ValueValidation ∷ []) result }
 {
     rejection(
+        alloc,
         script_command(alloc),
         "omaha script",
         ErrorKind::ValueValidation,

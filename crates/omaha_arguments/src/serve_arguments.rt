@@ -4,13 +4,13 @@ ghost use Rattle.std.specs.Prelude.{◌≡◌, ◌<◌, ◌==◌, [], ◌∷◌,
 ghost use Rattle.std.specs.List.{after_first, before_first};
 ghost use Rattle.clap.specs.Words.{App, FailsBy, HasKind, first_of, found_of, rows_of};
 ghost use Rattle.omaha_arguments.specs.Options.{IsMade};
-ghost use Rattle.omaha_arguments.specs.ServeArguments.{are_three_octets, bounds_in, connections_in, connections_of, counts_in, faults_of_serve, files_in, has_leading_zero, is_local, is_loopback, is_loopback_host, is_named, is_octet, is_operator_allowed, is_operator_local, is_path, limit_in, limit_of, places_in, seconds_in, seconds_of, serve_app, serve_in, serve_with, with_limits, with_places};
+ghost use Rattle.omaha_arguments.specs.ServeArguments.{are_three_octets, bounds_in, connections_in, counts_in, faults_of_serve, files_in, has_leading_zero, is_local, is_loopback, is_loopback_host, is_named, is_octet, is_operator_allowed, is_operator_local, is_path, limit_in, limit_of, places_in, serve_app, serve_in, serve_with, with_limits, with_places};
 ghost use Rattle.omaha_arguments.specs.WalkArguments.{IsAskable};
 
 use crate::command::{Command, Serve};
 use crate::options::{
-    Entry, Making, flag_in, number_in, number_of, optional_string, string_in, titled, with_entries,
-    workers_in,
+    Entry, Making, flag_in, number_in, number_of, number_within, optional_string, seconds_in,
+    string_in, titled, with_entries, workers_in,
 };
 use crate::rejections::{out_of_memory, rejection};
 use clap::error::ErrorKind;
@@ -27,6 +27,8 @@ const HISTORY: &str = "Where to keep what is published: a file, new or kept [def
 const HISTORY_LIMIT: &str = "How many bytes the history may have [default: 67108864]";
 
 const PACKAGES: &str = "The folder of the packages, each under its name in the catalogue";
+
+const MUST_EXIST: &str = "Publish a release only if its packages are in the folder";
 
 const LISTEN: &str = "The address and port to listen on, such as 127.0.0.1:8080";
 
@@ -106,6 +108,7 @@ fn with_places<'a>(alloc: Global, command: Making<'a>) -> Making<'a>
         Entry::PlainOption("history", "FILE", HISTORY),
         Entry::PlainOption("history-limit", "BYTES", HISTORY_LIMIT),
         Entry::WantedOption("packages", "DIR", PACKAGES),
+        Entry::Flag("packages-must-exist", MUST_EXIST),
         Entry::WantedOption("listen", "ADDR", LISTEN),
         Entry::PlainOption("operator", "ADDR", OPERATOR),
         Entry::Flag("operator-anywhere", ANYWHERE),
@@ -158,46 +161,11 @@ pub(crate) fn limit_in(matches: &ArgMatches<'_>, id: &str) -> Option<Option<u64>
     }
 }
 
-// A number, if it is a time limit.
-fn seconds_of(seconds: u64) -> Option<u64>
-    ensures { result ≡ seconds_of seconds }
-{
-    if 0 < seconds && seconds < 86401 {
-        Some(seconds)
-    } else {
-        None
-    }
-}
-
-// The seconds of a time limit, or so many without the option.
-fn seconds_in(matches: &ArgMatches<'_>, id: &str, default: u64) -> Option<u64>
-    ensures { result ≡ seconds_in id.now default (rows_of (found_of matches.now)) }
-{
-    match number_in(matches, id, default) {
-        None => None,
-        Some(seconds) => seconds_of(seconds),
-    }
-}
-
-// A number, if so many connections may be open.
-fn connections_of(count: u64) -> Option<u64>
-    ensures { result ≡ connections_of count }
-{
-    if 0 < count && count < 1048577 {
-        Some(count)
-    } else {
-        None
-    }
-}
-
 // How many connections may be open.
 fn connections_in(matches: &ArgMatches<'_>) -> Option<u64>
     ensures { result ≡ connections_in (rows_of (found_of matches.now)) }
 {
-    match number_in(matches, "connections", 16384) {
-        None => None,
-        Some(count) => connections_of(count),
-    }
+    number_within(matches, "connections", 16384, 1048576)
 }
 
 /// Whether an option or an argument is given.
@@ -224,7 +192,7 @@ fn is_named(matches: &ArgMatches<'_>) -> bool
 fn rejected_option(alloc: Global, kind: ErrorKind, message: &str) -> Error
     ensures { HasKind (kind ∷ []) result }
 {
-    rejection(serve_command(alloc), "omaha serve", kind, message)
+    rejection(alloc, serve_command(alloc), "omaha serve", kind, message)
 }
 
 // The strings before and after the first such character, or all and nothing.
@@ -437,11 +405,13 @@ fn serve_with(
         listen,
         operator,
     } = places_in(alloc, matches)?;
+    let packages_must_exist = flag_in(matches, "packages-must-exist");
     Ok(Serve {
         profile,
         history,
         history_limit: bounds.history_limit,
         packages,
+        packages_must_exist,
         listen,
         operator,
         workers: counts.workers,

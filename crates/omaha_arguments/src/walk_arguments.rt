@@ -3,9 +3,10 @@
 ghost use Rattle.std.specs.Prelude.{◌≡◌, [], ◌∷◌, IfOk};
 ghost use Rattle.clap.specs.Words.{FailsBy, HasKind, found_of, rows_of};
 ghost use Rattle.omaha_arguments.specs.Options.{IsMade};
-ghost use Rattle.omaha_arguments.specs.WalkArguments.{IsAskable, asked_in, client_in, faults_of_walk, is_appid, walk_app, walk_in};
+ghost use Rattle.omaha_arguments.specs.WalkArguments.{IsAskable, asked_in, client_in, faults_of_walk, is_appid, walk_app, walk_in, walk_with};
 
 use crate::command::{Command, Walk};
+use crate::operator_arguments::{INVALID_TIMEOUT, timeout_in};
 use crate::options::{Entry, Making, flag_in, string_in, titled, with_entries};
 use crate::rejections::{out_of_memory, rejection};
 use clap::error::ErrorKind;
@@ -30,6 +31,8 @@ const SESSION: &str = "The session's identifier [default: none]";
 const PREFIX: &str = "The allowed versions: '4' for 4 and 4.1, '4.0$' for 4.0 alone [default: any]";
 
 const ROLLBACK: &str = "Whether a downgrade is allowed";
+
+const TIMEOUT: &str = "Seconds for a check, or 64 KiB of a download, 1 to 86400 [default: 30]";
 
 const AFTER_WALK: &str =
     "Asks the server for an update, downloads what it offers, checks the length and the SHA-256, and
@@ -77,19 +80,24 @@ pub(crate) fn walk_command<'a>(alloc: Global) -> Making<'a>
         Entry::PlainOption("session", "S", SESSION),
         Entry::PlainOption("prefix", "P", PREFIX),
         Entry::Flag("rollback", ROLLBACK),
+        Entry::PlainOption("timeout", "SECONDS", TIMEOUT),
     ];
     with_entries(alloc, command, &entries)
 }
 
-// The error for an identifier of another length.
-fn invalid_app(alloc: Global) -> Error
+const INVALID_APP: &str = "A is an identifier of 1 to 256 bytes";
+
+// The error for an option that isn't what it has to be.
+fn invalid_walk(alloc: Global, message: &str) -> Error
     ensures { HasKind (ErrorKind.ValueValidation ∷ []) result }
 {
+    let command = walk_command(alloc);
     rejection(
-        walk_command(alloc),
+        alloc,
+        command,
         "omaha walk",
         ErrorKind::ValueValidation,
-        "A is an identifier of 1 to 256 bytes",
+        message,
     )
 }
 
@@ -138,9 +146,9 @@ fn client_in(alloc: Global, matches: &ArgMatches<'_>) -> Result<Client, AllocErr
     })
 }
 
-// Reads the options, whatever the identifier is.
-fn walk_in(alloc: Global, matches: &ArgMatches<'_>) -> Result<Walk, AllocError>
-    ensures { IfOk result (λ walk. walk ≡ walk_in (rows_of (found_of matches.now))) }
+// Reads the options, whatever the identifier is, with such a time limit.
+fn walk_with(alloc: Global, timeout: u64, matches: &ArgMatches<'_>) -> Result<Walk, AllocError>
+    ensures { IfOk result (λ walk. walk ≡ walk_with timeout (rows_of (found_of matches.now))) }
 {
     let Asked { to, app, session } = asked_in(alloc, matches)?;
     let Client {
@@ -159,6 +167,7 @@ fn walk_in(alloc: Global, matches: &ArgMatches<'_>) -> Result<Walk, AllocError>
         session,
         prefix,
         rollback,
+        timeout,
     })
 }
 
@@ -170,9 +179,12 @@ pub(crate) fn read_walk(alloc: Global, matches: &ArgMatches<'_>) -> Result<Comma
     ensures named { IfOk result IsAskable }
 {
     if !is_appid(string_in(matches, "app")) {
-        return Err(invalid_app(alloc));
+        return Err(invalid_walk(alloc, INVALID_APP));
     }
-    match walk_in(alloc, matches) {
+    let Some(timeout) = timeout_in(matches) else {
+        return Err(invalid_walk(alloc, INVALID_TIMEOUT));
+    };
+    match walk_with(alloc, timeout, matches) {
         Ok(walk) => Ok(Command::Walk(walk)),
         Err(error) => Err(out_of_memory(error)),
     }

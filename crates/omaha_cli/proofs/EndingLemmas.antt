@@ -1,15 +1,17 @@
 -- How a run ends whose arguments ask for no command.
-use Rattle.std.proofs.Common.{◌≡◌, ℕ, List, inl, inr, refl}
+use Rattle.std.proofs.Common.{◌≡◌, ℕ, List, [], Option, Some, None, inl, inr, refl, subst}
 use Rattle.streams.specs.Streams.{Known}
-use Rattle.omaha_arguments.specs.Commands.{faults_of}
+use Rattle.omaha_arguments.specs.Commands.{faults_of, invocation_of}
 use Rattle.omaha_arguments.specs.Errors.{IsWhy}
+use Rattle.omaha_arguments.specs.declared.command.Invocation.{Invocation}
 use Rattle.omaha_arguments.specs.declared.error.ArgumentError.{ArgumentError}
 use Rattle.omaha_arguments.specs.declared.error.ArgumentError.TheVariants as argument
-use Rattle.omaha_commands.specs.Operating.{Listeners}
+use Rattle.omaha_commands.specs.Streams.{Streams}
 use Rattle.omaha_cli.specs.Worlds.{World}
-use Rattle.omaha_cli.specs.Running.{Ends, EndsBy, IsLogged, code_of, status_of}
+use Rattle.omaha_cli.specs.Running.{Ends, EndsBy, EndsTask, IsMistaken, code_of, status_of}
 use Rattle.omaha_cli.specs.declared.running.Ending.{Ending}
 use Rattle.omaha_cli.specs.declared.running.Ending.TheVariants as ending
+use Rattle.omaha_cli.specs.declared.running.Task.{Task}
 use Rattle.omaha_cli.specs.declared.running.Status.{Status}
 use Rattle.omaha_cli.specs.declared.running.Status.TheVariants as status
 
@@ -17,17 +19,17 @@ pub Ends-without_command :
     (world : World) (words : List (List ℕ)) (input before after : Known) (error : ArgumentError) (ended : Ending) →
     IsWhy (faults_of words) error →
     EndsBy error before after ended →
-    Ends world words (record { input = input; output = before }) (record { input = input; output = after }) ended
+    Ends world words None (record { input = input; output = before }) (record { input = input; output = after }) ended
 Ends-without_command world words input before after (argument.Shown text) ending.Shown why shows = (why, (text, shows), refl)
 Ends-without_command world words input before after (argument.Shown text) (ending.Failed refusal) why shows =
-    inr (inl (why, shows.0, (text, shows.1), refl))
+    inl (why, shows.0, (text, shows.1), refl)
 Ends-without_command world words input before after (argument.Shown text) ending.Replied why shows = absurd shows
 Ends-without_command world words input before after (argument.Shown text) (ending.Mistaken other) why shows = absurd shows
 Ends-without_command world words input before after (argument.Invalid text) (ending.Mistaken other) why is = (why, cc is.1)
 Ends-without_command world words input before after (argument.Invalid text) ending.Replied why is = absurd (cc is.0)
 Ends-without_command world words input before after (argument.Invalid text) ending.Shown why is = absurd (cc is.0)
 Ends-without_command world words input before after (argument.Invalid text) (ending.Failed refusal) why is = absurd (cc is.0)
-Ends-without_command world words input before after argument.Memory (ending.Failed refusal) why is = inr (inr (cc is.0, cc is.1))
+Ends-without_command world words input before after argument.Memory (ending.Failed refusal) why is = inr (cc is.0, cc is.1)
 Ends-without_command world words input before after argument.Memory ending.Replied why is = absurd (cc is.0)
 Ends-without_command world words input before after argument.Memory ending.Shown why is = absurd (cc is.0)
 Ends-without_command world words input before after argument.Memory (ending.Mistaken other) why is = absurd (cc is.0)
@@ -38,13 +40,24 @@ Usage-two ended status.Success code is of two = cc
 Usage-two ended status.Failure code is of two = cc
 Usage-two ended status.Usage code is of two = cc
 
--- such a run printed nothing on the standard error before
-pub IsLogged-without_command :
-    (listeners : Listeners) (words : List (List ℕ)) (before after errors : Known) (error : ArgumentError) (ended : Ending) →
-    EndsBy error before after ended → IsLogged listeners words ended errors errors
-IsLogged-without_command listeners words before after errors error ending.Shown ends = refl
-IsLogged-without_command listeners words before after errors error (ending.Mistaken text) ends = refl
-IsLogged-without_command listeners words before after errors error (ending.Failed refusal) ends = inl refl
-IsLogged-without_command listeners words before after errors (argument.Shown text) ending.Replied ends = absurd ends
-IsLogged-without_command listeners words before after errors (argument.Invalid text) ending.Replied ends = absurd (cc ends.0)
-IsLogged-without_command listeners words before after errors argument.Memory ending.Replied ends = absurd (cc ends.0)
+-- a task was asked for, and ended as it does
+pub Ends-with_task :
+    (world : World) (words : List (List ℕ)) (asked : Invocation) (task : Option Task) (old new : Streams) (ended : Ending) →
+    faults_of words ≡ [] → asked ≡ invocation_of words → EndsTask world asked task old new ended →
+    Ends world words task old new ended
+Ends-with_task world words asked (Some task) old new ended none same ends =
+    (none, subst (λ (a : Invocation). EndsTask world a (Some task) old new ended) same ends)
+Ends-with_task world words asked None old new ending.Replied none same ends = absurd ends
+Ends-with_task world words asked None old new ending.Shown none same ends = absurd ends
+Ends-with_task world words asked None old new (ending.Failed refusal) none same ends = absurd ends
+Ends-with_task world words asked None old new (ending.Mistaken text) none same ends = absurd ends
+
+-- such an ending is no mistake of the arguments
+pub EndsTask-no_mistake :
+    {Z : Type 0} (world : World) (asked : Invocation) (task : Option Task) (old new : Streams) (ended : Ending) →
+    EndsTask world asked task old new ended → IsMistaken ended → Z
+EndsTask-no_mistake world asked task old new ending.Replied ends mistaken = cc
+EndsTask-no_mistake world asked task old new ending.Shown ends mistaken = cc
+EndsTask-no_mistake world asked task old new (ending.Failed refusal) ends mistaken = cc
+EndsTask-no_mistake world asked (Some task) old new (ending.Mistaken text) ends mistaken = absurd ends
+EndsTask-no_mistake world asked None old new (ending.Mistaken text) ends mistaken = absurd ends

@@ -1,7 +1,6 @@
 -- What a command does; this project's profile.
-use Rattle.std.specs.Prelude.{◌≡◌, Result}
+use Rattle.std.specs.Prelude.{◌≡◌, Bool, Result}
 use Rattle.streams.specs.Streams.{Known}
-use Rattle.omaha_server.specs.Serving.{IsSilent}
 use Rattle.omaha_commands.specs.Comparing.{Compares}
 use Rattle.omaha_commands.specs.Describing.{PrintsDescriptions}
 use Rattle.omaha_commands.specs.Explaining.{Explains}
@@ -13,36 +12,46 @@ use Rattle.omaha_commands.specs.Judging.{Publishes}
 use Rattle.omaha_commands.specs.Reports.{Reports}
 use Rattle.omaha_commands.specs.Reviewing.{Reviews}
 use Rattle.omaha_commands.specs.Scripting.{PrintsScript}
-use Rattle.omaha_cli.specs.Serving.{ServesOn}
+use Rattle.omaha_cli.specs.Serving.{IsQuiet, ServesOn}
 use Rattle.omaha_commands.specs.Streams.{Streams}
 use Rattle.omaha_commands.specs.Walking.{WalksOn}
 use Rattle.omaha_cli.specs.Worlds.{World}
 use Rattle.omaha_arguments.specs.declared.command.Command.{Command}
 use Rattle.omaha_arguments.specs.declared.command.Command.TheVariants as command
 use Rattle.omaha_commands.specs.declared.failure.Failure.{Failure}
+use Rattle.omaha_commands.specs.declared.operating.Manner.{Manner}
+use Rattle.omaha_cli.specs.declared.running.Task.{Task}
 
 -- a reply to a request, a report on a profile or on its packages, a review, descriptions of files, the explanation of a
 -- code, a script, what a history has, a server, a walk, or a call of an operator's listener
-abbrev pub Does : World → Command → Streams → Streams → Result (Unit {0}) Failure → Type 0
-Does world (command.Once once) old new result = Responds world.files once old new result
-Does world (command.Report report) old new result = Reports world.files report old new result
-Does world (command.Review asked) old new result = Reviews world.files world.operated asked old new result
-Does world (command.Compare asked) old new result = Compares world.files world.storage asked old new result
-Does world (command.Describe paths) old new result = PrintsDescriptions world.storage paths old new result
-Does world (command.Explain code) old new result = Explains code old new result
-Does world (command.History asked) old new result = PrintsHistory world.stored asked old new result
-Does world (command.Serve serve) old new result = ServesOn world.files world.stored world.edges serve old new result
-Does world (command.Walk walk) old new result = WalksOn world.replies walk old new result
-Does world (command.Publish asked) old new result = Publishes world.files world.operated asked old new result
-Does world (command.Script asked) old new result = PrintsScript world.operated asked old new result
-Does world (command.Raise asked) old new result =
-    Raises world.operated asked old.output new.output result × (new.input ≡ old.input)
-Does world (command.Dump asked) old new result =
-    Dumps world.operated asked.to old.output new.output result × (new.input ≡ old.input)
+abbrev pub DoesBy : World → Manner → Command → Streams → Streams → Result (Unit {0}) Failure → Type 0
+DoesBy world manner (command.Once once) old new result = Responds world.files once old new result
+DoesBy world manner (command.Report report) old new result = Reports world.files report old new result
+DoesBy world manner (command.Review asked) old new result = Reviews world.files world.operated asked old new result
+DoesBy world manner (command.Compare asked) old new result = Compares world.files world.storage asked old new result
+DoesBy world manner (command.Describe paths) old new result = PrintsDescriptions world.storage paths old new result
+DoesBy world manner (command.Explain code) old new result = Explains code old new result
+DoesBy world manner (command.History asked) old new result = PrintsHistory world.stored asked old new result
+DoesBy world manner (command.Serve serve) old new result = ServesOn world.files world.stored world.edges manner.verbose serve old new result
+DoesBy world manner (command.Walk walk) old new result = WalksOn world.replies walk old new result
+DoesBy world manner (command.Publish asked) old new result = Publishes world.files world.storage world.operated manner.shown asked old new result
+DoesBy world manner (command.Script asked) old new result = PrintsScript world.operated asked old new result
+DoesBy world manner (command.Raise asked) old new result =
+    Raises world.operated manner.shown asked old.output new.output result × (new.input ≡ old.input)
+DoesBy world manner (command.Dump asked) old new result =
+    Dumps world.operated manner.shown asked.to old.output new.output result × (new.input ≡ old.input)
+
+-- what a task does: its command, printed in its manner
+abbrev pub Does : World → Task → Streams → Streams → Result (Unit {0}) Failure → Type 0
+Does world task old new result = DoesBy world task.manner task.command old new result
 
 -- what the command prints on the standard error itself: a server may log its replies there, a verbose dump prints the
 -- line of the edition, and any other command prints nothing
-abbrev pub Logs : Listeners → Command → Known → Known → Result (Unit {0}) Failure → Type 0
-Logs listeners (command.Serve serve) before after result = IsSilent serve.log → after ≡ before
-Logs listeners (command.Dump asked) before after result = Notes asked.verbose listeners asked.to before after result
-Logs listeners other before after result = after ≡ before
+abbrev pub LogsBy : Listeners → Bool → Command → Known → Known → Result (Unit {0}) Failure → Type 0
+LogsBy listeners verbose (command.Serve serve) before after result = IsQuiet verbose serve.log → after ≡ before
+LogsBy listeners verbose (command.Dump asked) before after result = Notes verbose listeners asked.to before after result
+LogsBy listeners verbose other before after result = after ≡ before
+
+-- what a task prints there
+abbrev pub Logs : Listeners → Task → Known → Known → Result (Unit {0}) Failure → Type 0
+Logs listeners task before after result = LogsBy listeners task.manner.verbose task.command before after result

@@ -1,10 +1,11 @@
 -- How a run of the program ends, and what it prints and returns then; this project's profile.
-use Rattle.std.specs.Prelude.{◌≡◌, ◌⊎◌, Bool, true, false, ℕ, nat_eq, if◌then◌else◌, List, ◌∷◌, [], ◌++◌, codes, Ok, Err}
+use Rattle.std.specs.Prelude.{◌≡◌, ◌⊎◌, ◌||◌, Bool, true, false, ℕ, Option, Some, None, nat_eq, if◌then◌else◌, List, ◌∷◌, [], ◌++◌, codes, Ok, Err}
 use Rattle.std.specs.Io.KnownBytes.{Appends}
 use Rattle.streams.specs.Streams.{Known}
 use Rattle.streams.specs.Writing.{Breaks, IsWritten}
-use Rattle.omaha_arguments.specs.Commands.{command_of, faults_of}
+use Rattle.omaha_arguments.specs.Commands.{faults_of, invocation_of}
 use Rattle.omaha_arguments.specs.Errors.{AsksToShow, HasMistake}
+use Rattle.omaha_arguments.specs.declared.command.Invocation.{Invocation}
 use Rattle.omaha_arguments.specs.declared.error.ArgumentError.{ArgumentError}
 use Rattle.omaha_arguments.specs.declared.error.ArgumentError.TheVariants as argument
 use Rattle.omaha_cli.specs.Doing.{Does, Logs}
@@ -14,8 +15,10 @@ use Rattle.omaha_commands.specs.Streams.{Streams}
 use Rattle.omaha_cli.specs.Worlds.{World}
 use Rattle.omaha_commands.specs.declared.failure.Failure.{Failure}
 use Rattle.omaha_commands.specs.declared.failure.Failure.TheVariants as failure
+use Rattle.omaha_commands.specs.declared.operating.Manner.{Manner}
 use Rattle.omaha_cli.specs.declared.running.Ending.{Ending}
 use Rattle.omaha_cli.specs.declared.running.Ending.TheVariants as ending
+use Rattle.omaha_cli.specs.declared.running.Task.{Task}
 use Rattle.omaha_cli.specs.declared.running.Status.{Status}
 use Rattle.omaha_cli.specs.declared.running.Status.TheVariants as status
 
@@ -48,21 +51,41 @@ EndsBy (argument.Shown text) before after ended = Shows text before after ended
 EndsBy (argument.Invalid text) before after ended = (ended ≡ ending.Mistaken text) × (after ≡ before)
 EndsBy argument.Memory before after ended = (ended ≡ ending.Failed failure.Memory) × (after ≡ before)
 
--- How a run ends, by its arguments. A command does what its own relation says.
-abbrev pub Ends : World → List (List ℕ) → Streams → Streams → Ending → Type 0
-Ends world words old new ending.Replied =
-    (faults_of words ≡ []) × Does world (command_of words) old new (Ok tt)
-Ends world words old new ending.Shown =
+-- rule: More on standard error
+-- a command says more if `--verbose` is given or the standard error is a terminal, and a terminal gets replies as one
+pub record IsManner (output_seen errors_seen : Bool → Type 0) (verbose : Bool) (manner : Manner) : Type 0 where
+  pub shown : output_seen manner.shown
+  pub watched : Bool
+  pub seen : errors_seen watched
+  pub verbose : manner.verbose ≡ (verbose || watched)
+
+-- the task is what was asked for
+abbrev pub IsTaskOf : World → Invocation → Task → Type 0
+IsTaskOf world asked task =
+    (task.command ≡ asked.command) × IsManner world.output_seen world.errors_seen asked.verbose task.manner
+
+-- a task was carried out, or failed
+abbrev pub EndsTask : World → Invocation → Option Task → Streams → Streams → Ending → Type 0
+EndsTask world asked (Some task) old new ending.Replied = IsTaskOf world asked task × Does world task old new (Ok tt)
+EndsTask world asked (Some task) old new (ending.Failed refusal) =
+    IsTaskOf world asked task × Does world task old new (Err refusal)
+EndsTask world asked task old new other = ⊥
+
+-- How a run ends, by its arguments, with the task that they ask for. A command does what its own relation says.
+abbrev pub Ends : World → List (List ℕ) → Option Task → Streams → Streams → Ending → Type 0
+Ends world words (Some task) old new ended =
+    (faults_of words ≡ []) × EndsTask world (invocation_of words) (Some task) old new ended
+Ends world words None old new ending.Shown =
     AsksToShow (faults_of words)
     × ((text : List ℕ) × Appends old.output.bytes new.output.bytes text)
     × (new.input ≡ old.input)
-Ends world words old new (ending.Mistaken text) = HasMistake (faults_of words) × (new ≡ old)
-Ends world words old new (ending.Failed refusal) =
-    ((faults_of words ≡ []) × Does world (command_of words) old new (Err refusal))
-    ⊎ (AsksToShow (faults_of words) × (refusal ≡ failure.Write)
+Ends world words None old new (ending.Mistaken text) = HasMistake (faults_of words) × (new ≡ old)
+Ends world words None old new (ending.Failed refusal) =
+    (AsksToShow (faults_of words) × (refusal ≡ failure.Write)
     × ((text : List ℕ) × Breaks old.output new.output text)
     × (new.input ≡ old.input))
     ⊎ ((refusal ≡ failure.Memory) × (new ≡ old))
+Ends world words None old new ending.Replied = ⊥
 
 -- the line of a failure
 abbrev pub failure_line : Failure → List ℕ
@@ -82,21 +105,21 @@ IsReported (ending.Failed refusal) before after =
     ⊎ ((is_declined refusal ≡ false) × IsPrinted refusal before after)
 IsReported (ending.Mistaken text) before after = IsWritten before after text
 
--- what was printed on the standard error before an ending: what the command printed there, or nothing if there was none
-abbrev pub IsLogged : Listeners → List (List ℕ) → Ending → Known → Known → Type 0
-IsLogged listeners words ending.Replied before after = Logs listeners (command_of words) before after (Ok tt)
-IsLogged listeners words (ending.Failed refusal) before after =
-    (after ≡ before) ⊎ ((faults_of words ≡ []) × Logs listeners (command_of words) before after (Err refusal))
-IsLogged listeners words other before after = after ≡ before
+-- what was printed on the standard error before an ending: what the task printed there, or nothing if there was none
+abbrev pub IsLoggedBy : Listeners → Option Task → Ending → Known → Known → Type 0
+IsLoggedBy listeners (Some task) ending.Replied before after = Logs listeners task before after (Ok tt)
+IsLoggedBy listeners (Some task) (ending.Failed refusal) before after = Logs listeners task before after (Err refusal)
+IsLoggedBy listeners task other before after = after ≡ before
 
 -- rule: Status of the program
 -- a whole run: it ends in one of these ways, reports that after what the command printed on the standard error, and
 -- returns its status
 pub record Runs (world : World) (words : List (List ℕ)) (old new : Streams) (before after : Known) (code : ℕ) : Type 0 where
   pub ended : Ending
-  pub ends : Ends world words old new ended
+  pub task : Option Task
+  pub ends : Ends world words task old new ended
   pub between : Known
-  pub logged : IsLogged world.operated words ended before between
+  pub logged : IsLoggedBy world.operated task ended before between
   pub reported : IsReported ended between after
   pub status : code ≡ code_of (status_of ended)
 

@@ -1,10 +1,11 @@
 -- What the command `serve` does; this project's profile.
-use Rattle.std.specs.Prelude.{◌≡◌, ◌⊎◌, ℕ, max, min, List, Option, None, Some, Result, Ok, Err}
+use Rattle.std.specs.Prelude.{◌≡◌, ◌⊎◌, ℕ, Bool, false, max, min, List, Option, None, Some, Result, Ok, Err}
 use Rattle.streams.specs.Streams.{Known}
 use Rattle.omaha_arguments.specs.declared.command.Serve.{Serve}
 use Rattle.systems.specs.Edges.{Edges}
+use Rattle.omaha_server.specs.Checks.{IsStockedFor}
 use Rattle.omaha_server.specs.Passages.{Passages}
-use Rattle.omaha_server.specs.Serving.{IsLogged, Serves}
+use Rattle.omaha_server.specs.Serving.{IsLogged, LogsElsewhere, Serves}
 use Rattle.omaha_server.specs.declared.error.ServerError.{ServerError}
 use Rattle.omaha_server.specs.declared.error.ServerError.TheVariants as server
 use Rattle.omaha_server.specs.declared.place.Place.{Place}
@@ -30,6 +31,7 @@ abbrev pub EndsBy : ServerError → Serve → Result (Unit {0}) Failure → Type
 EndsBy server.Net serve result = (result ≡ Err (failure.Net serve.listen)) ⊎ (result ≡ Err failure.Memory)
 EndsBy server.Log serve result = (named : Failure) × IsUnopened serve.log named × (result ≡ Err named)
 EndsBy server.Folder serve result = (result ≡ Err (failure.File serve.packages)) ⊎ (result ≡ Err failure.Memory)
+EndsBy (server.Package name what) serve result = result ≡ Err (failure.Package name what)
 EndsBy server.OperatorNet serve result = (named : Failure) × IsUnbound serve.operator named × (result ≡ Err named)
 EndsBy server.NoPlace serve result = result ≡ Err failure.NoPlace
 EndsBy server.Thread serve result = result ≡ Err failure.Thread
@@ -42,8 +44,13 @@ abbrev pub EndsAs : {A : Type 0} → Result A ServerError → Serve → Result (
 EndsAs (Ok served) serve result = result ≡ Ok tt
 EndsAs (Err error) serve result = EndsBy error serve result
 
--- the place that the arguments name: the addresses, the folder, the workers, the sessions, the log and the seconds
-pub record IsPlaceOf (serve : Serve) (place : Place) : Type 0 where
+-- the server writes nothing on the standard error: it isn't verbose, and logs no reply there
+abbrev pub IsQuiet : Bool → Option (List ℕ) → Type 0
+IsQuiet verbose log = (verbose ≡ false) × LogsElsewhere log
+
+-- the place that the arguments name: the addresses, the folder, the workers, the sessions, the log and the seconds; it has
+-- a name only if the server is verbose
+pub record IsPlaceOf (serve : Serve) (verbose : Bool) (place : Place) : Type 0 where
   pub address : place.address ≡ serve.listen
   pub operator : place.operator ≡ serve.operator
   pub packages : place.packages ≡ serve.packages
@@ -55,31 +62,34 @@ pub record IsPlaceOf (serve : Serve) (place : Place) : Type 0 where
   pub idle : place.idle ≡ max serve.idle 1
   pub connections : place.connections ≡ serve.connections
   pub pinned_tables : place.pinned_tables ≡ serve.pinned_tables
+  pub packages_must_exist : place.packages_must_exist ≡ serve.packages_must_exist
+  pub named : verbose ≡ false → place.named ≡ None
 
 -- what a server began with was served at that place to its end, or to an error; what is kept begins with its records
-pub record IsHostedAt (edges : Edges) (begins : Beginning) (serve : Serve) (old new : Known) (result : Result (Unit {0}) Failure) : Type 0 where
+pub record IsHostedAt (edges : Edges) (verbose : Bool) (begins : Beginning) (serve : Serve) (old new : Known) (result : Result (Unit {0}) Failure) : Type 0 where
   pub place : Place
-  pub placed : IsPlaceOf serve place
+  pub placed : IsPlaceOf serve verbose place
   pub ended : Result Passages ServerError
   pub serves : Serves edges place begins.service (store begins.first begins.records None) old new ended
   pub logged : IsLogged edges place.log ended
+  pub stocked : IsStockedFor edges place begins.service.edition old new ended
   pub ends : EndsAs ended serve result
 
 -- the same, or memory ran out before
-abbrev pub IsHosted : Edges → Beginning → Serve → Known → Known → Result (Unit {0}) Failure → Type 0
-IsHosted edges begins serve old new result =
-    IsHostedAt edges begins serve old new result
+abbrev pub IsHosted : Edges → Bool → Beginning → Serve → Known → Known → Result (Unit {0}) Failure → Type 0
+IsHosted edges verbose begins serve old new result =
+    IsHostedAt edges verbose begins serve old new result
     ⊎ ((result ≡ Err failure.Memory) × (new ≡ old))
 
 -- what follows from what the server begins with
-abbrev pub IsServedBy : Edges → Result Beginning Failure → Serve → Streams → Streams → Result (Unit {0}) Failure → Type 0
-IsServedBy edges (Ok begins) serve old new result =
-    IsHosted edges begins serve old.output new.output result × (new.input ≡ old.input)
-IsServedBy edges (Err refusal) serve old new result = (result ≡ Err refusal) × (new ≡ old)
+abbrev pub IsServedBy : Edges → Bool → Result Beginning Failure → Serve → Streams → Streams → Result (Unit {0}) Failure → Type 0
+IsServedBy edges verbose (Ok begins) serve old new result =
+    IsHosted edges verbose begins serve old.output new.output result × (new.input ≡ old.input)
+IsServedBy edges verbose (Err refusal) serve old new result = (result ≡ Err refusal) × (new ≡ old)
 
 -- rule: Service over HTTP
 -- what a server begins with is opened first: that of the history that is named, or of the profile; its service is served
-pub record ServesOn (files : Files) (stored : Stored) (edges : Edges) (serve : Serve) (old new : Streams) (result : Result (Unit {0}) Failure) : Type 0 where
+pub record ServesOn (files : Files) (stored : Stored) (edges : Edges) (verbose : Bool) (serve : Serve) (old new : Streams) (result : Result (Unit {0}) Failure) : Type 0 where
   pub made : Result Beginning Failure
   pub begun : IsBegun files stored serve.history serve.profile made
-  pub follows : IsServedBy edges made serve old new result
+  pub follows : IsServedBy edges verbose made serve old new result

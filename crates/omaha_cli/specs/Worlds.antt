@@ -1,5 +1,5 @@
 -- What is known of what a run reads, serves and reaches; this project's profile.
-use Rattle.std.specs.Prelude.{ℕ, List}
+use Rattle.std.specs.Prelude.{ℕ, Bool, List}
 use Rattle.systems.specs.Edges.{Edges}
 use Rattle.package_files.specs.Storages.{Storage}
 use Rattle.update_client.specs.Walks.{Post}
@@ -9,7 +9,8 @@ use Rattle.omaha_histories.specs.Histories.{Stored}
 
 -- rule: Edges of the program
 -- of each file, by its path; of the files in folders; of the histories at paths; of addresses, connections and logs;
--- which posts were made to the server at an address, each with the reply that came back; and which replies operators' listeners gave
+-- which posts were made to the server at an address, each with the reply that came back; which replies operators' listeners
+-- gave; and whether the standard output and the standard error may be said to be terminals
 pub record World : Type 1 where
   pub files : Files
   pub storage : Storage
@@ -17,3 +18,5 @@ pub record World : Type 1 where
   pub edges : Edges
   pub replies : List ℕ → List Post → Type 0
   pub operated : Listeners
+  pub output_seen : Bool → Type 0
+  pub errors_seen : Bool → Type 0

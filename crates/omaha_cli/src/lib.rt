@@ -10,10 +10,12 @@ mod running;
 mod runtime;
 mod serving;
 mod unreadable;
+mod watched;
 
-pub use crate::running::{Ending, Status, run};
+pub use crate::running::{Ending, Status, Task, run};
 pub use crate::runtime::Runtime;
 pub use crate::unreadable::report_unreadable;
+pub use crate::watched::Watched;
 pub use kept_records::Stores;
 pub use omaha_arguments::{Command, Comparison, Once, Publication, Question, Report, Serve, Walk};
 pub use omaha_commands::{Failure, HistoryFault, read_service, report_on};

@@ -3,15 +3,16 @@
 ghost use Rattle.std.specs.Prelude.{◌≡◌, map, string_bytes};
 ghost use Rattle.omaha_arguments.specs.WalkArguments.{IsAskable};
 ghost use Rattle.omaha_cli.specs.Doing.{Does, Logs};
-ghost use Rattle.omaha_cli.specs.Running.{Ends, EndsBy, IsLogged, IsMistaken, IsReported, IsPrinted, Runs, Shows, code_of, status_of};
+ghost use Rattle.omaha_cli.specs.Running.{Ends, EndsBy, EndsTask, IsLoggedBy, IsManner, IsMistaken, IsReported, IsPrinted, Runs, Shows, code_of, status_of};
 
 use crate::serving::serve_profile;
+use crate::watched::Watched;
 use http_ports::Port;
 use kept_records::Stores;
-use omaha_arguments::{ArgumentError, Command, read_arguments};
+use omaha_arguments::{ArgumentError, Command, Invocation, read_arguments};
 use omaha_commands::{
-    Failure, compare_on, describe_files, dump_on, explain_code, print_script, publish_on, raise_on,
-    report_on, review_on, walk_on,
+    Failure, Manner, compare_on, describe_files, dump_on, explain_code, print_script, publish_on,
+    raise_on, report_on, review_on, walk_on,
 };
 use omaha_histories::print_history;
 use omaha_once::respond;
@@ -98,6 +99,15 @@ fn end_without_command<W: WriteWhole>(error: ArgumentError, writer: &mut W) -> E
     }
 }
 
+/// A command, and how it prints.
+#[derive(Drop)]
+pub struct Task {
+    /// The command.
+    pub command: Command,
+    /// How it prints.
+    pub manner: Manner,
+}
+
 // Does what a command asks for.
 fn obey<
     P: Port + Send + Drop,
@@ -105,49 +115,109 @@ fn obey<
     R: Disk + Folders + Clock + Connector + AllocGlobal + Threads + Sync + Wait,
     H: Stores,
     I: ReadWhole,
-    W: WriteWhole,
-    F: WriteWhole + Send,
+    W: WriteWhole + Watched,
+    F: WriteWhole + Send + Watched,
 >(
     rt: &R,
     system: &S,
     stores: &H,
-    command: &Command,
+    task: &Task,
     reader: &mut I,
     writer: &mut W,
     errors: &mut F,
 ) -> Result<(), Failure>
-    requires { IsAskable command.now }
-    ensures logs { Logs (R.operated rt.now) command.now (F.output errors.old) (F.output errors.new) result }
-    ensures does { Does (record { files = R.file_at rt.now; storage = R.storage rt.now; stored = H.found stores.now; edges = S.edges system.now; replies = R.replies rt.now; operated = R.operated rt.now }) command.now
+    requires { IsAskable task.now.command }
+    ensures logs { Logs (R.operated rt.now) task.now (F.output errors.old) (F.output errors.new) result }
+    ensures does { Does (record { files = R.file_at rt.now; storage = R.storage rt.now; stored = H.found stores.now; edges = S.edges system.now; replies = R.replies rt.now; operated = R.operated rt.now; output_seen = W.seen writer.old; errors_seen = F.seen errors.old }) task.now
         (record { input = I.input reader.old; output = W.output writer.old })
         (record { input = I.input reader.new; output = W.output writer.new }) result }
 {
-    match command {
+    let manner = task.manner;
+    match &task.command {
         Command::Once(once) => respond(rt, once, reader, writer),
         Command::Report(asked) => report_on(rt, asked, writer),
         Command::Compare(asked) => compare_on(rt, asked, writer),
         Command::Review(asked) => review_on(rt, asked, writer),
         Command::Describe(paths) => describe_files(rt.alloc(), rt, paths.as_slice(), writer),
         Command::Explain(code) => explain_code(rt.alloc(), code, writer),
-        Command::Serve(asked) => serve_profile(rt, system, stores, asked, writer, errors),
+        Command::Serve(asked) => {
+            serve_profile(rt, system, stores, asked, manner.verbose, writer, errors)
+        },
         Command::Walk(asked) => walk_on(rt.alloc(), rt, asked, writer),
-        Command::Publish(asked) => publish_on(rt, asked, reader, writer),
+        Command::Publish(asked) => publish_on(rt, asked, manner.shown, reader, writer),
         Command::Script(asked) => print_script(rt, rt.alloc(), asked, writer),
-        Command::Raise(asked) => raise_on(rt, rt.alloc(), asked, writer),
-        Command::Dump(asked) => dump_on(rt, rt.alloc(), asked, writer, errors),
+        Command::Raise(asked) => raise_on(rt, rt.alloc(), asked, manner.shown, writer),
+        Command::Dump(asked) => dump_on(rt, rt.alloc(), asked, manner, writer, errors),
         Command::History(asked) => print_history(rt, stores, asked, writer),
     }
 }
 
+// rule: More on standard error
+// How a command prints by its arguments, on such streams.
+fn manner_of<W: Watched, F: Watched>(verbose: bool, writer: &W, errors: &F) -> Manner
+    ensures { IsManner (W.seen writer.now) (F.seen errors.now) verbose result }
+{
+    let shown = writer.is_watched();
+    let watched = errors.is_watched();
+    Manner {
+        verbose: verbose || watched,
+        shown,
+    }
+}
+
+// How a run ended, and the task that it had, if the arguments asked for one.
+#[derive(Drop)]
+struct Ended {
+    ending: Ending,
+    task: Option<Task>,
+}
+
 // Carries out what the arguments ask for.
+fn carry_out_task<
+    P: Port + Send + Drop,
+    S: System<P> + Sync,
+    R: Disk + Folders + Clock + Connector + AllocGlobal + Threads + Sync + Wait,
+    H: Stores,
+    I: ReadWhole,
+    W: WriteWhole + Watched,
+    F: WriteWhole + Send + Watched,
+>(
+    rt: &R,
+    system: &S,
+    stores: &H,
+    invocation: Invocation,
+    reader: &mut I,
+    writer: &mut W,
+    errors: &mut F,
+) -> Ended
+    requires { IsAskable invocation.command }
+    ensures logged { IsLoggedBy (R.operated rt.now) result.task result.ending (F.output errors.old) (F.output errors.new) }
+    ensures ends { EndsTask (record { files = R.file_at rt.now; storage = R.storage rt.now; stored = H.found stores.now; edges = S.edges system.now; replies = R.replies rt.now; operated = R.operated rt.now; output_seen = W.seen writer.old; errors_seen = F.seen errors.old }) invocation result.task
+        (record { input = I.input reader.old; output = W.output writer.old })
+        (record { input = I.input reader.new; output = W.output writer.new }) result.ending }
+{
+    let Invocation { command, verbose } = invocation;
+    let manner = manner_of(verbose, writer, errors);
+    let task = Task { command, manner };
+    let ending = match obey(rt, system, stores, &task, reader, writer, errors) {
+        Ok(()) => Ending::Replied,
+        Err(failure) => Ending::Failed(failure),
+    };
+    Ended {
+        ending,
+        task: Some(task),
+    }
+}
+
+// Carries out what the arguments ask for, if they do.
 fn carry_out<
     P: Port + Send + Drop,
     S: System<P> + Sync,
     R: Disk + Folders + Clock + Connector + AllocGlobal + Threads + Sync + Wait,
     H: Stores,
     I: ReadWhole,
-    W: WriteWhole,
-    F: WriteWhole + Send,
+    W: WriteWhole + Watched,
+    F: WriteWhole + Send + Watched,
 >(
     rt: &R,
     system: &S,
@@ -156,19 +226,19 @@ fn carry_out<
     reader: &mut I,
     writer: &mut W,
     errors: &mut F,
-) -> Ending
-    ensures logged { IsLogged (R.operated rt.now) (map string_bytes arguments.now) result (F.output errors.old) (F.output errors.new) }
-    ensures ends { Ends (record { files = R.file_at rt.now; storage = R.storage rt.now; stored = H.found stores.now; edges = S.edges system.now; replies = R.replies rt.now; operated = R.operated rt.now }) (map string_bytes arguments.now)
+) -> Ended
+    ensures logged { IsLoggedBy (R.operated rt.now) result.task result.ending (F.output errors.old) (F.output errors.new) }
+    ensures ends { Ends (record { files = R.file_at rt.now; storage = R.storage rt.now; stored = H.found stores.now; edges = S.edges system.now; replies = R.replies rt.now; operated = R.operated rt.now; output_seen = W.seen writer.old; errors_seen = F.seen errors.old }) (map string_bytes arguments.now) result.task
         (record { input = I.input reader.old; output = W.output writer.old })
-        (record { input = I.input reader.new; output = W.output writer.new }) result }
-    ensures untouched { IsMistaken result → (reader.new ≡ reader.old) × (writer.new ≡ writer.old) }
+        (record { input = I.input reader.new; output = W.output writer.new }) result.ending }
+    ensures untouched { IsMistaken result.ending → (reader.new ≡ reader.old) × (writer.new ≡ writer.old) }
 {
     match read_arguments(rt.alloc(), arguments) {
-        Ok(command) => match obey(rt, system, stores, &command, reader, writer, errors) {
-            Ok(()) => Ending::Replied,
-            Err(failure) => Ending::Failed(failure),
+        Ok(invocation) => { carry_out_task(rt, system, stores, invocation, reader, writer, errors) }
+        Err(error) => Ended {
+            ending: end_without_command(error, writer),
+            task: None,
         },
-        Err(error) => end_without_command(error, writer),
     }
 }
 
@@ -206,16 +276,17 @@ fn report<F: WriteWhole>(alloc: Global, ending: &Ending, errors: &mut F)
 /// history; with `serve` it serves until its last session; with `walk` it walks along a server's offers; with `publish`,
 /// `raise` and `dump` it calls an operator's listener. It returns 0 if the command did that, or the help or the version
 /// was printed; 1 if the command failed, after one line on `errors`, or none if that listener declined; and 2 if the
-/// arguments are invalid, after `clap`'s message on `errors`. With `--log -` a server also logs its replies there, and
-/// `dump --verbose` prints the number of the server's edition.
+/// arguments are invalid, after `clap`'s message on `errors`. With `--log -` a server also logs its replies there. With
+/// `--verbose`, or if `errors` is a terminal, `dump` prints the number of the server's edition there. If `writer` is a
+/// terminal, the reply of an operator's listener is printed without control characters.
 pub fn run<
     P: Port + Send + Drop,
     S: System<P> + Sync,
     R: Disk + Folders + Clock + Connector + AllocGlobal + Threads + Sync + Wait,
     H: Stores,
     I: ReadWhole,
-    W: WriteWhole,
-    F: WriteWhole + Send,
+    W: WriteWhole + Watched,
+    F: WriteWhole + Send + Watched,
 >(
     rt: &R,
     system: &S,
@@ -225,13 +296,13 @@ pub fn run<
     writer: &mut W,
     errors: &mut F,
 ) -> u8
-    ensures run { Runs (record { files = R.file_at rt.now; storage = R.storage rt.now; stored = H.found stores.now; edges = S.edges system.now; replies = R.replies rt.now; operated = R.operated rt.now }) (map string_bytes arguments.now)
+    ensures run { Runs (record { files = R.file_at rt.now; storage = R.storage rt.now; stored = H.found stores.now; edges = S.edges system.now; replies = R.replies rt.now; operated = R.operated rt.now; output_seen = W.seen writer.old; errors_seen = F.seen errors.old }) (map string_bytes arguments.now)
         (record { input = I.input reader.old; output = W.output writer.old })
         (record { input = I.input reader.new; output = W.output writer.new })
         (F.output errors.old) (F.output errors.new) result }
     ensures untouched { result ≡ 2 → (reader.new ≡ reader.old) × (writer.new ≡ writer.old) }
 {
-    let ending = carry_out(rt, system, stores, arguments, reader, writer, errors);
-    report(rt.alloc(), &ending, errors);
-    ending.status().code()
+    let ended = carry_out(rt, system, stores, arguments, reader, writer, errors);
+    report(rt.alloc(), &ended.ending, errors);
+    ended.ending.status().code()
 }

@@ -1,8 +1,7 @@
 // The command `serve`.
 
-ghost use Rattle.std.specs.Prelude.{◌≡◌, IfOk};
-ghost use Rattle.omaha_cli.specs.Serving.{EndsAs, IsPlaceOf, IsUnbound, IsUnopened, ServesOn};
-ghost use Rattle.omaha_server.specs.Serving.{IsSilent};
+ghost use Rattle.std.specs.Prelude.{◌≡◌, IfOk, None, false};
+ghost use Rattle.omaha_cli.specs.Serving.{EndsAs, IsPlaceOf, IsQuiet, IsUnbound, IsUnopened, ServesOn};
 ghost use Rattle.streams.specs.Streams.{Known};
 
 use http_ports::Port;
@@ -56,6 +55,7 @@ fn end_of<A: Drop>(ended: Result<A, ServerError>, asked: &Serve) -> Result<(), F
         Err(ServerError::OperatorNet) => Err(unbound(&asked.operator)),
         Err(ServerError::Log) => Err(unopened(&asked.log)),
         Err(ServerError::Folder) => Err(Failure::File(asked.packages.clone()?)),
+        Err(ServerError::Package(name, lack)) => Err(Failure::Package(name, lack)),
         Err(ServerError::NoPlace) => Err(Failure::NoPlace),
         Err(ServerError::Thread) => Err(Failure::Thread),
         Err(ServerError::Unpublished) => Err(Failure::Unpublished),
@@ -85,9 +85,22 @@ fn copy_of(text: &Option<Text>) -> Result<Option<Text>, AllocError>
     }
 }
 
+// The name of what is served, if the server says more of itself: the profile's path, or that of the history.
+fn name_of(asked: &Serve, verbose: bool) -> Result<Option<Text>, AllocError>
+    ensures { IfOk result (λ named. verbose ≡ false → named ≡ None) }
+{
+    if !verbose {
+        return Ok(None);
+    }
+    match (&asked.profile, &asked.history) {
+        (Some(profile), _) => Ok(Some(profile.clone()?)),
+        (None, history) => copy_of(history),
+    }
+}
+
 // Where, by how many workers and for how long to serve.
-fn place_of(asked: &Serve) -> Result<Place, AllocError>
-    ensures { IfOk result (λ place. IsPlaceOf asked.now place) }
+fn place_of(asked: &Serve, verbose: bool) -> Result<Place, AllocError>
+    ensures { IfOk result (λ place. IsPlaceOf asked.now verbose place) }
 {
     Ok(Place {
         address: asked.listen.clone()?,
@@ -101,6 +114,8 @@ fn place_of(asked: &Serve) -> Result<Place, AllocError>
         idle: asked.idle.max(1),
         connections: asked.connections,
         pinned_tables: asked.pinned_tables,
+        packages_must_exist: asked.packages_must_exist,
+        named: name_of(asked, verbose)?,
     })
 }
 
@@ -109,9 +124,10 @@ fn place_of(asked: &Serve) -> Result<Place, AllocError>
 ///
 /// With a history each script and each raise is kept before it takes effect. Fails, in this order, with the history, the
 /// profile's file, another profile than the history's, the profile's first fault, its first rejected edit, the first record
-/// that doesn't follow, the log, the folder of packages, no place for a worker's view, the address, the operator's
-/// address, the writer, and a thread that can't be started; the writer may also fail after the last session. Replies are
-/// logged on `errors` if the log is `-`; otherwise it is left as it is.
+/// that doesn't follow, the log, the folder of packages, a package that must be there and isn't, no place for a worker's
+/// view, the address, the operator's address, the writer, and a thread that can't be started; the writer may also fail after the last session. Replies are
+/// logged on `errors` if the log is `-`, and what the server says of itself if it is `verbose`; otherwise `errors` is left
+/// as it is.
 pub(crate) fn serve_profile<
     P: Port + Send + Drop,
     S: System<P> + Sync,
@@ -124,11 +140,12 @@ pub(crate) fn serve_profile<
     system: &S,
     stores: &H,
     asked: &Serve,
+    verbose: bool,
     writer: &mut W,
     errors: &mut F,
 ) -> Result<(), Failure>
-    ensures silent { IsSilent asked.now.log → errors.new ≡ errors.old }
-    ensures serves { (input : Known) → ServesOn (R.file_at rt.now) (H.found stores.now) (S.edges system.now) asked.now
+    ensures silent { IsQuiet verbose asked.now.log → errors.new ≡ errors.old }
+    ensures serves { (input : Known) → ServesOn (R.file_at rt.now) (H.found stores.now) (S.edges system.now) verbose asked.now
         (record { input = input; output = W.output writer.old })
         (record { input = input; output = W.output writer.new }) result }
 {
@@ -136,7 +153,7 @@ pub(crate) fn serve_profile<
         Ok(kept) => kept,
         Err(failure) => return Err(failure),
     };
-    let Ok(place) = place_of(asked) else {
+    let Ok(place) = place_of(asked, verbose) else {
         return Err(Failure::Memory);
     };
     let ended = serve(rt, system, kept, &place, &Free, writer, errors);

@@ -4,9 +4,17 @@ use Rattle.streams.specs.Streams.{Known}
 use Rattle.streams.specs.Writing.{IsWritten}
 use Rattle.omaha_arguments.specs.Options.{number_of}
 use Rattle.update_client.specs.declared.posting.Reply.{Reply}
-use Rattle.omaha_commands.specs.Operating.{Listeners}
+use Rattle.update_client.specs.declared.walk_at.Limits.{Limits}
+use Rattle.omaha_commands.specs.Operating.{Listeners, max_dump, max_line}
 use Rattle.omaha_commands.specs.Reviewing.{IsUnanswered, probe_script}
 use Rattle.omaha_commands.specs.declared.failure.Failure.{Failure}
+
+-- what an exchange may take whose reply is a line, and one whose reply is a profile
+abbrev pub line_limits : ℕ → Limits
+line_limits seconds = record { seconds = seconds; reply = max_line }
+
+abbrev pub dump_limits : ℕ → Limits
+dump_limits seconds = record { seconds = seconds; reply = max_dump }
 
 -- the bytes without the line feed at their end, if there is one
 abbrev pub before_feed : List ℕ → Option (List ℕ)

@@ -3,6 +3,7 @@ use Rattle.std.specs.Prelude.{ℕ, Bool, true, false, List, ◌++◌, codes, dec
 use Rattle.catalogue.specs.FaultStrings.{refused_string}
 use Rattle.omaha_json.specs.Faults.{fault_string}
 use Rattle.package_files.specs.Descriptions.{error_string as reason_text}
+use Rattle.package_files.specs.Lacking.{lacking_string}
 use Rattle.price_certificates.specs.FaultStrings.{fault_string as certificate_fault_text}
 use Rattle.profile_toml.specs.FaultStrings.{fault_string as profile_fault_text}
 use Rattle.streams.specs.Strings.{shown_string}
@@ -19,6 +20,7 @@ failure_string (failure.File path) = codes "file " ++ shown_string path
 failure_string (failure.Undescribed path reason) =
     codes "file " ++ shown_string path ++ codes ": " ++ reason_text reason
 failure_string (failure.Packages count) = codes "packages " ++ decimal count
+failure_string (failure.Package name what) = lacking_string name what
 failure_string (failure.Profile fault) = profile_fault_text fault
 failure_string (failure.Edit refused) = refused_string refused
 failure_string (failure.Script fault) = codes "script " ++ profile_fault_text fault
@@ -38,11 +40,11 @@ failure_string failure.Closed = codes "closed"
 failure_string failure.Thread = codes "thread"
 failure_string failure.Unpublished = codes "unpublished"
 failure_string (failure.Walk fault) = walk_fault_text fault
-failure_string failure.Declined = codes "declined"
+failure_string (failure.Declined reply) = codes "declined"
 failure_string failure.Memory = codes "memory"
 failure_string failure.Write = codes "write"
 
 -- the operator's listener declined, and said why on the standard output
 abbrev pub is_declined : Failure → Bool
-is_declined failure.Declined = true
+is_declined (failure.Declined reply) = true
 is_declined other = false

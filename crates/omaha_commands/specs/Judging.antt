@@ -5,6 +5,7 @@ use Rattle.streams.specs.Streams.{Known}
 use Rattle.catalogue_laws.specs.Histories.{History}
 use Rattle.services.specs.declared.service.Service.{Service}
 use Rattle.profile_toml.specs.Reading.{script_of_bytes}
+use Rattle.package_files.specs.Storages.{Storage}
 use Rattle.omaha_arguments.specs.declared.command.Publication.{Publication}
 use Rattle.update_client.specs.declared.posting.Reply.{Reply}
 use Rattle.omaha_commands.specs.Applying.{Applies}
@@ -13,6 +14,7 @@ use Rattle.omaha_commands.specs.Operating.{Listeners, Posts, is_input}
 use Rattle.omaha_commands.specs.Profiles.{Files, IsMade, service_of_bytes}
 use Rattle.omaha_commands.specs.Reports.{Prints}
 use Rattle.omaha_commands.specs.Reviewing.{IsScriptOf, Script, max_script}
+use Rattle.omaha_commands.specs.Stocking.{Stocks}
 use Rattle.omaha_commands.specs.Streams.{Streams}
 use Rattle.omaha_commands.specs.declared.failure.Failure.{Failure}
 use Rattle.omaha_commands.specs.declared.failure.Failure.TheVariants as failure
@@ -67,11 +69,6 @@ abbrev pub IsScriptBy : Bool → Files → List ℕ → Known → Known → Resu
 IsScriptBy true files path old new read = IsScriptIn old new read
 IsScriptBy false files path old new read = IsScriptOf files path read × (new ≡ old)
 
--- what follows from the script that was read
-abbrev pub JudgesRead : Listeners → List ℕ → Result Script Failure → Result ℕ Failure → Type 0
-JudgesRead listeners to (Ok script) judged = Judges listeners to script judged
-JudgesRead listeners to (Err refusal) judged = judged ≡ Err refusal
-
 -- what is printed of a valid script
 abbrev pub valid_line : ℕ → List ℕ
 valid_line number = codes "valid for edition " ++ decimal number ++ codes "\n"
@@ -86,19 +83,40 @@ abbrev pub PrintsJudged : Result ℕ Failure → Streams → Streams → Result 
 PrintsJudged (Ok number) old new result = PrintsValid number old new result
 PrintsJudged (Err refusal) old new result = (result ≡ Err refusal) × (new ≡ old)
 
+-- a script is judged by what a server has published, and the edition that it is valid for is printed
+abbrev pub PrintsJudgement : Listeners → List ℕ → Script → Streams → Streams → Result (Unit {0}) Failure → Type 0
+PrintsJudgement listeners to script old new result =
+    (judged : Result ℕ Failure) × Judges listeners to script judged × PrintsJudged judged old new result
+
+-- a script whose packages agree is judged
+abbrev pub JudgesIf : Listeners → List ℕ → Script → Result (Unit {0}) Failure → Streams → Streams → Result (Unit {0}) Failure → Type 0
+JudgesIf listeners to script (Ok done) old new result = PrintsJudgement listeners to script old new result
+JudgesIf listeners to script (Err refusal) old new result = (result ≡ Err refusal) × (new ≡ old)
+
+-- the packages of a script are compared, if a folder is named, and then it is judged
+pub record JudgesStocked (storage : Storage) (listeners : Listeners) (asked : Publication) (script : Script) (old new : Streams) (result : Result (Unit {0}) Failure) : Type 0 where
+  pub stocked : Result (Unit {0}) Failure
+  pub between : Known
+  pub is : Stocks storage asked.packages script.1 old.output between stocked
+  pub judged : JudgesIf listeners asked.to script stocked (record { input = old.input; output = between }) new result
+
+-- what was read is judged; or nothing is done
+abbrev pub ChecksRead : Storage → Listeners → Publication → Result Script Failure → Streams → Streams → Result (Unit {0}) Failure → Type 0
+ChecksRead storage listeners asked (Ok script) old new result = JudgesStocked storage listeners asked script old new result
+ChecksRead storage listeners asked (Err refusal) old new result = (result ≡ Err refusal) × (new ≡ old)
+
 -- a script is read, judged by what a server has published, and not published
-pub record Checks (files : Files) (listeners : Listeners) (asked : Publication) (old new : Streams) (result : Result (Unit {0}) Failure) : Type 0 where
+pub record Checks (files : Files) (storage : Storage) (listeners : Listeners) (asked : Publication) (old new : Streams) (result : Result (Unit {0}) Failure) : Type 0 where
   pub read : Result Script Failure
   pub script : IsScriptBy (is_input asked.script) files asked.script old.input new.input read
-  pub judged : Result ℕ Failure
-  pub is : JudgesRead listeners asked.to read judged
-  pub printed : PrintsJudged judged (record { input = new.input; output = old.output }) new result
+  pub follows : ChecksRead storage listeners asked read (record { input = new.input; output = old.output }) new result
 
 -- a script is checked, or posted
-abbrev pub PublishesIf : Bool → Files → Listeners → Publication → Streams → Streams → Result (Unit {0}) Failure → Type 0
-PublishesIf true files listeners asked old new result = Checks files listeners asked old new result
-PublishesIf false files listeners asked old new result = Posts files listeners asked old new result
+abbrev pub PublishesIf : Bool → Files → Storage → Listeners → Bool → Publication → Streams → Streams → Result (Unit {0}) Failure → Type 0
+PublishesIf true files storage listeners shown asked old new result = Checks files storage listeners asked old new result
+PublishesIf false files storage listeners shown asked old new result = Posts files storage listeners shown asked old new result
 
 -- what `publish` does
-abbrev pub Publishes : Files → Listeners → Publication → Streams → Streams → Result (Unit {0}) Failure → Type 0
-Publishes files listeners asked old new result = PublishesIf asked.check files listeners asked old new result
+abbrev pub Publishes : Files → Storage → Listeners → Bool → Publication → Streams → Streams → Result (Unit {0}) Failure → Type 0
+Publishes files storage listeners shown asked old new result =
+    PublishesIf asked.check files storage listeners shown asked old new result

@@ -12,5 +12,7 @@ pub mod Rejections
 pub mod Reports
 pub mod Reviewing
 pub mod Scripting
+pub mod ShownReplies
+pub mod Stocking
 pub mod Streams
 pub mod Walking

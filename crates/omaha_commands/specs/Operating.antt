@@ -1,13 +1,16 @@
 -- What the commands `publish`, `raise` and `dump` do; this project's profile.
-use Rattle.std.specs.Prelude.{◌≡◌, ◌⊎◌, ◌++◌, ⊤, ℕ, Bool, true, false, List, bytes_eq, codes, Result, Ok, Err}
+use Rattle.std.specs.Prelude.{◌≡◌, ◌⊎◌, ◌++◌, ◌≤◌, ◌<◌, ⊤, ℕ, Bool, true, false, List, [], bytes_eq, codes, length, Result, Ok, Err}
 use Rattle.std.specs.Io.KnownBytes.{Appends}
 use Rattle.streams.specs.Reading.{IsLonger, IsWhole}
 use Rattle.streams.specs.Streams.{Known}
 use Rattle.streams.specs.Writing.{Breaks}
+use Rattle.package_files.specs.Storages.{Storage}
 use Rattle.update_client.specs.declared.posting.Reply.{Reply}
 use Rattle.omaha_arguments.specs.declared.command.Publication.{Publication}
 use Rattle.omaha_arguments.specs.declared.command.Raise.{Raise}
 use Rattle.omaha_commands.specs.Profiles.{Files, IsUnreadable, max_profile}
+use Rattle.omaha_commands.specs.ShownReplies.{printed_reply}
+use Rattle.omaha_commands.specs.Stocking.{StocksBytes}
 use Rattle.omaha_commands.specs.Streams.{Streams}
 use Rattle.omaha_commands.specs.declared.failure.Failure.{Failure}
 use Rattle.omaha_commands.specs.declared.failure.Failure.TheVariants as failure
@@ -44,38 +47,87 @@ IsReadBy false files path old new read = IsRead files path read × (new ≡ old)
 abbrev pub IsScript : Files → List ℕ → Known → Known → Result (List ℕ) Failure → Type 0
 IsScript files path old new read = IsReadBy (is_input path) files path old new read
 
--- the reply is printed, and the call succeeds exactly if its status is 200; or the writer failed within it
-abbrev pub PrintsReply : Reply → Known → Known → Result (Unit {0}) Failure → Type 0
-PrintsReply reply before after (Ok done) =
-    (reply.status ≡ 200) × Appends before.bytes after.bytes reply.body.items
-PrintsReply reply before after (Err failure.Declined) =
-    (reply.status ≡ 200 → ⊥) × Appends before.bytes after.bytes reply.body.items
-PrintsReply reply before after (Err failure.Write) = Breaks before after reply.body.items
-PrintsReply reply before after (Err other) = ⊥
+-- the bytes are printed; or the writer failed within them
+abbrev pub PrintsBytes : List ℕ → Known → Known → Result (Unit {0}) Failure → Type 0
+PrintsBytes bytes before after (Ok done) = Appends before.bytes after.bytes bytes
+PrintsBytes bytes before after (Err failure.Write) = Breaks before after bytes
+PrintsBytes bytes before after (Err other) = ⊥
+
+-- a reply's body is printed, as a terminal gets it if it is one; or memory ran out before
+abbrev pub PrintsBody : Bool → List ℕ → Known → Known → Result (Unit {0}) Failure → Type 0
+PrintsBody shown body before after (Err failure.Memory) = after ≡ before
+PrintsBody shown body before after result = PrintsBytes (printed_reply shown body) before after result
+
+-- the reply is printed, and the call succeeds exactly if its status is 200; or the writer failed within it, or memory ran
+-- out before
+abbrev pub PrintsReply : Bool → Reply → Known → Known → Result (Unit {0}) Failure → Type 0
+PrintsReply shown reply before after (Ok done) =
+    (reply.status ≡ 200) × PrintsBody shown reply.body.items before after (Ok tt)
+PrintsReply shown reply before after (Err (failure.Declined said)) =
+    (said ≡ reply) × (reply.status ≡ 200 → ⊥) × PrintsBody shown reply.body.items before after (Ok tt)
+PrintsReply shown reply before after (Err other) = PrintsBody shown reply.body.items before after (Err other)
+
+-- the listener can't be reached, or sends no whole reply, or a longer one; or memory ran out
+abbrev pub IsUnreached : List ℕ → Result (Unit {0}) Failure → Type 0
+IsUnreached to result = (result ≡ Err (failure.Net to)) ⊎ (result ≡ Err failure.Memory)
 
 -- rule: Call of an operator's listener
--- the listener's reply to a body is printed; or there is none, and nothing is printed
-abbrev pub Calls : Listeners → List ℕ → List ℕ → Known → Known → Result (Unit {0}) Failure → Type 0
-Calls listeners to body before after result =
-    ((reply : Reply) × listeners to body reply × PrintsReply reply before after result)
-    ⊎ (((result ≡ Err (failure.Net to)) ⊎ (result ≡ Err failure.Memory)) × (after ≡ before))
+-- the listener's reply to a body, of so many bytes at most, is printed; or there is none, and nothing is printed
+abbrev pub Calls : Listeners → Bool → ℕ → List ℕ → List ℕ → Known → Known → Result (Unit {0}) Failure → Type 0
+Calls listeners shown most to body before after result =
+    ((reply : Reply) × listeners to body reply × (length reply.body.items ≤ most) × PrintsReply shown reply before after result)
+    ⊎ (IsUnreached to result × (after ≡ before))
+
+-- how many bytes a reply of a line may have, and a dump
+abbrev pub max_line : ℕ
+max_line = 65536
+
+abbrev pub max_dump : ℕ
+max_dump = 268435456
+
+-- how many bytes a script may have
+abbrev pub max_posted : ℕ
+max_posted = 262144
+
+-- the failure for a longer one, which isn't sent
+abbrev pub too_long : Failure
+too_long = failure.Declined (record { status = 413; body = record { items = [] } })
+
+-- a script's bytes are sent as they are, if they aren't too many
+abbrev pub PostsBytes : Listeners → Bool → List ℕ → List ℕ → Known → Known → Result (Unit {0}) Failure → Type 0
+PostsBytes listeners shown to script before after result =
+    ((length script ≤ max_posted) × Calls listeners shown max_line to script before after result)
+    ⊎ ((max_posted < length script) × (result ≡ Err too_long) × (after ≡ before))
+
+-- a script whose packages agree is sent; of another one nothing is
+abbrev pub PostsIf : Listeners → Bool → List ℕ → List ℕ → Result (Unit {0}) Failure → Known → Known → Result (Unit {0}) Failure → Type 0
+PostsIf listeners shown to script (Ok done) before after result = PostsBytes listeners shown to script before after result
+PostsIf listeners shown to script (Err refusal) before after result = (result ≡ Err refusal) × (after ≡ before)
+
+-- the packages of a script are compared, if a folder is named, and then it is sent
+pub record PostsStocked (storage : Storage) (listeners : Listeners) (shown : Bool) (asked : Publication) (script : List ℕ) (before after : Known) (result : Result (Unit {0}) Failure) : Type 0 where
+  pub stocked : Result (Unit {0}) Failure
+  pub between : Known
+  pub is : StocksBytes storage asked.packages script before between stocked
+  pub posts : PostsIf listeners shown asked.to script stocked between after result
 
 -- what was read is sent; or nothing is done
-abbrev pub CallsWith : Listeners → List ℕ → Result (List ℕ) Failure → Known → Known → Result (Unit {0}) Failure → Type 0
-CallsWith listeners to (Ok body) before after result = Calls listeners to body before after result
-CallsWith listeners to (Err refusal) before after result = (result ≡ Err refusal) × (after ≡ before)
+abbrev pub PostsRead : Storage → Listeners → Bool → Publication → Result (List ℕ) Failure → Known → Known → Result (Unit {0}) Failure → Type 0
+PostsRead storage listeners shown asked (Ok script) before after result =
+    PostsStocked storage listeners shown asked script before after result
+PostsRead storage listeners shown asked (Err refusal) before after result = (result ≡ Err refusal) × (after ≡ before)
 
--- the script's bytes are sent as they are
-abbrev pub Posts : Files → Listeners → Publication → Streams → Streams → Result (Unit {0}) Failure → Type 0
-Posts files listeners publication old new result =
+-- the script is read and sent
+abbrev pub Posts : Files → Storage → Listeners → Bool → Publication → Streams → Streams → Result (Unit {0}) Failure → Type 0
+Posts files storage listeners shown publication old new result =
     (read : Result (List ℕ) Failure) × IsScript files publication.script old.input new.input read
-    × CallsWith listeners publication.to read old.output new.output result
+    × PostsRead storage listeners shown publication read old.output new.output result
 
 -- the word `raise`, the name and the budget are sent as they are, one space between
-abbrev pub Raises : Listeners → Raise → Known → Known → Result (Unit {0}) Failure → Type 0
-Raises listeners raise before after result =
-    Calls listeners raise.to (codes "raise " ++ raise.name ++ codes " " ++ raise.budget) before after result
+abbrev pub Raises : Listeners → Bool → Raise → Known → Known → Result (Unit {0}) Failure → Type 0
+Raises listeners shown raise before after result =
+    Calls listeners shown max_line raise.to (codes "raise " ++ raise.name ++ codes " " ++ raise.budget) before after result
 
 -- the word `dump` is sent
-abbrev pub Dumps : Listeners → List ℕ → Known → Known → Result (Unit {0}) Failure → Type 0
-Dumps listeners to before after result = Calls listeners to (codes "dump") before after result
+abbrev pub Dumps : Listeners → Bool → List ℕ → Known → Known → Result (Unit {0}) Failure → Type 0
+Dumps listeners shown to before after result = Calls listeners shown max_dump to (codes "dump") before after result

@@ -123,7 +123,7 @@ IsUnanswered to found = (found ≡ Err (failure.Net to)) ⊎ (found ≡ Err fail
 
 -- another reply than the one that is asked for is printed, and the review fails
 abbrev pub IsDeclined : Reply → Result Findings Failure → Type 0
-IsDeclined reply found = found ≡ Ok (record { text = reply.body; verdict = Declined })
+IsDeclined reply found = found ≡ Ok (record { text = reply.body; verdict = Declined reply.status })
 
 -- a script as if it were written for an edition
 abbrev pub based_on : History → Option Script → Option Script
@@ -223,16 +223,20 @@ pub record FindsReview (files : Files) (listeners : Listeners) (asked : Review) 
   pub script : IsScriptRead files asked.script read
   pub follows : FindsWith files listeners asked read found
 
+-- how the command ends that printed what it found, by its verdict
+abbrev pub end_by : Review → Findings → Verdict → Result (Unit {0}) Failure
+end_by asked found (StuckReleases stuck) = if asked.strict && nat_lt 0 stuck then Err (failure.Stuck stuck) else Ok tt
+end_by asked found (Declined status) = Err (failure.Declined (record { status = status; body = found.text }))
+
 -- rule: Strict review
 -- how the command ends that printed what it found
-abbrev pub end_of : Review → Verdict → Result (Unit {0}) Failure
-end_of asked (StuckReleases stuck) = if asked.strict && nat_lt 0 stuck then Err (failure.Stuck stuck) else Ok tt
-end_of asked Declined = Err failure.Declined
+abbrev pub end_of : Review → Findings → Result (Unit {0}) Failure
+end_of asked found = end_by asked found found.verdict
 
 -- what was found is printed, and the command ends by it; or the writer failed within it; or nothing is printed
 abbrev pub PrintsReview : Review → Result Findings Failure → Streams → Streams → Result (Unit {0}) Failure → Type 0
 PrintsReview asked (Ok findings) old new result =
-    (((result ≡ end_of asked findings.verdict) × Appends old.output.bytes new.output.bytes findings.text.items)
+    (((result ≡ end_of asked findings) × Appends old.output.bytes new.output.bytes findings.text.items)
     ⊎ ((result ≡ Err failure.Write) × Breaks old.output new.output findings.text.items))
     × (new.input ≡ old.input)
 PrintsReview asked (Err refusal) old new result = (result ≡ Err refusal) × (new ≡ old)

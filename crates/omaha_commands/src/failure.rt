@@ -4,14 +4,14 @@ ghost use Rattle.omaha_commands.specs.Failures.{failure_string, is_declined};
 use crate::history_fault::HistoryFault;
 use catalogue::Refused;
 use omaha_json::RequestFault;
-use package_files::DescribeError;
+use package_files::{DescribeError, Lack, Lacking};
 use price_certificates::Fault as CertificateFault;
 use profile_toml::ProfileFault;
 use std::alloc::AllocError;
 use std::error::Error;
 use std::fmt;
 use streams::{ReadFailure, Shown};
-use update_client::Fault;
+use update_client::{Fault, Reply};
 use values::{ReadError, Text};
 
 /// Why a command fails; it prints as the rest of the line that begins `omaha: `.
@@ -26,6 +26,8 @@ pub enum Failure {
     Undescribed(Text, DescribeError),
     /// So many declared packages differ from their files.
     Packages(u64),
+    /// A folder must have the package of this name with its size, and has this.
+    Package(Text, Lack),
     /// The profile is invalid.
     Profile(ProfileFault),
     /// An edit of the profile was rejected.
@@ -62,8 +64,9 @@ pub enum Failure {
     Unpublished,
     /// A walk failed.
     Walk(Fault),
-    /// The operator's listener replied with another status than 200. Its reply is printed, and nothing else.
-    Declined,
+    /// The operator's listener replied so, with another status than 200. Its reply is printed, and nothing else. A script
+    /// that no listener takes is declined with 413 and no body before it is sent.
+    Declined(Reply),
     /// Memory ran out.
     Memory,
     /// The reply could not be written.
@@ -89,6 +92,13 @@ impl fmt::Display for Failure {
                 write!(f, "file {path}: {reason}")
             }
             Failure::Packages(count) => write!(f, "packages {count}"),
+            Failure::Package(name, lack) => {
+                let lacking = Lacking {
+                    name: name.as_str(),
+                    lack: *lack,
+                };
+                write!(f, "{lacking}")
+            }
             Failure::Profile(fault) => write!(f, "{fault}"),
             Failure::Edit(refused) => write!(f, "{refused}"),
             Failure::Script(fault) => write!(f, "script {fault}"),
@@ -122,7 +132,7 @@ impl fmt::Display for Failure {
             Failure::Thread => write!(f, "thread"),
             Failure::Unpublished => write!(f, "unpublished"),
             Failure::Walk(fault) => write!(f, "{fault}"),
-            Failure::Declined => write!(f, "declined"),
+            Failure::Declined(_) => write!(f, "declined"),
             Failure::Memory => write!(f, "memory"),
             Failure::Write => write!(f, "write"),
         }
@@ -137,7 +147,7 @@ impl Failure {
         ensures { result ≡ is_declined self.now }
     {
         match self {
-            Failure::Declined => true,
+            Failure::Declined(_) => true,
             _ => false,
         }
     }

@@ -1,20 +1,23 @@
 // The command `publish`, if it only checks a script.
 
 ghost use Rattle.std.specs.Prelude.{◌≡◌, Err, IfErr, IfOk, Ok, string_bytes};
-ghost use Rattle.omaha_commands.specs.Judging.{Checks, IsPublished, IsScriptBy, IsScriptIn, Judges, JudgesBy, JudgesFor, PrintsValid, valid_line};
+ghost use Rattle.omaha_commands.specs.Judging.{Checks, IsPublished, IsScriptBy, IsScriptIn, Judges, JudgesBy, JudgesFor, JudgesStocked, PrintsJudgement, PrintsValid, valid_line};
 ghost use Rattle.omaha_commands.specs.Operating.{is_input};
 ghost use Rattle.streams.specs.Streams.{Known};
 
 use crate::applying::apply;
-use crate::asking::{edition_at, unanswered};
+use crate::asking::{dump_limits, edition_at, unanswered};
 use crate::failure::Failure;
+use crate::fetching::ask;
 use crate::operating::is_input;
 use crate::printing::print;
 use crate::profile::read_service;
-use crate::reviewing::{MAX_SCRIPT, ask, read_script_file, script_in};
+use crate::script_file::{MAX_SCRIPT, read_script_file, script_in};
+use crate::stocking::stock;
 use catalogue::Batch;
 use editions::Edition;
 use omaha_arguments::Publication;
+use package_files::Folders;
 use services::Service;
 use std::alloc::{AllocError, Global};
 use std::thread::Threads;
@@ -27,10 +30,11 @@ fn published<R: Connector + Threads + Sync>(
     rt: &R,
     alloc: Global,
     to: &Text,
+    seconds: u64,
 ) -> Result<Service, Failure>
     ensures { IsPublished (R.operated rt.now) to.now result }
 {
-    match ask(rt, alloc, to, b"dump") {
+    match ask(rt, alloc, to, dump_limits(seconds), b"dump") {
         Ok(reply) if reply.status == 200 => read_service(rt, alloc, reply.body.as_slice(), 1),
         Ok(_) => Err(unanswered(to)),
         Err(failure) => Err(failure),
@@ -51,13 +55,13 @@ fn judge_by(edition: &Edition, number: u64, script: (u64, Batch)) -> Result<u64,
 fn judge_for<R: Connector + Threads + Sync>(
     rt: &R,
     alloc: Global,
-    to: &Text,
+    asked: &Publication,
     number: u64,
     script: (u64, Batch),
 ) -> Result<u64, Failure>
-    ensures { JudgesFor (R.operated rt.now) to.now number script result }
+    ensures { JudgesFor (R.operated rt.now) asked.now.to number script result }
 {
-    match published(rt, alloc, to) {
+    match published(rt, alloc, &asked.to, asked.timeout) {
         Ok(service) => judge_by(&service.edition, number, script),
         Err(failure) => Err(failure),
     }
@@ -68,13 +72,13 @@ fn judge_for<R: Connector + Threads + Sync>(
 fn judge<R: Connector + Threads + Sync>(
     rt: &R,
     alloc: Global,
-    to: &Text,
+    asked: &Publication,
     script: (u64, Batch),
 ) -> Result<u64, Failure>
-    ensures { Judges (R.operated rt.now) to.now script result }
+    ensures { Judges (R.operated rt.now) asked.now.to script result }
 {
-    match edition_at(rt, alloc, to) {
-        Ok(number) => judge_for(rt, alloc, to, number, script),
+    match edition_at(rt, alloc, &asked.to, asked.timeout) {
+        Ok(number) => judge_for(rt, alloc, asked, number, script),
         Err(failure) => Err(failure),
     }
 }
@@ -125,26 +129,57 @@ fn print_valid<W: WriteWhole>(alloc: Global, number: u64, writer: &mut W) -> Res
     }
 }
 
+// Judges a script by what a server has published, and prints which edition it is valid for.
+fn print_judgement<R: Connector + AllocGlobal + Threads + Sync, W: WriteWhole>(
+    rt: &R,
+    asked: &Publication,
+    script: (u64, Batch),
+    writer: &mut W,
+) -> Result<(), Failure>
+    ensures { (input : Known) → PrintsJudgement (R.operated rt.now) asked.now.to script
+        (record { input = input; output = W.output writer.old })
+        (record { input = input; output = W.output writer.new }) result }
+{
+    match judge(rt, rt.alloc(), asked, script) {
+        Ok(number) => print_valid(rt.alloc(), number, writer),
+        Err(failure) => Err(failure),
+    }
+}
+
+// Compares the packages of a script with files, if a folder is named, and judges it if they agree.
+fn judge_stocked<R: Connector + Folders + AllocGlobal + Threads + Sync, W: WriteWhole>(
+    rt: &R,
+    asked: &Publication,
+    script: (u64, Batch),
+    writer: &mut W,
+) -> Result<(), Failure>
+    ensures { (input : Known) → JudgesStocked (R.storage rt.now) (R.operated rt.now) asked.now script
+        (record { input = input; output = W.output writer.old })
+        (record { input = input; output = W.output writer.new }) result }
+{
+    match stock(rt, rt.alloc(), &asked.packages, script.1.edits(), writer) {
+        Ok(()) => print_judgement(rt, asked, script, writer),
+        Err(failure) => Err(failure),
+    }
+}
+
 /// Checks a script against what a server has published, and prints the number of the edition that it is valid for.
 /// Nothing is published.
 ///
-/// Fails, in this order, with the script's file or the reader, and its first fault; with `Net` if the operator's listener
-/// can't be reached or names no edition; with `Stale` if the script is written for another edition; with its first rejected
-/// edit; and with the writer.
+/// Fails, in this order, with the script's file or the reader, and its first fault; with the packages that it adds, if a
+/// folder is named and some differ; with `Net` if the operator's listener can't be reached or names no edition; with
+/// `Stale` if the script is written for another edition; with its first rejected edit; and with the writer.
 pub(crate) fn check_on<
-    R: Disk + Connector + AllocGlobal + Threads + Sync,
+    R: Disk + Folders + Connector + AllocGlobal + Threads + Sync,
     I: ReadWhole,
     W: WriteWhole,
 >(rt: &R, asked: &Publication, reader: &mut I, writer: &mut W) -> Result<(), Failure>
-    ensures { Checks (R.file_at rt.now) (R.operated rt.now) asked.now
+    ensures { Checks (R.file_at rt.now) (R.storage rt.now) (R.operated rt.now) asked.now
         (record { input = I.input reader.old; output = W.output writer.old })
         (record { input = I.input reader.new; output = W.output writer.new }) result }
 {
     match read_checked(rt, &asked.script, reader) {
-        Ok(script) => match judge(rt, rt.alloc(), &asked.to, script) {
-            Ok(number) => print_valid(rt.alloc(), number, writer),
-            Err(failure) => Err(failure),
-        },
+        Ok(script) => judge_stocked(rt, asked, script, writer),
         Err(failure) => Err(failure),
     }
 }

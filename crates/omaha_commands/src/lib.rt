@@ -6,8 +6,8 @@
 //! `specs/Comparing.antt` and `specs/Describing.antt`. `print_script` is `script`: read `specs/Scripting.antt`. A script is
 //! applied to an edition as `specs/Applying.antt` says.
 //! `explain_code` prints what `explanations` says of a code. `walk_on` is walked by `update_client`: read
-//! `specs/Walking.antt`; `publish_on`, `raise_on` and `dump_on` post by it: read `specs/Operating.antt` and, for a script
-//! that is only checked, `specs/Judging.antt`. `print` writes what a command found. A `Failure` is why a command fails, and a `HistoryFault` what is wrong with a history.
+//! `specs/Walking.antt`; `publish_on`, `raise_on` and `dump_on` post by it: read `specs/Operating.antt`, for a script
+//! that is only checked `specs/Judging.antt`, and for its packages `specs/Stocking.antt`. `print` writes what a command found. A `Failure` is why a command fails, and a `HistoryFault` what is wrong with a history.
 //!
 //! It reads no arguments, and exits with no status.
 
@@ -19,6 +19,7 @@ mod comparing;
 mod describing;
 mod explaining;
 mod failure;
+mod fetching;
 mod history_fault;
 mod judging;
 mod operating;
@@ -26,7 +27,10 @@ mod printing;
 mod profile;
 mod reporting;
 mod reviewing;
+mod script_file;
 mod scripting;
+mod shown_reply;
+mod stocking;
 mod walking;
 
 pub use crate::comparing::compare_on;
@@ -34,7 +38,7 @@ pub use crate::describing::describe_files;
 pub use crate::explaining::explain_code;
 pub use crate::failure::Failure;
 pub use crate::history_fault::HistoryFault;
-pub use crate::operating::{dump_on, publish_on, raise_on};
+pub use crate::operating::{Manner, dump_on, publish_on, raise_on};
 pub use crate::printing::print;
 pub use crate::profile::{open_service, read_named, read_service, service_in};
 pub use crate::reporting::report_on;

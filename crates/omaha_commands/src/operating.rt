@@ -3,18 +3,32 @@
 ghost use Rattle.std.specs.Prelude.{◌≡◌, IfErr, IfOk, Ok, Err, false};
 ghost use Rattle.omaha_commands.specs.Asking.{IsNoted, Notes};
 ghost use Rattle.omaha_commands.specs.Judging.{Publishes};
-ghost use Rattle.omaha_commands.specs.Operating.{Calls, Dumps, IsRead, IsScript, Posts, PrintsReply, Raises, is_input};
+ghost use Rattle.omaha_commands.specs.Operating.{Calls, Dumps, IsRead, IsScript, Posts, PostsBytes, PostsStocked, PrintsBody, PrintsBytes, PrintsReply, Raises, is_input, max_line, too_long};
 
-use crate::asking::edition_line;
+use crate::asking::{dump_limits, edition_line, line_limits};
 use crate::failure::Failure;
+use crate::fetching::ask;
 use crate::judging::check_on;
 use crate::profile::MAX_PROFILE;
+use crate::script_file::MAX_SCRIPT;
+use crate::shown_reply::{encoded_reply, is_plain};
+use crate::stocking::stock_bytes;
 use omaha_arguments::{DumpAsked, Publication, Raise};
+use package_files::Folders;
 use std::alloc::Global;
 use std::thread::Threads;
 use streams::{Disk, ReadFailure, ReadWhole, WriteWhole, offer};
-use update_client::{Connector, LinkFault, Reply};
+use update_client::{Connector, Limits, Reply};
 use values::Text;
+
+/// How a command prints.
+#[derive(Clone, Copy)]
+pub struct Manner {
+    /// Whether it says more on the standard error.
+    pub verbose: bool,
+    /// Whether a server's reply is printed without control characters, as a terminal gets it.
+    pub shown: bool,
+}
 
 // Reads a file.
 fn read_file<R: Disk>(rt: &R, alloc: Global, path: &Text) -> Result<Vec<u8>, Failure>
@@ -55,14 +69,48 @@ fn read_script<R: Disk, I: ReadWhole>(
     }
 }
 
-// Prints a reply, and succeeds if its status is 200.
-fn print_reply<W: WriteWhole>(reply: &Reply, writer: &mut W) -> Result<(), Failure>
-    ensures { PrintsReply reply.now (W.output writer.old) (W.output writer.new) result }
+// rule: Reply on a terminal
+// Prints a reply's body, on a terminal without control characters.
+fn print_body<W: WriteWhole>(
+    alloc: Global,
+    shown: bool,
+    body: &[u8],
+    writer: &mut W,
+) -> Result<(), Failure>
+    ensures { PrintsBody shown body.now (W.output writer.old) (W.output writer.new) result }
 {
-    match writer.write_whole(&reply.body) {
-        Ok(()) if reply.status == 200 => Ok(()),
-        Ok(()) => Err(Failure::Declined),
+    if !shown || is_plain(body) {
+        return print_bytes(body, writer);
+    }
+    match encoded_reply(alloc, body) {
+        Ok(text) => print_bytes(text.as_bytes(), writer),
+        Err(_) => Err(Failure::Memory),
+    }
+}
+
+// Prints bytes.
+fn print_bytes<W: WriteWhole>(bytes: &[u8], writer: &mut W) -> Result<(), Failure>
+    ensures { PrintsBytes bytes.now (W.output writer.old) (W.output writer.new) result }
+{
+    match writer.write_whole(bytes) {
+        Ok(()) => Ok(()),
         Err(_) => Err(Failure::Write),
+    }
+}
+
+// Prints a reply, and succeeds if its status is 200.
+fn print_reply<W: WriteWhole>(
+    alloc: Global,
+    shown: bool,
+    reply: Reply,
+    writer: &mut W,
+) -> Result<(), Failure>
+    ensures { PrintsReply shown reply (W.output writer.old) (W.output writer.new) result }
+{
+    match print_body(alloc, shown, reply.body.as_slice(), writer) {
+        Ok(()) if reply.status == 200 => Ok(()),
+        Ok(()) => Err(Failure::Declined(reply)),
+        Err(failure) => Err(failure),
     }
 }
 
@@ -71,33 +119,94 @@ fn print_reply<W: WriteWhole>(reply: &Reply, writer: &mut W) -> Result<(), Failu
 fn call<R: Connector, W: WriteWhole>(
     rt: &R,
     alloc: Global,
+    shown: bool,
     to: &Text,
+    limits: Limits,
     body: &[u8],
     writer: &mut W,
 ) -> Result<(), Failure>
-    ensures { Calls (R.operated rt.now) to.now body.now (W.output writer.old) (W.output writer.new) result }
+    ensures { Calls (R.operated rt.now) shown limits.reply to.now body.now (W.output writer.old) (W.output writer.new) result }
 {
-    match rt.operate_at(alloc, to.as_str(), body) {
-        Ok(reply) => print_reply(&reply, writer),
-        Err(LinkFault::Memory) => Err(Failure::Memory),
-        Err(_) => Err(Failure::Net(to.clone()?)),
+    match ask(rt, alloc, to, limits, body) {
+        Ok(reply) => print_reply(alloc, shown, reply, writer),
+        Err(failure) => Err(failure),
+    }
+}
+
+// The same if the reply is a line, and the exchange may take so many seconds.
+fn call_for_line<R: Connector, W: WriteWhole>(
+    rt: &R,
+    alloc: Global,
+    shown: bool,
+    to: &Text,
+    seconds: u64,
+    body: &[u8],
+    writer: &mut W,
+) -> Result<(), Failure>
+    ensures { Calls (R.operated rt.now) shown max_line to.now body.now (W.output writer.old) (W.output writer.new) result }
+{
+    call(rt, alloc, shown, to, line_limits(seconds), body, writer)
+}
+
+// The failure for a script that no listener takes.
+fn too_long(alloc: Global) -> Failure
+    ensures { result ≡ too_long }
+{
+    Failure::Declined(Reply {
+        status: 413,
+        body: Vec::new(alloc),
+    })
+}
+
+// Posts the bytes of a script to an operator's listener, as they are, and prints the reply.
+fn post<R: Connector, W: WriteWhole>(
+    rt: &R,
+    alloc: Global,
+    asked: &Publication,
+    shown: bool,
+    script: &[u8],
+    writer: &mut W,
+) -> Result<(), Failure>
+    ensures { PostsBytes (R.operated rt.now) shown asked.now.to script.now (W.output writer.old) (W.output writer.new) result }
+{
+    if script.len() > MAX_SCRIPT as usize {
+        return Err(too_long(alloc));
+    }
+    call_for_line(rt, alloc, shown, &asked.to, asked.timeout, script, writer)
+}
+
+// Compares the packages of a script with files, if a folder is named, and posts it if they agree.
+fn post_stocked<R: Connector + Folders, W: WriteWhole>(
+    rt: &R,
+    alloc: Global,
+    asked: &Publication,
+    shown: bool,
+    script: &[u8],
+    writer: &mut W,
+) -> Result<(), Failure>
+    ensures { PostsStocked (R.storage rt.now) (R.operated rt.now) shown asked.now script.now (W.output writer.old) (W.output writer.new) result }
+{
+    match stock_bytes(rt, alloc, &asked.packages, script, writer) {
+        Ok(()) => post(rt, alloc, asked, shown, script, writer),
+        Err(failure) => Err(failure),
     }
 }
 
 // Posts a script to an operator's listener, as it is, and prints the reply.
-fn post_script<R: Disk + Connector, I: ReadWhole, W: WriteWhole>(
+fn post_script<R: Disk + Connector + Folders, I: ReadWhole, W: WriteWhole>(
     rt: &R,
     alloc: Global,
     asked: &Publication,
+    shown: bool,
     reader: &mut I,
     writer: &mut W,
 ) -> Result<(), Failure>
-    ensures { Posts (R.file_at rt.now) (R.operated rt.now) asked.now
+    ensures { Posts (R.file_at rt.now) (R.storage rt.now) (R.operated rt.now) shown asked.now
         (record { input = I.input reader.old; output = W.output writer.old })
         (record { input = I.input reader.new; output = W.output writer.new }) result }
 {
     match read_script(rt, alloc, &asked.script, reader) {
-        Ok(script) => call(rt, alloc, &asked.to, script.as_slice(), writer),
+        Ok(script) => post_stocked(rt, alloc, asked, shown, script.as_slice(), writer),
         Err(failure) => Err(failure),
     }
 }
@@ -106,23 +215,26 @@ fn post_script<R: Disk + Connector, I: ReadWhole, W: WriteWhole>(
 /// script is a file, or what the reader has if its path is `-`.
 ///
 /// Fails with the file or the reader, then with `Net` if the listener can't be reached or sends no whole reply; each time
-/// nothing is written. Fails with `Declined` after a reply with another status than 200, and with the writer. A check
-/// fails with the script's first fault after the file, with `Net` also if the listener names no edition, with `Stale` if
-/// the script is written for another one, and with its first rejected edit.
-pub fn publish_on<R: Disk + Connector + AllocGlobal + Threads + Sync, I: ReadWhole, W: WriteWhole>(
-    rt: &R,
-    asked: &Publication,
-    reader: &mut I,
-    writer: &mut W,
-) -> Result<(), Failure>
-    ensures { Publishes (R.file_at rt.now) (R.operated rt.now) asked.now
+/// nothing is written. Fails with `Declined` after a reply with another status than 200, and with the writer; also of a
+/// script of more than 262144 bytes, of which nothing is sent. If `shown` the reply is printed without control characters.
+/// A check fails with the script's first fault after the file, with `Net` also if the listener names no edition, with
+/// `Stale` if the script is written for another one, and with its first rejected edit.
+///
+/// If a folder of packages is named, those that the script adds are compared with its files first. Then it fails with the
+/// script's first fault, or prints a line for each package that differs and fails with `Packages`; nothing is sent.
+pub fn publish_on<
+    R: Disk + Folders + Connector + AllocGlobal + Threads + Sync,
+    I: ReadWhole,
+    W: WriteWhole,
+>(rt: &R, asked: &Publication, shown: bool, reader: &mut I, writer: &mut W) -> Result<(), Failure>
+    ensures { Publishes (R.file_at rt.now) (R.storage rt.now) (R.operated rt.now) shown asked.now
         (record { input = I.input reader.old; output = W.output writer.old })
         (record { input = I.input reader.new; output = W.output writer.new }) result }
 {
     if asked.check {
         check_on(rt, asked, reader, writer)
     } else {
-        post_script(rt, rt.alloc(), asked, reader, writer)
+        post_script(rt, rt.alloc(), asked, shown, reader, writer)
     }
 }
 
@@ -134,15 +246,40 @@ pub fn raise_on<R: Connector, W: WriteWhole>(
     rt: &R,
     alloc: Global,
     asked: &Raise,
+    shown: bool,
     writer: &mut W,
 ) -> Result<(), Failure>
-    ensures { Raises (R.operated rt.now) asked.now (W.output writer.old) (W.output writer.new) result }
+    ensures { Raises (R.operated rt.now) shown asked.now (W.output writer.old) (W.output writer.new) result }
 {
     let (name, budget) = (asked.name.as_str(), asked.budget.as_str());
     match format!(in alloc; "raise {name} {budget}") {
-        Ok(body) => call(rt, alloc, &asked.to, body.as_str().as_bytes(), writer),
+        Ok(body) => {
+            let bytes = body.as_str().as_bytes();
+            call_for_line(rt, alloc, shown, &asked.to, asked.timeout, bytes, writer)
+        }
         Err(_) => Err(Failure::Memory),
     }
+}
+
+// Prints the profile that an operator's listener dumps.
+fn dump<R: Connector, W: WriteWhole>(
+    rt: &R,
+    alloc: Global,
+    asked: &DumpAsked,
+    shown: bool,
+    writer: &mut W,
+) -> Result<(), Failure>
+    ensures { Dumps (R.operated rt.now) shown asked.now.to (W.output writer.old) (W.output writer.new) result }
+{
+    call(
+        rt,
+        alloc,
+        shown,
+        &asked.to,
+        dump_limits(asked.timeout),
+        b"dump",
+        writer,
+    )
 }
 
 // rule: Verbose dump
@@ -150,15 +287,16 @@ pub fn raise_on<R: Connector, W: WriteWhole>(
 fn dump_verbosely<R: Connector, W: WriteWhole, E: WriteWhole>(
     rt: &R,
     alloc: Global,
-    to: &Text,
+    asked: &DumpAsked,
+    shown: bool,
     writer: &mut W,
     errors: &mut E,
 ) -> Result<(), Failure>
-    ensures dumps { Dumps (R.operated rt.now) to.now (W.output writer.old) (W.output writer.new) result }
-    ensures noted { IsNoted (R.operated rt.now) to.now (E.output errors.old) (E.output errors.new) result }
+    ensures dumps { Dumps (R.operated rt.now) shown asked.now.to (W.output writer.old) (W.output writer.new) result }
+    ensures noted { IsNoted (R.operated rt.now) asked.now.to (E.output errors.old) (E.output errors.new) result }
 {
-    match edition_line(rt, alloc, to) {
-        Ok(line) => match call(rt, alloc, to, b"dump", writer) {
+    match edition_line(rt, alloc, &asked.to, asked.timeout) {
+        Ok(line) => match dump(rt, alloc, asked, shown, writer) {
             Ok(()) => {
                 offer(errors, line.as_bytes());
                 Ok(())
@@ -178,16 +316,17 @@ pub fn dump_on<R: Connector, W: WriteWhole, E: WriteWhole>(
     rt: &R,
     alloc: Global,
     asked: &DumpAsked,
+    manner: Manner,
     writer: &mut W,
     errors: &mut E,
 ) -> Result<(), Failure>
-    ensures dumps { Dumps (R.operated rt.now) asked.now.to (W.output writer.old) (W.output writer.new) result }
-    ensures noted { Notes asked.now.verbose (R.operated rt.now) asked.now.to (E.output errors.old) (E.output errors.new) result }
-    ensures silent { asked.now.verbose ≡ false → errors.new ≡ errors.old }
+    ensures dumps { Dumps (R.operated rt.now) manner.shown asked.now.to (W.output writer.old) (W.output writer.new) result }
+    ensures noted { Notes manner.verbose (R.operated rt.now) asked.now.to (E.output errors.old) (E.output errors.new) result }
+    ensures silent { manner.verbose ≡ false → errors.new ≡ errors.old }
 {
-    if asked.verbose {
-        dump_verbosely(rt, alloc, &asked.to, writer, errors)
+    if manner.verbose {
+        dump_verbosely(rt, alloc, asked, manner.shown, writer, errors)
     } else {
-        call(rt, alloc, &asked.to, b"dump", writer)
+        dump(rt, alloc, asked, manner.shown, writer)
     }
 }

@@ -10,7 +10,7 @@ use crate::applying::apply;
 use crate::failure::Failure;
 use crate::printing::print;
 use crate::profile::{MAX_PROFILE, open_profile};
-use crate::reviewing::read_script_file;
+use crate::script_file::read_script_file;
 use catalogue::Batch;
 use editions::Edition;
 use omaha_arguments::{Question, Report};

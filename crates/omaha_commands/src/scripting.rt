@@ -4,7 +4,7 @@ ghost use Rattle.std.specs.Prelude.{Err, IfErr, IfOk, Ok};
 ghost use Rattle.omaha_commands.specs.Scripting.{FindsScript, IsBase, IsScript, PrintsScript};
 ghost use Rattle.streams.specs.Streams.{Known};
 
-use crate::asking::edition_at;
+use crate::asking::{SECONDS, edition_at};
 use crate::failure::Failure;
 use crate::printing::print;
 use omaha_arguments::{Base, Script};
@@ -21,7 +21,7 @@ fn base_of<R: Connector>(rt: &R, alloc: Global, base: &Base) -> Result<u64, Fail
 {
     match base {
         Base::Number(number) => Ok(*number),
-        Base::Server(to) => edition_at(rt, alloc, to),
+        Base::Server(to) => edition_at(rt, alloc, to, SECONDS),
     }
 }
 

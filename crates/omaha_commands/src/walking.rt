@@ -56,7 +56,7 @@ pub fn walk_on<R: Connector, W: WriteWhole>(
         (record { input = input; output = W.output writer.new }) result }
 {
     let mut client = client_of(alloc, asked)?;
-    let walk = rt.walk_app_at(alloc, asked.to.as_str(), &mut client, writer)?;
+    let walk = rt.walk_app_at(alloc, asked.to.as_str(), asked.timeout, &mut client, writer)?;
     let line = last_line(alloc, walk)?;
     print(line.as_bytes(), writer)
 }

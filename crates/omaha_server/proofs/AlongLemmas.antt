@@ -1,5 +1,5 @@
 -- Ports that were served, seen by a part of the desk's state.
-use Rattle.std.proofs.Common.{◌≡◌, ◌∙◌, ℕ, Bool, true, List, [], ◌∷◌, Option, Some, None, ap, refl, subst, sym}
+use Rattle.std.proofs.Common.{◌≡◌, ◌∙◌, ℕ, Bool, true, List, [], ◌∷◌, Option, Some, None, ap, inl, inr, refl, subst, sym}
 use Rattle.http_desks.specs.Calls.{Call, Leads}
 use Rattle.http_ports.specs.Rounds.{all_calls}
 use Rattle.http_ports.specs.declared.terms.Terms.{Terms}
@@ -12,8 +12,11 @@ use Rattle.service_desks.specs.States.{State}
 use Rattle.service_desks.specs.Workers.{IsCall, Progress}
 use Rattle.service_desks.specs.Asking.{GrantsFirst}
 use Rattle.systems.specs.Edges.{Edges}
-use Rattle.omaha_server.specs.Serving.{AreOperated, DeskSteps, IsOperated, IsServedPort, IsWorkersPort, desk_path, desk_type, operator_path, operator_type}
+use Rattle.package_files.specs.Lacking.{Sizes}
+use Rattle.omaha_server.specs.Checks.{ChecksCall, LeadsPast, sizes_at}
+use Rattle.omaha_server.specs.Serving.{AreOperated, DeskSteps, IsOperated, IsServedPort, IsWorkersPort, OperatorSteps, desk_path, desk_type, operator_path, operator_type}
 use Rattle.omaha_server.specs.declared.place.Place.{Place}
+use Rattle.omaha_server.specs.declared.setup.Setup.{Setup}
 
 -- each step keeps what holds of the state, and is a step of the part
 abbrev Follows :
@@ -108,7 +111,39 @@ Leads-worked edges place terms single mirrors sight after passage calls port cal
     (subst (λ (these : List Call). Leads (DeskSteps single mirrors) (record { sight = sight; asks = [] }) these after) called
     port.talked.2.leads)
 
--- and those of the operator lead the service on
+-- one more call at a desk that looks for packages first
+LeadsPast-more :
+    {D : Type 0} (must : Bool) (sizes : Sizes) (steps : D → Call → D → Type 0) (before : D) (call : Call) (next : D) (calls asked : List Call) (after : D)
+    → ChecksCall must sizes steps before call next → LeadsPast must sizes steps next calls asked after
+    → (all : List Call) × LeadsPast must sizes steps before (call ∷ calls) all after
+LeadsPast-more {D} must sizes steps before call next calls asked after (inl (is, stopped, same)) past =
+    (asked, inl (is, stopped, subst (λ (d : D). LeadsPast must sizes steps d calls asked after) same past))
+LeadsPast-more must sizes steps before call next calls asked after (inr (looked, step)) past =
+    (call ∷ asked, inr (looked, (next, asked, refl, step, past)))
+
+-- some of the calls at such a desk are those for which it was asked
+pub LeadsPast-all :
+    {D : Type 0} (must : Bool) (sizes : Sizes) (steps : D → Call → D → Type 0) (calls : List Call) (before after : D)
+    → Leads (ChecksCall must sizes steps) before calls after
+    → (asked : List Call) × LeadsPast must sizes steps before calls asked after
+LeadsPast-all must sizes steps [] before after same = ([], (refl, same))
+LeadsPast-all must sizes steps (call ∷ calls) before after (next, step, leads) =
+    let (asked, past) = LeadsPast-all must sizes steps calls next after leads in
+    LeadsPast-more must sizes steps before call next calls asked after step past
+
+-- and they lead it on
+Leads-asked :
+    {D : Type 0} (must : Bool) (sizes : Sizes) (steps : D → Call → D → Type 0) (calls asked : List Call) (before after : D)
+    → LeadsPast must sizes steps before calls asked after → Leads steps before asked after
+Leads-asked must sizes steps [] asked before after (none, same) =
+    subst (λ (these : List Call). Leads steps before these after) (sym none) same
+Leads-asked must sizes steps (call ∷ calls) asked before after (inl (is, stopped, past)) =
+    Leads-asked must sizes steps calls asked before after past
+Leads-asked must sizes steps (call ∷ calls) asked before after (inr (looked, (next, rest, is, step, past))) =
+    subst (λ (these : List Call). Leads steps before these after) (sym is)
+    (next, step, Leads-asked must sizes steps calls rest next after past)
+
+-- those of the operator lead the service on
 pub Leads-operated :
     (edges : Edges) (place : Place) (terms : Option Terms) (before : State) (calls : List Call) (after : State)
     (passage : Option Passage)
@@ -117,22 +152,53 @@ Leads-operated edges place None before calls after None operated =
     subst (λ (these : List Call). Leads IsOperatorCall before these after) (sym operated.0) operated.1
 Leads-operated edges place None before calls after (Some passage) never = absurd never
 Leads-operated edges place (Some terms) before calls after None never = absurd never
-Leads-operated edges place (Some terms) before calls after (Some passage) (port, called) =
-    subst (λ (these : List Call). Leads IsOperatorCall before these after) called port.talked.2.leads
+Leads-operated edges place (Some terms) before calls after (Some passage) (port, past) =
+    Leads-asked place.packages_must_exist (sizes_at edges place) IsOperatorCall (all_calls port.talked.2.rounds) calls before after past
+
+-- the steps of a desk that looks for packages first
+abbrev CheckedSteps : {S R D E : Type 0} → (S → Edges) → (D → Setup S R) → (D → E) → (E → Call → E → Type 0) → D → Call → D → Type 0
+CheckedSteps edges_of set desk inner old call new =
+    (set new ≡ set old)
+    × ChecksCall (set old).place.now.packages_must_exist (sizes_at (edges_of (set old).system.now) (set old).place.now) inner
+    (desk old) call (desk new)
+
+-- a call at such a desk is one of its part, too
+checked-along :
+    {E : Type 0} (must : Bool) (sizes : Sizes) (Named : E → Type 0) (inner : E → Call → E → Type 0) (part : E → State)
+    → ((old : E) (call : Call) (new : E) → Named old → inner old call new → Named new × IsOperatorCall (part old) call (part new))
+    → (old : E) (call : Call) (new : E) → Named old → ChecksCall must sizes inner old call new
+    → Named new × ChecksCall must sizes IsOperatorCall (part old) call (part new)
+checked-along must sizes Named inner part step old call new named (inl (is, stopped, same)) =
+    (subst Named (sym same) named, inl (is, stopped, ap part same))
+checked-along must sizes Named inner part step old call new named (inr (looked, went)) =
+    let told = step old call new named went in (told.0, inr (looked, told.1))
 
 -- what stays of the operator's desk: the names of what it borrows
 pub AreOperated-along :
-    {D N M Q O : Type 0} (name : D → N) (other : D → M) (third : D → Q) (fourth : D → O) (part : D → State) (steps : D → Call → D → Type 0)
-    (edges : Edges) (place : Place) (terms : Terms) (passage : Passage) (before behind : D)
-    → ((old : D) (call : Call) (new : D) → steps old call new →
+    {S R D E N M Q O : Type 0} (edges_of : S → Edges) (set : D → Setup S R) (desk : D → E)
+    (name : E → N) (other : E → M) (third : E → Q) (fourth : E → O) (part : E → State) (inner : E → Call → E → Type 0)
+    (setup : Setup S R) (terms : Terms) (passage : Passage) (before behind : D)
+    → ((old : E) (call : Call) (new : E) → inner old call new →
     (name new ≡ name old) × (other new ≡ other old) × (third new ≡ third old) × (fourth new ≡ fourth old) × IsOperatorCall (part old) call (part new))
-    → IsServedPort edges place operator_path operator_type steps before behind terms passage
-    → (name behind ≡ name before) × (other behind ≡ other before) × (third behind ≡ third before) × (fourth behind ≡ fourth before)
-    × AreOperated edges place terms (part before) (part behind) passage
-AreOperated-along {D} name other third fourth part steps edges place terms passage before behind step port =
-    let Kept : D → Type 0 = λ d. (name d ≡ name before) × (other d ≡ other before) × (third d ≡ third before) × (fourth d ≡ fourth before) in
-    let follows : Follows part Kept steps IsOperatorCall = λ old call new kept stepped.
-    let told = step old call new stepped in ((told.0 ∙ kept.0, told.1 ∙ kept.1, told.2 ∙ kept.2, told.3 ∙ kept.3), told.4) in
-    let along = IsServedPort-along part Kept steps IsOperatorCall follows edges place operator_path operator_type terms passage
-    before behind (refl, refl, refl, refl) port in
-    (along.0.0, along.0.1, along.0.2, along.0.3, along.1)
+    → set before ≡ setup
+    → IsServedPort (edges_of setup.system.now) setup.place.now operator_path operator_type (CheckedSteps edges_of set desk inner) before behind terms passage
+    → (name (desk behind) ≡ name (desk before)) × (other (desk behind) ≡ other (desk before)) × (third (desk behind) ≡ third (desk before))
+    × (fourth (desk behind) ≡ fourth (desk before))
+    × AreOperated (edges_of setup.system.now) setup.place.now terms (part (desk before)) (part (desk behind)) passage
+AreOperated-along {S} {R} {D} {E} edges_of set desk name other third fourth part inner setup terms passage before behind step first port =
+    let edges = edges_of setup.system.now in
+    let place = setup.place.now in
+    let Named : E → Type 0 = λ e. (name e ≡ name (desk before)) × (other e ≡ other (desk before)) × (third e ≡ third (desk before))
+    × (fourth e ≡ fourth (desk before)) in
+    let Kept : D → Type 0 = λ d. (set d ≡ setup) × Named (desk d) in
+    let follows : Follows (λ d. part (desk d)) Kept (CheckedSteps edges_of set desk inner) (OperatorSteps edges place) = λ old call new kept stepped.
+    let told = checked-along place.packages_must_exist (sizes_at edges place) Named inner part
+    (λ o c n named went. let is = step o c n went in
+    ((is.0 ∙ named.0, is.1 ∙ named.1, is.2 ∙ named.2, is.3 ∙ named.3), is.4))
+    (desk old) call (desk new) kept.1
+    (subst (λ (s : Setup S R). ChecksCall s.place.now.packages_must_exist (sizes_at (edges_of s.system.now) s.place.now) inner
+    (desk old) call (desk new)) kept.0 stepped.1) in
+    ((stepped.0 ∙ kept.0, told.0), told.1) in
+    let along = IsServedPort-along (λ d. part (desk d)) Kept (CheckedSteps edges_of set desk inner) (OperatorSteps edges place) follows edges place
+    operator_path operator_type terms passage before behind (first, (refl, refl, refl, refl)) port in
+    (along.0.1.0, along.0.1.1, along.0.1.2, along.0.1.3, along.1)

@@ -1,4 +1,5 @@
 mod AlongLemmas
+mod CheckLemmas
 mod ChoiceLemmas
 mod ClientLemmas
 mod RunLemmas

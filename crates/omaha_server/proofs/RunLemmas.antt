@@ -302,6 +302,7 @@ module _ (edges : Edges) (place : Place) (service : Service) (kept : Store) (old
   Serves-unprinted names new server.OperatorNet named never = absurd never
   Serves-unprinted names new server.Log named never = absurd never
   Serves-unprinted names new server.Folder named never = absurd never
+  Serves-unprinted names new (server.Package name what) named never = absurd never
   Serves-unprinted names new server.NoPlace named never = absurd never
   Serves-unprinted names new server.Thread named never = absurd never
   Serves-unprinted names new server.Unpublished named never = absurd never

@@ -1,3 +1,5 @@
+pub mod Checking
+pub mod Checks
 pub mod Jobs
 pub mod Opening
 pub mod OperatorPorts

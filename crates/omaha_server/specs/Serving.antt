@@ -20,6 +20,7 @@ use Rattle.streams.specs.Streams.{Known}
 use Rattle.streams.specs.Writing.{Breaks}
 use Rattle.service_desks.specs.Asking.{GrantsFirst}
 use Rattle.systems.specs.Edges.{Edges, IsTime}
+use Rattle.omaha_server.specs.Checks.{ChecksCall, LeadsPast, sizes_at}
 use Rattle.omaha_server.specs.Opening.{IsOperatorsPort, client_terms, clients_listener, operator_listener, ready_line}
 use Rattle.omaha_server.specs.Passages.{Passages}
 use Rattle.services.specs.Totals.{names_of, totals_string}
@@ -75,21 +76,28 @@ operator_path = codes "/operate"
 abbrev pub operator_type : List ℕ
 operator_type = codes "text/plain"
 
+-- a call at the operator's port, whose desk looks for packages first, if they must exist
+abbrev pub OperatorSteps : Edges → Place → State → Call → State → Type 0
+OperatorSteps edges place before call after =
+    ChecksCall place.packages_must_exist (sizes_at edges place) IsOperatorCall before call after
+
 -- rule: Sessions of an operator
 -- a port of these terms was served to its end by the operator's desk, from a published history and the mirrors with
 -- their budgets to those that its calls lead to
 abbrev pub AreOperated : Edges → Place → Terms → State → State → Passage → Type 0
 AreOperated edges place terms before after passage =
-    IsServedPort edges place operator_path operator_type IsOperatorCall before after terms passage
+    IsServedPort edges place operator_path operator_type (OperatorSteps edges place) before after terms passage
 
--- the same by these calls, if there is a port for the operator; without one there is no call, nothing is published, and no
--- budget raised
+-- the same, and these are the calls for which the desk was asked, if there is a port for the operator; without one there is
+-- no call, nothing is published, and no budget raised
 abbrev pub IsOperated : Edges → Place → Option Terms → State → List Call → State → Option Passage → Type 0
 IsOperated edges place None before calls after None = (calls ≡ []) × (after ≡ before)
 IsOperated edges place None before calls after (Some passage) = ⊥
 IsOperated edges place (Some terms) before calls after None = ⊥
 IsOperated edges place (Some terms) before calls after (Some passage) =
-    (served : AreOperated edges place terms before after passage) × (all_calls served.talked.2.rounds ≡ calls)
+    (served : AreOperated edges place terms before after passage)
+    × LeadsPast place.packages_must_exist (sizes_at edges place) IsOperatorCall before (all_calls served.talked.2.rounds)
+    calls after
 
 -- a press and records as they are when the operator begins: nothing is due
 abbrev pub begun : History → ℕ → List Record → Publication
@@ -146,6 +154,7 @@ Stops edges place old new server.Net = new ≡ old
 Stops edges place old new server.OperatorNet = new ≡ old
 Stops edges place old new server.Log = new ≡ old
 Stops edges place old new server.Folder = new ≡ old
+Stops edges place old new (server.Package name what) = new ≡ old
 Stops edges place old new server.NoPlace = new ≡ old
 Stops edges place old new server.Thread = IsOpen edges place × IsReady old new
 Stops edges place old new server.Unpublished = IsOpen edges place × IsReady old new
@@ -158,11 +167,25 @@ IsUnlogged server.Net = ⊤
 IsUnlogged server.OperatorNet = ⊤
 IsUnlogged server.Log = ⊥
 IsUnlogged server.Folder = ⊤
+IsUnlogged (server.Package name what) = ⊤
 IsUnlogged server.NoPlace = ⊤
 IsUnlogged server.Thread = ⊤
 IsUnlogged server.Unpublished = ⊤
 IsUnlogged server.Write = ⊤
 IsUnlogged server.Memory = ⊤
+
+-- an error that comes after the log, the folder and the packages were looked for
+abbrev pub IsLater : ServerError → Type 0
+IsLater server.Net = ⊤
+IsLater server.OperatorNet = ⊤
+IsLater server.Log = ⊥
+IsLater server.Folder = ⊥
+IsLater (server.Package name what) = ⊥
+IsLater server.NoPlace = ⊤
+IsLater server.Thread = ⊤
+IsLater server.Unpublished = ⊤
+IsLater server.Write = ⊤
+IsLater server.Memory = ⊤
 
 -- the path means the standard error, and no file
 abbrev pub is_dash : List ℕ → Bool
@@ -180,9 +203,13 @@ IsLogged edges (Some path) result =
 IsLogged edges None result = IfErr result IsUnlogged
 
 -- no reply is logged to the standard error
-abbrev pub IsSilent : Option (List ℕ) → Type 0
-IsSilent (Some path) = is_dash path ≡ false
-IsSilent None = ⊤
+abbrev pub LogsElsewhere : Option (List ℕ) → Type 0
+LogsElsewhere (Some path) = is_dash path ≡ false
+LogsElsewhere None = ⊤
+
+-- nothing is written to the standard error: no log, and nothing that the server says of itself
+abbrev pub IsSilent : Place → Type 0
+IsSilent place = LogsElsewhere place.log × (place.named ≡ None)
 
 -- the ports were given back, and the lines of the totals were written; or a first part of them
 abbrev pub PrintsTotals : List Mirror → List ℕ → Passages → Known → Known → Result Passages ServerError → Type 0

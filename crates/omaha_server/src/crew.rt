@@ -9,17 +9,20 @@ ghost use Rattle.omaha_server.specs.OperatorPorts.{has_operator, terms_left};
 ghost use Rattle.omaha_server.specs.Places.{ArePorts};
 
 use crate::clients::{Clients, all_clients};
-use crate::logging::{Target, Writing, open_lines};
+use crate::logging::{Outlets, Writing, open_lines};
 use crate::new_port::NewPort;
+use crate::notes::{Lines, open_notes};
 use crate::opening::Ports;
 use crate::operating::{Operating, OperatorPort};
 use crate::setup::Setup;
 use http_ports::Port;
+use kept_records::Records;
 use publisher::{Press, View};
 use std::alloc::{AllocError, Global};
 use std::sync::Wait;
 use std::thread::Threads;
 use streams::WriteWhole;
+use systems::System;
 
 // The operator's port, with room for its connections, if there is one.
 fn operator_port<P: Port + Drop>(
@@ -42,6 +45,8 @@ pub(crate) struct Crew<
     'a,
     'p,
     'w,
+    'q,
+    'v,
     S,
     R: Threads + Wait + AllocGlobal,
     P: Port,
@@ -54,6 +59,8 @@ pub(crate) struct Crew<
     pub(crate) own: Operating<'s, 'a, S, R, P, K>,
     /// What writes the log, if there is one.
     pub(crate) log: Option<Writing<'p, 'w, F>>,
+    /// What writes what the server says of itself, if it does.
+    pub(crate) notes: Option<Writing<'q, 'v, F>>,
 }
 
 /// What an operator publishes by. It is not `Drop`, since a press isn't.
@@ -71,18 +78,20 @@ pub(crate) fn crew_of<
     'a,
     'p,
     'w,
+    'q,
+    'v,
     P: Port + Drop,
-    S,
+    S: System<P>,
     R: Threads + Wait + AllocGlobal,
     F: WriteWhole,
-    K: Drop,
+    K: Records + Drop,
 >(
     setup: &'s Setup<'a, S, R>,
     ports: Ports<P>,
     publishing: Publishing<K>,
     views: Vec<View>,
-    target: Option<Target<'p, 'w, F>>,
-) -> Result<Crew<'s, 'a, 'p, 'w, S, R, P, F, K>, Press>
+    outlets: Outlets<'p, 'w, 'q, 'v, F>,
+) -> Result<Crew<'s, 'a, 'p, 'w, 'q, 'v, S, R, P, F, K>, Press>
     requires ports { ArePorts P.terms P.slots P.accepted P.is_over setup.now.place.now ports }
     requires many { length views.items ≡ setup.now.place.now.workers }
     requires views { All (λ sight. sight ≡ fresh publishing.press) views.items }
@@ -92,11 +101,16 @@ pub(crate) fn crew_of<
 {
     let Publishing { press, records } = publishing;
     let alloc = setup.rt.alloc();
-    let Ok((senders, log)) = open_lines(alloc, setup.place.workers + 1, target) else {
+    let earlier = records.first() - 1;
+    let Ok((notes, noting)) = open_notes(alloc, setup, &ports, &press, earlier, outlets.notes)
+    else {
+        return Err(press);
+    };
+    let Ok((senders, log)) = open_lines(alloc, setup.place.workers + 1, outlets.log) else {
         return Err(press);
     };
     let mut senders = senders;
-    let lines = senders.pop();
+    let replies = senders.pop();
     let Ports { clients, operator } = ports;
     let Ok(jobs) = all_clients(alloc, setup, clients, views, senders) else {
         return Err(press);
@@ -109,7 +123,12 @@ pub(crate) fn crew_of<
         port,
         press,
         records,
-        lines,
+        lines: Lines { replies, notes },
     };
-    Ok(Crew { jobs, own, log })
+    Ok(Crew {
+        jobs,
+        own,
+        log,
+        notes: noting,
+    })
 }

@@ -1,9 +1,11 @@
 // Why a server ends early.
 
+use package_files::Lack;
 use std::alloc::AllocError;
+use values::Text;
 
 /// Why a server ends before its last session or without its totals.
-#[derive(Clone, Copy, Debug, Drop, PartialEq, Eq)]
+#[derive(Debug, Drop)]
 pub enum ServerError {
     /// The address could not be bound.
     Net,
@@ -13,6 +15,8 @@ pub enum ServerError {
     Log,
     /// The folder of packages is no folder, or can't be seen.
     Folder,
+    /// The folder doesn't have the package of this name with its size, and must have it: this is what it has.
+    Package(Text, Lack),
     /// There is no place for a view of the editions.
     NoPlace,
     /// A thread could not be started.

@@ -9,11 +9,13 @@
 
 #![tactic(auto)]
 
+mod checking;
 mod clients;
 mod crew;
 mod error;
 mod logging;
 mod new_port;
+mod notes;
 mod opening;
 mod operating;
 mod place;

@@ -18,6 +18,15 @@ pub(crate) enum Target<'a, 'b, F: WriteWhole> {
     File(&'a Mutex<Page<'b, File>>),
 }
 
+/// What a server writes lines to.
+#[derive(Clone, Copy, Drop)]
+pub(crate) struct Outlets<'a, 'b, 'c, 'd, F: WriteWhole> {
+    /// The log, if there is to be one.
+    pub(crate) log: Option<Target<'a, 'b, F>>,
+    /// The standard error, if the server says more of itself there.
+    pub(crate) notes: Option<&'c Mutex<Page<'d, F>>>,
+}
+
 /// What writes the lines of a log, to what, and what ends it.
 #[derive(Drop)]
 pub(crate) struct Writing<'a, 'b, F: WriteWhole> {

@@ -6,7 +6,7 @@ ghost use Rattle.streams.specs.Writing.{Breaks};
 ghost use Rattle.omaha_server.specs.Opening.{AreClientTerms, IsOperatorsPort, clients_listener, ready_line};
 ghost use Rattle.systems.specs.NewPorts.{IsNew};
 ghost use Rattle.omaha_server.specs.Places.{ArePorts};
-ghost use Rattle.omaha_server.specs.Serving.{IsListening, IsOpen, IsReady, IsUnlogged, Stops};
+ghost use Rattle.omaha_server.specs.Serving.{IsListening, IsOpen, IsReady, IsLater, Stops};
 ghost use Rattle.omaha_server.specs.declared.error.ServerError.TheVariants.{Memory, Net, OperatorNet};
 
 use crate::clients::all_terms;
@@ -95,7 +95,7 @@ pub(crate) fn open_place<P: Port + Drop, S: System<P>, O: WriteWhole>(
     ensures opened { IfOk result (λ _. IsOpen (S.edges system.now) place.now) }
     ensures ports { IfOk result (ArePorts P.terms P.slots P.accepted P.is_over place.now) }
     ensures ready { IfOk result (λ _. IsReady (O.output out.old) (O.output out.new)) }
-    ensures err { IfErr result (λ error. IsUnlogged error
+    ensures err { IfErr result (λ error. IsLater error
         × Stops (S.edges system.now) place.now (O.output out.old) (O.output out.new) error) }
 {
     let clients = open_clients(alloc, system, place)?;

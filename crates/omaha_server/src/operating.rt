@@ -8,7 +8,9 @@ ghost use Rattle.omaha_server.specs.Passages.{passage_of};
 ghost use Rattle.omaha_server.specs.Serving.{AreOperated};
 ghost use Rattle.service_desks.specs.States.{store};
 
+use crate::checking::Checked;
 use crate::new_port::NewPort;
+use crate::notes::Lines;
 use crate::place::Place;
 use crate::ports::ServedPort;
 use crate::setup::{Setup, serve_new};
@@ -19,6 +21,7 @@ use mirror_ledger::{BudgetJob, Budgets};
 use publisher::{Prepared, Press, Receipt};
 use service_desks::Operator;
 use std::alloc::AllocError;
+use std::marker::PhantomData;
 use std::sync::Wait;
 use std::thread::Threads;
 use std::time::Clock;
@@ -61,8 +64,8 @@ pub(crate) struct Operating<'s, 'a, S, R: Threads + Wait + AllocGlobal, P: Port,
     pub(crate) press: Press,
     /// Where scripts and raises are kept.
     pub(crate) records: K,
-    /// The operator's end of the log, if there is one.
-    pub(crate) lines: Option<LineSender>,
+    /// Where the operator's lines go.
+    pub(crate) lines: Lines,
 }
 
 /// What the operator came to.
@@ -74,7 +77,7 @@ pub(crate) struct Operated<P> {
     pub(crate) left: Result<Receipt, AllocError>,
 }
 
-// Serves a port by the operator's desk.
+// Serves a port by the operator's desk, which looks for packages first.
 fn serve_desk<
     S: System<P>,
     R: Clock + Threads + Wait + AllocGlobal,
@@ -84,19 +87,20 @@ fn serve_desk<
 >(
     setup: &Setup<'_, S, R>,
     port: NewPort<P>,
-    desk: &mut Operator<'_, '_, '_, '_, '_, R, B, K>,
-    lines: &mut Option<LineSender>,
+    checked: &mut Checked<'_, '_, S, R, P, Operator<'_, '_, '_, '_, '_, R, B, K>>,
+    replies: &mut Option<LineSender>,
 ) -> ServedPort<P>
-    ensures same_press { desk.new.press.ghost_name ≡ desk.old.press.ghost_name }
-    ensures same_budgets { desk.new.budgets.ghost_name ≡ desk.old.budgets.ghost_name }
-    ensures same_records { desk.new.records.ghost_name ≡ desk.old.records.ghost_name }
-    ensures same_due { desk.new.due.ghost_name ≡ desk.old.due.ghost_name }
+    requires { checked.old.setup.now ≡ setup.now }
+    ensures same_press { checked.new.desk.press.ghost_name ≡ checked.old.desk.press.ghost_name }
+    ensures same_budgets { checked.new.desk.budgets.ghost_name ≡ checked.old.desk.budgets.ghost_name }
+    ensures same_records { checked.new.desk.records.ghost_name ≡ checked.old.desk.records.ghost_name }
+    ensures same_due { checked.new.desk.due.ghost_name ≡ checked.old.desk.due.ghost_name }
     ensures operated { AreOperated (S.edges setup.now.system.now) setup.now.place.now (P.terms port)
-        (record { mirrors = B.present desk.old.budgets.now; history = desk.old.press.now; store = store (K.first desk.old.records.now) (K.kept desk.old.records.now) desk.old.due.now })
-        (record { mirrors = B.present desk.new.budgets.now; history = desk.new.press.now; store = store (K.first desk.new.records.now) (K.kept desk.new.records.now) desk.new.due.now })
+        (record { mirrors = B.present checked.old.desk.budgets.now; history = checked.old.desk.press.now; store = store (K.first checked.old.desk.records.now) (K.kept checked.old.desk.records.now) checked.old.desk.due.now })
+        (record { mirrors = B.present checked.new.desk.budgets.now; history = checked.new.desk.press.now; store = store (K.first checked.new.desk.records.now) (K.kept checked.new.desk.records.now) checked.new.desk.due.now })
         (passage_of P.terms P.slots P.accepted result) }
 {
-    serve_new(setup, port, desk, lines)
+    serve_new(setup, port, checked, replies)
 }
 
 // The same, over a press, records and budgets that may be raised.
@@ -113,7 +117,7 @@ fn operate<
     records: &mut K,
     due: &mut Option<Prepared>,
     budgets: &mut B,
-    lines: &mut Option<LineSender>,
+    lines: &mut Lines,
 ) -> ServedPort<P>
     requires listed { AreMirrors (B.present budgets.old) }
     requires rising { B.rises budgets.old ≡ true }
@@ -123,7 +127,7 @@ fn operate<
         (record { mirrors = B.present budgets.new; history = press.new; store = store (K.first records.new) (K.kept records.new) due.new })
         (passage_of P.terms P.slots P.accepted result) }
 {
-    let mut desk = Operator {
+    let desk = Operator {
         rt: setup.rt,
         press,
         budgets,
@@ -131,7 +135,15 @@ fn operate<
         due,
         workers: setup.place.workers,
     };
-    serve_desk(setup, port, &mut desk, lines)
+    let mut checked = Checked {
+        setup,
+        desk,
+        notes: lines.notes.take(),
+        ports: PhantomData,
+    };
+    let served = serve_desk(setup, port, &mut checked, &mut lines.replies);
+    lines.notes = checked.notes.take();
+    served
 }
 
 // rule: Sessions of an operator
@@ -179,9 +191,7 @@ impl<
             budgets,
             &mut self.lines,
         );
-        if let Some(lines) = self.lines.take() {
-            let _ = lines.finish();
-        }
+        self.lines.finish();
         let left = self.press.receipt();
         Operated {
             served: Some(served),

@@ -29,6 +29,10 @@ pub struct Place {
     pub connections: u64,
     /// How many tables of pinned clients' tracks each worker keeps.
     pub pinned_tables: u64,
+    /// Whether each package of the catalogue must be in the folder with its size, before it is published.
+    pub packages_must_exist: bool,
+    /// What is served, by its name, if the server says more of itself on the standard error; or `None`, if it doesn't.
+    pub named: Option<Text>,
     ghost limited: { (0 < seconds) × (0 < idle) },
     ghost manned: { (1 ≤ workers) × (workers ≤ 8) },
 }

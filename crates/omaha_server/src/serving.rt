@@ -3,16 +3,19 @@
 ghost use Rattle.std.specs.Prelude.{◌≡◌, ◌⊎◌, ◌≤◌, All, length, IfErr, IfOk};
 ghost use Rattle.publisher.specs.Sights.{fresh};
 ghost use Rattle.omaha_server.specs.Serving.{is_dash};
+ghost use Rattle.omaha_server.specs.Checking.{IsChecked, IsLackOf};
+ghost use Rattle.omaha_server.specs.Checks.{IsStockedFor};
 ghost use Rattle.omaha_server.specs.Jobs.{IsManned};
 ghost use Rattle.omaha_server.specs.Passages.{passages_in, passages_of};
 ghost use Rattle.omaha_server.specs.Runs.{HasServed, PrintsLines};
-ghost use Rattle.omaha_server.specs.Serving.{AreTotals, IsLogged, IsOpened, IsSilent, IsUnlogged, Serves, Stops, begun};
+ghost use Rattle.omaha_server.specs.Serving.{AreTotals, IsLogged, IsOpened, IsSilent, IsLater, IsUnlogged, Serves, Stops, begun};
 ghost use Rattle.omaha_server.specs.declared.error.ServerError.TheVariants.{Memory, NoPlace, Thread, Unpublished};
 
+use crate::checking::SystemFolder;
 use crate::clients::Clients;
 use crate::crew::{Crew, Publishing, crew_of};
 use crate::error::ServerError;
-use crate::logging::{Target, Writing};
+use crate::logging::{Outlets, Target, Writing};
 use crate::opening::open_place;
 use crate::operating::Operating;
 use crate::place::Place;
@@ -24,6 +27,7 @@ use http_ports::Port;
 use kept_records::Records;
 use log_queues::{Page, start_writer};
 use mirror_ledger::run_with_tills;
+use package_files::{Lacking, look_for_apps};
 use publisher::{Press, PublishError, View, open_edition};
 use services::{KeptService, Mirrors, Service, names_of, totals_string};
 use std::alloc::Global;
@@ -74,6 +78,7 @@ fn run_jobs<
     jobs: Vec<Clients<'_, '_, S, R, P>>,
     own: &mut Operating<'_, '_, S, R, P, K>,
     log: Option<Writing<'_, '_, F>>,
+    notes: Option<Writing<'_, '_, F>>,
 ) -> Result<Run<P>, ServerError>
     requires manned { IsManned P.terms setup.now jobs.items own.old }
     ensures ok { IfOk result (λ run. AreTotals (S.edges setup.now.system.now) setup.now.place.now
@@ -112,8 +117,29 @@ fn run_jobs<
                 }
                 None => None,
             };
+            let noted = match notes {
+                Some(notes) => {
+                    let Writing {
+                        target,
+                        writer,
+                        signal,
+                    } = notes;
+                    let is_started = match target {
+                        Target::Errors(page) => start_writer(scope, rt, writer, page),
+                        Target::File(page) => start_writer(scope, rt, writer, page),
+                    };
+                    if !is_started {
+                        return Err(ServerError::Thread);
+                    }
+                    Some(signal)
+                }
+                None => None,
+            };
             let ran = run_with_tills(rt, rt.alloc(), mirrors.into_vec(), gate, jobs, own);
             if let Some(signal) = signal {
+                signal.end();
+            }
+            if let Some(signal) = noted {
                 signal.end();
             }
             let ended = ends_of(rt.alloc(), ran)?;
@@ -139,7 +165,7 @@ fn serve_press<
     views: Vec<View>,
     gate: &G,
     out: &mut O,
-    log: Option<Target<'_, '_, F>>,
+    outlets: Outlets<'_, '_, '_, '_, F>,
 ) -> Result<Run<P>, ServerError>
     requires folder { (S.edges setup.now.system.now).folders setup.now.place.now.packages }
     requires many { length views.items ≡ setup.now.place.now.workers }
@@ -148,7 +174,7 @@ fn serve_press<
         (record { edition = publishing.press; mirrors = mirrors })
         (begun publishing.press (K.first publishing.records) (K.kept publishing.records)).store (O.output out.old) (O.output out.new)
         (passages_of P.terms P.slots P.accepted run.ports) run.totals.items) }
-    ensures err { IfErr result (λ error. IsUnlogged error
+    ensures err { IfErr result (λ error. IsLater error
         × Stops (S.edges setup.now.system.now) setup.now.place.now (O.output out.old) (O.output out.new) error) }
 {
     let rt = setup.rt;
@@ -160,7 +186,12 @@ fn serve_press<
             return Err(error);
         }
     };
-    let Crew { jobs, own, log } = match crew_of(setup, ports, publishing, views, log) {
+    let Crew {
+        jobs,
+        own,
+        log,
+        notes,
+    } = match crew_of(setup, ports, publishing, views, outlets) {
         Ok(crew) => crew,
         Err(press) => {
             press.end(rt);
@@ -168,7 +199,7 @@ fn serve_press<
         }
     };
     let mut own = own;
-    let run = run_jobs(setup, gate, mirrors, jobs, &mut own, log);
+    let run = run_jobs(setup, gate, mirrors, jobs, &mut own, log, notes);
     let Operating {
         setup: _,
         port: _,
@@ -196,8 +227,72 @@ fn print_totals<O: WriteWhole>(
     }
 }
 
+// The error of a server that lacks a package.
+fn lack_of(alloc: Global, lacking: &Lacking<'_>) -> ServerError
+    ensures { IsLackOf (lacking.now.name.now, lacking.now.lack) result }
+{
+    match Text::copy_of(alloc, lacking.name) {
+        Ok(name) => ServerError::Package(name, lacking.lack),
+        Err(_) => ServerError::Memory,
+    }
+}
+
+// rule: Packages at the start of a server
+// Fails with the first package of an edition that isn't in the folder of a place, if they must be there.
+fn check_packages<P: Port, S: System<P>, R: AllocGlobal>(
+    setup: &Setup<'_, S, R>,
+    edition: &Edition,
+) -> Result<(), ServerError>
+    ensures { IsChecked (S.edges setup.now.system.now) setup.now.place.now edition.now result }
+{
+    let place = setup.place;
+    if !place.packages_must_exist {
+        return Ok(());
+    }
+    let folder = SystemFolder::<S, P>::new(setup.system, place.packages.as_str());
+    match look_for_apps(&folder, edition.catalogue().apps()) {
+        Ok(()) => Ok(()),
+        Err(lacking) => Err(lack_of(setup.rt.alloc(), &lacking)),
+    }
+}
+
+// Serves a service whose packages were looked for, and logs its replies, if there is something to write them to.
+fn serve_found<
+    P: Port + Send + Drop,
+    S: System<P> + Sync,
+    R: Clock + Threads + Wait + Sync + AllocGlobal,
+    F: WriteWhole + Send,
+    O: WriteWhole,
+    G: Gate + Sync,
+    K: Records + Drop,
+>(
+    setup: &Setup<'_, S, R>,
+    kept: KeptService<K>,
+    gate: &G,
+    out: &mut O,
+    outlets: Outlets<'_, '_, '_, '_, F>,
+) -> Result<ServedPorts<P>, ServerError>
+    requires { (S.edges setup.now.system.now).folders setup.now.place.now.packages }
+    ensures serves { Serves (S.edges setup.now.system.now) setup.now.place.now kept.service
+        (begun kept.service.edition (K.first kept.records) (K.kept kept.records)).store (O.output out.old) (O.output out.new)
+        (passages_in P.terms P.slots P.accepted result) }
+    ensures later { IfErr result IsLater }
+{
+    let (rt, place) = (setup.rt, setup.place);
+    let KeptService { service, records } = kept;
+    let names = names_of(rt.alloc(), service.mirrors.as_slice())?;
+    let Service { edition, mirrors } = service;
+    let (press, views) = open_views(rt, rt.alloc(), edition, place.workers)?;
+    let publishing = Publishing { press, records };
+    let Run { ports, totals } = serve_press(setup, publishing, mirrors, views, gate, out, outlets)?;
+    match print_totals(rt.alloc(), names.as_slice(), &totals, out) {
+        Ok(()) => Ok(ports),
+        Err(error) => Err(error),
+    }
+}
+
 // rule: Run of a server
-// Serves a service, and logs its replies, if there is something to write them to.
+// Serves a service whose folder is there, with its packages, if they must be.
 fn serve_with<
     P: Port + Send + Drop,
     S: System<P> + Sync,
@@ -211,25 +306,20 @@ fn serve_with<
     kept: KeptService<K>,
     gate: &G,
     out: &mut O,
-    log: Option<Target<'_, '_, F>>,
+    outlets: Outlets<'_, '_, '_, '_, F>,
 ) -> Result<ServedPorts<P>, ServerError>
     ensures serves { Serves (S.edges setup.now.system.now) setup.now.place.now kept.service
         (begun kept.service.edition (K.first kept.records) (K.kept kept.records)).store (O.output out.old) (O.output out.new)
         (passages_in P.terms P.slots P.accepted result) }
     ensures unlogged { IfErr result IsUnlogged }
+    ensures stocked { IsStockedFor (S.edges setup.now.system.now) setup.now.place.now kept.service.edition
+        (O.output out.old) (O.output out.new) result }
 {
-    let (rt, place) = (setup.rt, setup.place);
-    if !setup.system.has_folder(place.packages.as_str()) {
+    if !setup.system.has_folder(setup.place.packages.as_str()) {
         return Err(ServerError::Folder);
     }
-    let KeptService { service, records } = kept;
-    let names = names_of(rt.alloc(), service.mirrors.as_slice())?;
-    let Service { edition, mirrors } = service;
-    let (press, views) = open_views(rt, rt.alloc(), edition, place.workers)?;
-    let publishing = Publishing { press, records };
-    let Run { ports, totals } = serve_press(setup, publishing, mirrors, views, gate, out, log)?;
-    match print_totals(rt.alloc(), names.as_slice(), &totals, out) {
-        Ok(()) => Ok(ports),
+    match check_packages::<P, S, R>(setup, &kept.service.edition) {
+        Ok(()) => serve_found(setup, kept, gate, out, outlets),
         Err(error) => Err(error),
     }
 }
@@ -241,18 +331,69 @@ fn is_dash(path: &str) -> bool
     path == "-"
 }
 
+// Serves a service, and says more of it on a page.
+fn serve_noted<
+    P: Port + Send + Drop,
+    S: System<P> + Sync,
+    R: Clock + Threads + Wait + Sync + AllocGlobal,
+    F: WriteWhole + Send,
+    O: WriteWhole,
+    G: Gate + Sync,
+    K: Records + Drop,
+>(
+    setup: &Setup<'_, S, R>,
+    kept: KeptService<K>,
+    gate: &G,
+    out: &mut O,
+    errors: &Mutex<Page<'_, F>>,
+) -> Result<ServedPorts<P>, ServerError>
+    ensures serves { Serves (S.edges setup.now.system.now) setup.now.place.now kept.service
+        (begun kept.service.edition (K.first kept.records) (K.kept kept.records)).store (O.output out.old) (O.output out.new)
+        (passages_in P.terms P.slots P.accepted result) }
+    ensures logged { IsLogged (S.edges setup.now.system.now) setup.now.place.now.log result }
+    ensures stocked { IsStockedFor (S.edges setup.now.system.now) setup.now.place.now kept.service.edition
+        (O.output out.old) (O.output out.new) result }
+{
+    let Some(path) = &setup.place.log else {
+        let outlets = Outlets {
+            log: None,
+            notes: Some(errors),
+        };
+        return serve_with(setup, kept, gate, out, outlets);
+    };
+    let path = path.as_str();
+    if is_dash(path) {
+        let outlets = Outlets {
+            log: Some(Target::Errors(errors)),
+            notes: Some(errors),
+        };
+        return serve_with(setup, kept, gate, out, outlets);
+    }
+    let Ok(mut file) = setup.system.open_log(path) else {
+        return Err(ServerError::Log);
+    };
+    let page = Mutex::new(Page::new(&mut file));
+    let outlets = Outlets {
+        log: Some(Target::File(&page)),
+        notes: Some(errors),
+    };
+    serve_with(setup, kept, gate, out, outlets)
+}
+
 // rule: Run of a server
 // rule: Edges of a server
 /// Serves a service's update checks and its packages, takes the operator's scripts and raises of budgets, and prints the
 /// mirrors' totals at the end.
 ///
-/// Opens the log, if there is to be one, looks for the folder of packages, publishes the edition, binds the addresses and
+/// Opens the log, if there is to be one, looks for the folder of packages, and for the packages of the edition, if they must
+/// exist, publishes the edition, binds the addresses and
 /// opens a port for each worker and one for the operator, prints `ready`, opens books of the mirrors' budgets, and lets its
 /// workers begin together, each in a thread of its own: each serves its port, with its portion of the clients'
 /// connections, and the calling thread the operator's. No connection holds another up. Then it prints a line for each
 /// mirror: its name and how many bytes it was granted. `gate` is called in each worker's thread before it serves. Returns
-/// the ports. Fails, in this order, with the log, the folder, memory, no place for a view, the address, the operator's
-/// address, the output, and a thread that can't be started; in that case no connection was accepted. Memory may also run
+/// the ports. Fails, in this order, with the log, the folder, the first package that isn't there, memory, no place for a
+/// view, the address, the operator's address, the output, and a thread that can't be started; in that case no connection
+/// was accepted. Memory may also run
 /// out after `ready`; then no total is printed. Nor is one if a worker's view at its end is not of what the operator
 /// published, which no test has seen.
 ///
@@ -280,23 +421,38 @@ pub fn serve<
         (begun kept.service.edition (K.first kept.records) (K.kept kept.records)).store (O.output out.old) (O.output out.new)
         (passages_in P.terms P.slots P.accepted result) }
     ensures logged { IsLogged (S.edges system.now) place.now.log result }
-    ensures silent { IsSilent place.now.log → errors.new ≡ errors.old }
+    ensures stocked { IsStockedFor (S.edges system.now) place.now kept.service.edition
+        (O.output out.old) (O.output out.new) result }
+    ensures silent { IsSilent place.now → errors.new ≡ errors.old }
 {
     let setup = Setup { system, rt, place };
+    if place.named.is_some() {
+        let page = Mutex::new(Page::new(errors));
+        return serve_noted(&setup, kept, gate, out, &page);
+    }
     let Some(path) = &place.log else {
-        let none = None::<Target<'static, 'static, File>>;
+        let none = Outlets::<'static, 'static, 'static, 'static, File> {
+            log: None,
+            notes: None,
+        };
         return serve_with(&setup, kept, gate, out, none);
     };
     let path = path.as_str();
     if is_dash(path) {
         let page = Mutex::new(Page::new(errors));
-        let log = Some(Target::Errors(&page));
-        return serve_with(&setup, kept, gate, out, log);
+        let outlets = Outlets {
+            log: Some(Target::Errors(&page)),
+            notes: None,
+        };
+        return serve_with(&setup, kept, gate, out, outlets);
     }
     let Ok(mut file) = system.open_log(path) else {
         return Err(ServerError::Log);
     };
     let page = Mutex::new(Page::new(&mut file));
-    let log = Some(Target::<'_, '_, File>::File(&page));
-    serve_with(&setup, kept, gate, out, log)
+    let outlets = Outlets {
+        log: Some(Target::<'_, '_, File>::File(&page)),
+        notes: None,
+    };
+    serve_with(&setup, kept, gate, out, outlets)
 }

@@ -1,11 +1,9 @@
 -- Findings that are added package by package.
-use Rattle.std.proofs.Common.{◌≡◌, ℕ, ◌+◌, ◌<◌, List, [], ◌∷◌, ◌++◌, get_or, length, map, take, Option, refl, sym, ap, ◌∙◌, subst}
+use Rattle.std.proofs.Common.{◌≡◌, ℕ, ◌+◌, ◌<◌, List, [], ◌∷◌, ◌++◌, flat_map, get_or, length, map, take, Option, refl, sym, ap, ◌∙◌, subst}
 use Rattle.std.proofs.lemmas.Grind.{flat_map-append}
 use Rattle.std.proofs.lemmas.List.{append-nil, append_assoc, map_more, take_more}
 use Rattle.http_desks.specs.Downloads.{Reads}
 use Rattle.http_devices.specs.Opening.{Opens}
-use Rattle.records.specs.Lookups.{packages_in, packages_of}
-use Rattle.records.specs.declared.content.App.{App}
 use Rattle.values.specs.declared.declared.Declared.{Declared}
 use Rattle.package_files.specs.Findings.{Adds, AreFindings, IsFound, Package, finding_of}
 use Rattle.package_files.specs.declared.finding.Finding.{Finding}
@@ -67,21 +65,21 @@ Adds-item {X} package_of opens reads items index item name old mid new within he
     ∙ ap (λ (there : X). before ++ package_of there ∷ []) (sym here)
     ∙ ap (λ (bytes : List ℕ). before ++ (bytes, (package_of item).1) ∷ []) (sym named))
 
--- one more app
-pub Adds-app :
-    (opens : List ℕ → Opens) (reads : List ℕ → Reads) (apps : List App) (index : ℕ) (app : App) (old mid new : List Finding) →
-    index < length apps → app ≡ get_or apps index app →
-    Adds opens reads (packages_of (take index apps)) old mid →
-    Adds opens reads (packages_in app) mid new →
-    Adds opens reads (packages_of (take (index + 1) apps)) old new
-Adds-app opens reads apps index app old mid new within here =
-    let before = packages_of (take index apps) in
-    let there = get_or apps index app in
-    Adds-next opens reads before (packages_in app) (packages_of (take (index + 1) apps)) old mid new
-    (ap packages_of (take_more apps index app within)
-    ∙ flat_map-append packages_in (take index apps) (there ∷ [])
-    ∙ ap (λ (end : List Package). before ++ end) (append-nil (packages_in there))
-    ∙ ap (λ (other : App). before ++ packages_in other) (sym here))
+-- one more of the items that have some packages each
+pub Adds-part :
+    {X : Type 0} (part : X → List Package) (opens : List ℕ → Opens) (reads : List ℕ → Reads) (items : List X) (index : ℕ) (item : X) (old mid new : List Finding) →
+    index < length items → item ≡ get_or items index item →
+    Adds opens reads (flat_map part (take index items)) old mid →
+    Adds opens reads (part item) mid new →
+    Adds opens reads (flat_map part (take (index + 1) items)) old new
+Adds-part {X} part opens reads items index item old mid new within here =
+    let before = flat_map part (take index items) in
+    let there = get_or items index item in
+    Adds-next opens reads before (part item) (flat_map part (take (index + 1) items)) old mid new
+    (ap (flat_map part) (take_more items index item within)
+    ∙ flat_map-append part (take index items) (there ∷ [])
+    ∙ ap (λ (end : List Package). before ++ end) (append-nil (part there))
+    ∙ ap (λ (other : X). before ++ part other) (sym here))
 
 -- the findings that are added to none are all of them
 pub AreFindings-all :

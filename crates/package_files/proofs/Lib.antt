@@ -1,3 +1,4 @@
 mod DescriptionLemmas
 mod FindingLemmas
 mod HashLemmas
+mod LookLemmas

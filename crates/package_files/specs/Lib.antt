@@ -1,7 +1,10 @@
+pub mod Added
 pub mod Descriptions
 pub mod FindingLines
 pub mod FindingStrings
 pub mod Findings
 pub mod Hashing
+pub mod Lacking
+pub mod Looking
 pub mod Paths
 pub mod Storages

@@ -2,12 +2,16 @@
 
 ghost use Rattle.std.specs.Prelude.{◌≡◌, ◌∷◌, [], IfOk, OnOk, length, map};
 ghost use Rattle.records.specs.Lookups.{diff_package, full_package, packages_in, packages_of};
+ghost use Rattle.records.specs.Forms.{hash_named};
+ghost use Rattle.package_files.specs.Added.{added_by, added_in};
 ghost use Rattle.package_files.specs.Findings.{Adds, AreBytes, AreFindings, IsFound};
 
 use crate::finding::{Finding, Mismatch};
 use crate::hashing::hash_package;
+use catalogue::Edit;
 use http_desks::{BLOCK, Packages};
 use http_devices::{Entry, OpenPackages};
+use records::form::hash_named;
 use records::{App, Declared, Diff, Release};
 use std::alloc::{AllocError, Global};
 use values::{Items, Shared, Text};
@@ -164,6 +168,80 @@ fn compare_apps<P: Packages + OpenPackages>(
         compare_app(alloc, packages, block, app, findings)?;
     }
     Ok(())
+}
+
+// What is declared of a package that is added.
+fn declared_as(size: u64, sha256: &str) -> Declared
+    ensures { result ≡ record { size = size; hash = hash_named sha256.now } }
+{
+    Declared {
+        size,
+        hash: hash_named(sha256),
+    }
+}
+
+// Adds the finding of the package that an edit adds, if there is one.
+fn compare_edit<P: Packages + OpenPackages>(
+    alloc: Global,
+    packages: &P,
+    block: &mut [u8],
+    edit: &Edit,
+    findings: &mut Items<Finding>,
+) -> Result<(), AllocError>
+    requires { length block.old ≡ 65536 }
+    ensures { OnOk result (Adds (P.opens packages.now) (P.reads packages.now)
+        (added_by edit.now) findings.old findings.new) }
+{
+    match edit {
+        Edit::AddRelease(added) => {
+            let declared = declared_as(added.size, added.sha256.as_str());
+            let name = added.name.as_str();
+            compare_package(alloc, packages, block, name, declared, findings)
+        }
+        Edit::AddDiff(added) => {
+            let declared = declared_as(added.size, added.sha256.as_str());
+            let name = added.name.as_str();
+            compare_package(alloc, packages, block, name, declared, findings)
+        }
+        _ => Ok(()),
+    }
+}
+
+fn compare_edits<P: Packages + OpenPackages>(
+    alloc: Global,
+    packages: &P,
+    block: &mut [u8],
+    edits: &[Edit],
+    findings: &mut Items<Finding>,
+) -> Result<(), AllocError>
+    requires { length block.old ≡ 65536 }
+    ensures { OnOk result (Adds (P.opens packages.now) (P.reads packages.now)
+        (added_in edits.now) findings.old findings.new) }
+{
+    for edit in edits {
+        compare_edit(alloc, packages, block, edit, findings)?;
+    }
+    Ok(())
+}
+
+// rule: Packages of a script
+/// Compares the file of each package that a script adds with its size and its SHA-256.
+///
+/// Returns a finding for each file that differs, in the order of the edits, as `compare` does. A SHA-256 that isn't 64
+/// lower-case hexadecimal digits counts as 32 zeros. At most 65536 bytes of a package are held. Out of memory is the only
+/// error.
+pub fn compare_added<P: Packages + OpenPackages>(
+    alloc: Global,
+    edits: &[Edit],
+    packages: &P,
+) -> Result<Items<Finding>, AllocError>
+    ensures { IfOk result (λ findings. AreFindings (P.opens packages.now) (P.reads packages.now)
+        (added_in edits.now) findings) }
+{
+    let mut block = vec![in alloc; 0; BLOCK as usize]?;
+    let mut findings = Items::empty(alloc);
+    compare_edits(alloc, packages, &mut block, edits, &mut findings)?;
+    Ok(findings)
 }
 
 // rule: Findings of a catalogue

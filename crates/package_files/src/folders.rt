@@ -1,13 +1,15 @@
 // What has folders.
 
 ghost use Rattle.std.specs.Prelude.{◌≡◌, Err, IfErr, IfOk, Ok, string_bytes};
+ghost use Rattle.package_files.specs.Added.{added_in};
 ghost use Rattle.package_files.specs.Descriptions.{Describes};
 ghost use Rattle.package_files.specs.Findings.{AreFindings};
 ghost use Rattle.records.specs.Lookups.{packages_of};
 
-use crate::comparing::compare;
+use crate::comparing::{compare, compare_added};
 use crate::describing::{DescribeError, describe};
 use crate::finding::Finding;
+use catalogue::Edit;
 use http_devices::Folder;
 use records::App;
 use std::alloc::{AllocError, Global};
@@ -37,6 +39,16 @@ pub trait Folders {
     ) -> Result<Items<Finding>, AllocError>
         ensures { IfOk result (λ findings. AreFindings ((storage self.now).opens folder.now)
             ((storage self.now).reads folder.now) (packages_of apps.now) findings) };
+
+    /// Compares each package that a script adds with its file in a folder, as `package_files::compare_added` does.
+    fn compare_added_in(
+        &self,
+        alloc: Global,
+        folder: &str,
+        edits: &[Edit],
+    ) -> Result<Items<Finding>, AllocError>
+        ensures { IfOk result (λ findings. AreFindings ((storage self.now).opens folder.now)
+            ((storage self.now).reads folder.now) (added_in edits.now) findings) };
 }
 
 impl<R: Files> Folders for R {
@@ -68,5 +80,15 @@ impl<R: Files> Folders for R {
     ) -> Result<Items<Finding>, AllocError> {
         let packages = Folder::new(alloc, self, folder);
         compare(alloc, apps, &packages)
+    }
+
+    fn compare_added_in(
+        &self,
+        alloc: Global,
+        folder: &str,
+        edits: &[Edit],
+    ) -> Result<Items<Finding>, AllocError> {
+        let packages = Folder::new(alloc, self, folder);
+        compare_added(alloc, edits, &packages)
     }
 }

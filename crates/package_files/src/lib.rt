@@ -9,6 +9,9 @@
 //! `findings_string` writes findings, a line each. Read `specs/Storages.antt`, then `specs/Paths.antt` and
 //! `specs/FindingLines.antt`.
 //!
+//! `look_for_added` looks for the packages that a script adds, and `look_for_apps` for those of a catalogue, by their sizes
+//! alone. Read `specs/Added.antt` and `specs/Lacking.antt`.
+//!
 //! It reads files alone: it opens no profile, prints nothing, and doesn't look for files that the catalogue
 //! doesn't declare.
 
@@ -20,11 +23,15 @@ mod finding;
 mod findings;
 mod folders;
 mod hashing;
+mod lacking;
+mod looking;
 mod paths;
 
-pub use crate::comparing::compare;
+pub use crate::comparing::{compare, compare_added};
 pub use crate::describing::{DescribeError, describe};
 pub use crate::finding::{Finding, Mismatch};
 pub use crate::findings::findings_string;
 pub use crate::folders::Folders;
+pub use crate::lacking::{Lack, Lacking, PackageSizes};
+pub use crate::looking::{look_for_added, look_for_apps};
 pub use crate::paths::describe_path;

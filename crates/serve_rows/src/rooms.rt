@@ -9,7 +9,7 @@ use http_ports::{Terms, WatchEach};
 use http_talks::{Connections, serve_port};
 use http_wire::{Failed, Unwatched};
 use port_scripts::{Peer, Script, Seat};
-use std::alloc::Global;
+use std::alloc::{AllocError, Global};
 use std::fs::File;
 use std::io;
 use std::io::ErrorKind;
@@ -128,12 +128,25 @@ impl<R: Clock + Wait + AllocGlobal> System<Script> for Rooms<'_, R> {
         open_all(self.rt.alloc(), terms)
     }
 
+    fn address_of(
+        &self,
+        alloc: Global,
+        _port: &Script,
+        address: &str,
+    ) -> Result<String, AllocError> {
+        format!(in alloc; "{address}")
+    }
+
     fn open_log(&self, _path: &str) -> io::Result<File> {
         Err(io::Error::from(ErrorKind::NotFound))
     }
 
     fn has_folder(&self, _path: &str) -> bool {
         true
+    }
+
+    fn package_size(&self, _folder: &str, _name: &[u8]) -> Option<u64> {
+        None
     }
 
     fn serve_port<'f, D: Desk, V: WatchEach>(

@@ -69,6 +69,8 @@ fn place_of(alloc: Global) -> Result<Place, AllocError> {
         idle: 1,
         connections: 2,
         pinned_tables: 0,
+        packages_must_exist: false,
+        named: None,
     })
 }
 

@@ -4,13 +4,13 @@ ghost use Rattle.std.specs.Prelude.{◌≡◌, All, IfOk, map};
 ghost use Rattle.systems.specs.Sockets.{IsNewSocketPort};
 
 use crate::system::{OpenError, System};
-use http_desks::{Desk, Site};
+use http_desks::{Desk, Packages, Site};
 use http_devices::{Folder, SystemClock};
 use http_ports::{Terms, WatchEach};
 use http_talks::{Connections, serve_port};
 use http_wire::Unwatched;
 use mio_ports::{Listener, MioPort};
-use std::alloc::Global;
+use std::alloc::{AllocError, Global};
 use std::fs::{File, OpenOptions, Permissions};
 use std::io;
 use std::io::ErrorKind;
@@ -186,6 +186,18 @@ where
         open_all(self.rt, &listener, terms)
     }
 
+    fn address_of(
+        &self,
+        alloc: Global,
+        port: &MioPort<'a, R>,
+        address: &str,
+    ) -> Result<String, AllocError> {
+        match port.local_address() {
+            Some(given) => format!(in alloc; "{given}"),
+            None => format!(in alloc; "{address}"),
+        }
+    }
+
     fn close_address(&self, address: &str) {
         if let Some(path) = address.strip_prefix("unix:") {
             let _ = self.rt.remove_file(path);
@@ -208,6 +220,10 @@ where
             Ok(found) => found.is_dir(),
             Err(_) => false,
         }
+    }
+
+    fn package_size(&self, folder: &str, name: &[u8]) -> Option<u64> {
+        Folder::new(self.rt.alloc(), self.rt, folder).size(name)
     }
 
     fn serve_port<'f, D: Desk, V: WatchEach>(

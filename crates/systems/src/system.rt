@@ -10,7 +10,7 @@ ghost use Rattle.systems.specs.NewPorts.{IsNew};
 use http_desks::Desk;
 use http_ports::{Port, Terms, WatchEach};
 use http_talks::Connections;
-use std::alloc::AllocError;
+use std::alloc::{AllocError, Global};
 use std::fs::File;
 use std::io;
 
@@ -54,6 +54,9 @@ pub trait System<P: Port> {
         ensures bound { IfOk result (λ _. All (λ t. (edges self.now).listens address.now t.listener) terms.now) }
         ensures new { IfOk result (λ ports. All (IsNew P.terms P.slots P.accepted P.is_over) ports.items) };
 
+    /// Writes the address of a port that was opened at this one, with the number that the system gave for port 0.
+    fn address_of(&self, alloc: Global, port: &P, address: &str) -> Result<String, AllocError>;
+
     /// Lets go what an address has in the system once its ports are closed: the socket at a path.
     fn close_address(&self, _address: &str) {}
 
@@ -66,6 +69,11 @@ pub trait System<P: Port> {
     /// Whether there is a folder at a path, which may be empty.
     fn has_folder(&self, path: &str) -> bool
         ensures { IsTrue result → (edges self.now).folders path.now };
+
+    /// Returns the size of the file of a name in the folder at a path, or `None` if there is no regular one that can be
+    /// opened.
+    fn package_size(&self, folder: &str, name: &[u8]) -> Option<u64>
+        ensures { (edges self.now).sizes folder.now name.now result };
 
     // rule: Sessions of a port
     /// Serves the connections of a new port by a desk, with the packages of the folder at a path, until none will be

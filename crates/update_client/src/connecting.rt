@@ -5,40 +5,16 @@ ghost use Rattle.update_client.specs.Replies.{PostedWithin};
 use crate::body::Body;
 use crate::opening::open_over;
 use crate::posting::{Reply, post_over};
+use crate::timed::{Deadline, Timed, connect, connect_path};
 use http_client_heads::{Address, LinkFault, Post, parse_address};
 use http_devices::{Reading, Writing};
 use http_wire::Failed;
 use std::alloc::Global;
-use std::io;
 use std::io::{Read, Write};
 use std::marker::Brand;
-use std::net::{Net, TcpListener, TcpStream, ToSocketAddrs};
-use std::os::unix::net::UnixStream;
+use std::net::{Net, TcpListener, TcpStream};
 use std::sync::ledger::{Blank, Ledger};
-use std::time::Duration;
-
-// Connects to an address, and limits the time of each read and each write.
-fn connect_limited<R: Net<Listener = TcpListener, Stream = TcpStream>, A: ToSocketAddrs>(
-    rt: &R,
-    address: A,
-    seconds: u64,
-) -> io::Result<TcpStream> {
-    let stream = TcpStream::connect(rt, address)?;
-    let limit = Duration::from_secs(seconds);
-    stream.set_read_timeout(Some(limit))?;
-    stream.set_write_timeout(Some(limit))?;
-    stream.set_nodelay(true)?;
-    Ok(stream)
-}
-
-// Connects to the socket at a path, and limits the time of each read and each write.
-fn connect_path<R: Net>(rt: &R, path: &str, seconds: u64) -> io::Result<UnixStream> {
-    let stream = UnixStream::connect(rt, path)?;
-    let limit = Duration::from_secs(seconds);
-    stream.set_read_timeout(Some(limit))?;
-    stream.set_write_timeout(Some(limit))?;
-    Ok(stream)
-}
+use std::time::Clock;
 
 // Posts over a connection.
 fn post_on<S: Read + Write + Copy + Drop, A: Ledger, B: Ledger>(
@@ -63,9 +39,9 @@ fn post_on<S: Read + Write + Copy + Drop, A: Ledger, B: Ledger>(
 }
 
 // Opens a download over a connection.
-fn open_on<A: Ledger, B: Ledger>(
+fn open_on<S: Read + Write + Copy + Drop, A: Ledger, B: Ledger>(
     alloc: Global,
-    stream: &TcpStream,
+    stream: S,
     reads: Blank,
     writes: Blank,
     address: &Address<'_>,
@@ -77,14 +53,14 @@ fn open_on<A: Ledger, B: Ledger>(
     requires write_parts { writes.parts ≡ B.parts }
     requires some_writes { 0 < writes.parts }
 {
-    let mut source = Reading::<&TcpStream, A>::new(stream, reads);
-    let mut sink = Writing::<&TcpStream, B>::new(stream, writes);
+    let mut source = Reading::<S, A>::new(stream, reads);
+    let mut sink = Writing::<S, B>::new(stream, writes);
     open_over(alloc, &mut source, &mut sink, address)
 }
 
 // Reads some bytes of a download over its connection.
-fn read_on<A: Ledger>(
-    stream: &TcpStream,
+fn read_on<S: Read + Drop, A: Ledger>(
+    stream: S,
     reads: Blank,
     body: &mut Body,
     into: &mut [u8],
@@ -95,29 +71,34 @@ fn read_on<A: Ledger>(
     ensures bound { IfOk result (λ count. count ≤ length into.new) }
     ensures end { IfOk result (λ count. 0 < length into.new → count ≡ 0 → left_of body.new ≡ 0) }
 {
-    let mut source = Reading::<&TcpStream, A>::new(stream, reads);
+    let mut source = Reading::<S, A>::new(stream, reads);
     body.read(&mut source, into)
 }
 
-// Posts over a connection, with ledgers of its own.
-fn post_once<S: Read + Write + Copy + Drop>(
+// Posts over a connection, in time.
+fn post_once<R: Clock>(
     alloc: Global,
-    stream: S,
+    rt: &R,
+    stream: &TcpStream,
+    deadline: Deadline,
     post: &Post<'_>,
     limit: u64,
 ) -> Result<Reply, LinkFault>
     ensures { PostedWithin limit result }
 {
     let (reads, writes) = (Blank::new(1), Blank::new(1));
-    post_on::<S, Brand, Brand>(alloc, stream, reads, writes, post, limit)
+    let timed = Timed::new(rt, stream, deadline);
+    post_on::<Timed<'_, R>, Brand, Brand>(alloc, timed, reads, writes, post, limit)
 }
 
+// rule: Time limit of an exchange
 /// Posts to a host, which is looked up as `HOST:PORT`, over a connection of its own, and returns the reply, whatever its
 /// status.
 ///
-/// Each read and each write may take so many seconds, at least one; the reply's body may have as many bytes as the
-/// limit. Errors are those of `post_over` after `Connect`, which says that there is no connection.
-pub fn post_to<R: Net<Listener = TcpListener, Stream = TcpStream>>(
+/// The whole exchange may take so many seconds, but for the time that the system takes to look up a name; the reply's body
+/// may have as many bytes as the limit. Errors are those of `post_over` after `Connect`, which says that there is no
+/// connection.
+pub fn post_to<R: Net<Listener = TcpListener, Stream = TcpStream> + Clock>(
     alloc: Global,
     rt: &R,
     seconds: u64,
@@ -126,14 +107,17 @@ pub fn post_to<R: Net<Listener = TcpListener, Stream = TcpStream>>(
 ) -> Result<Reply, LinkFault>
     ensures { PostedWithin limit result }
 {
-    let Ok(stream) = connect_limited(rt, post.host, seconds) else {
+    let Ok(deadline) = Deadline::after(rt, seconds) else {
         return Err(LinkFault::Connect);
     };
-    post_once(alloc, &stream, post, limit)
+    let Ok(stream) = connect(rt, post.host, &deadline) else {
+        return Err(LinkFault::Connect);
+    };
+    post_once(alloc, rt, &stream, deadline, post, limit)
 }
 
 /// Posts to who listens at the socket of a path, over a connection of its own, as `post_to` does.
-pub(crate) fn post_at<R: Net>(
+pub(crate) fn post_at<R: Net + Clock>(
     alloc: Global,
     rt: &R,
     path: &str,
@@ -143,33 +127,50 @@ pub(crate) fn post_at<R: Net>(
 ) -> Result<Reply, LinkFault>
     ensures { PostedWithin limit result }
 {
-    let Ok(stream) = connect_path(rt, path, seconds) else {
+    let Ok(deadline) = Deadline::after(rt, seconds) else {
         return Err(LinkFault::Connect);
     };
-    post_once(alloc, &stream, post, limit)
+    let Ok(stream) = connect_path(rt, path) else {
+        return Err(LinkFault::Connect);
+    };
+    post_once(alloc, rt, &stream, deadline, post, limit)
 }
 
-/// Opens the download at an address, over a connection of its own.
-pub(crate) fn open_at<R: Net<Listener = TcpListener, Stream = TcpStream>>(
+// Opens a download over a connection, in time.
+fn open_by<R: Clock>(
+    alloc: Global,
+    rt: &R,
+    stream: &TcpStream,
+    deadline: Deadline,
+    address: &Address<'_>,
+) -> Result<Body, LinkFault> {
+    let (reads, writes) = (Blank::new(1), Blank::new(1));
+    let timed = Timed::new(rt, stream, deadline);
+    open_on::<Timed<'_, R>, Brand, Brand>(alloc, timed, reads, writes, address)
+}
+
+/// Opens the download at an address, over a connection of its own, in time.
+pub(crate) fn open_at<R: Net<Listener = TcpListener, Stream = TcpStream> + Clock>(
     alloc: Global,
     rt: &R,
     address: &str,
-    seconds: u64,
+    deadline: Deadline,
 ) -> Result<(TcpStream, Body), LinkFault> {
     let Some(address) = parse_address(address) else {
         return Err(LinkFault::Address);
     };
-    let Ok(stream) = connect_limited(rt, (address.host, address.port), seconds) else {
+    let Ok(stream) = connect(rt, (address.host, address.port), &deadline) else {
         return Err(LinkFault::Connect);
     };
-    let (reads, writes) = (Blank::new(1), Blank::new(1));
-    let body = open_on::<Brand, Brand>(alloc, &stream, reads, writes, &address)?;
+    let body = open_by(alloc, rt, &stream, deadline, &address)?;
     Ok((stream, body))
 }
 
-/// Reads some bytes of a download over its connection, as `Body::read` does.
-pub(crate) fn read_from(
+/// Reads some bytes of a download over its connection, in time, as `Body::read` does.
+pub(crate) fn read_from<R: Clock>(
+    rt: &R,
     stream: &TcpStream,
+    deadline: Deadline,
     body: &mut Body,
     into: &mut [u8],
 ) -> Result<usize, Failed>
@@ -177,5 +178,5 @@ pub(crate) fn read_from(
     ensures end { IfOk result (λ count. 0 < length into.new → count ≡ 0 → left_of body.new ≡ 0) }
 {
     let reads = Blank::new(1);
-    read_on::<Brand>(stream, reads, body, into)
+    read_on::<Timed<'_, R>, Brand>(Timed::new(rt, stream, deadline), reads, body, into)
 }

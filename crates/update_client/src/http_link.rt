@@ -1,5 +1,6 @@
 ghost use Rattle.std.specs.Prelude.{◌≡◌, ◌+◌, ◌<◌, ◌≤◌, ◌++◌, [], ◌∷◌, take, length, IfOk, OnOk, is_ok, if◌then◌else◌};
 ghost use Rattle.std.specs.Result.{result_map_both};
+ghost use Rattle.update_client.specs.Bodies.{left_of};
 ghost use Rattle.update_client.specs.Installing.{posted};
 
 use crate::Failed;
@@ -7,9 +8,11 @@ use crate::body::Body;
 use crate::connecting::{open_at, post_to, read_from};
 use crate::link::Link;
 use crate::posting::Reply;
+use crate::timed::Deadline;
 use http_client_heads::{LinkFault, Post};
 use std::alloc::Global;
 use std::net::{Net, TcpListener, TcpStream};
+use std::time::Clock;
 use traces::Trace;
 
 /// The path that update checks are posted to.
@@ -18,17 +21,63 @@ pub const UPDATE_PATH: &str = "/service/update2/json";
 /// The most bytes that the body of the reply to an update check may have.
 pub const MAX_REPLY: u64 = 1_048_576;
 
+/// How many bytes of a download have to come in each time limit.
+const PORTION: usize = 65536;
+
+// A download over its connection, and how many bytes it has brought since its time limit began.
+#[derive(Drop)]
+struct Download {
+    stream: TcpStream,
+    deadline: Deadline,
+    brought: usize,
+}
+
+impl Download {
+    // Begins the time limit of the next portion if this one has come.
+    fn begin_portion<R: Clock>(&mut self, rt: &R, seconds: u64) -> Result<(), Failed> {
+        if self.brought < PORTION {
+            return Ok(());
+        }
+        let Ok(deadline) = Deadline::after(rt, seconds) else {
+            return Err(Failed);
+        };
+        self.deadline = deadline;
+        self.brought = 0;
+        Ok(())
+    }
+
+    // rule: Time limit of an exchange
+    // Reads some bytes, as `Body::read` does.
+    fn read<R: Clock>(
+        &mut self,
+        rt: &R,
+        seconds: u64,
+        body: &mut Body,
+        into: &mut [u8],
+    ) -> Result<usize, Failed>
+        ensures bound { IfOk result (λ count. count ≤ length into.new) }
+        ensures end { IfOk result (λ count. 0 < length into.new → count ≡ 0 → left_of body.new ≡ 0) }
+    {
+        self.begin_portion(rt, seconds)?;
+        let read = read_from(rt, &self.stream, self.deadline, body, into);
+        if let Ok(count) = &read {
+            self.brought = self.brought.saturating_add(*count);
+        }
+        read
+    }
+}
+
 /// The link to a server over TCP, with a connection for each post and each download; a post ends the download before it.
 ///
-/// It posts to a host, and downloads from wherever an address says. Each read and each write of a connection
-/// has a time limit.
+/// It posts to a host, and downloads from wherever an address says. A whole post has a time limit, and so has each 64 KiB
+/// of a download, the first with its request.
 #[derive(Drop)]
-pub struct HttpLink<'a, R: Net<Listener = TcpListener, Stream = TcpStream>> {
+pub struct HttpLink<'a, R: Net<Listener = TcpListener, Stream = TcpStream> + Clock> {
     alloc: Global,
     rt: &'a R,
     host: &'a str,
     seconds: u64,
-    stream: Option<TcpStream>,
+    download: Option<Download>,
     body: Body,
     posts: Trace<(Trace<u8>, Trace<u8>)>,
     opened: Trace<Trace<u8>>,
@@ -36,9 +85,9 @@ pub struct HttpLink<'a, R: Net<Listener = TcpListener, Stream = TcpStream>> {
     failures: Trace<Failed>,
 }
 
-impl<'a, R: Net<Listener = TcpListener, Stream = TcpStream>> HttpLink<'a, R> {
-    /// Makes the link to a host, which isn't looked up: `HOST:PORT`, with an IPv6 address in brackets. Each read
-    /// and each write of a connection may take so many seconds, at least one.
+impl<'a, R: Net<Listener = TcpListener, Stream = TcpStream> + Clock> HttpLink<'a, R> {
+    /// Makes the link to a host, which isn't looked up: `HOST:PORT`, with an IPv6 address in brackets. A post and 64 KiB of
+    /// a download may take so many seconds, at least one.
     pub fn new(alloc: Global, rt: &'a R, host: &'a str, seconds: u64) -> HttpLink<'a, R>
         requires limited { 0 < seconds }
     {
@@ -47,7 +96,7 @@ impl<'a, R: Net<Listener = TcpListener, Stream = TcpStream>> HttpLink<'a, R> {
             rt,
             host,
             seconds,
-            stream: None,
+            download: None,
             body: Body::empty(alloc),
             posts: Trace::new(),
             opened: Trace::new(),
@@ -57,7 +106,7 @@ impl<'a, R: Net<Listener = TcpListener, Stream = TcpStream>> HttpLink<'a, R> {
     }
 }
 
-impl<'a, R: Net<Listener = TcpListener, Stream = TcpStream>> HttpLink<'a, R> {
+impl<'a, R: Net<Listener = TcpListener, Stream = TcpStream> + Clock> HttpLink<'a, R> {
     // rule: Reply that a link reads
     // The reply to an update check.
     fn check(&self, alloc: Global, body: &[u8]) -> Result<Reply, LinkFault>
@@ -72,9 +121,23 @@ impl<'a, R: Net<Listener = TcpListener, Stream = TcpStream>> HttpLink<'a, R> {
         };
         post_to(alloc, self.rt, self.seconds, &post, MAX_REPLY)?.error_for_status()
     }
+
+    // The download at an address.
+    fn download_at(&self, address: &str) -> Result<(Download, Body), LinkFault> {
+        let Ok(deadline) = Deadline::after(self.rt, self.seconds) else {
+            return Err(LinkFault::Connect);
+        };
+        let (stream, body) = open_at(self.alloc, self.rt, address, deadline)?;
+        let download = Download {
+            stream,
+            deadline,
+            brought: 0,
+        };
+        Ok((download, body))
+    }
 }
 
-impl<'a, R: Net<Listener = TcpListener, Stream = TcpStream>> Link for HttpLink<'a, R> {
+impl<'a, R: Net<Listener = TcpListener, Stream = TcpStream> + Clock> Link for HttpLink<'a, R> {
     ghost use Rattle.update_client.specs.Bodies.{left_of};
 
     ghost posts = { λ link. link.posts };
@@ -90,7 +153,7 @@ impl<'a, R: Net<Listener = TcpListener, Stream = TcpStream>> Link for HttpLink<'
 
     // Without the connection of the last download: a server of one worker may wait for its end.
     fn post(&mut self, alloc: Global, body: &[u8]) -> Result<Vec<u8>, Failed> {
-        self.stream = None;
+        self.download = None;
         match self.check(alloc, body) {
             Ok(reply) => {
                 self.posts.push(&(Trace::of(body), Trace::of(&reply.body)));
@@ -106,14 +169,14 @@ impl<'a, R: Net<Listener = TcpListener, Stream = TcpStream>> Link for HttpLink<'
     fn open(&mut self, address: &str) -> Result<(), Failed> {
         self.opened.push(&Trace::of(address.as_bytes()));
         self.received = Trace::new();
-        match open_at(self.alloc, self.rt, address, self.seconds) {
-            Ok((stream, body)) => {
-                self.stream = Some(stream);
+        match self.download_at(address) {
+            Ok((download, body)) => {
+                self.download = Some(download);
                 self.body = body;
                 Ok(())
             }
             Err(_) => {
-                self.stream = None;
+                self.download = None;
                 self.body = Body::empty(self.alloc);
                 self.failures.push(&Failed);
                 Err(Failed)
@@ -122,11 +185,11 @@ impl<'a, R: Net<Listener = TcpListener, Stream = TcpStream>> Link for HttpLink<'
     }
 
     fn read(&mut self, into: &mut [u8]) -> Result<usize, Failed> {
-        let Some(stream) = &self.stream else {
+        let Some(download) = &mut self.download else {
             self.body = Body::empty(self.alloc);
             return Ok(0);
         };
-        match read_from(stream, &mut self.body, into) {
+        match download.read(self.rt, self.seconds, &mut self.body, into) {
             Ok(count) => {
                 self.received.extend(&into[..count]);
                 Ok(count)

@@ -5,8 +5,8 @@
 //! discards what was staged. `Client::walk` asks, installs what is offered, and asks again until there is no update. Read
 //! `specs/Installing.antt`, then `specs/Clients.antt` and `specs/Walks.antt`.
 //!
-//! `HttpLink` is the `Link` over TCP, a connection for each post and each download, with a time limit for each read and
-//! each write. `post_over` and `open_over` do so over any source and sink, and `post_to` returns replies of any status: read
+//! `HttpLink` is the `Link` over TCP, a connection for each post and each download, with a time limit for each post and
+//! each 64 KiB of a download. `post_over` and `open_over` do so over any source and sink, and `post_to` returns replies of any status: read
 //! `specs/Replies.antt` and `specs/Bodies.antt`. `walk_app` walks and prints a line for each step, `walk_app_at` of a
 //! `Connector` does so over TCP, and `operate_at` posts to an operator's listener: read `specs/Lines.antt` and
 //! `specs/Walking.antt`.
@@ -31,6 +31,7 @@ mod opening;
 mod posting;
 mod printed_walk;
 mod reading;
+mod timed;
 mod walk_at;
 mod walking;
 
@@ -47,7 +48,7 @@ pub use crate::link::Link;
 pub use crate::opening::open_over;
 pub use crate::posting::{Reply, post_over};
 pub use crate::printed_walk::walk_app;
-pub use crate::walk_at::Connector;
+pub use crate::walk_at::{Connector, Limits};
 pub use crate::walking::{MAX_STEPS, Walk};
 pub use http_client_heads::LinkFault;
 pub use values::Failed;

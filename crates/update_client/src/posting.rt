@@ -9,7 +9,7 @@ use http_wire::{Sink, Source, send};
 use std::alloc::Global;
 
 /// A reply with its body.
-#[derive(Drop)]
+#[derive(Debug, Drop)]
 pub struct Reply {
     /// The status, such as 200.
     pub status: u16,

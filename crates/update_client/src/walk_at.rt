@@ -1,6 +1,6 @@
 // What can reach a server.
 
-ghost use Rattle.std.specs.Prelude.{IfErr, IfOk};
+ghost use Rattle.std.specs.Prelude.{◌≤◌, IfErr, IfOk, length};
 ghost use Rattle.update_client.specs.Replies.{IsPostFault};
 ghost use Rattle.update_client.specs.Walking.{IsWalkOver};
 
@@ -15,11 +15,18 @@ use crate::walking::Walk;
 use http_client_heads::Post;
 use std::alloc::Global;
 use std::net::{Net, TcpListener, TcpStream};
+use std::time::Clock;
 use streams::WriteWhole;
 use values::ReadError;
 
-/// How many seconds each read and each write of a connection may take.
-const SECONDS: u64 = 30;
+/// What an exchange may take.
+#[derive(Clone, Copy)]
+pub struct Limits {
+    /// How many seconds the whole of it may take; 0 counts as 1.
+    pub seconds: u64,
+    /// How many bytes the body of the reply may have.
+    pub reply: u64,
+}
 
 /// The path that an operator's scripts are posted to.
 const OPERATE_PATH: &str = "/operate";
@@ -50,11 +57,12 @@ pub trait Connector {
     /// Walks a client along the offers of the server at an address, as `walk_app` does.
     ///
     /// The address is `HOST:PORT`, with an IPv6 address in brackets. Each post and each download has a connection
-    /// of its own, and each read and each write of it may take 30 seconds.
+    /// of its own. A post and 64 KiB of a download may take so many seconds; 0 counts as 1.
     fn walk_app_at<W: WriteWhole>(
         &self,
         alloc: Global,
         address: &str,
+        seconds: u64,
         client: &mut Client,
         out: &mut W,
     ) -> Result<Walk, ReadError<Fault>>
@@ -62,14 +70,21 @@ pub trait Connector {
 
     /// Posts a body to the operator's listener at an address, and returns the reply, whatever its status.
     ///
-    /// The address is `HOST:PORT`, as above, or `unix:PATH` for a socket. A reply may be as long as memory allows. Errors
+    /// The address is `HOST:PORT`, as above, or `unix:PATH` for a socket. The limits say what the exchange may take. Errors
     /// are those of `post_to`.
-    fn operate_at(&self, alloc: Global, address: &str, body: &[u8]) -> Result<Reply, LinkFault>
+    fn operate_at(
+        &self,
+        alloc: Global,
+        address: &str,
+        limits: Limits,
+        body: &[u8],
+    ) -> Result<Reply, LinkFault>
         ensures ok { IfOk result (λ reply. operated self.now address.now body.now reply) }
+        ensures within { IfOk result (λ reply. length reply.body.items ≤ limits.reply) }
         ensures err { IfErr result IsPostFault };
 }
 
-impl<R: Net<Listener = TcpListener, Stream = TcpStream>> Connector for R {
+impl<R: Net<Listener = TcpListener, Stream = TcpStream> + Clock> Connector for R {
     ghost use Rattle.std.specs.Prelude.{⊤};
 
     ghost replies = { λ _ _ _. ⊤ };
@@ -80,20 +95,34 @@ impl<R: Net<Listener = TcpListener, Stream = TcpStream>> Connector for R {
         &self,
         alloc: Global,
         address: &str,
+        seconds: u64,
         client: &mut Client,
         out: &mut W,
     ) -> Result<Walk, ReadError<Fault>> {
-        let mut link = HttpLink::new(alloc, self, address, SECONDS);
+        let mut link = HttpLink::new(alloc, self, address, seconds.max(1));
         walk_app(alloc, client, &mut link, out)
     }
 
-    fn operate_at(&self, alloc: Global, address: &str, body: &[u8]) -> Result<Reply, LinkFault> {
+    fn operate_at(
+        &self,
+        alloc: Global,
+        address: &str,
+        limits: Limits,
+        body: &[u8],
+    ) -> Result<Reply, LinkFault> {
+        let seconds = limits.seconds.max(1);
         match address.strip_prefix("unix:") {
             Some(path) => {
                 let post = operation("localhost", body);
-                post_at(alloc, self, path, SECONDS, &post, u64::MAX)
+                post_at(alloc, self, path, seconds, &post, limits.reply)
             }
-            None => post_to(alloc, self, SECONDS, &operation(address, body), u64::MAX),
+            None => post_to(
+                alloc,
+                self,
+                seconds,
+                &operation(address, body),
+                limits.reply,
+            ),
         }
     }
 }

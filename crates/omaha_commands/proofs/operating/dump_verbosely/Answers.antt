@@ -12,11 +12,11 @@ fails_call :
 fails_call to refusal result is (inl net) = inl (cc (is, net))
 fails_call to refusal result is (inr memory) = inr (cc (is, memory))
 
-pub returns-in-Ok-call-clause-noted : goal.returns-in-Ok-call-clause-noted
-returns-in-Ok-call-clause-noted g c =
+pub returns-in-Ok-dump-clause-noted : goal.returns-in-Ok-dump-clause-noted
+returns-in-Ok-dump-clause-noted g c =
     let P : List ℕ → Type 0 = λ bytes. IsWritten (g.E.WriteWhole.output c.args.errors.now) (g.E.WriteWhole.output c.offer.new.writer) bytes in
     (string_bytes c.in-Ok.line, c.in-Ok.ensures.ok, subst P c.as_bytes.ensures.value c.offer.ensures)
 
 pub returns-clause-dumps : goal.returns-clause-dumps
 returns-clause-dumps g c =
-    inr (fails_call c.args.to.now c.in-Err.failure (Err c.in-Err.failure) refl c.in-Err.ensures.err, refl)
+    inr (fails_call c.args.asked.now.to c.in-Err.failure (Err c.in-Err.failure) refl c.in-Err.ensures.err, refl)

@@ -5,15 +5,14 @@ use Rattle.omaha_server.proofs.operating.serve_desk.Goals as goal
 
 pub returns : goal.returns
 returns g c =
-    let edges = g.S.System.edges c.args.setup.now.system.now in
-    let place = c.args.setup.now.place.now in
     let (press, budgets, records, due, operated) =
-    AreOperated-along (λ d. d.press.ghost_name) (λ d. d.budgets.ghost_name) (λ d. d.records.ghost_name) (λ d. d.due.ghost_name)
+    AreOperated-along g.S.System.edges (λ d. d.setup.now) (λ d. d.desk)
+    (λ d. d.press.ghost_name) (λ d. d.budgets.ghost_name) (λ d. d.records.ghost_name) (λ d. d.due.ghost_name)
     (λ d. record {
       mirrors = g.B.Budgets.present d.budgets.now;
       history = d.press.now;
       store = store (g.K.Records.first d.records.now) (g.K.Records.kept d.records.now) d.due.now;
-    }) _ edges place
+    }) _ c.args.setup.now
     (g.P.Port.terms c.args.port) (passage_of g.P.Port.terms g.P.Port.slots g.P.Port.accepted c.serve_new.result)
-    c.args.desk.now c.serve_new.new.desk (λ old call new stepped. (stepped.0, stepped.1, stepped.2, stepped.3, stepped.4)) c.serve_new.ensures in
+    c.args.checked.now c.serve_new.new.checked (λ old call new stepped. (stepped.0, stepped.1, stepped.2, stepped.3, stepped.4)) c.requires c.serve_new.ensures in
     record { same_press = press; same_budgets = budgets; same_records = records; same_due = due; operated = operated }

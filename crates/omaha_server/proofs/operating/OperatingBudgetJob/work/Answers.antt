@@ -1,12 +1,15 @@
 use Rattle.std.proofs.Common.{◌≡◌, ◌∙◌, [], Option, Some, None, refl, subst, sym}
 use Rattle.http_ports.specs.Rounds.{all_calls}
 use Rattle.http_ports.specs.declared.terms.Terms.{Terms}
+use Rattle.service_desks.specs.Operators.{IsCall as IsOperatorCall}
 use Rattle.service_desks.specs.States.{publication}
+use Rattle.omaha_server.specs.Checks.{sizes_at}
 use Rattle.omaha_server.specs.OperatorPorts.{terms_left}
 use Rattle.omaha_server.specs.Passages.{passage_of}
 use Rattle.omaha_server.specs.Serving.{IsOperated, begun, with_mirrors}
 use Rattle.omaha_server.specs.declared.operating.OperatorPort.{OperatorPort}
 use Rattle.omaha_server.specs.declared.operating.OperatorPort.TheVariants as variant
+use Rattle.omaha_server.proofs.AlongLemmas.{LeadsPast-all}
 use Rattle.omaha_server.proofs.operating.OperatingBudgetJob.work.Goals as goal
 
 -- no port is left to serve, if it isn't a new one
@@ -40,14 +43,19 @@ returns-clause-comes g c =
     let place = c.args.self.now.setup.now.place.now in
     let records = c.args.self.now.records in
     let left = publication c.operate-served.new.press (g.K.Records.first c.operate-served.new.records)
-    (g.K.Records.kept c.operate-served.new.records) c.operate-served.new.due in (
+    (g.K.Records.kept c.operate-served.new.records) c.operate-served.new.due in
+    let operated = c.operate-served.ensures.operated in
+    let (asked, past) = LeadsPast-all place.packages_must_exist (sizes_at edges place) IsOperatorCall
+    (all_calls operated.talked.2.rounds) (with_mirrors (g.B.Budgets.present c.args.budgets.now)
+    (begun c.args.self.now.press (g.K.Records.first records) (g.K.Records.kept records)))
+    (with_mirrors (g.B.Budgets.present c.operate-served.new.budgets) left) operated.talked.2.leads in (
       left,
-      all_calls c.operate-served.ensures.operated.talked.2.rounds,
+      asked,
       subst (λ (port : OperatorPort g.row.P.Denot). IsOperated edges place (terms_left g.P.Port.terms port)
           (with_mirrors (g.B.Budgets.present c.args.budgets.now) (begun c.args.self.now.press (g.K.Records.first records) (g.K.Records.kept records)))
-          (all_calls c.operate-served.ensures.operated.talked.2.rounds)
+          asked
           (with_mirrors (g.B.Budgets.present c.operate-served.new.budgets) left)
           (Some (passage_of g.P.Port.terms g.P.Port.slots g.P.Port.accepted c.operate-served.result)))
-          (sym c.in-New-replace.is ∙ c.replace.ensures.value) (c.operate-served.ensures.operated, refl),
+          (sym c.in-New-replace.is ∙ c.replace.ensures.value) (operated, past),
       c.receipt-left.ensures,
     )

@@ -1,4 +1,0 @@
-use Rattle.omaha_commands.proofs.reviewing.ask.Goals as goal
-
-pub returns-in-Ok-clause-ok : goal.returns-in-Ok-clause-ok
-returns-in-Ok-clause-ok g c = rw c.as_str.ensures at c.in-Ok.ensures.ok
