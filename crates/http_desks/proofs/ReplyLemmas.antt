@@ -17,11 +17,10 @@ use Rattle.http_desks.specs.declared.answering.Begun.TheVariants as begun
 use Rattle.http_desks.specs.declared.answering.Handled.{Handled}
 use Rattle.http_desks.specs.declared.answering.Handled.TheVariants.{Answered, Cut}
 use Rattle.http_desks.specs.declared.method.Method.{Method}
-use Rattle.http_desks.specs.declared.method.Method.TheVariants.{Get}
 use Rattle.values.specs.declared.declared.Declared.{Declared}
 use Rattle.http_desks.specs.Begins.{Begins, BeginsFetch, IsAtOnce, Rests, SendsHead, done_of}
 use Rattle.http_desks.specs.Calls.{Call, Leads, Looks}
-use Rattle.http_desks.specs.Uses.{Mismatched, Read, Broken, Fetched, IsRouted, IsUse, Use, calls_of}
+use Rattle.http_desks.specs.Uses.{Asked, Barred, Mismatched, Misused, Read, Broken, Elsewhere, Fetched, IsPaged, IsRouted, IsUse, Paged, Unknown, Untaken, Use, calls_of, is_get, route_of}
 use Rattle.http_desks.specs.Replies.{Answers, Fetches, head_lines, reply_to}
 
 -- the head of a reply is the lines of its parts
@@ -168,6 +167,20 @@ pub sized_as :
     false ≡ not (option_eq eqb told (Some size)) → sizes (Some size)
 sized_as sizes told size tells same = subst sizes (same_size told size same) tells
 
+paged_use :
+    (path : List ℕ) (tells : ℕ → Type 0) (sizes : List ℕ → Option ℕ → Type 0) (reads : List ℕ → Reads) (method : Method)
+    (target other : List ℕ) →
+    route_of path target ≡ Elsewhere other →
+    (used : Use) → IsPaged method other used → IsUse path tells sizes reads method target used × IsAtOnce used
+paged_use path tells sizes reads method target other elsewhere (Paged shown by page) (same, is) =
+    ((elsewhere ∙ ap Elsewhere (sym same), is), tt)
+paged_use path tells sizes reads method target other elsewhere Misused is = elim is [ ]
+paged_use path tells sizes reads method target other elsewhere Barred is = elim is [ ]
+paged_use path tells sizes reads method target other elsewhere (Asked moment answer) is = elim is [ ]
+paged_use path tells sizes reads method target other elsewhere (Unknown name) is = elim is [ ]
+paged_use path tells sizes reads method target other elsewhere (Untaken name declared) is = elim is [ ]
+paged_use path tells sizes reads method target other elsewhere (Fetched name declared fetch) is = elim is [ ]
+
 module _
     {D : Type 0} (steps : D → Call → D → Type 0) (kind body : List ℕ) (closes : Bool)
     (before after : D)
@@ -180,11 +193,24 @@ module _
     done_begins IsFit old new (Ok handled) answers = answers
     done_begins IsFit old new (Err failed) answers = answers
 
+    -- the page of a path was asked for
+    pub paged_begins :
+        (path : List ℕ) (tells : ℕ → Type 0) (sizes : List ℕ → Option ℕ → Type 0) (reads : List ℕ → Reads) (method : Method)
+        (target other : List ℕ) (old new : Option (List ℕ)) (result : Result Handled Failed) →
+        route_of path target ≡ Elsewhere other →
+        Answers (IsPaged method other) steps kind body closes before after old new result →
+        Answers (λ used. IsUse path tells sizes reads method target used × IsAtOnce used) steps kind body closes before after
+        old new result
+    paged_begins path tells sizes reads method target other old new result elsewhere answers =
+        Answers-wider (IsPaged method other) (λ used. IsUse path tells sizes reads method target used × IsAtOnce used) steps
+        kind body closes before after old new result
+        (paged_use path tells sizes reads method target other elsewhere) answers
+
     -- a package that the desk knows
     pub fetch_begins :
         (sizes : Option ℕ → Type 0) (reads : Reads) (method : Method) (name : List ℕ) (declared : Declared)
         (old new : Option (List ℕ)) (result : Result Begun Failed) →
-        method ≡ Get → Leads steps before (Looks name (Some declared) ∷ []) after →
+        is_get method ≡ true → Leads steps before (Looks name (Some declared) ∷ []) after →
         BeginsFetch sizes reads name declared closes old new result →
         Begins (IsRouted sizes reads method name) steps kind body closes before after old new result
     fetch_begins sizes reads method name declared old new (Ok (begun.Done handled)) get calls (fetch, fits, empty, writes) = record {

@@ -5,7 +5,7 @@ use Rattle.std.specs.Io.KnownBytes.{Appends}
 use Rattle.http_desks.specs.Calls.{Call, Leads}
 use Rattle.http_desks.specs.Downloads.{Downloads, Reads}
 use Rattle.http_desks.specs.Replies.{Answers, Writes, fetch_handled, fetch_reply, reply_to}
-use Rattle.http_desks.specs.Uses.{Asked, Barred, Broken, Fetch, Fetched, IsFetch, Mismatched, Misused, Nowhere, Read, Unknown, Untaken, Use, calls_of}
+use Rattle.http_desks.specs.Uses.{Asked, Barred, Broken, Fetch, Fetched, IsFetch, Mismatched, Misused, Paged, Read, Unknown, Untaken, Use, calls_of}
 use Rattle.http_desks.specs.declared.answering.Begun.{Begun}
 use Rattle.http_desks.specs.declared.answering.Begun.TheVariants as begun
 use Rattle.http_desks.specs.declared.answering.Handled.{Handled}
@@ -33,7 +33,7 @@ IsHeadAlone size (Broken blocks) = blocks ≡ []
 
 -- the message was not used for a package of which a block was sent, unless it has no bytes
 abbrev pub IsAtOnce : Use → Type 0
-IsAtOnce Nowhere = ⊤
+IsAtOnce (Paged path method page) = ⊤
 IsAtOnce Misused = ⊤
 IsAtOnce Barred = ⊤
 IsAtOnce (Asked moment answer) = ⊤

@@ -1,4 +1,5 @@
 pub mod Begins
+pub mod Pages
 pub mod Calls
 pub mod Downloads
 pub mod Replies

@@ -15,8 +15,12 @@ use Rattle.http_desks.specs.declared.desk.DeskStatus.{DeskStatus}
 use Rattle.http_desks.specs.declared.desk.DeskStatus.TheVariants as answered
 use Rattle.http_desks.specs.declared.desk.Off.{Off as Reason}
 use Rattle.values.specs.declared.declared.Declared.{Declared}
+use Rattle.http_desks.specs.declared.method.Method.{Method}
+use Rattle.http_desks.specs.declared.method.Method.TheVariants as method
+use Rattle.http_desks.specs.declared.page.PageKind.{PageKind}
 use Rattle.http_desks.specs.Calls.{Call, Leads}
-use Rattle.http_desks.specs.Uses.{Fetch, Mismatched, Read, Broken, IsFetch, Use, Nowhere, Misused, Barred, Asked, Unknown, Untaken, Fetched, calls_of}
+use Rattle.http_desks.specs.Pages.{page_fields}
+use Rattle.http_desks.specs.Uses.{Fetch, Mismatched, Read, Broken, IsFetch, Use, Paged, Misused, Barred, Asked, Unknown, Untaken, Fetched, calls_of}
 
 -- the status of the reply
 abbrev pub status_of : DeskStatus → Status
@@ -57,10 +61,26 @@ fetch_reply declared closes fetch =
     head_lines status.Success (codes "application/octet-stream") None declared.size closes
     ++ fetch_bytes declared.hash fetch
 
+-- a page, for a message that may have it
+abbrev pub page_reply : Bool → Method → PageKind → List ℕ → List ℕ
+page_reply closes method.Get kind body =
+    head_lines status.Success (page_fields kind) None (length body) closes ++ body
+page_reply closes method.ForeignGet kind body = empty_reply status.Forbidden None closes
+page_reply closes method.Post kind body = empty_reply status.MethodNotAllowed (Some allow.Get) closes
+page_reply closes method.BrowserPost kind body = empty_reply status.MethodNotAllowed (Some allow.Get) closes
+page_reply closes method.Other kind body = empty_reply status.MethodNotAllowed (Some allow.Get) closes
+
+-- rule: Page of a desk
+-- the reply where a page was asked for; the connection ends after it if the desk is off
+abbrev pub paged_reply : Bool → Method → Result (Option (PageKind × List ℕ)) Reason → List ℕ
+paged_reply closes by (Err off) = empty_reply status.InternalServerError None true
+paged_reply closes by (Ok None) = empty_reply status.NotFound None closes
+paged_reply closes by (Ok (Some page)) = page_reply closes by page.0 page.1
+
 -- rule: Reply to a message
 -- the reply, by the type of the desk's bodies and whether the connection ends after it
 abbrev pub reply_to : List ℕ → Bool → Use → List ℕ
-reply_to kind closes Nowhere = empty_reply status.NotFound None closes
+reply_to kind closes (Paged path by page) = paged_reply closes by page
 reply_to kind closes Misused = empty_reply status.MethodNotAllowed (Some allow.Post) closes
 reply_to kind closes Barred = empty_reply status.Forbidden None closes
 reply_to kind closes (Asked moment answer) = answer_reply kind closes answer
@@ -79,7 +99,8 @@ abbrev pub handled_of : Use → Option Handled
 handled_of (Asked moment (Err off)) = Some Off
 handled_of (Asked moment (Ok answer)) = Some Answered
 handled_of (Fetched name declared fetch) = fetch_handled declared.hash fetch
-handled_of Nowhere = Some Answered
+handled_of (Paged path by (Err off)) = Some Off
+handled_of (Paged path by (Ok page)) = Some Answered
 handled_of Misused = Some Answered
 handled_of Barred = Some Answered
 handled_of (Unknown name) = Some Answered

@@ -1,7 +1,6 @@
 ghost use Rattle.std.specs.Prelude.{◌≡◌, ◌+◌, ℕ, length, Some, is_ok, if◌then◌else◌};
-ghost use Rattle.http_desks.specs.declared.answering.Handled.TheVariants.{Answered};
 ghost use Rattle.http_desks.specs.Begins.{Begins, done_of};
-ghost use Rattle.http_desks.specs.Replies.{Answers, Writes, empty_reply, kind_for};
+ghost use Rattle.http_desks.specs.Replies.{Answers, kind_for};
 ghost use Rattle.http_desks.specs.Uses.{IsAsked, IsRouted, IsUse, is_asked};
 
 use crate::clock::Clock;
@@ -10,6 +9,7 @@ use crate::empty::send_empty;
 use crate::fetching::{begin_fetch, send_rest};
 use crate::method::Method;
 use crate::package::Packages;
+use crate::showing::{deny, show};
 use http_heads::{Allow, ReplyHead, Status, package_name, path_of};
 use http_wire::{Failed, Sink, send_reply};
 use values::Declared;
@@ -112,16 +112,16 @@ fn take<'n, W: Sink, D: Desk, P: Packages>(
     let Some(declared) = desk.package(name) else {
         return done(deny(sink, block, Status::NotFound, None, request.closes));
     };
-    match request.method {
-        Method::Get => begin_fetch(sink, block, packages, name, &declared, request.closes),
-        _ => done(deny(
+    if !request.method.is_get() {
+        return done(deny(
             sink,
             block,
             Status::MethodNotAllowed,
             Some(Allow::Get),
             request.closes,
-        )),
+        ));
     }
+    begin_fetch(sink, block, packages, name, &declared, request.closes)
 }
 
 // A reply that is written.
@@ -134,23 +134,6 @@ fn done<'n>(handled: Result<Handled, Failed>) -> Result<Begun<'n>, Failed>
     }
 }
 
-// Writes a reply without a body, after which the connection may go on.
-fn deny<W: Sink>(
-    sink: &mut W,
-    block: &mut [u8],
-    status: Status,
-    allow: Option<Allow>,
-    closes: bool,
-) -> Result<Handled, Failed>
-    ensures sends { Writes (empty_reply status allow closes) (Some Answered) (W.contents sink.old) (W.contents sink.new) result }
-    ensures failed { W.failures sink.new ≡ W.failures sink.old + (if is_ok result then 0 else 1) }
-{
-    match send_empty(sink, block, status, allow, closes) {
-        Ok(()) => Ok(Handled::Answered),
-        Err(error) => Err(error),
-    }
-}
-
 // rule: Desk that no browser asks
 // Whether the desk of this path is asked for a message of this method: no browser asks the operator's.
 fn is_asked(path: &[u8], method: Method) -> bool
@@ -159,7 +142,7 @@ fn is_asked(path: &[u8], method: Method) -> bool
     match method {
         Method::Post => true,
         Method::BrowserPost => path != b"/operate".as_slice(),
-        Method::Get | Method::Other => false,
+        Method::Get | Method::ForeignGet | Method::Other => false,
     }
 }
 
@@ -203,15 +186,23 @@ pub fn begin<'a, W: Sink, D: Desk, Z: Packages + Clock>(
     }
     match package_name(path) {
         Some(name) => take(sink, block, desk, site, name, request),
-        None => done(deny(sink, block, Status::NotFound, None, request.closes)),
+        None => done(show(
+            sink,
+            block,
+            desk,
+            path,
+            request.method,
+            request.body,
+            request.closes,
+        )),
     }
 }
 
 /// Writes the reply to a message, and returns how it came out.
 ///
-/// 404 if the target names neither the desk nor a package that the desk knows; 405 if the method is
-/// another; 403 if a browser posts to the operator's desk; the desk's reply, or 500 if the desk is
-/// off; or the package. `block` has 65536 bytes. The packages and the time are those of the site. A
+/// 404 if the target names neither the desk nor a package or a page that the desk knows; 405 if the method is
+/// another; 403 if a browser posts to the operator's desk, or a page is asked for at another host; the desk's
+/// reply or page, or 500 if the desk is off; or the package. `block` has 65536 bytes. The packages and the time are those of the site. A
 /// failure finds a first part of the reply written, and not all.
 pub fn answer<W: Sink, D: Desk, Z: Packages + Clock>(
     sink: &mut W,

@@ -1,7 +1,9 @@
 ghost use Rattle.std.specs.Prelude.{◌≡◌, ℕ, List};
-ghost use Rattle.http_desks.specs.Calls.{Call, Asks, Looks, answer_in};
+ghost use Rattle.http_desks.specs.Calls.{Call, Asks, Looks, Shows, answer_in};
+ghost use Rattle.http_desks.specs.Pages.{page_in};
 ghost use Rattle.http_desks.specs.Replies.{status_of};
 
+use crate::page::Page;
 use http_heads::Status;
 use values::Declared;
 
@@ -50,7 +52,7 @@ pub enum Off {
     Closed,
 }
 
-/// Replies to the messages to one path, and knows the packages.
+/// Replies to the messages to one path, knows the packages, and may show pages at other paths.
 pub trait Desk {
     ghost path: { Self → List ℕ };
 
@@ -76,6 +78,12 @@ pub trait Desk {
     /// Returns what is declared of a package, or `None` if there is none of this name.
     fn package(&mut self, name: &[u8]) -> Option<Declared>
         ensures steps { steps self.old (Looks name.now result) self.new }
+        ensures path { path self.new ≡ path self.old }
+        ensures content_type { content_type self.new ≡ content_type self.old };
+
+    /// Returns the page at a path, or `None` if there is none.
+    fn page(&mut self, at: &[u8]) -> Result<Option<Page>, Off>
+        ensures steps { steps self.old (Shows at.now (page_in result)) self.new }
         ensures path { path self.new ≡ path self.old }
         ensures content_type { content_type self.new ≡ content_type self.old };
 }

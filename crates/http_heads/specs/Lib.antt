@@ -4,4 +4,5 @@ pub mod Lengths
 pub mod Closing
 pub mod Browsers
 pub mod Targets
+pub mod Hosts
 pub mod Replies

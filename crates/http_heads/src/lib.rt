@@ -2,9 +2,10 @@
 //!
 //! `framing` gives the length of the body, or the status that rejects the message; `wants_close`
 //! whether the connection ends after the reply; `is_from_browser` whether a browser sends the
-//! message; `path_of` and `package_name` what the target names. A `ReplyHead` is what a reply's head
-//! says. Read `specs/Framing.antt`, `specs/Closing.antt`, `specs/Browsers.antt`,
-//! `specs/Targets.antt` and `specs/Replies.antt`.
+//! message; `is_for_another` whether it is for another host; `path_of` and `package_name` what the
+//! target names. A `ReplyHead` is what a reply's head says. Read `specs/Framing.antt`,
+//! `specs/Closing.antt`, `specs/Browsers.antt`, `specs/Hosts.antt`, `specs/Targets.antt` and
+//! `specs/Replies.antt`.
 //!
 //! It does not parse a head: that is the kit's `httparse`. It does not read or write.
 
@@ -14,6 +15,7 @@ mod body_length;
 mod browser;
 mod closing;
 mod field;
+mod host;
 mod reply;
 mod status;
 mod target;
@@ -21,6 +23,7 @@ mod target;
 pub use crate::body_length::{MAX_BODY, framing};
 pub use crate::browser::is_from_browser;
 pub use crate::closing::wants_close;
+pub use crate::host::is_for_another;
 pub use crate::reply::{Allow, ReplyHead, allow_field, last_field};
 pub use crate::status::Status;
 pub use crate::target::{package_name, path_of};

@@ -1,18 +1,25 @@
 ghost use Rattle.std.specs.Prelude.{◌≡◌};
 ghost use Rattle.std.specs.Option.{option_copied};
-ghost use Rattle.http_heads.specs.Targets.{package_in, path_in};
+ghost use Rattle.http_heads.specs.Targets.{before, package_in, path_in};
+
+// The bytes before the first one that is the mark, or all.
+pub(crate) fn before(bytes: &[u8], mark: u8) -> &[u8]
+    ensures { result.now ≡ before mark bytes.now }
+{
+    for end in 0..bytes.len() {
+        if bytes[end] == mark {
+            return &bytes[..end];
+        }
+    }
+    bytes
+}
 
 // rule: Path of a target
 /// Returns the path of a target, which is the bytes before its first `?`.
 pub fn path_of(target: &[u8]) -> &[u8]
     ensures { result.now ≡ path_in target.now }
 {
-    for end in 0..target.len() {
-        if target[end] == b'?' {
-            return &target[..end];
-        }
-    }
-    target
+    before(target, b'?')
 }
 
 // rule: Path of a package

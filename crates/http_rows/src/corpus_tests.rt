@@ -5,7 +5,7 @@ ghost use Rattle.std.specs.Prelude.{codes};
 use crate::desks::{ABC, FILES};
 use crate::writers::STOPPED;
 use corpus::{HEADS, case_of};
-use http_desks::{Answer, Declared, Desk, DeskStatus, Off};
+use http_desks::{Answer, Declared, Desk, DeskStatus, Off, Page};
 use http_memory::Connection;
 use http_sessions::serve;
 use std::alloc::{AllocError, Global};
@@ -53,6 +53,10 @@ impl Desk for Greeter {
             return Some(Declared { size: 4, hash: ABC });
         }
         None
+    }
+
+    fn page(&mut self, _at: &[u8]) -> Result<Option<Page>, Off> {
+        Ok(None)
     }
 }
 

@@ -3,7 +3,7 @@
 ghost use Rattle.std.specs.Prelude.{codes};
 ghost use Rattle.http_desks.specs.Calls.{Call};
 
-use http_desks::{Answer, Declared, Desk, DeskStatus, Off};
+use http_desks::{Answer, Declared, Desk, DeskStatus, Off, Page, PageKind};
 use http_memory::{Content, File, Shelf};
 use std::alloc::Global;
 
@@ -44,8 +44,25 @@ fn reply_to(body: &[u8]) -> (DeskStatus, &[u8]) {
     (DeskStatus::Success, body)
 }
 
+// Paths, and the types and the bodies of their pages.
+const PAGES: [(&[u8], PageKind, &[u8]); 3] = [
+    (b"/page", PageKind::Plain, b"one"),
+    (b"/metrics", PageKind::Metrics, b"two"),
+    (b"/html", PageKind::Html, b"three"),
+];
+
+// The type and the body of the page at a path.
+fn page_at(path: &[u8]) -> Option<(PageKind, &'static [u8])> {
+    for (known, kind, body) in &PAGES {
+        if *known == path {
+            return Some((*kind, body));
+        }
+    }
+    None
+}
+
 /// Replies to some bodies with a status, to one as an update service, and to others with the body. Its packages are
-/// `abc`, and one of 200000 letters.
+/// `abc`, and one of 200000 letters. It shows three pages.
 #[derive(Drop)]
 pub(crate) struct Echo {
     pub(crate) alloc: Global,
@@ -91,6 +108,19 @@ impl Desk for Echo {
             });
         }
         Some(Declared { size: 3, hash: ABC })
+    }
+
+    fn page(&mut self, at: &[u8]) -> Result<Option<Page>, Off> {
+        if at == b"/memory".as_slice() {
+            return Err(Off::Memory);
+        }
+        let Some((kind, body)) = page_at(at) else {
+            return Ok(None);
+        };
+        match Vec::from_slice(self.alloc, body) {
+            Ok(body) => Ok(Some(Page { kind, body })),
+            Err(_) => Err(Off::Memory),
+        }
     }
 }
 

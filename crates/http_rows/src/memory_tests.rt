@@ -4,7 +4,7 @@ ghost use Rattle.std.specs.Prelude.{codes};
 
 use crate::desks::{ABC, FILES};
 use crate::writers::STOPPED;
-use http_desks::{Answer, Declared, Desk, Off};
+use http_desks::{Answer, Declared, Desk, Off, Page};
 use http_memory::Connection;
 use http_sessions::{Buffers, End, Served, Session, Site, Turn};
 use http_wire::Unwatched;
@@ -35,6 +35,10 @@ impl Desk for Poor {
 
     fn package(&mut self, _name: &[u8]) -> Option<Declared> {
         Some(Declared { size: 3, hash: ABC })
+    }
+
+    fn page(&mut self, _at: &[u8]) -> Result<Option<Page>, Off> {
+        Err(Off::Memory)
     }
 }
 

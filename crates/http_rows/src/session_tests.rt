@@ -36,6 +36,23 @@ GET /p/changed.bin HTTP/1.1~~|HTTP/1.1 200 OK~Content-Type: application/octet-st
 GET /p/short.bin HTTP/1.1~~GET / HTTP/1.1~~|HTTP/1.1 200 OK~Content-Type: application/octet-stream~Content-Length: 3~~|1|cut
 GET /p/missing.bin HTTP/1.0~~|HTTP/1.1 200 OK~Content-Type: application/octet-stream~Content-Length: 3~Connection: close~~|1|cut
 GET /p/a HTTP/1.1~Content-Length: 4~~{ ^~GET / HTTP/1.1~~|HTTP/1.1 200 OK~Content-Type: application/octet-stream~Content-Length: 3~~abcHTTP/1.1 404 Not Found~Content-Length: 0~~|2|finished
+GET /page HTTP/1.1~~|HTTP/1.1 200 OK~Content-Type: text/plain; charset=utf-8~Content-Length: 3~~one|1|finished
+GET /page?x HTTP/1.1~Host: localhost:8081~~|HTTP/1.1 200 OK~Content-Type: text/plain; charset=utf-8~Content-Length: 3~~one|1|finished
+GET /page HTTP/1.1~host: LocalHost~Connection: close~~|HTTP/1.1 200 OK~Content-Type: text/plain; charset=utf-8~Content-Length: 3~Connection: close~~one|1|finished
+GET /page HTTP/1.1~Host: 127.0.0.1:8081~~|HTTP/1.1 200 OK~Content-Type: text/plain; charset=utf-8~Content-Length: 3~~one|1|finished
+GET /page HTTP/1.1~Host: [::1]:8081~~|HTTP/1.1 200 OK~Content-Type: text/plain; charset=utf-8~Content-Length: 3~~one|1|finished
+GET /page HTTP/1.1~Host: ~~|HTTP/1.1 200 OK~Content-Type: text/plain; charset=utf-8~Content-Length: 3~~one|1|finished
+GET /page HTTP/1.1~Host: example.com~~|HTTP/1.1 403 Forbidden~Content-Length: 0~~|1|finished
+GET /page HTTP/1.1~Host: localhost.example:8081~~|HTTP/1.1 403 Forbidden~Content-Length: 0~~|1|finished
+GET /page HTTP/1.1~Host: 127.0.0.1.example~~|HTTP/1.1 403 Forbidden~Content-Length: 0~~|1|finished
+GET /page HTTP/1.1~Host: localhost~Host: example.com~~|HTTP/1.1 403 Forbidden~Content-Length: 0~~|1|finished
+POST /page HTTP/1.1~Content-Length: 0~~|HTTP/1.1 405 Method Not Allowed~Allow: GET~Content-Length: 0~~|1|finished
+HEAD /page HTTP/1.1~~|HTTP/1.1 405 Method Not Allowed~Allow: GET~Content-Length: 0~~|1|finished
+GET /metrics HTTP/1.1~~|HTTP/1.1 200 OK~Content-Type: text/plain; version=0.0.4; charset=utf-8~Content-Length: 3~~two|1|finished
+GET /html HTTP/1.1~~|HTTP/1.1 200 OK~Content-Type: text/html; charset=utf-8~Content-Security-Policy: default-src 'none'; style-src 'unsafe-inline'~Content-Length: 5~~three|1|finished
+GET /memory HTTP/1.1~~|HTTP/1.1 500 Internal Server Error~Content-Length: 0~Connection: close~~|1|refused
+GET / HTTP/1.1~Host: example.com~~|HTTP/1.1 404 Not Found~Content-Length: 0~~|1|finished
+GET /p/mini-1.0.bin HTTP/1.1~Host: example.com~~|HTTP/1.1 200 OK~Content-Type: application/octet-stream~Content-Length: 3~~abc|1|finished
 GET / HTTP/1.1~Connection: x, Close~~GET / HTTP/1.1~~|HTTP/1.1 404 Not Found~Content-Length: 0~Connection: close~~|1|finished
 GET / HTTP/1.1~~~|HTTP/1.1 404 Not Found~Content-Length: 0~~|1|unfinished
 GET / HTTP/1.1~~GET  / HTTP/1.1~~|HTTP/1.1 404 Not Found~Content-Length: 0~~HTTP/1.1 400 Bad Request~Content-Length: 0~Connection: close~~|2|refused

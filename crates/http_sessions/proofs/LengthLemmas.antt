@@ -10,6 +10,7 @@ use Rattle.httparse.specs.Spans.{IsRequestAt, header_bytes, name_and_value, span
 use Rattle.httparse.specs.declared.spans.HeaderSpan.{HeaderSpan}
 use Rattle.httparse.specs.declared.spans.RequestSpans.{RequestSpans}
 use Rattle.http_heads.specs.Browsers.{is_from_browser}
+use Rattle.http_heads.specs.Hosts.{is_for_another}
 use Rattle.http_heads.specs.Closing.{closes_after}
 use Rattle.http_heads.specs.Fields.{Pair, is_named, values_named}
 use Rattle.http_heads.specs.Framing.{framing_of, is_number, length_by, length_in}
@@ -115,12 +116,14 @@ plan_closes bytes places spans head at =
     ap (λ (minor : ℕ). closes_after minor (map (header_bytes bytes) (take spans.headers places))) at.version
     ∙ ap (closes_after head.minor) at.fields
 
--- the method, by whether a browser sends the message
+-- the method, by whether a browser sends the message, and whether it is for another host
 pub plan_method :
     (bytes method : List ℕ) (places : List HeaderSpan) (spans : RequestSpans) (head : RequestHead) →
     IsRequestAt bytes places spans head →
     method ≡ span_bytes bytes spans.method →
-    method_of method (is_from_browser (map (header_bytes bytes) (take spans.headers places))) ≡ method_in head
+    method_of method (is_from_browser (map (header_bytes bytes) (take spans.headers places)))
+    (is_for_another (map (header_bytes bytes) (take spans.headers places))) ≡ method_in head
 plan_method bytes method places spans head at named =
-    ap (λ (name : List ℕ). method_of name (is_from_browser (map (header_bytes bytes) (take spans.headers places)))) (named ∙ at.method)
-    ∙ ap (λ (fields : List Pair). method_of head.method (is_from_browser fields)) at.fields
+    ap (λ (name : List ℕ). method_of name (is_from_browser (map (header_bytes bytes) (take spans.headers places)))
+    (is_for_another (map (header_bytes bytes) (take spans.headers places)))) (named ∙ at.method)
+    ∙ ap (λ (fields : List Pair). method_of head.method (is_from_browser fields) (is_for_another fields)) at.fields

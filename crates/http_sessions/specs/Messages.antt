@@ -7,6 +7,7 @@ use Rattle.http_heads.specs.Browsers.{is_from_browser}
 use Rattle.http_heads.specs.Closing.{closes_after}
 use Rattle.http_heads.specs.Fields.{Pair}
 use Rattle.http_heads.specs.Framing.{framing_of}
+use Rattle.http_heads.specs.Hosts.{is_for_another}
 use Rattle.http_heads.specs.declared.status.Status.{Status}
 use Rattle.http_heads.specs.declared.status.Status.TheVariants as status
 use Rattle.http_desks.specs.declared.answering.Handled.TheVariants.{Answered}
@@ -35,9 +36,9 @@ unfoldable pub message_length : RequestHead → Result ℕ Status
 message_length head =
     if nat_le (length head.fields) 64 then framing_of head.method (fields_of head) else Err status.BadRequest
 
--- the method, by whether a browser sends the message
+-- the method, by whether a browser sends the message, and whether it is for another host
 abbrev pub method_in : RequestHead → Method
-method_in head = method_of head.method (is_from_browser (fields_of head))
+method_in head = method_of head.method (is_from_browser (fields_of head)) (is_for_another (fields_of head))
 
 -- the head asks for the end of the connection
 abbrev pub asks_close : RequestHead → Bool

@@ -7,7 +7,7 @@ ghost use Rattle.http_sessions.specs.Stops.{end_with};
 
 use crate::ends::End;
 use http_desks::Method;
-use http_heads::{Status, framing, is_from_browser, wants_close};
+use http_heads::{Status, framing, is_for_another, is_from_browser, wants_close};
 use http_wire::{Failed, Head, Source, Window, read_body, read_head};
 use httparse::spans::{HeaderSpan, RequestSpans};
 
@@ -56,7 +56,11 @@ pub(crate) fn examine(
     match framing(method, bytes, shown) {
         Ok(size) => Ok(Plan {
             size: size as usize,
-            method: Method::of(method, is_from_browser(bytes, shown)),
+            method: Method::of(
+                method,
+                is_from_browser(bytes, shown),
+                is_for_another(bytes, shown),
+            ),
             closes: wants_close(spans.version, bytes, shown),
             target: 0,
         }),

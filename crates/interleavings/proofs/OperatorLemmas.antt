@@ -6,7 +6,7 @@ use Rattle.std.specs.Str.Parse.{digits_value}
 use Rattle.std.proofs.lemmas.List.Elements.{All-from_recursion}
 use Rattle.catalogue.specs.declared.edit.Edit.{Edit}
 use Rattle.catalogue_laws.specs.Histories.{History}
-use Rattle.http_desks.specs.Calls.{Asks, Call, Looks}
+use Rattle.http_desks.specs.Calls.{Asks, Call, Looks, Shows}
 use Rattle.http_desks.specs.declared.desk.DeskStatus.{DeskStatus}
 use Rattle.http_desks.specs.declared.desk.Off.{Off}
 use Rattle.http_desks.specs.declared.desk.Off.TheVariants as off
@@ -217,6 +217,7 @@ calls-same before after follows same = record {
 calls-on : (before after : State) (call : Call) → IsDueAfter before.history before.store → IsCall before call after →
     CallsOn before after
 calls-on before after (Looks name found) follows looked = calls-same before after follows looked.1
+calls-on before after (Shows at page) follows shown = calls-same before after follows shown.1
 calls-on before after (Asks body moment answer) follows (inl (word, dumps, same)) = calls-same before after follows same
 calls-on before after (Asks body moment answer) follows (inr (inl (word, raises, same))) =
     let due = due-raising (before.mirrors, before.store) (after.mirrors, after.store) body answer raises in
@@ -324,6 +325,7 @@ operator_calls_are_events mirrors service store call after follows called =
 -- what an operator's call makes of the mirrors
 mirrors-call : (before after : State) (call : Call) → IsCall before call after → MirrorsBy before.mirrors after.mirrors
 mirrors-call before after (Looks name found) looked = inl (ap (λ (s : State). s.mirrors) looked.1)
+mirrors-call before after (Shows at page) shown = inl (ap (λ (s : State). s.mirrors) shown.1)
 mirrors-call before after (Asks body moment answer) (inl (word, dumps, same)) = inl (ap (λ (s : State). s.mirrors) same)
 mirrors-call before after (Asks body moment answer) (inr (inl (word, raises, same))) =
     mirrors-raising (before.mirrors, before.store) (after.mirrors, after.store) body answer raises

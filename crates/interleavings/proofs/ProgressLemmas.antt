@@ -4,7 +4,7 @@ use Rattle.std.proofs.Math.Seq.{take-append_seam}
 use Rattle.std.proofs.lemmas.Bool.{false≢true}
 use Rattle.std.proofs.lemmas.List.{append-nil, length-append}
 use Rattle.catalogue_laws.specs.Histories.{History}
-use Rattle.http_desks.specs.Calls.{Asks, Call, Looks}
+use Rattle.http_desks.specs.Calls.{Asks, Call, Looks, Shows}
 use Rattle.http_desks.specs.declared.desk.DeskStatus.{DeskStatus}
 use Rattle.http_desks.specs.declared.desk.DeskStatus.TheVariants as status
 use Rattle.http_desks.specs.declared.desk.Off.TheVariants as off
@@ -80,6 +80,7 @@ module _ (mirrors : List Mirror) (before after : Progress) where
   pub leads-on : (call : Call) → IsCall mirrors before call after → LeadsOn before after
   leads-on (Looks name found) (inl (history, enters, is), asked) = on-unasked (inr (history, enters)) asked
   leads-on (Looks name found) (inr (none, is), asked) = on-unasked (inl none) asked
+  leads-on (Shows at page) (none, same) = on-same same
   leads-on (Asks input moment (Ok answer)) called = on-status input moment answer.0 answer.1 called
   leads-on (Asks input moment (Err off.Memory)) (inl same) = on-same same
   leads-on (Asks input moment (Err off.Memory)) (inr (request, read, (history, enters, inl same))) =

@@ -8,7 +8,7 @@ use Rattle.std.proofs.lemmas.List.Elements.{filter_map-append}
 use Rattle.std.proofs.lemmas.List.Sums.{sum_by-cons}
 use Rattle.catalogue_laws.specs.Histories.{History}
 use Rattle.editions.specs.Editions.{content_of}
-use Rattle.http_desks.specs.Calls.{Asks, Call, Looks}
+use Rattle.http_desks.specs.Calls.{Asks, Call, Looks, Shows}
 use Rattle.http_desks.specs.declared.desk.DeskStatus.{DeskStatus}
 use Rattle.http_desks.specs.declared.desk.DeskStatus.TheVariants as status
 use Rattle.http_desks.specs.declared.desk.Off.TheVariants as off
@@ -323,6 +323,7 @@ module _ (mirrors : List Mirror) (service : Service) (index : ℕ) (worker : Wor
     by_call (Looks name found) (inl (history, enters, is), asked) = looked history enters
         (published history enters) asked
     by_call (Looks name found) (inr (none, is), asked) = nothing asked (unseen before.sight after.sight none)
+    by_call (Shows at page) (none, same) = same-progress same
     by_call (Asks input moment (Ok answer)) called = by_status input moment answer.0 answer.1 called
     by_call (Asks input moment (Err off.Memory)) (inl same) = same-progress same
     by_call (Asks input moment (Err off.Memory)) (inr (request, read, (history, enters, begun))) =

@@ -3,7 +3,7 @@
 use Rattle.std.specs.Prelude.{◌≡◌, ℕ, zero, suc, ◌+◌, ◌≤◌, ◌<◌, false, List, [], ◌∷◌, ◌++◌, flat_map, length, Option, None, Some, Result, Ok, Err}
 use Rattle.std.specs.Option.{option_map_or}
 use Rattle.catalogue_laws.specs.Histories.{History}
-use Rattle.http_desks.specs.Calls.{Asks, Call, Looks}
+use Rattle.http_desks.specs.Calls.{Asks, Call, Looks, Shows}
 use Rattle.http_desks.specs.declared.desk.DeskStatus.{DeskStatus}
 use Rattle.http_desks.specs.declared.desk.DeskStatus.TheVariants as status
 use Rattle.http_desks.specs.declared.desk.Off.{Off}
@@ -82,6 +82,7 @@ sent_as input moment (Err off) = []
 abbrev pub sent_by : Call → List Sent
 sent_by (Asks input moment answer) = sent_as input moment answer
 sent_by (Looks name found) = []
+sent_by (Shows at page) = []
 
 -- the reply with which a job ended, if it ended with one
 abbrev pub sent_for : EndedJob → List Sent

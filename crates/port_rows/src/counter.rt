@@ -2,7 +2,7 @@
 
 ghost use Rattle.std.specs.Prelude.{codes};
 
-use http_desks::{Answer, Declared, Desk, DeskStatus, Off};
+use http_desks::{Answer, Declared, Desk, DeskStatus, Off, Page};
 use std::alloc::Global;
 
 /// Replies with how often it was asked before, a letter a call.
@@ -41,5 +41,9 @@ impl Desk for Counter {
 
     fn package(&mut self, _name: &[u8]) -> Option<Declared> {
         None
+    }
+
+    fn page(&mut self, _at: &[u8]) -> Result<Option<Page>, Off> {
+        Ok(None)
     }
 }

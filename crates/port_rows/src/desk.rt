@@ -3,7 +3,7 @@
 ghost use Rattle.std.specs.Prelude.{codes};
 ghost use Rattle.http_desks.specs.Calls.{Call};
 
-use http_desks::{Answer, Declared, Desk, DeskStatus, Off};
+use http_desks::{Answer, Declared, Desk, DeskStatus, Off, Page};
 use http_memory::{Content, File, FixedClock, Shelf};
 use std::alloc::Global;
 
@@ -136,5 +136,9 @@ impl Desk for Echo {
             }
         }
         None
+    }
+
+    fn page(&mut self, _at: &[u8]) -> Result<Option<Page>, Off> {
+        Ok(None)
     }
 }

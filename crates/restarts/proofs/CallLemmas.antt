@@ -4,7 +4,7 @@ use Rattle.std.specs.Str.Parse.{digits_value}
 use Rattle.catalogue.specs.declared.edit.Edit.{Edit}
 use Rattle.catalogue_laws.specs.Histories.{History}
 use Rattle.editions.specs.Editions.{Continues}
-use Rattle.http_desks.specs.Calls.{Asks, Call, Looks}
+use Rattle.http_desks.specs.Calls.{Asks, Call, Looks, Shows}
 use Rattle.http_desks.specs.declared.desk.DeskStatus.{DeskStatus}
 use Rattle.http_desks.specs.declared.desk.Off.{Off}
 use Rattle.http_desks.specs.declared.desk.Off.TheVariants as off
@@ -116,6 +116,7 @@ Kept state = LeadTo state.store.records (found_in state)
 
 pub after-call : (before after : State) (call : Call) → IsCall before call after → Kept before → Kept after
 after-call before after (Looks name found) looked leads = subst Kept (sym looked.1) leads
+after-call before after (Shows at page) shown leads = subst Kept (sym shown.1) leads
 after-call before after (Asks body moment answer) (inl (word, dumps, same)) leads = subst Kept (sym same) leads
 after-call before after (Asks body moment answer) (inr (inl (word, raises, same))) leads =
     subst (λ (h : History). Funded h (after.mirrors, after.store)) (sym same)

@@ -6,7 +6,7 @@ use Rattle.std.specs.Option.{ForSome}
 use Rattle.std.proofs.lemmas.Option.{same_Some}
 use Rattle.catalogue.specs.declared.edit.Edit.{Edit}
 use Rattle.catalogue_laws.specs.Histories.{History}
-use Rattle.http_desks.specs.Calls.{Asks, Call, Looks}
+use Rattle.http_desks.specs.Calls.{Asks, Call, Looks, Shows}
 use Rattle.http_desks.specs.declared.desk.DeskStatus.{DeskStatus}
 use Rattle.http_desks.specs.declared.desk.Off.{Off}
 use Rattle.http_desks.specs.declared.desk.Off.TheVariants as off
@@ -136,6 +136,8 @@ Advances-call : (before after : State) (call : Call) → IsCall before call afte
     Advances (publication_of before) (publication_of after)
 Advances-call before after (Looks name found) looked ahead =
     Advances-same (publication_of before) (publication_of after) (ap publication_of looked.1) ahead
+Advances-call before after (Shows at page) shown ahead =
+    Advances-same (publication_of before) (publication_of after) (ap publication_of shown.1) ahead
 Advances-call before after (Asks body moment answer) (inl (word, dumps, same)) ahead =
     Advances-same (publication_of before) (publication_of after) (ap publication_of same) ahead
 Advances-call before after (Asks body moment answer) (inr (inl (word, raises, same))) ahead =

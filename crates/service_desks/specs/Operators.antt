@@ -2,7 +2,7 @@
 use Rattle.std.specs.Prelude.{◌≡◌, ◌≢◌, ◌⊎◌, ℕ, true, false, List, codes, None, Result, Ok, Err}
 use Rattle.catalogue_laws.specs.Histories.{History}
 use Rattle.editions.specs.Editions.{content_of}
-use Rattle.http_desks.specs.Calls.{Call, Asks, Looks}
+use Rattle.http_desks.specs.Calls.{Call, Asks, Looks, Shows}
 use Rattle.http_desks.specs.declared.desk.DeskStatus.{DeskStatus}
 use Rattle.http_desks.specs.declared.desk.DeskStatus.TheVariants as status
 use Rattle.http_desks.specs.declared.desk.Off.{Off}
@@ -42,7 +42,8 @@ IsOperated before body answer after =
 
 -- rule: Operator's desk
 -- a call of the desk, with the mirrors and their budgets, the published history, and what is kept, before and after it; the
--- desk knows no package
+-- desk knows no package and no page
 abbrev pub IsCall : State → Call → State → Type 0
 IsCall before (Asks body moment answer) after = IsOperated before body answer after
 IsCall before (Looks name found) after = (found ≡ None) × (after ≡ before)
+IsCall before (Shows at page) after = (page ≡ Ok None) × (after ≡ before)

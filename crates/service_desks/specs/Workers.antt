@@ -2,7 +2,7 @@
 use Rattle.std.specs.Prelude.{◌≡◌, ◌⊎◌, ℕ, List, [], Option, None, Result, Ok, Err}
 use Rattle.catalogue_laws.specs.Histories.{History}
 use Rattle.editions.specs.Editions.{content_of}
-use Rattle.http_desks.specs.Calls.{Call, Asks, Looks}
+use Rattle.http_desks.specs.Calls.{Call, Asks, Looks, Shows}
 use Rattle.http_desks.specs.declared.desk.DeskStatus.{DeskStatus}
 use Rattle.http_desks.specs.declared.desk.DeskStatus.TheVariants as status
 use Rattle.http_desks.specs.declared.desk.Off.{Off}
@@ -72,8 +72,9 @@ Finds before name found after =
     ⊎ (FindsNoEntry before after × (found ≡ None))
 
 -- rule: Desk of a worker
--- a call of the desk; a look-up asks for nothing
+-- a call of the desk; a look-up asks for nothing, and there is no page
 abbrev pub IsCall : List Mirror → Progress → Call → Progress → Type 0
 IsCall mirrors before (Asks input moment answer) after = IsAnswer mirrors before input moment answer after
 IsCall mirrors before (Looks name found) after =
     Finds before.sight name found after.sight × (after.asks ≡ before.asks)
+IsCall mirrors before (Shows at page) after = (page ≡ Ok None) × (after ≡ before)

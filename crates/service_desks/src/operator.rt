@@ -6,7 +6,7 @@ ghost use Rattle.service_desks.specs.States.{GoesOn};
 use crate::dumps::dump;
 use crate::raises::perform_raise;
 use crate::scripts::perform_script;
-use http_desks::{Answer, Declared, Desk, Off};
+use http_desks::{Answer, Declared, Desk, Off, Page};
 use kept_records::Records;
 use mirror_ledger::Budgets;
 use publisher::{Prepared, Press};
@@ -22,7 +22,7 @@ use std::thread::Threads;
 /// `raised m0 510`; 422 and `refused B1 UnknownMirror`, `refused B2 TooHigh` or `refused B3 Lower 510`; or 400 and
 /// `bad raise`. Any other body is a script, as for `perform_script`. A script and a raise that get 200 were kept among the
 /// records before they took effect. It is off if one can't be kept, and if memory runs out; then nothing is raised, and
-/// nothing published but what was due. It knows no package.
+/// nothing published but what was due. It knows no package and shows no page.
 #[derive(Drop)]
 pub struct Operator<'r, 'p, 'b, 'k, 'd, R: Threads + Wait + AllocGlobal, B: Budgets, K: Records> {
     /// What starts threads and has the memory of editions and replies.
@@ -86,5 +86,9 @@ impl<R: Threads + Wait + AllocGlobal, B: Budgets, K: Records> Desk
 
     fn package(&mut self, _name: &[u8]) -> Option<Declared> {
         None
+    }
+
+    fn page(&mut self, _at: &[u8]) -> Result<Option<Page>, Off> {
+        Ok(None)
     }
 }

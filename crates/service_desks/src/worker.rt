@@ -2,7 +2,7 @@ ghost use Rattle.std.specs.Prelude.{◌≡◌, codes};
 
 use crate::answering::answer_by;
 use crate::held_view::HeldView;
-use http_desks::{Answer, Declared, Desk, Off};
+use http_desks::{Answer, Declared, Desk, Off, Page};
 use mirror_ledger::Till;
 use publisher::View;
 use std::sync::Wait;
@@ -13,7 +13,7 @@ use std::sync::Wait;
 /// It replies to the messages to `/service/update2/json`: 200 and the reply to a request, by the one edition that its
 /// view enters for it; 400 and no body if the body is none, and then enters no edition and asks for nothing. It is off
 /// if memory runs out, and what was granted before stays so; and if its view enters nothing, as after the press has
-/// ended. A package is looked up in the edition that its view enters, and isn't found if there is none.
+/// ended. A package is looked up in the edition that its view enters, and isn't found if there is none. It shows no page.
 #[derive(Drop)]
 pub struct Worker<'a, R: Wait + AllocGlobal, T: Till> {
     /// What waits for locks and has the memory of replies.
@@ -87,5 +87,9 @@ impl<R: Wait + AllocGlobal, T: Till> Desk for Worker<'_, R, T> {
 
     fn package(&mut self, name: &[u8]) -> Option<Declared> {
         self.view.find(name)
+    }
+
+    fn page(&mut self, _at: &[u8]) -> Result<Option<Page>, Off> {
+        Ok(None)
     }
 }

@@ -1,7 +1,7 @@
 use Rattle.std.proofs.Common.{◌≡◌, false, refl, rules, sym, subst}
 use Rattle.http_desks.specs.Begins.{Begins}
-use Rattle.http_desks.specs.Uses.{AtDesk, Barred, Elsewhere, IsUse, Misused, Nowhere, Use, is_asked, route_of}
-use Rattle.http_desks.proofs.ReplyLemmas.{done_begins}
+use Rattle.http_desks.specs.Uses.{AtDesk, Barred, Elsewhere, IsUse, Misused, Use, is_asked, route_of}
+use Rattle.http_desks.proofs.ReplyLemmas.{done_begins, paged_begins}
 use Rattle.http_desks.proofs.answering.begin.Goals.{in-BrowserPost, in_default}
 use Rattle.http_desks.proofs.answering.begin.Goals as goal
 
@@ -31,14 +31,13 @@ returns-then-eq-clause-begins g c =
 
 pub returns-in-None-clause-begins : goal.returns-in-None-clause-begins
 returns-in-None-clause-begins g c =
-    let elsewhere : route_of (g.D.Desk.path c.args.desk.now) c.args.request.now.target.now ≡ Elsewhere = search rules in
+    let elsewhere : route_of (g.D.Desk.path c.args.desk.now) c.args.request.now.target.now ≡ Elsewhere c.path_of-path.result.now = search rules in
     subst (Begins (IsUse (g.D.Desk.path c.args.desk.now) (g.Z.Clock.tells c.args.site.now) (g.Z.Packages.sizes c.args.site.now) (g.Z.Packages.reads c.args.site.now)
     c.args.request.now.method c.args.request.now.target.now) g.D.Desk.steps (g.D.Desk.content_type c.args.desk.now) c.args.request.now.body.now
-    c.args.request.now.closes c.args.desk.now c.args.desk.now _ _) (sym c.done-in-None.ensures)
+    c.args.request.now.closes c.args.desk.now c.show.new.desk _ _) (sym c.done-in-None.ensures)
     (done_begins g.D.Desk.steps (g.D.Desk.content_type c.args.desk.now) c.args.request.now.body.now
-    c.args.request.now.closes c.args.desk.now c.args.desk.now _ _ _ c.deny-in-None.result (record {
-      used = Nowhere;
-      fits = (elsewhere, tt);
-      calls = refl;
-      writes = c.deny-in-None.ensures.sends;
-    }))
+    c.args.request.now.closes c.args.desk.now c.show.new.desk _ _ _ c.show.result
+    (paged_begins g.D.Desk.steps (g.D.Desk.content_type c.args.desk.now) c.args.request.now.body.now
+    c.args.request.now.closes c.args.desk.now c.show.new.desk (g.D.Desk.path c.args.desk.now)
+    (g.Z.Clock.tells c.args.site.now) (g.Z.Packages.sizes c.args.site.now) (g.Z.Packages.reads c.args.site.now)
+    c.args.request.now.method c.args.request.now.target.now _ _ _ _ elsewhere c.show.ensures.shown))

@@ -13,7 +13,7 @@ returns-in-Ok-clause-fits c = framing_of-bound _ _ c.in-Ok.size (sym c.in-Ok.ens
 pub returns-in-Ok-clause-plan : goal.returns-in-Ok-clause-plan
 returns-in-Ok-clause-plan c = λ head at. (
   plan_few c.args.bytes.now c.of-method.result.now c.args.fields.now c.args.spans.now head at c.of-method.ensures (omega (arith, c.if-shown-gt-MAX_SHOWN.false)) ∙ sym c.in-Ok.ensures,
-  c.of.ensures ∙ ap (method_of c.of-method.result.now) c.is_from_browser.ensures
+  c.of.ensures ∙ (λ k. method_of c.of-method.result.now (c.is_from_browser.ensures k) (c.is_for_another.ensures k))
       ∙ plan_method c.args.bytes.now c.of-method.result.now c.args.fields.now c.args.spans.now head at c.of-method.ensures,
   c.wants_close.ensures ∙ plan_closes c.args.bytes.now c.args.fields.now c.args.spans.now head at,
 )
