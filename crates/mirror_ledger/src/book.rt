@@ -201,6 +201,18 @@ impl<P: BudgetName> Book<P> {
         Ok(())
     }
 
+    // rule: Granted so far
+    /// Returns the bytes that were granted so far, which are within the present budget, and changes nothing.
+    pub fn granted(&mut self, raiser: &mut Raiser<P>) -> u64
+        ensures total { result ≡ self.old.total }
+        ensures within { result ≤ raiser.old }
+        ensures raiser { raiser.new ≡ raiser.old }
+        ensures same { self.new ≡ self.old }
+    {
+        self.raised.audit(&mut raiser.mark);
+        self.total
+    }
+
     /// Returns the total, which is the amount of all parts of the ledger and within the present budget.
     pub(crate) fn gather(&mut self, all: &mut ledger::Share<P>, raiser: &mut Raiser<P>) -> u64
         requires { all.old.parts ≡ P.parts }

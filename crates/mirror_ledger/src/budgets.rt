@@ -1,8 +1,8 @@
 //! The budgets of mirrors, as they are and raised.
 
-ghost use Rattle.std.specs.Prelude.{◌≡◌, Bool, IfOk, List, true};
+ghost use Rattle.std.specs.Prelude.{◌≡◌, ◌≤◌, Bool, IfOk, List, true};
 ghost use Rattle.records.specs.declared.mirror.Mirror.{Mirror};
-ghost use Rattle.mirror_ledger.specs.Named.{are_rising};
+ghost use Rattle.mirror_ledger.specs.Named.{are_rising, budget_at};
 ghost use Rattle.mirror_ledger.specs.Raising.{RaisesTo, index_of};
 
 use crate::book::{BudgetName, Lower};
@@ -15,7 +15,7 @@ use std::sync::Wait;
 
 const MAX_BUDGET: u64 = 1 << 60;
 
-/// What reports the mirrors with their present budgets, and alone raises these.
+/// What reports the mirrors with their present budgets and with what they granted, and alone raises budgets.
 pub trait Budgets {
     // The mirrors with their present budgets.
     ghost present: { Self → List Mirror };
@@ -30,6 +30,15 @@ pub trait Budgets {
     fn raise<R: Wait>(&mut self, rt: &R, name: &str, budget: u64) -> Result<(), RaiseError>
         requires { rises self.old ≡ true }
         ensures raises { RaisesTo (present self.old) (present self.new) name.now budget result }
+        ensures rises { rises self.new ≡ rises self.old };
+
+    /// Returns how many bytes the mirror at an index granted so far, which are within its present budget; 0 if there is
+    /// none.
+    ///
+    /// Others may be granted meanwhile. It takes no memory, and may wait for a lock.
+    fn granted<R: Wait>(&mut self, rt: &R, index: usize) -> u64
+        ensures within { result ≤ budget_at (present self.old) index }
+        ensures present { present self.new ≡ present self.old }
         ensures rises { rises self.new ≡ rises self.old };
 
     /// Copies the mirrors, each with its present budget.
@@ -57,6 +66,7 @@ fn index_of(mirrors: &[Mirror], name: &str) -> Option<usize>
 
 // rule: Raise by a name
 // rule: Present budgets
+// rule: Granted so far
 impl<A: BudgetName, B: BudgetName, C: BudgetName, D: BudgetName> Budgets
     for Treasurer<'_, A, B, C, D> {
     ghost present = { λ treasurer. treasurer.raisers };
@@ -74,6 +84,10 @@ impl<A: BudgetName, B: BudgetName, C: BudgetName, D: BudgetName> Budgets
             Ok(()) => Ok(()),
             Err(Lower { now }) => Err(RaiseError::Lower(now)),
         }
+    }
+
+    fn granted<R: Wait>(&mut self, rt: &R, index: usize) -> u64 {
+        self.raisers.granted_at(rt, self.books, index)
     }
 
     fn mirrors(&self, alloc: Global) -> Result<Vec<Mirror>, AllocError> {

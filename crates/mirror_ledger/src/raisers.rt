@@ -83,7 +83,44 @@ fn raise_one<P: BudgetName, R: Wait>(
     Ok(())
 }
 
+// What one book granted so far, within the present budget.
+fn granted_by<P: BudgetName, R: Wait>(rt: &R, book: &Mutex<Book<P>>, raiser: &mut Raiser<P>) -> u64
+    ensures within { result ≤ raiser.old }
+    ensures raiser { raiser.new ≡ raiser.old }
+{
+    book.lock(rt).granted(raiser)
+}
+
 impl<A: BudgetName, B: BudgetName, C: BudgetName, D: BudgetName> Raisers<A, B, C, D> {
+    // rule: Granted so far
+    /// Returns how many bytes the mirror at an index granted so far, within its present budget; 0 if there is none.
+    ///
+    /// It takes no memory, and may wait for a lock.
+    pub(crate) fn granted_at<R: Wait>(
+        &mut self,
+        rt: &R,
+        books: &Books<A, B, C, D>,
+        index: usize,
+    ) -> u64
+        ensures within { result ≤ budget_at self.old index }
+        ensures same { self.new ≡ self.old }
+    {
+        let Raisers {
+            first,
+            second,
+            third,
+            fourth,
+            ..
+        } = self;
+        match index {
+            0 => granted_by(rt, &books.first, first),
+            1 => granted_by(rt, &books.second, second),
+            2 => granted_by(rt, &books.third, third),
+            3 => granted_by(rt, &books.fourth, fourth),
+            _ => 0,
+        }
+    }
+
     /// Raises the budget of the mirror at an index, in its book and in the list.
     ///
     /// If it is above that, it returns `Lower` and changes nothing. It takes no memory, and may wait for a lock.
