@@ -43,7 +43,7 @@ fn downgrade_word(downgrade: bool) -> &'static str
 }
 
 /// The version of a release as it was added; empty if there is no such release.
-pub(crate) fn spelled_at(app: &App, release: usize) -> &str
+pub fn spelled_at(app: &App, release: usize) -> &str
     ensures { result.now ≡ spelled_at app.now release }
 {
     match app.releases.as_slice().get(release) {
@@ -53,7 +53,7 @@ pub(crate) fn spelled_at(app: &App, release: usize) -> &str
 }
 
 /// The name of a cohort; empty if there is no such cohort.
-pub(crate) fn cohort_name(app: &App, index: usize) -> &str
+pub fn cohort_name(app: &App, index: usize) -> &str
     ensures { result.now ≡ cohort_name app.now index }
 {
     match app.cohorts.as_slice().get(index) {

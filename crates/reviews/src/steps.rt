@@ -12,7 +12,8 @@ use records::lookup;
 use std::alloc::{AllocError, Global};
 use values::SharedItems;
 
-fn release_to(app: &App, payload: Payload) -> Option<usize>
+/// The index of the release that a payload leads to, `None` if it isn't there.
+pub fn release_to(app: &App, payload: Payload) -> Option<usize>
     requires { ascend is_release_below app.now.releases ≡ true }
     ensures { result ≡ release_to app.now payload }
 {

@@ -53,7 +53,7 @@ pub(crate) fn first_of(stuck: &[StuckRelease], limit: usize) -> &[StuckRelease]
 }
 
 /// Whether the clients are stuck.
-pub(crate) fn is_stuck(outcome: &Outcome) -> bool
+pub fn is_stuck(outcome: &Outcome) -> bool
     ensures { result ≡ is_stuck outcome.now }
 {
     matches!(outcome, Outcome::Stuck(_))

@@ -1,0 +1,4 @@
+pub mod Dot
+pub mod Labels
+pub mod Scenes
+pub mod Svg
