@@ -1,7 +1,7 @@
 //! Worked rows of tables of prices: made and checked by several threads, and kept by editions; and of plans of clients
-//! with pins; and reviews of small catalogues.
+//! with pins; reviews of small catalogues, and the pages of an operator.
 //!
-//! It has tests alone, so that `par_tables`, `reports`, `reviews`, `editions` and `replies` are proved once. Catalogues are made
+//! It has tests alone, so that `par_tables`, `reports`, `reviews`, `operator_pages`, `editions` and `replies` are proved once. Catalogues are made
 //! of scripts.
 
 #![tactic(auto)]
@@ -12,6 +12,8 @@ mod changed;
 mod kept;
 #[cfg(test)]
 mod out_of_memory_tests;
+#[cfg(test)]
+mod pages;
 #[cfg(test)]
 mod parallel;
 #[cfg(test)]

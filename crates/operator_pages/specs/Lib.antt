@@ -1,0 +1,13 @@
+pub mod Counts
+pub mod Families
+pub mod Health
+pub mod Html
+pub mod Labels
+pub mod MetricNames
+pub mod Metrics
+pub mod Pages
+pub mod Paths
+pub mod Samples
+pub mod Sections
+pub mod Spending
+pub mod Tables

@@ -1,0 +1,66 @@
+-- The sections of the page; this project's profile.
+use Rattle.std.specs.Prelude.{ℕ, List, ◌++◌, codes, decimal, flat_map, length}
+use Rattle.markup.specs.Escaping.{escaped_string}
+use Rattle.records.specs.declared.content.App.{App}
+use Rattle.records.specs.declared.content.Cohort.{Cohort}
+use Rattle.records.specs.declared.content.Release.{Release}
+use Rattle.records.specs.declared.mirror.Mirror.{Mirror}
+use Rattle.operator_pages.specs.Counts.{count_of, word_of}
+use Rattle.operator_pages.specs.Html.{name_cell, number_cell}
+use Rattle.operator_pages.specs.Spending.{mirror_lines}
+use Rattle.operator_pages.specs.Tables.{cohort_rows, release_rows}
+use Rattle.operator_pages.specs.declared.counts.Counts.{Counts}
+use Rattle.operator_pages.specs.declared.counts.Outcome.{Outcome}
+use Rattle.operator_pages.specs.declared.counts.Outcome.TheVariants as outcome
+use Rattle.operator_pages.specs.declared.headings.TheConstants.{CALLS, COHORTS, MIRRORS, RELEASES, TABLE_END}
+use Rattle.operator_pages.specs.declared.spending.Place.TheVariants as place
+
+-- the mirrors, with the bytes that they granted, in their order
+unfoldable pub mirror_section : List Mirror → List ℕ → List ℕ
+mirror_section mirrors granted =
+    MIRRORS.now ++ (mirror_lines place.Row mirrors granted ++ (TABLE_END.now ++ codes "</section>\n"))
+
+-- the cohorts of an app, in their order
+unfoldable pub cohort_table : List Cohort → List ℕ
+cohort_table cohorts = COHORTS.now ++ (cohort_rows cohorts ++ TABLE_END.now)
+
+-- how many releases an app has
+unfoldable pub release_summary : ℕ → List ℕ
+release_summary count = codes "<details open>\n<summary>Releases: " ++ decimal count ++ codes "</summary>\n"
+
+-- the releases of an app, by ascending version
+unfoldable pub release_table : List Release → List ℕ
+release_table releases =
+    release_summary (length releases) ++ (RELEASES.now ++ (release_rows releases
+    ++ (TABLE_END.now ++ codes "</details>\n")))
+
+unfoldable pub app_heading : List ℕ → List ℕ
+app_heading id = codes "<section>\n<h2>" ++ (escaped_string id ++ codes "</h2>\n")
+
+unfoldable pub app_tables : App → List ℕ
+app_tables app = cohort_table app.cohorts ++ (release_table app.releases ++ codes "</section>\n")
+
+-- rule: Section of an app
+-- its identifier, its cohorts and its releases
+unfoldable pub app_section : App → List ℕ
+app_section app = app_heading app.id ++ app_tables app
+
+abbrev pub app_sections : List App → List ℕ
+app_sections apps = flat_map app_section apps
+
+-- how many calls came to something
+unfoldable pub call_row : Counts → Outcome → List ℕ
+call_row counts outcome =
+    codes "<tr>" ++ (name_cell (word_of outcome) ++ (number_cell (count_of counts outcome) ++ codes "</tr>\n"))
+
+unfoldable pub call_rows : Counts → List ℕ
+call_rows counts =
+    call_row counts outcome.Published
+    ++ (call_row counts outcome.Stale
+    ++ (call_row counts outcome.Rejected
+    ++ (call_row counts outcome.Malformed
+    ++ call_row counts outcome.Raised)))
+
+-- the operator's calls, by what they came to
+unfoldable pub calls_section : Counts → List ℕ
+calls_section counts = CALLS.now ++ (call_rows counts ++ (TABLE_END.now ++ codes "</section>\n"))

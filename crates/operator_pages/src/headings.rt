@@ -1,0 +1,53 @@
+//! How the page and its tables begin and end.
+
+/// The document up to its title.
+pub(crate) const HEAD: &str = "<!doctype html>
+<html lang=\"en\">
+<head>
+<meta charset=\"utf-8\">
+<meta http-equiv=\"Content-Security-Policy\" content=\"default-src 'none'; style-src 'unsafe-inline'\">
+<meta name=\"viewport\" content=\"width=device-width, initial-scale=1\">
+<meta name=\"color-scheme\" content=\"light dark\">
+";
+
+/// The section of the mirrors, up to their rows.
+pub(crate) const MIRRORS: &str = "<section>
+<h2>Mirrors</h2>
+<div class=\"wide\"><table class=\"mirrors\">
+<thead><tr><th scope=\"col\">Mirror</th><th scope=\"col\">Codebase</th><td></td><th scope=\"col\" class=\"number\">Granted</th><th scope=\"col\" class=\"number\">Budget</th></tr></thead>
+<tbody>
+";
+
+/// The table of an app's cohorts, up to their rows.
+pub(crate) const COHORTS: &str = "<div class=\"wide\"><table class=\"cohorts\">
+<thead><tr><th scope=\"col\">Cohort</th><th scope=\"col\">Target</th><th scope=\"col\">Share</th><th scope=\"col\">Held at</th><td></td></tr></thead>
+<tbody>
+";
+
+/// The table of an app's releases, up to their rows.
+pub(crate) const RELEASES: &str = "<div class=\"wide\"><table class=\"releases\">
+<thead><tr><th scope=\"col\">Version</th><th scope=\"col\">Package</th><th scope=\"col\" class=\"number\">Bytes</th><td></td></tr></thead>
+<tbody>
+";
+
+/// The section of the operator's calls, up to their rows.
+pub(crate) const CALLS: &str = "<section>
+<h2>Operator's calls since the start</h2>
+<div class=\"wide\"><table class=\"calls\">
+<tbody>
+";
+
+/// The end of a table.
+pub(crate) const TABLE_END: &str = "</tbody>
+</table></div>
+";
+
+/// The end of a row, and of its last cell.
+pub(crate) const ROW_END: &str = "</td></tr>
+";
+
+/// The end of the document.
+pub(crate) const END: &str = "</main>
+</body>
+</html>
+";

@@ -1,0 +1,45 @@
+//! The pages of the server's health and of its status.
+
+ghost use Rattle.std.specs.Prelude.{◌≡◌, ◌++◌, IfOk, OnOk, string_bytes};
+ghost use Rattle.operator_pages.specs.Health.{health_string, status_head, status_string};
+
+use crate::shown::Shown;
+use crate::spending::{Place, push_mirrors};
+use std::alloc::{AllocError, Global};
+use std::fmt::Write;
+
+// rule: Health of a server
+/// Writes the number of the published edition, as `edition 5`, and a line feed.
+///
+/// Out of memory is the only error.
+pub fn health_string(alloc: Global, edition: u64) -> Result<String, AllocError>
+    ensures { IfOk result (λ text. string_bytes text ≡ health_string edition) }
+{
+    format!(in alloc; "edition {edition}\n")
+}
+
+fn push_status_head(text: &mut String, edition: u64, started: u64) -> Result<(), AllocError>
+    ensures { OnOk result (string_bytes text.new ≡ string_bytes text.old ++ status_head edition started) }
+{
+    write!(text, "edition {edition}\nstarted {started}\n")
+}
+
+// rule: Status of a server
+/// Writes the number of the published edition, when the server started, and a line for each mirror, as
+/// `m0 1000 of 2000000`: the bytes that it granted so far, of its present budget.
+///
+/// Out of memory is the only error.
+pub fn status_string(alloc: Global, shown: &Shown<'_>) -> Result<String, AllocError>
+    ensures { IfOk result (λ text. string_bytes text ≡ status_string shown.now) }
+{
+    let mut text = String::new(alloc);
+    push_status_head(&mut text, shown.edition, shown.counts.started)?;
+    push_mirrors(
+        alloc,
+        &mut text,
+        Place::Status,
+        shown.mirrors,
+        shown.granted,
+    )?;
+    Ok(text)
+}

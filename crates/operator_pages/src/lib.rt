@@ -1,0 +1,34 @@
+//! The pages that an operator's address serves: its health, its metrics, and a page of the published edition for people.
+//!
+//! `page_at` finds the page of a path, and makes it of what is `Shown`: the apps of the published catalogue, the edition's
+//! number, the mirrors with their present budgets, and the `Counts` of the operator's own calls. `health_string`,
+//! `metrics_string` and `page_string` make the bodies. Read `specs/Paths.antt`, `specs/Metrics.antt` and
+//! `specs/Pages.antt`.
+//!
+//! It knows no connection, changes nothing, and reads no clock.
+
+#![tactic(auto)]
+
+mod counts;
+mod families;
+mod headings;
+mod health;
+mod html;
+mod labels;
+mod metric;
+mod metrics;
+mod page;
+mod paths;
+mod samples;
+mod sections;
+mod shown;
+mod spending;
+mod style;
+mod tables;
+
+pub use crate::counts::{Counts, Outcome};
+pub use crate::health::{health_string, status_string};
+pub use crate::metrics::metrics_string;
+pub use crate::page::page_string;
+pub use crate::paths::page_at;
+pub use crate::shown::Shown;

@@ -1,0 +1,80 @@
+//! The metrics: their names, their types and what they are.
+
+ghost use Rattle.std.specs.Prelude.{◌≡◌};
+ghost use Rattle.operator_pages.specs.MetricNames.{help_of, kind_of, name_of};
+
+/// A metric.
+#[derive(Clone, Copy)]
+pub(crate) enum Metric {
+    /// The version of the program.
+    Build,
+    /// When the server started.
+    Started,
+    /// The number of the published edition.
+    Edition,
+    /// The scripts, by what they came to.
+    Publishes,
+    /// The raises of budgets.
+    Raises,
+    /// The budgets of the mirrors.
+    Budget,
+    /// The bytes that the mirrors granted.
+    Granted,
+    /// How many apps there are.
+    Apps,
+    /// How many releases each app has.
+    Releases,
+    /// The share of each cohort.
+    Share,
+    /// Whether a client's hint may name a cohort.
+    Open,
+}
+
+// rule: Metric
+/// The name of a metric.
+pub(crate) fn name_of(metric: Metric) -> &'static str
+    ensures { result.now ≡ name_of metric }
+{
+    match metric {
+        Metric::Build => "omaha_build_info",
+        Metric::Started => "process_start_time_seconds",
+        Metric::Edition => "omaha_edition",
+        Metric::Publishes => "omaha_publishes_total",
+        Metric::Raises => "omaha_raises_total",
+        Metric::Budget => "omaha_mirror_budget_bytes",
+        Metric::Granted => "omaha_mirror_granted_bytes",
+        Metric::Apps => "omaha_apps",
+        Metric::Releases => "omaha_releases",
+        Metric::Share => "omaha_cohort_share",
+        Metric::Open => "omaha_cohort_open",
+    }
+}
+
+/// The type of a metric.
+pub(crate) fn kind_of(metric: Metric) -> &'static str
+    ensures { result.now ≡ kind_of metric }
+{
+    match metric {
+        Metric::Publishes | Metric::Raises => "counter",
+        _ => "gauge",
+    }
+}
+
+/// What a metric is.
+pub(crate) fn help_of(metric: Metric) -> &'static str
+    ensures { result.now ≡ help_of metric }
+{
+    match metric {
+        Metric::Build => "Version of the program.",
+        Metric::Started => "When the server started, in seconds since 1970.",
+        Metric::Edition => "Number of the published edition.",
+        Metric::Publishes => "Scripts that operators sent, by result.",
+        Metric::Raises => "Budgets that operators raised.",
+        Metric::Budget => "Present budget of a mirror.",
+        Metric::Granted => "Bytes that a mirror granted since the start.",
+        Metric::Apps => "Apps of the published catalogue.",
+        Metric::Releases => "Releases of an app.",
+        Metric::Share => "Clients of a cohort that have its target, of 1000.",
+        Metric::Open => "Whether a client may ask for the cohort.",
+    }
+}

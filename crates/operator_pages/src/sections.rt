@@ -1,0 +1,129 @@
+//! The sections of the page.
+
+ghost use Rattle.std.specs.Prelude.{◌≡◌, ◌++◌, OnOk, string_bytes};
+ghost use Rattle.operator_pages.specs.Sections.{app_heading, app_section, app_sections, app_tables, call_row, call_rows, calls_section, cohort_table, mirror_section, release_summary, release_table};
+
+use crate::counts::{Counts, Outcome, count_of, word_of};
+use crate::headings::{CALLS, COHORTS, MIRRORS, RELEASES, TABLE_END};
+use crate::html::{push_name_cell, push_number_cell};
+use crate::spending::{Place, push_mirrors};
+use crate::tables::{push_cohorts, push_releases};
+use markup::push_escaped;
+use records::{App, Cohort, Mirror, Release};
+use std::alloc::{AllocError, Global};
+use std::fmt::Write;
+
+/// Adds the section of the mirrors.
+#[tactic(auto, unfolding(crate::specs::Sections::mirror_section))]
+pub(crate) fn push_mirror_section(
+    alloc: Global,
+    text: &mut String,
+    mirrors: &[Mirror],
+    granted: &[u64],
+) -> Result<(), AllocError>
+    ensures { OnOk result (string_bytes text.new ≡ string_bytes text.old ++ mirror_section mirrors.now granted.now) }
+{
+    text.push_str(MIRRORS)?;
+    push_mirrors(alloc, text, Place::Row, mirrors, granted)?;
+    text.push_str(TABLE_END)?;
+    text.push_str("</section>\n")
+}
+
+#[tactic(auto, unfolding(crate::specs::Sections::cohort_table))]
+fn push_cohort_table(alloc: Global, text: &mut String, cohorts: &[Cohort]) -> Result<(), AllocError>
+    ensures { OnOk result (string_bytes text.new ≡ string_bytes text.old ++ cohort_table cohorts.now) }
+{
+    text.push_str(COHORTS)?;
+    push_cohorts(alloc, text, cohorts)?;
+    text.push_str(TABLE_END)
+}
+
+#[tactic(auto, unfolding(crate::specs::Sections::release_summary))]
+fn push_release_summary(text: &mut String, count: usize) -> Result<(), AllocError>
+    ensures { OnOk result (string_bytes text.new ≡ string_bytes text.old ++ release_summary count) }
+{
+    write!(
+        text,
+        "<details open>\n<summary>Releases: {count}</summary>\n"
+    )
+}
+
+#[tactic(auto, unfolding(crate::specs::Sections::release_table))]
+fn push_release_table(text: &mut String, releases: &[Release]) -> Result<(), AllocError>
+    ensures { OnOk result (string_bytes text.new ≡ string_bytes text.old ++ release_table releases.now) }
+{
+    push_release_summary(text, releases.len())?;
+    text.push_str(RELEASES)?;
+    push_releases(text, releases)?;
+    text.push_str(TABLE_END)?;
+    text.push_str("</details>\n")
+}
+
+#[tactic(auto, unfolding(crate::specs::Sections::app_heading))]
+fn push_app_heading(text: &mut String, id: &str) -> Result<(), AllocError>
+    ensures { OnOk result (string_bytes text.new ≡ string_bytes text.old ++ app_heading id.now) }
+{
+    text.push_str("<section>\n<h2>")?;
+    push_escaped(text, id)?;
+    text.push_str("</h2>\n")
+}
+
+#[tactic(auto, unfolding(crate::specs::Sections::app_tables))]
+fn push_app_tables(alloc: Global, text: &mut String, app: &App) -> Result<(), AllocError>
+    ensures { OnOk result (string_bytes text.new ≡ string_bytes text.old ++ app_tables app.now) }
+{
+    push_cohort_table(alloc, text, app.cohorts.as_slice())?;
+    push_release_table(text, app.releases.as_slice())?;
+    text.push_str("</section>\n")
+}
+
+// rule: Section of an app
+#[tactic(auto, unfolding(crate::specs::Sections::app_section))]
+fn push_app(alloc: Global, text: &mut String, app: &App) -> Result<(), AllocError>
+    ensures { OnOk result (string_bytes text.new ≡ string_bytes text.old ++ app_section app.now) }
+{
+    push_app_heading(text, app.id.as_str())?;
+    push_app_tables(alloc, text, app)
+}
+
+/// Adds the sections of the apps.
+pub(crate) fn push_apps(alloc: Global, text: &mut String, apps: &[App]) -> Result<(), AllocError>
+    ensures { OnOk result (string_bytes text.new ≡ string_bytes text.old ++ app_sections apps.now) }
+{
+    for app in apps {
+        push_app(alloc, text, app)?;
+    }
+    Ok(())
+}
+
+#[tactic(auto, unfolding(crate::specs::Sections::call_row))]
+fn push_call(text: &mut String, counts: &Counts, outcome: Outcome) -> Result<(), AllocError>
+    ensures { OnOk result (string_bytes text.new ≡ string_bytes text.old ++ call_row counts.now outcome) }
+{
+    text.push_str("<tr>")?;
+    push_name_cell(text, word_of(outcome))?;
+    push_number_cell(text, count_of(counts, outcome))?;
+    text.push_str("</tr>\n")
+}
+
+#[tactic(auto, unfolding(crate::specs::Sections::call_rows))]
+fn push_call_rows(text: &mut String, counts: &Counts) -> Result<(), AllocError>
+    ensures { OnOk result (string_bytes text.new ≡ string_bytes text.old ++ call_rows counts.now) }
+{
+    push_call(text, counts, Outcome::Published)?;
+    push_call(text, counts, Outcome::Stale)?;
+    push_call(text, counts, Outcome::Rejected)?;
+    push_call(text, counts, Outcome::Malformed)?;
+    push_call(text, counts, Outcome::Raised)
+}
+
+/// Adds the section of the operator's calls.
+#[tactic(auto, unfolding(crate::specs::Sections::calls_section))]
+pub(crate) fn push_calls(text: &mut String, counts: &Counts) -> Result<(), AllocError>
+    ensures { OnOk result (string_bytes text.new ≡ string_bytes text.old ++ calls_section counts.now) }
+{
+    text.push_str(CALLS)?;
+    push_call_rows(text, counts)?;
+    text.push_str(TABLE_END)?;
+    text.push_str("</section>\n")
+}
