@@ -20,6 +20,7 @@ profile_path (command.Once asked) = asked.profile
 profile_path (command.Report asked) = Some asked.profile
 profile_path (command.Compare asked) = Some asked.profile
 profile_path (command.Review asked) = profile_in asked.source
+profile_path (command.Graph asked) = Some asked.profile
 profile_path (command.Serve asked) = asked.profile
 profile_path other = None
 
@@ -44,6 +45,7 @@ abbrev pub server_of : Command → List ℕ
 server_of (command.Publish asked) = asked.to
 server_of (command.Raise asked) = asked.to
 server_of (command.Dump asked) = asked.to
+server_of (command.Status asked) = asked.to
 server_of other = []
 
 -- what a command does at an address

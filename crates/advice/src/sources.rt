@@ -35,6 +35,7 @@ pub(crate) fn profile_path(command: &Command) -> Option<&str>
         Command::Report(asked) => Some(asked.profile.as_str()),
         Command::Compare(asked) => Some(asked.profile.as_str()),
         Command::Review(asked) => profile_in(&asked.source),
+        Command::Graph(asked) => Some(asked.profile.as_str()),
         Command::Serve(asked) => string_of(&asked.profile),
         _ => None,
     }
@@ -76,6 +77,7 @@ pub(crate) fn server_of(command: &Command) -> &str
         Command::Publish(asked) => asked.to.as_str(),
         Command::Raise(asked) => asked.to.as_str(),
         Command::Dump(asked) => asked.to.as_str(),
+        Command::Status(asked) => asked.to.as_str(),
         _ => "",
     }
 }

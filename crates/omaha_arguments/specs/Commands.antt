@@ -6,8 +6,9 @@ use Rattle.clap.specs.Kinds.{or_else}
 use Rattle.clap.specs.Simple.{on_top}
 use Rattle.clap.specs.Words.{App, Kinds, Row, Text, fault_of, first_of, new_app, subcommand_of, with_rule, with_subcommand}
 use Rattle.clap.specs.declared.error.kind.ErrorKind.TheVariants.{ValueValidation}
+use Rattle.omaha_arguments.specs.GraphArguments.{graph_app, graph_in}
 use Rattle.omaha_arguments.specs.HistoryArguments.{asked_in, faults_of_history, history_app}
-use Rattle.omaha_arguments.specs.OperatorArguments.{dump_app, dump_in, faults_of_timeout, publication_in, publish_app, raise_app, raise_in}
+use Rattle.omaha_arguments.specs.OperatorArguments.{dump_app, faults_of_timeout, publication_in, publish_app, raise_app, raise_in, server_in, status_app}
 use Rattle.omaha_arguments.specs.Options.{flag_in, number_in, option_named, strings_in, with_verbose, workers_in}
 use Rattle.omaha_arguments.specs.ReportArguments.{certify_app, check_app, comparison_in, describe_app, explain_app, faults_of_check, faults_of_report, report_in, verify_app}
 use Rattle.omaha_arguments.specs.ReviewArguments.{faults_of_review, review_app, review_in}
@@ -49,12 +50,16 @@ omaha_app =
     (with_own
     (with_own
     (with_own
+    (with_own
+    (with_own
     (with_own (with_own (with_own plain_app serve_app) publish_app) script_app)
     raise_app)
     dump_app)
+    status_app)
     history_app)
     check_app)
     review_app)
+    graph_app)
     walk_app)
     describe_app)
     certify_app)
@@ -95,9 +100,10 @@ other_name_of name =
     if bytes_eq name (codes "once") then kind.Once
     else (if bytes_eq name (codes "check") then kind.Check
     else (if bytes_eq name (codes "review") then kind.Review
+    else (if bytes_eq name (codes "graph") then kind.Graph
     else (if bytes_eq name (codes "walk") then kind.Walk
     else (if bytes_eq name (codes "describe") then kind.Describe
-    else (if bytes_eq name (codes "explain") then kind.Explain else kind.Other)))))
+    else (if bytes_eq name (codes "explain") then kind.Explain else kind.Other))))))
 
 -- the command of a name
 unfoldable pub name_of : List ℕ → Name
@@ -107,7 +113,8 @@ name_of name =
     else (if bytes_eq name (codes "script") then kind.Script
     else (if bytes_eq name (codes "raise") then kind.Raise
     else (if bytes_eq name (codes "dump") then kind.Dump
-    else (if bytes_eq name (codes "history") then kind.History else other_name_of name)))))
+    else (if bytes_eq name (codes "status") then kind.Status
+    else (if bytes_eq name (codes "history") then kind.History else other_name_of name))))))
 
 -- what a command is asked to do; any other one is to report on a profile, by its name
 abbrev pub command_named : Name → List ℕ → List Row → Command
@@ -116,13 +123,15 @@ command_named kind.Serve name options = command.Serve (serve_in options)
 command_named kind.Publish name options = command.Publish (publication_in options)
 command_named kind.Script name options = command.Script (script_in options)
 command_named kind.Raise name options = command.Raise (raise_in options)
-command_named kind.Dump name options = command.Dump (dump_in options)
+command_named kind.Dump name options = command.Dump (server_in options)
+command_named kind.Status name options = command.Status (server_in options)
 command_named kind.History name options = command.History (asked_in options)
 command_named kind.Explain name options = command.Explain (first_of (codes "CODE") options)
 command_named kind.Walk name options = command.Walk (walk_in options)
 command_named kind.Describe name options = command.Describe (strings_in (codes "FILE") options)
 command_named kind.Check name options = check_in options
 command_named kind.Review name options = command.Review (review_in options)
+command_named kind.Graph name options = command.Graph (graph_in options)
 command_named kind.Other name options = command.Report (report_in name 1 options)
 
 -- what is wrong with the options of a command
@@ -133,12 +142,14 @@ faults_named kind.Publish name options = faults_of_timeout options
 faults_named kind.Script name options = faults_of_script options
 faults_named kind.Raise name options = faults_of_timeout options
 faults_named kind.Dump name options = faults_of_timeout options
+faults_named kind.Status name options = faults_of_timeout options
 faults_named kind.History name options = faults_of_history options
 faults_named kind.Explain name options = []
 faults_named kind.Walk name options = faults_of_walk options
 faults_named kind.Describe name options = []
 faults_named kind.Check name options = faults_of_check options
 faults_named kind.Review name options = faults_of_review options
+faults_named kind.Graph name options = []
 faults_named kind.Other name options = faults_of_report name options
 
 -- what the command of a name is asked to do

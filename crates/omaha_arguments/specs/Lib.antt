@@ -4,6 +4,7 @@ pub mod HistoryArguments
 pub mod OperatorArguments
 pub mod Options
 pub mod ReportArguments
+pub mod GraphArguments
 pub mod ReviewArguments
 pub mod ScriptArguments
 pub mod ServeArguments

@@ -1,15 +1,15 @@
--- The arguments of the operator's commands `publish`, `raise` and `dump`; this project's profile.
+-- The arguments of the operator's commands `publish`, `raise`, `dump` and `status`; this project's profile.
 use Rattle.std.specs.Prelude.{ℕ, List, [], ◌∷◌, Option, codes, unwrap_or}
 use Rattle.std.specs.Option.{option_map_or}
 use Rattle.clap.specs.Words.{App, Kinds, Row, first_of, new_app, with_rule}
 use Rattle.clap.specs.declared.error.kind.ErrorKind.TheVariants.{ValueValidation}
 use Rattle.omaha_arguments.specs.Options.{flag_in, flag_named, option_named, seconds_in, string_in, wanted, wanted_option}
-use Rattle.omaha_arguments.specs.declared.command.DumpAsked.{DumpAsked}
 use Rattle.omaha_arguments.specs.declared.command.Publication.{Publication}
 use Rattle.omaha_arguments.specs.declared.command.Raise.{Raise}
+use Rattle.omaha_arguments.specs.declared.command.ServerAsked.{ServerAsked}
 
--- the commands `publish --to ADDR [--check] [--packages DIR] F`, `raise --to ADDR NAME BUDGET` and `dump --to ADDR`, each
--- with `--timeout SECONDS`
+-- the commands `publish --to ADDR [--check] [--packages DIR] F`, `raise --to ADDR NAME BUDGET`, `dump --to ADDR` and
+-- `status --to ADDR`, each with `--timeout SECONDS`
 abbrev pub publish_app : App
 publish_app =
     with_rule
@@ -30,6 +30,10 @@ raise_app =
 
 abbrev pub dump_app : App
 dump_app = with_rule (with_rule (new_app (codes "dump")) (wanted_option (codes "to"))) (option_named (codes "timeout"))
+
+abbrev pub status_app : App
+status_app =
+    with_rule (with_rule (new_app (codes "status")) (wanted_option (codes "to"))) (option_named (codes "timeout"))
 
 -- rule: Time limit of an exchange
 -- how many seconds an exchange with the server may take, 30 without the option; none if it is no such number
@@ -72,9 +76,9 @@ raise_with timeout options =
 abbrev pub raise_in : List Row → Raise
 raise_in options = raise_with (seconds_of_timeout options) options
 
--- what the arguments of `dump` ask for, within a time: the operator's listener
-abbrev pub dump_with : ℕ → List Row → DumpAsked
-dump_with timeout options = record { to = string_in (codes "to") options; timeout = timeout }
+-- what the arguments of `dump` and of `status` ask for, within a time: the operator's listener
+abbrev pub asked_with : ℕ → List Row → ServerAsked
+asked_with timeout options = record { to = string_in (codes "to") options; timeout = timeout }
 
-abbrev pub dump_in : List Row → DumpAsked
-dump_in options = dump_with (seconds_of_timeout options) options
+abbrev pub server_in : List Row → ServerAsked
+server_in options = asked_with (seconds_of_timeout options) options

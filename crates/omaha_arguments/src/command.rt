@@ -23,6 +23,8 @@ pub enum Command {
     Compare(Comparison),
     /// To review a profile, or what a script changes of it.
     Review(Review),
+    /// To draw an app of a profile.
+    Graph(Graph),
     /// To describe the files of these paths.
     Describe(Items<Text>),
     /// To explain a code that the program prints, or to list them all.
@@ -38,7 +40,9 @@ pub enum Command {
     /// To raise a mirror's budget on a running server.
     Raise(Raise),
     /// To print the profile that a running server has published.
-    Dump(DumpAsked),
+    Dump(ServerAsked),
+    /// To print the edition of a running server, and what its mirrors granted.
+    Status(ServerAsked),
     /// To read a history, or to make it shorter.
     History(HistoryAsked),
 }
@@ -122,9 +126,9 @@ pub struct Publication {
     pub timeout: u64,
 }
 
-/// What the command `dump` is asked to do.
+/// What a command is asked to do that only asks a server: `dump` or `status`.
 #[derive(Drop)]
-pub struct DumpAsked {
+pub struct ServerAsked {
     /// The operator's listener, as `HOST:PORT`.
     pub to: Text,
     /// How many seconds the whole exchange may take: 1 to 86400.
@@ -195,6 +199,21 @@ pub struct Review {
     pub json: bool,
     /// Whether the command fails if a release is stuck or, with a script, newly stuck.
     pub strict: bool,
+}
+
+/// What the command `graph` is asked to do.
+#[derive(Drop)]
+pub struct Graph {
+    /// The path of the profile.
+    pub profile: Text,
+    /// The app's name.
+    pub app: Text,
+    /// The name of the one cohort that is drawn, or `None` for all of the app's.
+    pub cohort: Option<Text>,
+    /// The version of the one release whose chains are drawn, or `None` for those of all releases.
+    pub from: Option<Text>,
+    /// Whether the picture is a graph for Graphviz, and not an SVG image.
+    pub dot: bool,
 }
 
 /// What the command `walk` is asked to do. What isn't given is empty.

@@ -10,10 +10,12 @@ ghost use Rattle.omaha_arguments.specs.WalkArguments.{IsAskable};
 
 use crate::command::{Command, Invocation, Once};
 use crate::error::{ArgumentError, argument_error};
+use crate::graph_arguments::{graph_command, read_graph};
 use crate::history_arguments::{history_command, read_history};
 use crate::once_arguments::{once_command, read_once};
 use crate::operator_arguments::{
     dump_command, publish_command, raise_command, read_dump, read_publication, read_raise,
+    read_status, status_command,
 };
 use crate::options::{Making, flag_in, with_verbose};
 use crate::report_arguments::{
@@ -27,7 +29,8 @@ use crate::walk_arguments::{read_walk, walk_command};
 use clap::{ArgMatches, Error};
 use std::alloc::Global;
 
-const VERSION: &str = "0.2.0";
+/// The version of the program.
+pub const VERSION: &str = "0.2.0";
 
 const OMAHA: &str = "Replies to Omaha 3.1 update checks from a catalogue of releases.";
 
@@ -83,9 +86,11 @@ fn omaha_command<'a>(alloc: Global) -> Making<'a>
     let program = with_command(alloc, program, script_command(alloc));
     let program = with_command(alloc, program, raise_command(alloc));
     let program = with_command(alloc, program, dump_command(alloc));
+    let program = with_command(alloc, program, status_command(alloc));
     let program = with_command(alloc, program, history_command(alloc));
     let program = with_command(alloc, program, check_command(alloc));
     let program = with_command(alloc, program, review_command(alloc));
+    let program = with_command(alloc, program, graph_command(alloc));
     let program = with_command(alloc, program, walk_command(alloc));
     let program = with_command(alloc, program, describe_command(alloc));
     let program = with_command(alloc, program, certify_command(alloc));
@@ -116,12 +121,14 @@ enum Name {
     Script,
     Raise,
     Dump,
+    Status,
     History,
     Explain,
     Walk,
     Describe,
     Check,
     Review,
+    Graph,
     Other,
 }
 
@@ -138,6 +145,9 @@ fn other_name_of(name: &str) -> Name
     }
     if name == "review" {
         return Name::Review;
+    }
+    if name == "graph" {
+        return Name::Graph;
     }
     if name == "walk" {
         return Name::Walk;
@@ -170,6 +180,9 @@ fn name_of(name: &str) -> Name
     if name == "dump" {
         return Name::Dump;
     }
+    if name == "status" {
+        return Name::Status;
+    }
     if name == "history" {
         return Name::History;
     }
@@ -189,12 +202,14 @@ fn read_command(alloc: Global, name: &str, matches: &ArgMatches<'_>) -> Result<C
         Name::Script => read_script(alloc, matches),
         Name::Raise => read_raise(alloc, matches),
         Name::Dump => read_dump(alloc, matches),
+        Name::Status => read_status(alloc, matches),
         Name::History => read_history(alloc, matches),
         Name::Explain => read_code(alloc, matches),
         Name::Walk => read_walk(alloc, matches),
         Name::Describe => read_paths(alloc, matches),
         Name::Check => read_check(alloc, matches),
         Name::Review => read_review(alloc, matches),
+        Name::Graph => read_graph(alloc, matches),
         Name::Other => read_report(alloc, name, 1, matches),
     }
 }

@@ -3,8 +3,8 @@
 //! `read_arguments` reads them with `clap` and gives an `Invocation`, or why there is none: the help or the
 //! version was asked for, or they are invalid. What they mean is said by `specs/Commands.antt` and, for the
 //! commands that report on a profile, `specs/ReportArguments.antt`; for `serve`, `specs/ServeArguments.antt`; for
-//! `publish`, `raise` and `dump`, `specs/OperatorArguments.antt`; for `script`, `specs/ScriptArguments.antt`; for
-//! `history`, `specs/HistoryArguments.antt`; for `review`, `specs/ReviewArguments.antt`; for `walk`,
+//! `publish`, `raise`, `dump` and `status`, `specs/OperatorArguments.antt`; for `script`, `specs/ScriptArguments.antt`; for
+//! `history`, `specs/HistoryArguments.antt`; for `review`, `specs/ReviewArguments.antt`; for `graph`, `specs/GraphArguments.antt`; for `walk`,
 //! `specs/WalkArguments.antt`. How they are rejected is said by `specs/Errors.antt`.
 //!
 //! It opens no file and carries nothing out.
@@ -14,6 +14,7 @@
 mod command;
 mod command_line;
 mod error;
+mod graph_arguments;
 mod history_arguments;
 mod once_arguments;
 mod operator_arguments;
@@ -26,9 +27,9 @@ mod serve_arguments;
 mod walk_arguments;
 
 pub use crate::command::{
-    Base, Command, Comparison, DumpAsked, HistoryAction, HistoryAsked, Invocation, Once,
-    Publication, Question, Raise, Report, Review, Script, Serve, Source, Walk,
+    Base, Command, Comparison, Graph, HistoryAction, HistoryAsked, Invocation, Once, Publication,
+    Question, Raise, Report, Review, Script, Serve, ServerAsked, Source, Walk,
 };
-pub use crate::command_line::read_arguments;
+pub use crate::command_line::{VERSION, read_arguments};
 pub use crate::error::ArgumentError;
 pub use crate::options::number_of;

@@ -1,12 +1,12 @@
-// The arguments of the operator's commands `publish`, `raise` and `dump`, as `clap` reads them.
+// The arguments of the operator's commands `publish`, `raise`, `dump` and `status`, as `clap` reads them.
 
 ghost use Rattle.std.specs.Prelude.{◌≡◌, ◌∷◌, [], IfOk};
 ghost use Rattle.clap.specs.Words.{FailsBy, HasKind, found_of, rows_of};
 ghost use Rattle.omaha_arguments.specs.Options.{IsMade};
-ghost use Rattle.omaha_arguments.specs.OperatorArguments.{dump_app, dump_in, dump_with, faults_of_timeout, publication_in, publication_with, publish_app, raise_app, raise_in, raise_with, timeout_in};
+ghost use Rattle.omaha_arguments.specs.OperatorArguments.{asked_with, dump_app, server_in, faults_of_timeout, publication_in, publication_with, publish_app, raise_app, raise_in, raise_with, status_app, timeout_in};
 ghost use Rattle.omaha_arguments.specs.WalkArguments.{IsAskable};
 
-use crate::command::{Command, DumpAsked, Publication, Raise};
+use crate::command::{Command, Publication, Raise, ServerAsked};
 use crate::options::{
     Entry, Making, flag_in, optional_string, seconds_in, string_in, titled, with_entries,
 };
@@ -25,10 +25,9 @@ pub(crate) const INVALID_TIMEOUT: &str = "--timeout is a number of seconds from 
 
 const SCRIPT: &str = "The script: a TOML file of at most 262144 bytes, or - for standard input";
 
-const CHECK: &str = "Check the script against what the server has published, and publish nothing";
+const CHECK: &str = "Check the script against the server's edition, and publish nothing";
 
-const PACKAGES: &str =
-    "The folder that must have the packages that the script adds [default: none]";
+const PACKAGES: &str = "The folder that must have the added packages [default: none]";
 
 const PUBLISH: &str = "Publishes a script to a running server.";
 
@@ -97,7 +96,8 @@ budget again. To leave it only the rest, stop the server, change `budget` in the
                                without leading zeros
   nothing                      out of memory, or the server can't keep the raise: see its
                                standard error
-`omaha explain B3` explains a code. Without --history put the budget into the profile, too.
+`omaha explain B3` explains a code, and `omaha status` prints what each mirror granted. Without
+--history put the budget into the profile, too.
 
 If the command fails, it prints one line on standard error.
   omaha: net ADDR   the server can't be reached at ADDR in time, or its reply isn't whole
@@ -131,6 +131,26 @@ Exit status: 0 if the profile was printed, 1 if the command failed, 2 if the arg
 Example, against `omaha serve` with `--operator 127.0.0.1:8081`:
   omaha dump --to 127.0.0.1:8081 > catalogue.toml";
 
+const STATUS: &str = "Prints a running server's edition, and what its mirrors granted.";
+
+const AFTER_STATUS: &str = "Prints the server's reply:
+  edition 5               the number of the published edition
+  started 1764340000      when the server started, in seconds since 1 January 1970 UTC
+  eu 1000 of 2000000      the mirror `eu` granted 1000 bytes, of a budget of 2000000 bytes
+What is granted counts from the server's start. A mirror that grants no more rejects clients, or the
+next one is asked: raise its budget with `omaha raise`.
+
+If the command fails, it prints one line on standard error.
+  omaha: net ADDR   the server can't be reached at ADDR in time, or its reply isn't whole
+  omaha: write      standard output failed
+  omaha: memory     out of memory
+
+Exit status: 0 if the status was printed, 1 if the server gave another reply or the command failed,
+2 if the arguments are invalid.
+
+Example, against `omaha serve` with `--operator 127.0.0.1:8081`:
+  omaha status --to 127.0.0.1:8081";
+
 pub(crate) fn publish_command<'a>(alloc: Global) -> Making<'a>
     ensures { IsMade publish_app result }
 {
@@ -162,6 +182,17 @@ pub(crate) fn dump_command<'a>(alloc: Global) -> Making<'a>
     ensures { IsMade dump_app result }
 {
     let command = titled(alloc, "dump", DUMP, AFTER_DUMP);
+    let entries = [
+        Entry::WantedOption("to", "ADDR", TO),
+        Entry::PlainOption("timeout", "SECONDS", TIMEOUT),
+    ];
+    with_entries(alloc, command, &entries)
+}
+
+pub(crate) fn status_command<'a>(alloc: Global) -> Making<'a>
+    ensures { IsMade status_app result }
+{
+    let command = titled(alloc, "status", STATUS, AFTER_STATUS);
     let entries = [
         Entry::WantedOption("to", "ADDR", TO),
         Entry::PlainOption("timeout", "SECONDS", TIMEOUT),
@@ -255,24 +286,43 @@ pub(crate) fn read_raise(alloc: Global, matches: &ArgMatches<'_>) -> Result<Comm
     }
 }
 
-fn dump_with(alloc: Global, timeout: u64, matches: &ArgMatches<'_>) -> Result<DumpAsked, AllocError>
-    ensures { IfOk result (λ asked. asked ≡ dump_with timeout (rows_of (found_of matches.now))) }
+fn asked_with(
+    alloc: Global,
+    timeout: u64,
+    matches: &ArgMatches<'_>,
+) -> Result<ServerAsked, AllocError>
+    ensures { IfOk result (λ asked. asked ≡ asked_with timeout (rows_of (found_of matches.now))) }
 {
     let to = Text::copy_of(alloc, string_in(matches, "to"))?;
-    Ok(DumpAsked { to, timeout })
+    Ok(ServerAsked { to, timeout })
 }
 
 /// Reads the arguments of `dump`.
 pub(crate) fn read_dump(alloc: Global, matches: &ArgMatches<'_>) -> Result<Command, Error>
     ensures faults { FailsBy (faults_of_timeout (rows_of (found_of matches.now))) result }
-    ensures command { IfOk result (λ command. command ≡ Command.Dump (dump_in (rows_of (found_of matches.now)))) }
+    ensures command { IfOk result (λ command. command ≡ Command.Dump (server_in (rows_of (found_of matches.now)))) }
     ensures named { IfOk result IsAskable }
 {
     let Some(timeout) = timeout_in(matches) else {
         return Err(invalid_timeout(alloc, dump_command(alloc), "omaha dump"));
     };
-    match dump_with(alloc, timeout, matches) {
+    match asked_with(alloc, timeout, matches) {
         Ok(asked) => Ok(Command::Dump(asked)),
+        Err(error) => Err(out_of_memory(error)),
+    }
+}
+
+/// Reads the arguments of `status`.
+pub(crate) fn read_status(alloc: Global, matches: &ArgMatches<'_>) -> Result<Command, Error>
+    ensures faults { FailsBy (faults_of_timeout (rows_of (found_of matches.now))) result }
+    ensures command { IfOk result (λ command. command ≡ Command.Status (server_in (rows_of (found_of matches.now)))) }
+    ensures named { IfOk result IsAskable }
+{
+    let Some(timeout) = timeout_in(matches) else {
+        return Err(invalid_timeout(alloc, status_command(alloc), "omaha status"));
+    };
+    match asked_with(alloc, timeout, matches) {
+        Ok(asked) => Ok(Command::Status(asked)),
         Err(error) => Err(out_of_memory(error)),
     }
 }

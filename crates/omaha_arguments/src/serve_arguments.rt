@@ -75,6 +75,10 @@ must be 127.x.x.x:PORT, [::1]:PORT, or unix:PATH, a socket that the server's use
 use, unless --operator-anywhere is given. After the last session it prints one line for each
 mirror: its name, and how many bytes it was granted.
 
+By `GET` the operator's address shows /healthz, /status, /metrics for Prometheus, and a page, /.
+With --verbose standard error says what is served, where, and each edition, raise and failed
+download.
+
 With --history each script and each raise is kept in that file before it takes effect and is
 replied to, so a server that is started again has the edition, the catalogue and the budgets of all
 that it replied to. A new file begins with the profile. Without --profile the file is enough; with

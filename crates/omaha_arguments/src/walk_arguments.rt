@@ -28,7 +28,7 @@ const COHORT: &str = "The cohort that the server sent last [default: none]";
 
 const SESSION: &str = "The session's identifier [default: none]";
 
-const PREFIX: &str = "The allowed versions: '4' for 4 and 4.1, '4.0$' for 4.0 alone [default: any]";
+const PREFIX: &str = "Allowed versions: '4' for 4 and 4.1, '4.0$' for 4.0 alone [default: any]";
 
 const ROLLBACK: &str = "Whether a downgrade is allowed";
 

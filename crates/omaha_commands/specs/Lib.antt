@@ -4,6 +4,7 @@ pub mod Comparing
 pub mod Describing
 pub mod Explaining
 pub mod Failures
+pub mod Graphing
 pub mod HistoryFaults
 pub mod Judging
 pub mod Keeping

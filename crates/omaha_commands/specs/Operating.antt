@@ -50,9 +50,9 @@ PrintsBytes bytes before after (Ok done) = Appends before.bytes after.bytes byte
 PrintsBytes bytes before after (Err failure.Write) = Breaks before after bytes
 PrintsBytes bytes before after (Err other) = ⊥
 
--- a reply's body is printed, as a terminal gets it if it is one; or memory ran out before
+-- a reply's body is printed, as a terminal gets it if it is one; or memory ran out before, which only a terminal's takes
 abbrev pub PrintsBody : Bool → List ℕ → Known → Known → Result (Unit {0}) Failure → Type 0
-PrintsBody shown body before after (Err failure.Memory) = after ≡ before
+PrintsBody shown body before after (Err failure.Memory) = (shown ≡ true) × (after ≡ before)
 PrintsBody shown body before after result = PrintsBytes (printed_reply shown body) before after result
 
 -- the reply is printed, and the call succeeds exactly if its status is 200; or the writer failed within it, or memory ran
@@ -109,3 +109,8 @@ Raises listeners shown raise before after result =
 -- the word `dump` is sent
 abbrev pub Dumps : Listeners → Bool → List ℕ → Known → Known → Result (Unit {0}) Failure → Type 0
 Dumps listeners shown to before after result = Calls listeners shown max_dump to (codes "dump") before after result
+
+-- the word `status` is sent
+abbrev pub PrintsStatus : Listeners → Bool → List ℕ → Known → Known → Result (Unit {0}) Failure → Type 0
+PrintsStatus listeners shown to before after result =
+    Calls listeners shown max_line to (codes "status") before after result

@@ -1,8 +1,6 @@
 -- What `review` finds and prints; this project's profile.
 use Rattle.std.specs.Prelude.{◌≡◌, ◌≢◌, ◌⊎◌, ⊤, ℕ, ◌-◌, ◌^◌, ◌==◌, ◌&&◌, Bool, true, false, bytes_eq, if◌then◌else◌, codes, decimal, List, ◌++◌, nat_lt, length, Option, Some, None, Result, Ok, Err}
 use Rattle.std.specs.Option.{option_map}
-use Rattle.std.specs.Io.KnownBytes.{Appends}
-use Rattle.streams.specs.Writing.{Breaks}
 use Rattle.records.specs.declared.content.App.{App}
 use Rattle.catalogue.specs.declared.edit.Edit.{Edit}
 use Rattle.catalogue_laws.specs.Histories.{History}
@@ -22,7 +20,7 @@ use Rattle.omaha_arguments.specs.declared.command.Review.{Review}
 use Rattle.omaha_arguments.specs.declared.command.Source.{Source}
 use Rattle.omaha_arguments.specs.declared.command.Source.TheVariants.{Profile, Server}
 use Rattle.update_client.specs.declared.posting.Reply.{Reply}
-use Rattle.omaha_commands.specs.Operating.{Listeners}
+use Rattle.omaha_commands.specs.Operating.{Listeners, PrintsBody}
 use Rattle.omaha_commands.specs.Profiles.{Files, IsMade, IsServed, service_of_bytes}
 use Rattle.omaha_commands.specs.ScriptFiles.{IsScriptRead, Script}
 use Rattle.omaha_commands.specs.Streams.{Streams}
@@ -200,17 +198,26 @@ end_by asked found (Declined status) = Err (failure.Declined (record { status = 
 abbrev pub end_of : Review → Findings → Result (Unit {0}) Failure
 end_of asked found = end_by asked found found.verdict
 
--- what was found is printed, and the command ends by it; or the writer failed within it; or nothing is printed
-abbrev pub PrintsReview : Review → Result Findings Failure → Streams → Streams → Result (Unit {0}) Failure → Type 0
-PrintsReview asked (Ok findings) old new result =
-    (((result ≡ end_of asked findings) × Appends old.output.bytes new.output.bytes findings.text.items)
-    ⊎ ((result ≡ Err failure.Write) × Breaks old.output new.output findings.text.items))
+-- a terminal gets what was found as it is, and a server's reply without control characters
+abbrev pub is_masked : Bool → Verdict → Bool
+is_masked shown (StuckReleases stuck) = false
+is_masked shown (Declined status) = shown
+
+-- what was found is printed, and the command ends by it; or it isn't printed whole; or nothing was found, and nothing is
+-- printed
+abbrev pub PrintsReview : Bool → Review → Result Findings Failure → Streams → Streams → Result (Unit {0}) Failure → Type 0
+PrintsReview shown asked (Ok findings) old new result =
+    (((result ≡ end_of asked findings)
+    × PrintsBody (is_masked shown findings.verdict) findings.text.items old.output new.output (Ok tt))
+    ⊎ ((refusal : Failure) × (result ≡ Err refusal)
+    × PrintsBody (is_masked shown findings.verdict) findings.text.items old.output new.output (Err refusal)))
     × (new.input ≡ old.input)
-PrintsReview asked (Err refusal) old new result = (result ≡ Err refusal) × (new ≡ old)
+PrintsReview shown asked (Err refusal) old new result = (result ≡ Err refusal) × (new ≡ old)
 
 -- rule: Report of a review
--- a review is found, and printed
-pub record Reviews (files : Files) (listeners : Listeners) (asked : Review) (old new : Streams) (result : Result (Unit {0}) Failure) : Type 0 where
+-- a review is found, and printed; a terminal gets it without a server's control characters, if it is shown on one
+pub record Reviews (files : Files) (listeners : Listeners) (shown : Bool) (asked : Review) (old new : Streams)
+    (result : Result (Unit {0}) Failure) : Type 0 where
   pub found : Result Findings Failure
   pub is : FindsReview files listeners asked found
-  pub printed : PrintsReview asked found old new result
+  pub printed : PrintsReview shown asked found old new result

@@ -1,12 +1,13 @@
 //! The commands of `omaha` that serve nothing.
 //!
 //! `read_service` and `open_service` make a service of a profile: read `specs/Profiles.antt`. `report_on` does `check`,
-//! `certify` and `verify`: read `specs/Reports.antt`; `review_on` is `review`: read `specs/Reviewing.antt`;
+//! `certify` and `verify`: read `specs/Reports.antt`; `review_on` is `review`: read `specs/Reviewing.antt`; `graph_on` is `graph`: read
+//! `specs/Graphing.antt`;
 //! `compare_on` is `check` with a folder of packages, and `describe_files` describes files, by `package_files`: read
 //! `specs/Comparing.antt` and `specs/Describing.antt`. `print_script` is `script`: read `specs/Scripting.antt`. A script is
 //! applied to an edition as `specs/Applying.antt` says.
 //! `explain_code` prints what `explanations` says of a code. `walk_on` is walked by `update_client`: read
-//! `specs/Walking.antt`; `publish_on`, `raise_on` and `dump_on` post by it: read `specs/Operating.antt`, for a script
+//! `specs/Walking.antt`; `publish_on`, `raise_on`, `dump_on` and `status_on` post by it: read `specs/Operating.antt`, for a script
 //! that is only checked `specs/Judging.antt`, and for its packages `specs/Stocking.antt`. `print` writes what a command found. A `Failure` is why a command fails, and a `HistoryFault` what is wrong with a history.
 //!
 //! It reads no arguments, and exits with no status.
@@ -20,6 +21,7 @@ mod describing;
 mod explaining;
 mod failure;
 mod fetching;
+mod graphing;
 mod history_fault;
 mod judging;
 mod keeping;
@@ -38,8 +40,9 @@ pub use crate::comparing::compare_on;
 pub use crate::describing::describe_files;
 pub use crate::explaining::explain_code;
 pub use crate::failure::Failure;
+pub use crate::graphing::graph_on;
 pub use crate::history_fault::HistoryFault;
-pub use crate::operating::{Manner, dump_on, publish_on, raise_on};
+pub use crate::operating::{Manner, dump_on, publish_on, raise_on, status_on};
 pub use crate::printing::print;
 pub use crate::profile::{open_service, read_named, read_service, service_in};
 pub use crate::reporting::report_on;

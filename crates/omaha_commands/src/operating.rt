@@ -1,9 +1,9 @@
-// The commands of an operator: `publish`, `raise` and `dump`.
+// The commands of an operator: `publish`, `raise`, `dump` and `status`.
 
 ghost use Rattle.std.specs.Prelude.{◌≡◌, IfErr, IfOk, Ok, Err, false};
 ghost use Rattle.omaha_commands.specs.Asking.{IsNoted, Notes};
 ghost use Rattle.omaha_commands.specs.Judging.{Publishes};
-ghost use Rattle.omaha_commands.specs.Operating.{Calls, Dumps, IsRead, IsScript, IsTooLong, PostsBytes, PrintsBody, PrintsBytes, PrintsReply, Raises, is_input, max_line};
+ghost use Rattle.omaha_commands.specs.Operating.{Calls, Dumps, IsRead, IsScript, IsTooLong, PostsBytes, PrintsBody, PrintsBytes, PrintsReply, PrintsStatus, Raises, is_input, max_line};
 ghost use Rattle.omaha_commands.specs.Posting.{Posts, PostsStocked};
 
 use crate::asking::{dump_limits, edition_line, line_limits};
@@ -14,7 +14,7 @@ use crate::profile::MAX_PROFILE;
 use crate::script_file::MAX_SCRIPT;
 use crate::shown_reply::{encoded_reply, is_plain};
 use crate::stocking::stock_bytes;
-use omaha_arguments::{DumpAsked, Publication, Raise};
+use omaha_arguments::{Publication, Raise, ServerAsked};
 use package_files::Folders;
 use std::alloc::Global;
 use std::thread::Threads;
@@ -71,8 +71,8 @@ fn read_script<R: Disk, I: ReadWhole>(
 }
 
 // rule: Reply on a terminal
-// Prints a reply's body, on a terminal without control characters.
-fn print_body<W: WriteWhole>(
+/// Prints a reply's body, on a terminal without control characters.
+pub(crate) fn print_body<W: WriteWhole>(
     alloc: Global,
     shown: bool,
     body: &[u8],
@@ -262,11 +262,34 @@ pub fn raise_on<R: Connector, W: WriteWhole>(
     }
 }
 
+/// Prints the status of the server of an operator's listener: its edition, and what its mirrors granted.
+///
+/// Fails as `publish_on` does without a file.
+pub fn status_on<R: Connector, W: WriteWhole>(
+    rt: &R,
+    alloc: Global,
+    asked: &ServerAsked,
+    shown: bool,
+    writer: &mut W,
+) -> Result<(), Failure>
+    ensures { PrintsStatus (R.operated rt.now) shown asked.now.to (W.output writer.old) (W.output writer.new) result }
+{
+    call_for_line(
+        rt,
+        alloc,
+        shown,
+        &asked.to,
+        asked.timeout,
+        b"status",
+        writer,
+    )
+}
+
 // Prints the profile that an operator's listener dumps.
 fn dump<R: Connector, W: WriteWhole>(
     rt: &R,
     alloc: Global,
-    asked: &DumpAsked,
+    asked: &ServerAsked,
     shown: bool,
     writer: &mut W,
 ) -> Result<(), Failure>
@@ -288,7 +311,7 @@ fn dump<R: Connector, W: WriteWhole>(
 fn dump_verbosely<R: Connector, W: WriteWhole, E: WriteWhole>(
     rt: &R,
     alloc: Global,
-    asked: &DumpAsked,
+    asked: &ServerAsked,
     shown: bool,
     writer: &mut W,
     errors: &mut E,
@@ -316,7 +339,7 @@ fn dump_verbosely<R: Connector, W: WriteWhole, E: WriteWhole>(
 pub fn dump_on<R: Connector, W: WriteWhole, E: WriteWhole>(
     rt: &R,
     alloc: Global,
-    asked: &DumpAsked,
+    asked: &ServerAsked,
     manner: Manner,
     writer: &mut W,
     errors: &mut E,

@@ -2,7 +2,7 @@
 
 ghost use Rattle.std.specs.Prelude.{◌≡◌, IfOk, Ok};
 ghost use Rattle.editions.specs.Editions.{content_of};
-ghost use Rattle.omaha_commands.specs.Reviewing.{FindsBy, FindsIn, FindsInBatch, FindsInProfile, FindsNext, FindsReview, FindsWhole, IsReviewed, IsReviewedChange, PrintsReview, Reviews, change_bytes, end_of, failure_of_next, limit_of, review_bytes};
+ghost use Rattle.omaha_commands.specs.Reviewing.{FindsBy, FindsIn, FindsInBatch, FindsInProfile, FindsNext, FindsReview, FindsWhole, IsReviewed, IsReviewedChange, PrintsReview, Reviews, change_bytes, end_of, failure_of_next, is_masked, limit_of, review_bytes};
 ghost use Rattle.reviews.specs.Copies.{AreKept};
 ghost use Rattle.reviews.specs.Reviews.{AreReviews};
 ghost use Rattle.streams.specs.Streams.{Known};
@@ -10,6 +10,7 @@ ghost use Rattle.streams.specs.Streams.{Known};
 use crate::failure::Failure;
 use crate::fetching::review_server;
 use crate::keeping::kept_apps;
+use crate::operating::print_body;
 use crate::profile::open_profile;
 use crate::script_file::read_script_of;
 use catalogue::{Batch, Catalogue};
@@ -265,19 +266,32 @@ fn end_of(asked: &Review, findings: Findings) -> Result<(), Failure>
     }
 }
 
+// Whether a terminal gets what was found without control characters: a server's reply.
+fn is_masked(shown: bool, verdict: &Verdict) -> bool
+    ensures { result ≡ is_masked shown verdict.now }
+{
+    match verdict {
+        Verdict::StuckReleases(_) => false,
+        Verdict::Declined(_) => shown,
+    }
+}
+
 // Prints what a review found, and ends by it.
 fn print_review<W: WriteWhole>(
+    alloc: Global,
     asked: &Review,
+    shown: bool,
     findings: Findings,
     writer: &mut W,
 ) -> Result<(), Failure>
-    ensures { (input : Known) → PrintsReview asked.now (Ok findings)
+    ensures { (input : Known) → PrintsReview shown asked.now (Ok findings)
         (record { input = input; output = W.output writer.old })
         (record { input = input; output = W.output writer.new }) result }
 {
-    match writer.write_whole(findings.text.as_slice()) {
+    let masked = is_masked(shown, &findings.verdict);
+    match print_body(alloc, masked, findings.text.as_slice(), writer) {
         Ok(()) => end_of(asked, findings),
-        Err(_) => Err(Failure::Write),
+        Err(failure) => Err(failure),
     }
 }
 
@@ -288,19 +302,20 @@ fn print_review<W: WriteWhole>(
 /// first rejected edit; with another base than the profile's edition, and the script's first rejected edit; each time
 /// nothing is printed. Of a server it fails with `Net` if its operator's listener can't be reached or sends no whole
 /// reply. If the server has another edition than the script's base or dumps nothing, its reply is printed, and it fails
-/// with `Declined`. If the writer fails, a first part is printed. With `strict` it then fails with how many releases are
+/// with `Declined`; if `shown` without control characters. If the writer fails, a first part is printed. With `strict` it then fails with how many releases are
 /// stuck or newly stuck.
 pub fn review_on<R: Disk + Connector + AllocGlobal + Threads + Sync, W: WriteWhole>(
     rt: &R,
     asked: &Review,
+    shown: bool,
     writer: &mut W,
 ) -> Result<(), Failure>
-    ensures { (input : Known) → Reviews (R.file_at rt.now) (R.operated rt.now) asked.now
+    ensures { (input : Known) → Reviews (R.file_at rt.now) (R.operated rt.now) shown asked.now
         (record { input = input; output = W.output writer.old })
         (record { input = input; output = W.output writer.new }) result }
 {
     match find_review(rt, asked) {
-        Ok(findings) => print_review(asked, findings, writer),
+        Ok(findings) => print_review(rt.alloc(), asked, shown, findings, writer),
         Err(failure) => Err(failure),
     }
 }

@@ -4,6 +4,8 @@ use Rattle.omaha_arguments.proofs.command_line.omaha_command.Goals as goal
 pub returns : goal.returns
 returns c =
     c.with_command.ensures _ _ refl
+    (c.with_command-program-15.ensures _ _ refl
+    (c.with_command-program-14.ensures _ _ refl
     (c.with_command-program-13.ensures _ _ refl
     (c.with_command-program-12.ensures _ _ refl
     (c.with_command-program-11.ensures _ _ refl
@@ -21,9 +23,11 @@ returns c =
     c.script_command.ensures)
     c.raise_command.ensures)
     c.dump_command.ensures)
+    c.status_command.ensures)
     c.history_command.ensures)
     c.check_command.ensures)
     c.review_command.ensures)
+    c.graph_command.ensures)
     c.walk_command.ensures)
     c.describe_command.ensures)
     c.certify_command.ensures)

@@ -64,6 +64,16 @@ returns-in-Dump-clause-command c =
     subst (λ (n : Name). IfOk c.read_dump.result (λ command. command ≡ command_named n c.args.name.now (rows_of (found_of c.args.matches.now)))) c.in-Dump.ensures
     c.read_dump.ensures.command
 
+pub returns-in-Status-clause-faults : goal.returns-in-Status-clause-faults
+returns-in-Status-clause-faults c =
+    subst (λ (n : Name). FailsBy (faults_named n c.args.name.now (rows_of (found_of c.args.matches.now))) c.read_status.result) c.in-Status.ensures
+    c.read_status.ensures.faults
+
+pub returns-in-Status-clause-command : goal.returns-in-Status-clause-command
+returns-in-Status-clause-command c =
+    subst (λ (n : Name). IfOk c.read_status.result (λ command. command ≡ command_named n c.args.name.now (rows_of (found_of c.args.matches.now)))) c.in-Status.ensures
+    c.read_status.ensures.command
+
 pub returns-in-History-clause-faults : goal.returns-in-History-clause-faults
 returns-in-History-clause-faults c =
     subst (λ (n : Name). FailsBy (faults_named n c.args.name.now (rows_of (found_of c.args.matches.now))) c.read_history.result) c.in-History.ensures
@@ -123,6 +133,16 @@ pub returns-in-Review-clause-command : goal.returns-in-Review-clause-command
 returns-in-Review-clause-command c =
     subst (λ (n : Name). IfOk c.read_review.result (λ command. command ≡ command_named n c.args.name.now (rows_of (found_of c.args.matches.now)))) c.in-Review.ensures
     c.read_review.ensures.command
+
+pub returns-in-Graph-clause-faults : goal.returns-in-Graph-clause-faults
+returns-in-Graph-clause-faults c =
+    subst (λ (n : Name). FailsBy (faults_named n c.args.name.now (rows_of (found_of c.args.matches.now))) c.read_graph.result) c.in-Graph.ensures
+    c.read_graph.ensures.faults
+
+pub returns-in-Graph-clause-command : goal.returns-in-Graph-clause-command
+returns-in-Graph-clause-command c =
+    subst (λ (n : Name). IfOk c.read_graph.result (λ command. command ≡ command_named n c.args.name.now (rows_of (found_of c.args.matches.now)))) c.in-Graph.ensures
+    c.read_graph.ensures.command
 
 pub returns-in-Other-clause-faults : goal.returns-in-Other-clause-faults
 returns-in-Other-clause-faults c =
