@@ -9,9 +9,12 @@
 //! It holds up no reply and rejects none: a line that can't be written is lost, and so is one that memory is
 //! lacking for. Read `specs/Lines.antt` for the bytes of a line. Which message it is of, and its time, are tested
 //! and not proved.
+//!
+//! `LastReply` says of a connection's last reply whether it has fewer bytes than its head says.
 
 #![tactic(auto)]
 
+mod cut;
 mod entry;
 mod lines;
 mod log;
@@ -19,5 +22,6 @@ mod message;
 mod seen;
 mod times;
 
+pub use crate::cut::{CutReply, LastReply};
 pub use crate::log::{AccessLog, ReplyLog};
 pub use crate::seen::Seen;

@@ -1,6 +1,7 @@
 // What the heads of a message and of its reply say.
 
 use httparse::{EMPTY_HEADER, Header, Request, Response, Status};
+use std::str;
 
 // The most fields of a head that are read.
 const MAX_FIELDS: usize = 64;
@@ -57,6 +58,18 @@ pub(crate) struct Replied {
     pub(crate) status: Option<u16>,
     /// How many bytes the head has, if it was written whole.
     pub(crate) head: Option<u64>,
+    /// How many bytes the body is to have, if the head says so.
+    pub(crate) size: Option<u64>,
+}
+
+// The number that the bytes spell, if they do.
+fn number_in(bytes: &[u8]) -> Option<u64> {
+    str::from_utf8(bytes).ok()?.parse().ok()
+}
+
+// The length of the body by the fields of a head.
+fn size_in(fields: &[Header<'_>]) -> Option<u64> {
+    number_in(value_of(fields, "content-length")?)
 }
 
 /// Returns what the head says that the bytes begin with.
@@ -70,5 +83,6 @@ pub(crate) fn replied_in(bytes: &[u8]) -> Replied {
     Replied {
         status: head.code,
         head: head_size,
+        size: size_in(head.headers),
     }
 }

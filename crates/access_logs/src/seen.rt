@@ -1,3 +1,4 @@
+use crate::cut::CutReply;
 use crate::entry::Entry;
 use crate::message::{asker_of, first_line, replied_in};
 use std::alloc::Global;
@@ -55,6 +56,19 @@ impl Seen {
     // Whether a part of a reply was written.
     pub(crate) fn is_replied(&self) -> bool {
         self.written > 0
+    }
+
+    // The reply, if its head was written, and says of more bytes than were written after it.
+    pub(crate) fn cut(&self) -> Option<CutReply<'_>> {
+        let replied = replied_in(&self.reply);
+        let (head, size) = (replied.head?, replied.size?);
+        if self.written.saturating_sub(head) >= size {
+            return None;
+        }
+        Some(CutReply {
+            line: first_line(&self.message),
+            size,
+        })
     }
 
     // What a line says of the reply, at a time.

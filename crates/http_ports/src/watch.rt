@@ -18,6 +18,10 @@ pub trait WatchEach {
     /// These bytes of a reply were written.
     fn writes(&self, seen: &mut Self::Seen, bytes: &[u8]);
 
+    /// The server ends the connection, and has written all that it made of its replies: of a package whose file is missing,
+    /// or isn't the declared one, a first part.
+    fn finishes(&self, _seen: &mut Self::Seen) {}
+
     /// The connection has ended.
     fn ends(&self, seen: Self::Seen);
 }
@@ -54,6 +58,12 @@ impl<V: WatchEach> WatchEach for Option<V> {
     fn writes(&self, seen: &mut Option<V::Seen>, bytes: &[u8]) {
         if let (Some(watch), Some(seen)) = (self, seen) {
             watch.writes(seen, bytes);
+        }
+    }
+
+    fn finishes(&self, seen: &mut Option<V::Seen>) {
+        if let (Some(watch), Some(seen)) = (self, seen) {
+            watch.finishes(seen);
         }
     }
 

@@ -14,6 +14,11 @@ pub struct Watched<S: Drop> {
     pub(crate) seen: S,
 }
 
+// Whether the session has ended, and all that was made of its replies is sent.
+fn is_finished(talk: &Talk) -> bool {
+    matches!(talk.stage, Stage::Over) && talk.sent == talk.made.len()
+}
+
 /// The sessions of a site, each of which a watch is shown.
 #[derive(Drop)]
 pub struct WatchedTalks<'a, 'w, Z, V> {
@@ -53,6 +58,10 @@ impl<Z: Packages + Clock, V: WatchEach> Protocol for WatchedTalks<'_, '_, Z, V> 
 
     fn end(&self, conn: Watched<V::Seen>) -> bool {
         let Watched { talk, seen } = conn;
+        let mut seen = seen;
+        if is_finished(&talk) {
+            self.watch.finishes(&mut seen);
+        }
         self.watch.ends(seen);
         self.talks.end(talk)
     }

@@ -1,7 +1,7 @@
 // The system's listeners: those of an address, and those of a path, which only this machine can reach.
 
 use std::io;
-use std::net::{IpAddr, TcpListener, TcpStream};
+use std::net::{IpAddr, SocketAddr, TcpListener, TcpStream};
 use std::os::fd::{AsRawFd, OwnedFd, RawFd};
 use std::os::unix::net::UnixListener;
 
@@ -35,6 +35,14 @@ impl Listener {
         match self {
             Listener::Tcp(listener) => listener.as_raw_fd(),
             Listener::Unix(listener) => listener.as_raw_fd(),
+        }
+    }
+
+    // The address that it listens at, unless that is a path.
+    pub(crate) fn local_address(&self) -> Option<SocketAddr> {
+        match self {
+            Listener::Tcp(listener) => listener.local_addr().ok(),
+            Listener::Unix(_) => None,
         }
     }
 

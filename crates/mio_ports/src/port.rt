@@ -12,7 +12,7 @@ use mio::unix::SourceFd;
 use mio::{Events, Interest, Poll, Token};
 use port_books::Book;
 use std::alloc::{AllocError, Global};
-use std::net::{IpAddr, Net};
+use std::net::{IpAddr, Net, SocketAddr};
 use std::sync::{Arc, Wait};
 use std::time::{Clock, Instant};
 
@@ -70,6 +70,13 @@ fn all_slots(alloc: Global, slots: usize) -> Result<WaitingList, AllocError> {
 // So many addresses, none of which is known.
 fn addresses(alloc: Global, slots: usize) -> Result<Vec<Option<IpAddr>>, AllocError> {
     vec![in alloc; None; slots]
+}
+
+impl<'a, R: Wait> MioPort<'a, R> {
+    /// Returns the address that its connections come to, unless that is a path.
+    pub fn local_address(&self) -> Option<SocketAddr> {
+        self.listener.local_address()
+    }
 }
 
 impl<'a, R: Wait + Net + Clock + AllocGlobal> MioPort<'a, R> {

@@ -10,7 +10,7 @@
 //! `specs/FindingLines.antt`.
 //!
 //! `look_for_added` looks for the packages that a script adds, and `look_for_apps` for those of a catalogue, by their sizes
-//! alone. Read `specs/Added.antt` and `specs/Lacking.antt`.
+//! alone; `look_for` looks for one package. Read `specs/Added.antt` and `specs/Lacking.antt`.
 //!
 //! It reads files alone: it opens no profile, prints nothing, and doesn't look for files that the catalogue
 //! doesn't declare.
@@ -33,5 +33,5 @@ pub use crate::finding::{Finding, Mismatch};
 pub use crate::findings::findings_string;
 pub use crate::folders::Folders;
 pub use crate::lacking::{Lack, Lacking, PackageSizes};
-pub use crate::looking::{look_for_added, look_for_apps};
+pub use crate::looking::{look_for, look_for_added, look_for_apps};
 pub use crate::paths::describe_path;

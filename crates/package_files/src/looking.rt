@@ -10,8 +10,8 @@ use records::{App, Diff, Release};
 use values::Shared;
 
 // rule: Package that a folder lacks
-// Looks for a package of a declared size.
-fn look_for<'a, P: PackageSizes>(
+/// Looks for a package of a declared size.
+pub fn look_for<'a, P: PackageSizes>(
     packages: &P,
     name: &'a str,
     declared: u64,

@@ -10,7 +10,7 @@ use http_ports::{Terms, WatchEach};
 use http_talks::{Connections, serve_port};
 use http_wire::Unwatched;
 use mio_ports::{Listener, MioPort};
-use std::alloc::Global;
+use std::alloc::{AllocError, Global};
 use std::fs::{File, OpenOptions, Permissions};
 use std::io;
 use std::io::ErrorKind;
@@ -184,6 +184,18 @@ where
             return Err(OpenError::Memory);
         };
         open_all(self.rt, &listener, terms)
+    }
+
+    fn address_of(
+        &self,
+        alloc: Global,
+        port: &MioPort<'a, R>,
+        address: &str,
+    ) -> Result<String, AllocError> {
+        match port.local_address() {
+            Some(given) => format!(in alloc; "{given}"),
+            None => format!(in alloc; "{address}"),
+        }
     }
 
     fn close_address(&self, address: &str) {

@@ -10,7 +10,7 @@ ghost use Rattle.systems.specs.NewPorts.{IsNew};
 use http_desks::Desk;
 use http_ports::{Port, Terms, WatchEach};
 use http_talks::Connections;
-use std::alloc::AllocError;
+use std::alloc::{AllocError, Global};
 use std::fs::File;
 use std::io;
 
@@ -53,6 +53,9 @@ pub trait System<P: Port> {
         ensures terms { IfOk result (λ ports. map P.terms ports.items ≡ terms.now) }
         ensures bound { IfOk result (λ _. All (λ t. (edges self.now).listens address.now t.listener) terms.now) }
         ensures new { IfOk result (λ ports. All (IsNew P.terms P.slots P.accepted P.is_over) ports.items) };
+
+    /// Writes the address of a port that was opened at this one, with the number that the system gave for port 0.
+    fn address_of(&self, alloc: Global, port: &P, address: &str) -> Result<String, AllocError>;
 
     /// Lets go what an address has in the system once its ports are closed: the socket at a path.
     fn close_address(&self, _address: &str) {}
