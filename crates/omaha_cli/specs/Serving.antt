@@ -1,11 +1,11 @@
 -- What the command `serve` does; this project's profile.
-use Rattle.std.specs.Prelude.{◌≡◌, ◌⊎◌, ℕ, max, min, List, Option, None, Some, Result, Ok, Err}
+use Rattle.std.specs.Prelude.{◌≡◌, ◌⊎◌, ℕ, Bool, true, false, codes, max, min, List, Option, None, Some, Result, Ok, Err}
 use Rattle.streams.specs.Streams.{Known}
 use Rattle.omaha_arguments.specs.declared.command.Serve.{Serve}
 use Rattle.systems.specs.Edges.{Edges}
 use Rattle.omaha_server.specs.Checks.{IsStockedFor}
 use Rattle.omaha_server.specs.Passages.{Passages}
-use Rattle.omaha_server.specs.Serving.{IsLogged, Serves}
+use Rattle.omaha_server.specs.Serving.{IsLogged, LogsElsewhere, Serves}
 use Rattle.omaha_server.specs.declared.error.ServerError.{ServerError}
 use Rattle.omaha_server.specs.declared.error.ServerError.TheVariants as server
 use Rattle.omaha_server.specs.declared.place.Place.{Place}
@@ -44,8 +44,19 @@ abbrev pub EndsAs : {A : Type 0} → Result A ServerError → Serve → Result (
 EndsAs (Ok served) serve result = result ≡ Ok tt
 EndsAs (Err error) serve result = EndsBy error serve result
 
+-- the server writes nothing on the standard error: it isn't verbose, and logs no reply there
+abbrev pub IsQuiet : Bool → Option (List ℕ) → Type 0
+IsQuiet verbose log = LogsElsewhere log × (verbose ≡ false)
+
+-- rule: Name of what is served
+-- what is served, by its name, if the server is verbose: the path of the profile, or that of the history
+abbrev pub served_name : Bool → Option (List ℕ) → Option (List ℕ) → Option (List ℕ)
+served_name false profile history = None
+served_name true (Some profile) history = Some profile
+served_name true None history = history
+
 -- the place that the arguments name: the addresses, the folder, the workers, the sessions, the log and the seconds
-pub record IsPlaceOf (serve : Serve) (place : Place) : Type 0 where
+pub record IsPlaceOf (serve : Serve) (verbose : Bool) (place : Place) : Type 0 where
   pub address : place.address ≡ serve.listen
   pub operator : place.operator ≡ serve.operator
   pub packages : place.packages ≡ serve.packages
@@ -58,11 +69,13 @@ pub record IsPlaceOf (serve : Serve) (place : Place) : Type 0 where
   pub connections : place.connections ≡ serve.connections
   pub pinned_tables : place.pinned_tables ≡ serve.pinned_tables
   pub packages_must_exist : place.packages_must_exist ≡ serve.packages_must_exist
+  pub named : place.named ≡ served_name verbose serve.profile serve.history
+  pub version : place.version ≡ codes "0.2.0"
 
 -- what a server began with was served at that place to its end, or to an error; what is kept begins with its records
-pub record IsHostedAt (edges : Edges) (begins : Beginning) (serve : Serve) (old new : Known) (result : Result (Unit {0}) Failure) : Type 0 where
+pub record IsHostedAt (edges : Edges) (verbose : Bool) (begins : Beginning) (serve : Serve) (old new : Known) (result : Result (Unit {0}) Failure) : Type 0 where
   pub place : Place
-  pub placed : IsPlaceOf serve place
+  pub placed : IsPlaceOf serve verbose place
   pub ended : Result Passages ServerError
   pub serves : Serves edges place begins.service (store begins.first begins.records None) old new ended
   pub logged : IsLogged edges place.log ended
@@ -70,20 +83,20 @@ pub record IsHostedAt (edges : Edges) (begins : Beginning) (serve : Serve) (old 
   pub ends : EndsAs ended serve result
 
 -- the same, or memory ran out before
-abbrev pub IsHosted : Edges → Beginning → Serve → Known → Known → Result (Unit {0}) Failure → Type 0
-IsHosted edges begins serve old new result =
-    IsHostedAt edges begins serve old new result
+abbrev pub IsHosted : Edges → Bool → Beginning → Serve → Known → Known → Result (Unit {0}) Failure → Type 0
+IsHosted edges verbose begins serve old new result =
+    IsHostedAt edges verbose begins serve old new result
     ⊎ ((result ≡ Err failure.Memory) × (new ≡ old))
 
 -- what follows from what the server begins with
-abbrev pub IsServedBy : Edges → Result Beginning Failure → Serve → Streams → Streams → Result (Unit {0}) Failure → Type 0
-IsServedBy edges (Ok begins) serve old new result =
-    IsHosted edges begins serve old.output new.output result × (new.input ≡ old.input)
-IsServedBy edges (Err refusal) serve old new result = (result ≡ Err refusal) × (new ≡ old)
+abbrev pub IsServedBy : Edges → Bool → Result Beginning Failure → Serve → Streams → Streams → Result (Unit {0}) Failure → Type 0
+IsServedBy edges verbose (Ok begins) serve old new result =
+    IsHosted edges verbose begins serve old.output new.output result × (new.input ≡ old.input)
+IsServedBy edges verbose (Err refusal) serve old new result = (result ≡ Err refusal) × (new ≡ old)
 
 -- rule: Service over HTTP
 -- what a server begins with is opened first: that of the history that is named, or of the profile; its service is served
-pub record ServesOn (files : Files) (stored : Stored) (edges : Edges) (serve : Serve) (old new : Streams) (result : Result (Unit {0}) Failure) : Type 0 where
+pub record ServesOn (files : Files) (stored : Stored) (edges : Edges) (verbose : Bool) (serve : Serve) (old new : Streams) (result : Result (Unit {0}) Failure) : Type 0 where
   pub made : Result Beginning Failure
   pub begun : IsBegun files stored serve.history serve.profile made
-  pub follows : IsServedBy edges made serve old new result
+  pub follows : IsServedBy edges verbose made serve old new result

@@ -12,8 +12,8 @@ use http_ports::Port;
 use kept_records::Stores;
 use omaha_arguments::{ArgumentError, Command, Invocation, read_arguments};
 use omaha_commands::{
-    Failure, Manner, compare_on, describe_files, dump_on, explain_code, print_script, publish_on,
-    raise_on, report_on, review_on, walk_on,
+    Failure, Manner, compare_on, describe_files, dump_on, explain_code, graph_on, print_script,
+    publish_on, raise_on, report_on, review_on, status_on, walk_on,
 };
 use omaha_histories::print_history;
 use omaha_once::respond;
@@ -138,15 +138,25 @@ fn obey<
         Command::Once(once) => respond(rt, once, reader, writer),
         Command::Report(asked) => report_on(rt, asked, writer),
         Command::Compare(asked) => compare_on(rt, asked, writer),
-        Command::Review(asked) => review_on(rt, asked, writer),
+        Command::Review(asked) => review_on(rt, asked, manner.shown, writer),
+        Command::Graph(asked) => graph_on(rt, asked, writer),
         Command::Describe(paths) => describe_files(rt.alloc(), rt, paths.as_slice(), writer),
         Command::Explain(code) => explain_code(rt.alloc(), code, writer),
-        Command::Serve(asked) => serve_profile(rt, system, stores, asked, writer, errors),
+        Command::Serve(asked) => serve_profile(
+            rt,
+            system,
+            stores,
+            asked,
+            manner.verbose,
+            writer,
+            errors,
+        ),
         Command::Walk(asked) => walk_on(rt.alloc(), rt, asked, writer),
         Command::Publish(asked) => publish_on(rt, asked, manner.shown, reader, writer),
         Command::Script(asked) => print_script(rt, rt.alloc(), asked, writer),
         Command::Raise(asked) => raise_on(rt, rt.alloc(), asked, manner.shown, writer),
         Command::Dump(asked) => dump_on(rt, rt.alloc(), asked, manner, writer, errors),
+        Command::Status(asked) => status_on(rt, rt.alloc(), asked, manner.shown, writer),
         Command::History(asked) => print_history(rt, stores, asked, writer),
     }
 }
@@ -308,10 +318,10 @@ fn advise<R: Disk + Looks + AllocGlobal, F: WriteWhole>(rt: &R, ended: &Ended, e
 /// those of `system`, and histories those of `stores`.
 ///
 /// Without arguments, or with `once` and its options, it does what `respond` does; with `check`, `certify` or
-/// `verify` what `report_on` does, with `review` what `review_on` does; with `check F --packages DIR` it compares
+/// `verify` what `report_on` does, with `review` what `review_on` does, with `graph` what `graph_on` does; with `check F --packages DIR` it compares
 /// packages with files, with `describe` it describes files; with `script` it prints a script; with `history` it reads a
 /// history; with `serve` it serves until its last session; with `walk` it walks along a server's offers; with `publish`,
-/// `raise` and `dump` it calls an operator's listener. It returns 0 if the command did that, or the help or the version
+/// `raise`, `dump` and `status` it calls an operator's listener. It returns 0 if the command did that, or the help or the version
 /// was printed; 1 if the command failed, after one line on `errors`, or none if that listener declined; and 2 if the
 /// arguments are invalid, after `clap`'s message on `errors`. With `--log -` a server also logs its replies there. With
 /// `--verbose`, or if `errors` is a terminal, `dump` prints the number of the server's edition there, and a failure's line

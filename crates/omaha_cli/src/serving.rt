@@ -1,17 +1,16 @@
 // The command `serve`.
 
 ghost use Rattle.std.specs.Prelude.{◌≡◌, IfOk};
-ghost use Rattle.omaha_cli.specs.Serving.{EndsAs, IsPlaceOf, IsUnbound, IsUnopened, ServesOn};
-ghost use Rattle.omaha_server.specs.Serving.{IsSilent};
+ghost use Rattle.omaha_cli.specs.Serving.{EndsAs, IsPlaceOf, IsQuiet, IsUnbound, IsUnopened, ServesOn, served_name};
 ghost use Rattle.streams.specs.Streams.{Known};
 
 use http_ports::Port;
 use kept_records::Stores;
-use omaha_arguments::Serve;
+use omaha_arguments::{Serve, VERSION};
 use omaha_commands::Failure;
 use omaha_histories::open_beginning;
 use omaha_server::{Place, ServerError, serve};
-use std::alloc::AllocError;
+use std::alloc::{AllocError, Global};
 use std::sync::Wait;
 use std::thread::Threads;
 use std::time::Clock;
@@ -86,9 +85,23 @@ fn copy_of(text: &Option<Text>) -> Result<Option<Text>, AllocError>
     }
 }
 
+// rule: Name of what is served
+// The name of what is served, if the server says of itself what it does: the profile's path, or that of the history.
+fn name_of(asked: &Serve, verbose: bool) -> Result<Option<Text>, AllocError>
+    ensures { IfOk result (λ named. named ≡ served_name verbose asked.now.profile asked.now.history) }
+{
+    if !verbose {
+        return Ok(None);
+    }
+    match &asked.profile {
+        Some(profile) => Ok(Some(profile.clone()?)),
+        None => copy_of(&asked.history),
+    }
+}
+
 // Where, by how many workers and for how long to serve.
-fn place_of(asked: &Serve) -> Result<Place, AllocError>
-    ensures { IfOk result (λ place. IsPlaceOf asked.now place) }
+fn place_of(alloc: Global, asked: &Serve, verbose: bool) -> Result<Place, AllocError>
+    ensures { IfOk result (λ place. IsPlaceOf asked.now verbose place) }
 {
     Ok(Place {
         address: asked.listen.clone()?,
@@ -103,6 +116,8 @@ fn place_of(asked: &Serve) -> Result<Place, AllocError>
         connections: asked.connections,
         pinned_tables: asked.pinned_tables,
         packages_must_exist: asked.packages_must_exist,
+        named: name_of(asked, verbose)?,
+        version: Text::copy_of(alloc, VERSION)?,
     })
 }
 
@@ -113,7 +128,8 @@ fn place_of(asked: &Serve) -> Result<Place, AllocError>
 /// profile's file, another profile than the history's, the profile's first fault, its first rejected edit, the first record
 /// that doesn't follow, the log, the folder of packages, a package that must be there and isn't, no place for a worker's
 /// view, the address, the operator's address, the writer, and a thread that can't be started; the writer may also fail after the last session. Replies are
-/// logged on `errors` if the log is `-`; otherwise it is left as it is.
+/// logged on `errors` if the log is `-`, and what the server says of itself if it is `verbose`; otherwise `errors` is left
+/// as it is.
 pub(crate) fn serve_profile<
     P: Port + Send + Drop,
     S: System<P> + Sync,
@@ -126,11 +142,12 @@ pub(crate) fn serve_profile<
     system: &S,
     stores: &H,
     asked: &Serve,
+    verbose: bool,
     writer: &mut W,
     errors: &mut F,
 ) -> Result<(), Failure>
-    ensures silent { IsSilent asked.now.log → errors.new ≡ errors.old }
-    ensures serves { (input : Known) → ServesOn (R.file_at rt.now) (H.found stores.now) (S.edges system.now) asked.now
+    ensures silent { IsQuiet verbose asked.now.log → errors.new ≡ errors.old }
+    ensures serves { (input : Known) → ServesOn (R.file_at rt.now) (H.found stores.now) (S.edges system.now) verbose asked.now
         (record { input = input; output = W.output writer.old })
         (record { input = input; output = W.output writer.new }) result }
 {
@@ -138,7 +155,7 @@ pub(crate) fn serve_profile<
         Ok(kept) => kept,
         Err(failure) => return Err(failure),
     };
-    let Ok(place) = place_of(asked) else {
+    let Ok(place) = place_of(rt.alloc(), asked, verbose) else {
         return Err(Failure::Memory);
     };
     let ended = serve(rt, system, kept, &place, &Free, writer, errors);

@@ -14,7 +14,7 @@ use Rattle.service_desks.specs.Asking.{GrantsFirst}
 use Rattle.systems.specs.Edges.{Edges}
 use Rattle.package_files.specs.Lacking.{Sizes}
 use Rattle.omaha_server.specs.Checks.{ChecksCall, LeadsPast, sizes_at}
-use Rattle.omaha_server.specs.Serving.{AreOperated, DeskSteps, IsOperated, IsServedPort, IsWorkersPort, OperatorSteps, desk_path, desk_type, operator_path, operator_type}
+use Rattle.omaha_server.specs.Serving.{AreOperated, DeskSteps, IsOperated, IsPassed, IsServedPort, IsWorkersPort, OperatorSteps, desk_path, desk_type, operator_path, operator_type}
 use Rattle.omaha_server.specs.declared.place.Place.{Place}
 use Rattle.omaha_server.specs.declared.setup.Setup.{Setup}
 
@@ -111,37 +111,38 @@ Leads-worked edges place terms single mirrors sight after passage calls port cal
     (subst (λ (these : List Call). Leads (DeskSteps single mirrors) (record { sight = sight; asks = [] }) these after) called
     port.talked.2.leads)
 
--- one more call at a desk that looks for packages first
+-- one more call at a desk before which another looks at it
 LeadsPast-more :
-    {D : Type 0} (must : Bool) (sizes : Sizes) (steps : D → Call → D → Type 0) (before : D) (call : Call) (next : D) (calls asked : List Call) (after : D)
-    → ChecksCall must sizes steps before call next → LeadsPast must sizes steps next calls asked after
-    → (all : List Call) × LeadsPast must sizes steps before (call ∷ calls) all after
-LeadsPast-more {D} must sizes steps before call next calls asked after (inl (is, stopped, same)) past =
-    (asked, inl (is, stopped, subst (λ (d : D). LeadsPast must sizes steps d calls asked after) same past))
-LeadsPast-more must sizes steps before call next calls asked after (inr (looked, step)) past =
+    {D : Type 0} (Passes : D → Call → Type 0) (must : Bool) (sizes : Sizes) (steps : D → Call → D → Type 0) (before : D) (call : Call) (next : D)
+    (calls asked : List Call) (after : D)
+    → ChecksCall Passes must sizes steps before call next → LeadsPast Passes must sizes steps next calls asked after
+    → (all : List Call) × LeadsPast Passes must sizes steps before (call ∷ calls) all after
+LeadsPast-more {D} Passes must sizes steps before call next calls asked after (inl (passed, same)) past =
+    (asked, inl (passed, subst (λ (d : D). LeadsPast Passes must sizes steps d calls asked after) same past))
+LeadsPast-more Passes must sizes steps before call next calls asked after (inr (looked, step)) past =
     (call ∷ asked, inr (looked, (next, asked, refl, step, past)))
 
 -- some of the calls at such a desk are those for which it was asked
 pub LeadsPast-all :
-    {D : Type 0} (must : Bool) (sizes : Sizes) (steps : D → Call → D → Type 0) (calls : List Call) (before after : D)
-    → Leads (ChecksCall must sizes steps) before calls after
-    → (asked : List Call) × LeadsPast must sizes steps before calls asked after
-LeadsPast-all must sizes steps [] before after same = ([], (refl, same))
-LeadsPast-all must sizes steps (call ∷ calls) before after (next, step, leads) =
-    let (asked, past) = LeadsPast-all must sizes steps calls next after leads in
-    LeadsPast-more must sizes steps before call next calls asked after step past
+    {D : Type 0} (Passes : D → Call → Type 0) (must : Bool) (sizes : Sizes) (steps : D → Call → D → Type 0) (calls : List Call) (before after : D)
+    → Leads (ChecksCall Passes must sizes steps) before calls after
+    → (asked : List Call) × LeadsPast Passes must sizes steps before calls asked after
+LeadsPast-all Passes must sizes steps [] before after same = ([], (refl, same))
+LeadsPast-all Passes must sizes steps (call ∷ calls) before after (next, step, leads) =
+    let (asked, past) = LeadsPast-all Passes must sizes steps calls next after leads in
+    LeadsPast-more Passes must sizes steps before call next calls asked after step past
 
 -- and they lead it on
 Leads-asked :
-    {D : Type 0} (must : Bool) (sizes : Sizes) (steps : D → Call → D → Type 0) (calls asked : List Call) (before after : D)
-    → LeadsPast must sizes steps before calls asked after → Leads steps before asked after
-Leads-asked must sizes steps [] asked before after (none, same) =
+    {D : Type 0} (Passes : D → Call → Type 0) (must : Bool) (sizes : Sizes) (steps : D → Call → D → Type 0) (calls asked : List Call) (before after : D)
+    → LeadsPast Passes must sizes steps before calls asked after → Leads steps before asked after
+Leads-asked Passes must sizes steps [] asked before after (none, same) =
     subst (λ (these : List Call). Leads steps before these after) (sym none) same
-Leads-asked must sizes steps (call ∷ calls) asked before after (inl (is, stopped, past)) =
-    Leads-asked must sizes steps calls asked before after past
-Leads-asked must sizes steps (call ∷ calls) asked before after (inr (looked, (next, rest, is, step, past))) =
+Leads-asked Passes must sizes steps (call ∷ calls) asked before after (inl (passed, past)) =
+    Leads-asked Passes must sizes steps calls asked before after past
+Leads-asked Passes must sizes steps (call ∷ calls) asked before after (inr (looked, (next, rest, is, step, past))) =
     subst (λ (these : List Call). Leads steps before these after) (sym is)
-    (next, step, Leads-asked must sizes steps calls rest next after past)
+    (next, step, Leads-asked Passes must sizes steps calls rest next after past)
 
 -- those of the operator lead the service on
 pub Leads-operated :
@@ -153,7 +154,7 @@ Leads-operated edges place None before calls after None operated =
 Leads-operated edges place None before calls after (Some passage) never = absurd never
 Leads-operated edges place (Some terms) before calls after None never = absurd never
 Leads-operated edges place (Some terms) before calls after (Some passage) (port, past) =
-    Leads-asked place.packages_must_exist (sizes_at edges place) IsOperatorCall (all_calls port.talked.2.rounds) calls before after past
+    Leads-asked (IsPassed edges place) place.packages_must_exist (sizes_at edges place) IsOperatorCall (all_calls port.talked.2.rounds) calls before after past
 
 -- what stays of the operator's desk: what it is served with, and the names of what it borrows
 pub AreOperated-along :

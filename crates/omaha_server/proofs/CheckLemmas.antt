@@ -1,5 +1,5 @@
 -- Scripts whose packages are looked for.
-use Rattle.std.proofs.Common.{◌≡◌, ◌∙◌, ℕ, List, Option, Some, None, Result, Ok, Err, ap, refl, subst, sym}
+use Rattle.std.proofs.Common.{◌≡◌, ◌∙◌, ℕ, List, Option, Some, None, Result, Ok, Err, ap, subst, sym}
 use Rattle.catalogue.specs.declared.edit.Edit.{Edit}
 use Rattle.http_desks.specs.declared.desk.Answer.{Answer}
 use Rattle.http_desks.specs.declared.desk.Off.{Off}
@@ -22,11 +22,6 @@ stocked-by :
     AreThere sizes (sizes_in batch) → IsStocked sizes body
 stocked-by sizes body base batch read there other edits same =
     subst (λ (list : List Edit). AreThere sizes (sizes_in list)) (ap (edits_or batch) (sym read ∙ same)) there
-
--- and so is one that is no script
-pub stocked-none :
-    (sizes : Sizes) (body : List ℕ) (fault : ProfileFault) → script_of_bytes body ≡ Err fault → IsStocked sizes body
-stocked-none sizes body fault read other edits same = absurd (cc (read, same))
 
 -- what a look for the packages of a script comes to
 pub StopsFor-looked :

@@ -3,3 +3,4 @@ mod CheckLemmas
 mod ChoiceLemmas
 mod ClientLemmas
 mod RunLemmas
+mod ShowLemmas

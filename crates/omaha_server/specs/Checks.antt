@@ -3,10 +3,9 @@ use Rattle.std.specs.Prelude.{◌≡◌, ◌⊎◌, ⊤, ℕ, Bool, true, List, 
 use Rattle.catalogue.specs.declared.edit.Edit.{Edit}
 use Rattle.catalogue_laws.specs.Histories.{History}
 use Rattle.editions.specs.Editions.{content_of}
-use Rattle.http_desks.specs.Calls.{Call, Asks, Looks}
+use Rattle.http_desks.specs.Calls.{Call, Asks, Looks, Shows}
 use Rattle.http_desks.specs.declared.desk.DeskStatus.{DeskStatus}
 use Rattle.http_desks.specs.declared.desk.DeskStatus.TheVariants as status
-use Rattle.http_desks.specs.declared.desk.Off.{Off}
 use Rattle.http_desks.specs.declared.desk.Off.TheVariants as off
 use Rattle.package_files.specs.Lacking.{AreThere, LacksFirst, Sizes, lacking_string, sizes_in, sizes_of}
 use Rattle.package_files.specs.declared.lacking.Lack.{Lack}
@@ -41,6 +40,7 @@ IsStopped sizes (Asks body moment (Ok reply)) = IsRejected sizes body reply
 IsStopped sizes (Asks body moment (Err off.Memory)) = ⊤
 IsStopped sizes (Asks body moment (Err off.Closed)) = ⊥
 IsStopped sizes (Looks name found) = ⊥
+IsStopped sizes (Shows at page) = ⊥
 
 -- the packages that a body adds, if it is a script, are there
 abbrev pub IsStocked : Sizes → List ℕ → Type 0
@@ -51,23 +51,25 @@ IsStocked sizes body =
 abbrev pub IsLookedFor : Sizes → Call → Type 0
 IsLookedFor sizes (Asks body moment answer) = IsStocked sizes body
 IsLookedFor sizes (Looks name found) = ⊤
+IsLookedFor sizes (Shows at page) = ⊤
 
 -- rule: Packages that must exist
--- a call at a desk that looks for packages first, if they must exist: it isn't asked for what is rejected, and nothing
--- changes; for all else it is asked, and what is added is there
-abbrev pub ChecksCall : {D : Type 0} → Bool → Sizes → (D → Call → D → Type 0) → D → Call → D → Type 0
-ChecksCall must sizes steps before call after =
-    ((must ≡ true) × IsStopped sizes call × (after ≡ before))
+-- a call at a desk before which another desk looks at it: it isn't asked for what passes it, and nothing changes; for all else
+-- it is asked, and what is added is there, if packages must exist
+abbrev pub ChecksCall : {D : Type 0} → (D → Call → Type 0) → Bool → Sizes → (D → Call → D → Type 0) → D → Call → D → Type 0
+ChecksCall Passes must sizes steps before call after =
+    (Passes before call × (after ≡ before))
     ⊎ ((must ≡ true → IsLookedFor sizes call) × steps before call after)
 
 -- the calls at such a desk, and those of them for which it was asked, in their order, which lead it on
-abbrev pub LeadsPast : {D : Type 0} → Bool → Sizes → (D → Call → D → Type 0) → D → List Call → List Call → D → Type 0
-LeadsPast must sizes steps before [] asked after = (asked ≡ []) × (after ≡ before)
-LeadsPast {D} must sizes steps before (call ∷ calls) asked after =
-    ((must ≡ true) × IsStopped sizes call × LeadsPast must sizes steps before calls asked after)
+abbrev pub LeadsPast :
+    {D : Type 0} → (D → Call → Type 0) → Bool → Sizes → (D → Call → D → Type 0) → D → List Call → List Call → D → Type 0
+LeadsPast Passes must sizes steps before [] asked after = (asked ≡ []) × (after ≡ before)
+LeadsPast {D} Passes must sizes steps before (call ∷ calls) asked after =
+    (Passes before call × LeadsPast Passes must sizes steps before calls asked after)
     ⊎ ((must ≡ true → IsLookedFor sizes call)
     × ((next : D) × (rest : List Call) × (asked ≡ call ∷ rest) × steps before call next
-    × LeadsPast must sizes steps next calls rest after))
+    × LeadsPast Passes must sizes steps next calls rest after))
 
 -- the packages of a history are in the folder, if they must be
 abbrev pub HasPackages : Edges → Place → History → Type 0

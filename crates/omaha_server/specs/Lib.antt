@@ -1,9 +1,11 @@
 pub mod Checking
 pub mod Checks
 pub mod Jobs
+pub mod Notes
 pub mod Opening
 pub mod OperatorPorts
 pub mod Passages
 pub mod Places
 pub mod Runs
+pub mod Showing
 pub mod Serving

@@ -3,7 +3,7 @@ use Rattle.std.specs.Prelude.{◌≡◌, ◌⊎◌, ◌&&◌, ◌<◌, ℕ, Bool
 use Rattle.std.specs.Io.KnownBytes.{Appends}
 use Rattle.std.specs.Option.{is_some}
 use Rattle.catalogue_laws.specs.Histories.{History}
-use Rattle.http_desks.specs.Calls.{Call}
+use Rattle.http_desks.specs.Calls.{Call, Asks, Looks, Shows}
 use Rattle.http_desks.specs.Uses.{IsUse}
 use Rattle.http_ports.specs.Rounds.{all_calls}
 use Rattle.http_ports.specs.declared.terms.Terms.{Terms}
@@ -20,9 +20,10 @@ use Rattle.streams.specs.Streams.{Known}
 use Rattle.streams.specs.Writing.{Breaks}
 use Rattle.service_desks.specs.Asking.{GrantsFirst}
 use Rattle.systems.specs.Edges.{Edges, IsTime}
-use Rattle.omaha_server.specs.Checks.{ChecksCall, LeadsPast, sizes_at}
+use Rattle.omaha_server.specs.Checks.{ChecksCall, IsStopped, LeadsPast, sizes_at}
 use Rattle.omaha_server.specs.Opening.{IsOperatorsPort, client_terms, clients_listener, operator_listener, ready_line}
 use Rattle.omaha_server.specs.Passages.{Passages}
+use Rattle.omaha_server.specs.Showing.{ShowsPage, ShowsStatus, status_word}
 use Rattle.services.specs.Totals.{names_of, totals_string}
 use Rattle.omaha_server.specs.declared.error.ServerError.{ServerError}
 use Rattle.omaha_server.specs.declared.error.ServerError.TheVariants as server
@@ -76,10 +77,19 @@ operator_path = codes "/operate"
 abbrev pub operator_type : List ℕ
 operator_type = codes "text/plain"
 
--- a call at the operator's port, whose desk looks for packages first, if they must exist
+-- a call at the operator's port for which the operator's desk isn't asked: it asks for the status or for a page, or its
+-- packages aren't there and must exist
+abbrev pub IsPassed : Edges → Place → State → Call → Type 0
+IsPassed edges place state (Asks body moment answer) =
+    ((body ≡ status_word) × ShowsStatus place.version state answer)
+    ⊎ ((place.packages_must_exist ≡ true) × IsStopped (sizes_at edges place) (Asks body moment answer))
+IsPassed edges place state (Looks name found) = ⊥
+IsPassed edges place state (Shows at page) = ShowsPage place.version state at page
+
+-- a call at the operator's port, whose desk is asked for what doesn't pass it
 abbrev pub OperatorSteps : Edges → Place → State → Call → State → Type 0
 OperatorSteps edges place before call after =
-    ChecksCall place.packages_must_exist (sizes_at edges place) IsOperatorCall before call after
+    ChecksCall (IsPassed edges place) place.packages_must_exist (sizes_at edges place) IsOperatorCall before call after
 
 -- rule: Sessions of an operator
 -- a port of these terms was served to its end by the operator's desk, from a published history and the mirrors with
@@ -96,7 +106,7 @@ IsOperated edges place None before calls after (Some passage) = ⊥
 IsOperated edges place (Some terms) before calls after None = ⊥
 IsOperated edges place (Some terms) before calls after (Some passage) =
     (served : AreOperated edges place terms before after passage)
-    × LeadsPast place.packages_must_exist (sizes_at edges place) IsOperatorCall before (all_calls served.talked.2.rounds)
+    × LeadsPast (IsPassed edges place) place.packages_must_exist (sizes_at edges place) IsOperatorCall before (all_calls served.talked.2.rounds)
     calls after
 
 -- a press and records as they are when the operator begins: nothing is due
@@ -203,9 +213,13 @@ IsLogged edges (Some path) result =
 IsLogged edges None result = IfErr result IsUnlogged
 
 -- no reply is logged to the standard error
-abbrev pub IsSilent : Option (List ℕ) → Type 0
-IsSilent (Some path) = is_dash path ≡ false
-IsSilent None = ⊤
+abbrev pub LogsElsewhere : Option (List ℕ) → Type 0
+LogsElsewhere (Some path) = is_dash path ≡ false
+LogsElsewhere None = ⊤
+
+-- nothing is written to the standard error: there is no log there, and the server says nothing of itself
+abbrev pub IsSilent : Place → Type 0
+IsSilent place = LogsElsewhere place.log × (place.named ≡ None)
 
 -- the ports were given back, and the lines of the totals were written; or a first part of them
 abbrev pub PrintsTotals : List Mirror → List ℕ → Passages → Known → Known → Result Passages ServerError → Type 0

@@ -1,6 +1,6 @@
-// A desk that looks for the packages of a script before its own desk gets it.
+// A desk that looks for the packages of a script before the operator's desk gets it, and shows pages.
 
-ghost use Rattle.std.specs.Prelude.{◌≡◌, MatchResult, true};
+ghost use Rattle.std.specs.Prelude.{◌≡◌, ◌-◌, MatchResult, true};
 ghost use Rattle.std.specs.Option.{ForSome};
 ghost use Rattle.http_desks.specs.Calls.{Asks, answer_in};
 ghost use Rattle.http_desks.specs.declared.desk.DeskStatus.TheVariants.{UnprocessableContent};
@@ -11,11 +11,14 @@ ghost use Rattle.profile_toml.specs.Laws.{AreMirrors};
 ghost use Rattle.service_desks.specs.Operators.{IsCall as IsOperatorCall};
 ghost use Rattle.service_desks.specs.States.{GoesOn, store};
 
+use crate::calls::{note_answer, note_stop};
 use crate::setup::Setup;
-use http_desks::{Answer, Declared, Desk, DeskStatus, Off};
+use crate::showing::{Circumstances, count_call, show_page, show_status};
+use http_desks::{Answer, Declared, Desk, DeskStatus, Off, Page};
 use http_ports::Port;
 use kept_records::Records;
 use mirror_ledger::Budgets;
+use operator_pages::Counts;
 use package_files::{Lacking, PackageSizes, look_for_added};
 use profile_toml::read_script;
 use publisher::{Prepared, Press};
@@ -163,8 +166,18 @@ fn ask_over<S, R: Threads + Wait + AllocGlobal, B: Budgets, K: Records>(
     ask_operator(&mut desk, body, moment)
 }
 
+// What the operator's thread knows beside what is published.
+fn circumstances_of<K: Records>(records: &K, counts: Counts) -> Circumstances
+    ensures { result.earlier ≡ K.first records.now - 1 }
+{
+    Circumstances {
+        earlier: records.first() - 1,
+        counts,
+    }
+}
+
 /// The operator's desk, which looks for packages first: if the place's packages must exist, it isn't asked for a script
-/// that adds one which isn't in the folder with its size.
+/// that adds one which isn't in the folder with its size. It isn't asked for the status, nor for pages.
 #[derive(Drop)]
 pub(crate) struct Checked<
     's,
@@ -189,6 +202,8 @@ pub(crate) struct Checked<
     pub(crate) records: &'k mut K,
     /// The edition of the last script that was kept, if there was no memory to show it.
     pub(crate) due: &'d mut Option<Prepared>,
+    /// What the operator's calls came to.
+    pub(crate) counts: Counts,
     /// The ports of the system.
     pub(crate) ports: PhantomData<P>,
     ghost listed: { AreMirrors (B.present budgets.now) },
@@ -200,8 +215,7 @@ pub(crate) struct Checked<
 impl<S: System<P>, R: Threads + Wait + AllocGlobal, P: Port, B: Budgets, K: Records> Desk
     for Checked<'_, '_, '_, '_, '_, '_, S, R, P, B, K> {
     ghost use Rattle.std.specs.Prelude.{◌≡◌, codes};
-    ghost use Rattle.omaha_server.specs.Checks.{ChecksCall, sizes_at};
-    ghost use Rattle.service_desks.specs.Operators.{IsCall as IsOperatorCall};
+    ghost use Rattle.omaha_server.specs.Serving.{OperatorSteps};
     ghost use Rattle.service_desks.specs.States.{store};
 
     ghost path = { λ _. codes "/operate" };
@@ -211,8 +225,7 @@ impl<S: System<P>, R: Threads + Wait + AllocGlobal, P: Port, B: Budgets, K: Reco
     ghost steps = { λ old call new. (new.setup.now ≡ old.setup.now)
         × (new.press.ghost_name ≡ old.press.ghost_name) × (new.budgets.ghost_name ≡ old.budgets.ghost_name)
         × (new.records.ghost_name ≡ old.records.ghost_name) × (new.due.ghost_name ≡ old.due.ghost_name)
-        × ChecksCall old.setup.now.place.now.packages_must_exist (sizes_at (S.edges old.setup.now.system.now) old.setup.now.place.now)
-        IsOperatorCall
+        × OperatorSteps (S.edges old.setup.now.system.now) old.setup.now.place.now
         (record { mirrors = B.present old.budgets.now; history = old.press.now; store = store (K.first old.records.now) (K.kept old.records.now) old.due.now }) call
         (record { mirrors = B.present new.budgets.now; history = new.press.now; store = store (K.first new.records.now) (K.kept new.records.now) new.due.now }) };
 
@@ -226,23 +239,45 @@ impl<S: System<P>, R: Threads + Wait + AllocGlobal, P: Port, B: Budgets, K: Reco
 
     fn answer(&mut self, body: &[u8], moment: u64) -> Result<Answer, Off> {
         let place = self.setup.place;
+        let rt = self.setup.rt;
+        if body == b"status".as_slice() {
+            let circumstances = circumstances_of(self.records, self.counts);
+            let version = place.version.as_str();
+            return show_status(rt, self.press, self.budgets, version, &circumstances);
+        }
         let folder = SystemFolder::<S, P>::new(self.setup.system, place.packages.as_str());
         let must = place.packages_must_exist;
-        match stop_if(self.setup.rt.alloc(), must, &folder, body) {
-            Some(stopped) => stopped,
-            None => ask_over(
-                self.setup,
-                self.press,
-                self.budgets,
-                self.records,
-                self.due,
-                body,
-                moment,
-            ),
+        match stop_if(rt.alloc(), must, &folder, body) {
+            Some(stopped) => {
+                note_stop(self.setup, &stopped);
+                self.counts = count_call(self.counts, body, &stopped);
+                stopped
+            }
+            None => {
+                let answered = ask_over(
+                    self.setup,
+                    self.press,
+                    self.budgets,
+                    self.records,
+                    self.due,
+                    body,
+                    moment,
+                );
+                note_answer::<S, R, P>(self.setup, body, &answered);
+                self.counts = count_call(self.counts, body, &answered);
+                answered
+            }
         }
     }
 
     fn package(&mut self, _name: &[u8]) -> Option<Declared> {
         None
+    }
+
+    fn page(&mut self, at: &[u8]) -> Result<Option<Page>, Off> {
+        let (rt, place) = (self.setup.rt, self.setup.place);
+        let circumstances = circumstances_of(self.records, self.counts);
+        let version = place.version.as_str();
+        show_page(rt, self.press, self.budgets, version, &circumstances, at)
     }
 }

@@ -9,17 +9,20 @@ ghost use Rattle.omaha_server.specs.OperatorPorts.{has_operator, terms_left};
 ghost use Rattle.omaha_server.specs.Places.{ArePorts};
 
 use crate::clients::{Clients, all_clients};
-use crate::logging::{Target, Writing, open_lines};
+use crate::logging::{Outlets, Writings, open_outlets};
 use crate::new_port::NewPort;
 use crate::opening::Ports;
 use crate::operating::{Operating, OperatorPort};
 use crate::setup::Setup;
+use crate::starts::note_start;
 use http_ports::Port;
+use kept_records::Records;
 use publisher::{Press, View};
 use std::alloc::{AllocError, Global};
 use std::sync::Wait;
 use std::thread::Threads;
 use streams::WriteWhole;
+use systems::System;
 
 // The operator's port, with room for its connections, if there is one.
 fn operator_port<P: Port + Drop>(
@@ -36,12 +39,14 @@ fn operator_port<P: Port + Drop>(
     }
 }
 
-/// The jobs of a server's threads, and what writes its log. It is not `Drop`, since a press isn't.
+/// The jobs of a server's threads, and what writes their lines. It is not `Drop`, since a press isn't.
 pub(crate) struct Crew<
     's,
     'a,
     'p,
     'w,
+    'q,
+    'v,
     S,
     R: Threads + Wait + AllocGlobal,
     P: Port,
@@ -52,8 +57,8 @@ pub(crate) struct Crew<
     pub(crate) jobs: Vec<Clients<'s, 'a, S, R, P>>,
     /// The operator's job.
     pub(crate) own: Operating<'s, 'a, S, R, P, K>,
-    /// What writes the log, if there is one.
-    pub(crate) log: Option<Writing<'p, 'w, F>>,
+    /// What writes their lines.
+    pub(crate) writings: Writings<'p, 'w, 'q, 'v, F>,
 }
 
 /// What an operator publishes by. It is not `Drop`, since a press isn't.
@@ -71,18 +76,20 @@ pub(crate) fn crew_of<
     'a,
     'p,
     'w,
+    'q,
+    'v,
     P: Port + Drop,
-    S,
+    S: System<P>,
     R: Threads + Wait + AllocGlobal,
     F: WriteWhole,
-    K: Drop,
+    K: Records + Drop,
 >(
     setup: &'s Setup<'a, S, R>,
     ports: Ports<P>,
     publishing: Publishing<K>,
     views: Vec<View>,
-    target: Option<Target<'p, 'w, F>>,
-) -> Result<Crew<'s, 'a, 'p, 'w, S, R, P, F, K>, Press>
+    outlets: Outlets<'p, 'w, 'q, 'v, F>,
+) -> Result<Crew<'s, 'a, 'p, 'w, 'q, 'v, S, R, P, F, K>, Press>
     requires ports { ArePorts P.terms P.slots P.accepted P.is_over setup.now.place.now ports }
     requires many { length views.items ≡ setup.now.place.now.workers }
     requires views { All (λ sight. sight ≡ fresh publishing.press) views.items }
@@ -92,9 +99,10 @@ pub(crate) fn crew_of<
 {
     let Publishing { press, records } = publishing;
     let alloc = setup.rt.alloc();
-    let Ok((senders, log)) = open_lines(alloc, setup.place.workers + 1, target) else {
+    let Ok((senders, writings)) = open_outlets(setup, setup.place.workers + 1, outlets) else {
         return Err(press);
     };
+    note_start(setup, &ports, &press, records.first());
     let mut senders = senders;
     let lines = senders.pop();
     let Ports { clients, operator } = ports;
@@ -111,5 +119,9 @@ pub(crate) fn crew_of<
         records,
         lines,
     };
-    Ok(Crew { jobs, own, log })
+    Ok(Crew {
+        jobs,
+        own,
+        writings,
+    })
 }

@@ -3,18 +3,22 @@
 //! `serve` publishes the service's edition, opens books of the mirrors' budgets, listens, and lets workers begin
 //! together, each of which serves the connections of a port, beside the operator's; it prints each mirror's total at the
 //! end, and gives the ports back, so that its caller knows what passed on them. Read `specs/Serving.antt`. If a log is
-//! asked for, `access_logs` writes a line for each reply. What it asks of the system is a `System` of `systems`.
+//! asked for, `access_logs` writes a line for each reply. If its place has a name, it says of itself what it serves, what is
+//! published and raised, and which packages it lacks. What it asks of the system is a `System` of `systems`.
 //!
 //! It knows no command line.
 
 #![tactic(auto)]
 
+mod calls;
 mod checking;
 mod clients;
 mod crew;
 mod error;
+mod lacks;
 mod logging;
 mod new_port;
+mod notes;
 mod opening;
 mod operating;
 mod place;
@@ -22,6 +26,9 @@ mod ports;
 mod running;
 mod serving;
 mod setup;
+mod showing;
+mod starts;
+mod watches;
 
 pub use crate::error::ServerError;
 pub use crate::place::Place;

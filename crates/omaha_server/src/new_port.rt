@@ -3,7 +3,7 @@
 ghost use Rattle.std.specs.Prelude.{◌≡◌, IfOk};
 ghost use Rattle.systems.specs.NewPorts.{IsNew};
 
-use access_logs::Seen;
+use crate::watches::Sight;
 use http_ports::Port;
 use http_talks::Connections;
 use std::alloc::{AllocError, Global};
@@ -13,7 +13,7 @@ use std::marker::Model;
 #[derive(Drop)]
 pub(crate) struct NewPort<P: Port> {
     port: P,
-    room: Connections<Option<Seen>>,
+    room: Connections<Sight>,
 }
 
 impl<P: Port> Model for NewPort<P> {
@@ -38,7 +38,7 @@ impl<P: Port + Drop> NewPort<P> {
     }
 
     /// Gives the port, and the room.
-    pub(crate) fn into_parts(self) -> (P, Connections<Option<Seen>>)
+    pub(crate) fn into_parts(self) -> (P, Connections<Sight>)
         ensures port { result.0 ≡ self }
         ensures new { IsNew P.terms P.slots P.accepted P.is_over result.0 }
         ensures room { result.1 ≡ (P.terms self).capacity }

@@ -12,11 +12,12 @@ use crate::checking::Checked;
 use crate::new_port::NewPort;
 use crate::place::Place;
 use crate::ports::ServedPort;
-use crate::setup::{Setup, serve_new};
+use crate::setup::{Setup, seconds_now, serve_new};
 use http_ports::{Port, Terms};
 use kept_records::Records;
 use log_queues::LineSender;
 use mirror_ledger::{BudgetJob, Budgets};
+use operator_pages::Counts;
 use publisher::{Prepared, Press, Receipt};
 use std::alloc::AllocError;
 use std::marker::PhantomData;
@@ -131,6 +132,7 @@ fn operate<
         budgets,
         records,
         due,
+        counts: Counts::new(seconds_now(setup.rt)),
         ports: PhantomData,
     };
     serve_desk(setup, port, &mut checked, lines)

@@ -8,14 +8,15 @@ ghost use Rattle.omaha_server.specs.Checks.{IsStockedFor};
 ghost use Rattle.omaha_server.specs.Jobs.{IsManned};
 ghost use Rattle.omaha_server.specs.Passages.{passages_in, passages_of};
 ghost use Rattle.omaha_server.specs.Runs.{HasServed, PrintsLines};
-ghost use Rattle.omaha_server.specs.Serving.{AreTotals, IsLogged, IsOpened, IsSilent, IsLater, IsUnlogged, Serves, Stops, begun};
+ghost use Rattle.omaha_server.specs.Serving.{AreTotals, IsLogged, IsSilent, IsLater, IsUnlogged, Serves, Stops, begun};
 ghost use Rattle.omaha_server.specs.declared.error.ServerError.TheVariants.{Memory, NoPlace, Thread, Unpublished};
 
 use crate::checking::SystemFolder;
 use crate::clients::Clients;
 use crate::crew::{Crew, Publishing, crew_of};
 use crate::error::ServerError;
-use crate::logging::{Target, Writing};
+use crate::logging::{Outlets, Writings, end_writing, start_writing};
+use crate::notes::Notes;
 use crate::opening::open_place;
 use crate::operating::Operating;
 use crate::place::Place;
@@ -25,7 +26,7 @@ use crate::setup::Setup;
 use editions::Edition;
 use http_ports::Port;
 use kept_records::Records;
-use log_queues::{Page, start_writer};
+use log_queues::Page;
 use mirror_ledger::run_with_tills;
 use package_files::{Lacking, look_for_apps};
 use publisher::{Press, PublishError, View, open_edition};
@@ -62,8 +63,8 @@ fn open_views<R: Wait>(
 }
 
 // rule: Totals of a server
-// Runs the jobs of the workers and of the operator, with a till for each worker, beside a thread that writes the log if
-// there is one. The press still shows what the operator left when the workers' views are compared with it.
+// Runs the jobs of the workers and of the operator, with a till for each worker, beside a thread for the log and one for
+// what the server says of itself, if it does. The press still shows what the operator left when the workers' views are compared with it.
 fn run_jobs<
     P: Port + Send + Drop,
     S: System<P> + Sync,
@@ -77,7 +78,7 @@ fn run_jobs<
     mirrors: Mirrors,
     jobs: Vec<Clients<'_, '_, S, R, P>>,
     own: &mut Operating<'_, '_, S, R, P, K>,
-    log: Option<Writing<'_, '_, F>>,
+    writings: Writings<'_, '_, '_, '_, F>,
 ) -> Result<Run<P>, ServerError>
     requires manned { IsManned P.terms setup.now jobs.items own.old }
     ensures ok { IfOk result (λ run. AreTotals (S.edges setup.now.system.now) setup.now.place.now
@@ -98,28 +99,18 @@ fn run_jobs<
             ensures err { IfErr result (λ error. (error ≡ Thread) ⊎ (error ≡ Unpublished) ⊎ (error ≡ Memory)) }
         {
             let rt = setup.runtime();
-            let signal = match log {
-                Some(log) => {
-                    let Writing {
-                        target,
-                        writer,
-                        signal,
-                    } = log;
-                    let is_started = match target {
-                        Target::Errors(page) => start_writer(scope, rt, writer, page),
-                        Target::File(page) => start_writer(scope, rt, writer, page),
-                    };
-                    if !is_started {
-                        return Err(ServerError::Thread);
-                    }
-                    Some(signal)
-                }
-                None => None,
+            let Writings { errors, file } = writings;
+            let Some(errors) = start_writing(scope, rt, errors) else {
+                return Err(ServerError::Thread);
+            };
+            let Some(file) = start_writing(scope, rt, file) else {
+                end_writing(errors);
+                return Err(ServerError::Thread);
             };
             let ran = run_with_tills(rt, rt.alloc(), mirrors.into_vec(), gate, jobs, own);
-            if let Some(signal) = signal {
-                signal.end();
-            }
+            setup.notes.lock(rt).end();
+            end_writing(errors);
+            end_writing(file);
             let ended = ends_of(rt.alloc(), ran)?;
             let run = published_run(rt.alloc(), ended)?;
             Ok(run)
@@ -143,7 +134,7 @@ fn serve_press<
     views: Vec<View>,
     gate: &G,
     out: &mut O,
-    log: Option<Target<'_, '_, F>>,
+    outlets: Outlets<'_, '_, '_, '_, F>,
 ) -> Result<Run<P>, ServerError>
     requires folder { (S.edges setup.now.system.now).folders setup.now.place.now.packages }
     requires many { length views.items ≡ setup.now.place.now.workers }
@@ -164,7 +155,11 @@ fn serve_press<
             return Err(error);
         }
     };
-    let Crew { jobs, own, log } = match crew_of(setup, ports, publishing, views, log) {
+    let Crew {
+        jobs,
+        own,
+        writings,
+    } = match crew_of(setup, ports, publishing, views, outlets) {
         Ok(crew) => crew,
         Err(press) => {
             press.end(rt);
@@ -172,7 +167,7 @@ fn serve_press<
         }
     };
     let mut own = own;
-    let run = run_jobs(setup, gate, mirrors, jobs, &mut own, log);
+    let run = run_jobs(setup, gate, mirrors, jobs, &mut own, writings);
     let Operating {
         setup: _,
         port: _,
@@ -243,7 +238,7 @@ fn serve_found<
     kept: KeptService<K>,
     gate: &G,
     out: &mut O,
-    log: Option<Target<'_, '_, F>>,
+    outlets: Outlets<'_, '_, '_, '_, F>,
 ) -> Result<ServedPorts<P>, ServerError>
     requires { (S.edges setup.now.system.now).folders setup.now.place.now.packages }
     ensures serves { Serves (S.edges setup.now.system.now) setup.now.place.now kept.service
@@ -257,7 +252,7 @@ fn serve_found<
     let Service { edition, mirrors } = service;
     let (press, views) = open_views(rt, rt.alloc(), edition, place.workers)?;
     let publishing = Publishing { press, records };
-    let Run { ports, totals } = serve_press(setup, publishing, mirrors, views, gate, out, log)?;
+    let Run { ports, totals } = serve_press(setup, publishing, mirrors, views, gate, out, outlets)?;
     match print_totals(rt.alloc(), names.as_slice(), &totals, out) {
         Ok(()) => Ok(ports),
         Err(error) => Err(error),
@@ -279,7 +274,8 @@ fn serve_with<
     kept: KeptService<K>,
     gate: &G,
     out: &mut O,
-    log: Option<Target<'_, '_, F>>,
+    errors: Option<&Mutex<Page<'_, F>>>,
+    file: Option<&Mutex<Page<'_, File>>>,
 ) -> Result<ServedPorts<P>, ServerError>
     ensures serves { Serves (S.edges setup.now.system.now) setup.now.place.now kept.service
         (begun kept.service.edition (K.first kept.records) (K.kept kept.records)).store (O.output out.old) (O.output out.new)
@@ -292,7 +288,7 @@ fn serve_with<
         return Err(ServerError::Folder);
     }
     match check_packages::<P, S, R>(setup, &kept.service.edition) {
-        Ok(()) => serve_found(setup, kept, gate, out, log),
+        Ok(()) => serve_found(setup, kept, gate, out, Outlets { errors, file }),
         Err(error) => Err(error),
     }
 }
@@ -302,6 +298,46 @@ fn is_dash(path: &str) -> bool
     ensures { result ≡ is_dash path.now }
 {
     path == "-"
+}
+
+// Serves a service, and writes on a page what is for the standard error.
+fn serve_on_errors<
+    P: Port + Send + Drop,
+    S: System<P> + Sync,
+    R: Clock + Threads + Wait + Sync + AllocGlobal,
+    F: WriteWhole + Send,
+    O: WriteWhole,
+    G: Gate + Sync,
+    K: Records + Drop,
+>(
+    setup: &Setup<'_, S, R>,
+    kept: KeptService<K>,
+    gate: &G,
+    out: &mut O,
+    errors: &Mutex<Page<'_, F>>,
+) -> Result<ServedPorts<P>, ServerError>
+    ensures serves { Serves (S.edges setup.now.system.now) setup.now.place.now kept.service
+        (begun kept.service.edition (K.first kept.records) (K.kept kept.records)).store (O.output out.old) (O.output out.new)
+        (passages_in P.terms P.slots P.accepted result) }
+    ensures logged { IsLogged (S.edges setup.now.system.now) setup.now.place.now.log result }
+    ensures stocked { IsStockedFor (S.edges setup.now.system.now) setup.now.place.now kept.service.edition
+        (O.output out.old) (O.output out.new) result }
+{
+    let none = None::<&'static Mutex<Page<'static, File>>>;
+    let errors = Some(errors);
+    let Some(path) = &setup.place.log else {
+        return serve_with(setup, kept, gate, out, errors, none);
+    };
+    let path = path.as_str();
+    if is_dash(path) {
+        return serve_with(setup, kept, gate, out, errors, none);
+    }
+    let Ok(mut file) = setup.system.open_log(path) else {
+        return Err(ServerError::Log);
+    };
+    let page = Mutex::new(Page::new(&mut file));
+    let file = Some(&page);
+    serve_with(setup, kept, gate, out, errors, file)
 }
 
 // rule: Run of a server
@@ -323,6 +359,10 @@ fn is_dash(path: &str) -> bool
 ///
 /// The log gets a line for each reply, as `access_logs` has it, at the end of its file, or on `errors`, which is
 /// otherwise left as it is; workers never mix their lines. A line that can't be written is lost, and holds up no reply.
+///
+/// If the place has a name, the server says of itself on `errors`, in lines that begin with `omaha: `, what it serves, which
+/// packages are not in the folder, what is published and raised, which package kept a script from being published, and
+/// once in an edition that the downloads of a package fail.
 pub fn serve<
     'a,
     P: Port + Send + Drop,
@@ -347,23 +387,32 @@ pub fn serve<
     ensures logged { IsLogged (S.edges system.now) place.now.log result }
     ensures stocked { IsStockedFor (S.edges system.now) place.now kept.service.edition
         (O.output out.old) (O.output out.new) result }
-    ensures silent { IsSilent place.now.log → errors.new ≡ errors.old }
+    ensures silent { IsSilent place.now → errors.new ≡ errors.old }
 {
-    let setup = Setup { system, rt, place };
+    let notes = Mutex::new(Notes::new(rt.alloc()));
+    let setup = Setup {
+        system,
+        rt,
+        place,
+        notes: &notes,
+    };
+    if place.named.is_some() {
+        let page = Mutex::new(Page::new(errors));
+        return serve_on_errors(&setup, kept, gate, out, &page);
+    }
+    let none = None::<&'static Mutex<Page<'static, File>>>;
     let Some(path) = &place.log else {
-        let none = None::<Target<'static, 'static, File>>;
-        return serve_with(&setup, kept, gate, out, none);
+        return serve_with(&setup, kept, gate, out, none, none);
     };
     let path = path.as_str();
     if is_dash(path) {
         let page = Mutex::new(Page::new(errors));
-        let log = Some(Target::Errors(&page));
-        return serve_with(&setup, kept, gate, out, log);
+        return serve_on_errors(&setup, kept, gate, out, &page);
     }
     let Ok(mut file) = system.open_log(path) else {
         return Err(ServerError::Log);
     };
     let page = Mutex::new(Page::new(&mut file));
-    let log = Some(Target::<'_, '_, File>::File(&page));
-    serve_with(&setup, kept, gate, out, log)
+    let file = Some(&page);
+    serve_with(&setup, kept, gate, out, none, file)
 }

@@ -5,14 +5,18 @@ ghost use Rattle.omaha_server.specs.Passages.{passage_of};
 ghost use Rattle.omaha_server.specs.Serving.{IsServedPort};
 
 use crate::new_port::NewPort;
+use crate::notes::Notes;
 use crate::place::Place;
 use crate::ports::ServedPort;
+use crate::watches::Watches;
 use access_logs::ReplyLog;
 use http_desks::{Clock, Desk};
 use http_devices::SystemClock;
 use http_ports::Port;
 use log_queues::LineSender;
 use std::alloc::Global;
+use std::marker::PhantomData;
+use std::sync::{Mutex, Wait};
 use std::time;
 use systems::System;
 
@@ -25,6 +29,8 @@ pub(crate) struct Setup<'a, S, R> {
     pub(crate) rt: &'a R,
     /// The place.
     pub(crate) place: &'a Place,
+    /// What the server says of itself, if the place has a name.
+    pub(crate) notes: &'a Mutex<Notes>,
 }
 
 impl<'a, S, R> Setup<'a, S, R> {
@@ -32,6 +38,11 @@ impl<'a, S, R> Setup<'a, S, R> {
     pub(crate) fn runtime(&self) -> &'a R {
         self.rt
     }
+}
+
+/// How many seconds have passed since 1970.
+pub(crate) fn seconds_now<R: time::Clock>(rt: &R) -> u64 {
+    SystemClock::new(rt).now()
 }
 
 // The log of a port, which sends its lines, if there is a sender.
@@ -47,7 +58,7 @@ fn log_of<'l, C: Clock>(
 }
 
 /// Serves a port by a desk, and sends a line for each reply, if they are logged.
-pub(crate) fn serve_new<P: Port + Drop, S: System<P>, R: time::Clock + AllocGlobal, D: Desk>(
+pub(crate) fn serve_new<P: Port + Drop, S: System<P>, R: time::Clock + Wait + AllocGlobal, D: Desk>(
     setup: &Setup<'_, S, R>,
     port: NewPort<P>,
     desk: &mut D,
@@ -58,10 +69,14 @@ pub(crate) fn serve_new<P: Port + Drop, S: System<P>, R: time::Clock + AllocGlob
 {
     let (system, rt, place) = (setup.system, setup.rt, setup.place);
     let clock = SystemClock::new(rt);
-    let log = log_of(rt.alloc(), &clock, lines);
+    let watches = Watches {
+        log: log_of(rt.alloc(), &clock, lines),
+        setup,
+        ports: PhantomData,
+    };
     let (port, room) = port.into_parts();
     let mut port = port;
     let folder = place.packages.as_str();
-    let lost = system.serve_port(folder, &mut port, room, desk, &log);
+    let lost = system.serve_port(folder, &mut port, room, desk, &watches);
     ServedPort { port, lost }
 }

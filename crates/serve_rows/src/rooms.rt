@@ -9,7 +9,7 @@ use http_ports::{Terms, WatchEach};
 use http_talks::{Connections, serve_port};
 use http_wire::{Failed, Unwatched};
 use port_scripts::{Peer, Script, Seat};
-use std::alloc::Global;
+use std::alloc::{AllocError, Global};
 use std::fs::File;
 use std::io;
 use std::io::ErrorKind;
@@ -126,6 +126,15 @@ impl<R: Clock + Wait + AllocGlobal> System<Script> for Rooms<'_, R> {
 
     fn open_ports(&self, _address: &str, terms: &[Terms]) -> Result<Vec<Script>, OpenError> {
         open_all(self.rt.alloc(), terms)
+    }
+
+    fn address_of(
+        &self,
+        alloc: Global,
+        _port: &Script,
+        address: &str,
+    ) -> Result<String, AllocError> {
+        format!(in alloc; "{address}")
     }
 
     fn open_log(&self, _path: &str) -> io::Result<File> {

@@ -70,6 +70,8 @@ fn place_of(alloc: Global) -> Result<Place, AllocError> {
         connections: 2,
         pinned_tables: 0,
         packages_must_exist: false,
+        named: None,
+        version: Text::copy_of(alloc, "0.2.0")?,
     })
 }
 

@@ -6,7 +6,7 @@ use Rattle.service_desks.specs.States.{publication}
 use Rattle.omaha_server.specs.Checks.{sizes_at}
 use Rattle.omaha_server.specs.OperatorPorts.{terms_left}
 use Rattle.omaha_server.specs.Passages.{passage_of}
-use Rattle.omaha_server.specs.Serving.{IsOperated, begun, with_mirrors}
+use Rattle.omaha_server.specs.Serving.{IsOperated, IsPassed, begun, with_mirrors}
 use Rattle.omaha_server.specs.declared.operating.OperatorPort.{OperatorPort}
 use Rattle.omaha_server.specs.declared.operating.OperatorPort.TheVariants as variant
 use Rattle.omaha_server.proofs.AlongLemmas.{LeadsPast-all}
@@ -45,7 +45,7 @@ returns-clause-comes g c =
     let left = publication c.operate-served.new.press (g.K.Records.first c.operate-served.new.records)
     (g.K.Records.kept c.operate-served.new.records) c.operate-served.new.due in
     let operated = c.operate-served.ensures.operated in
-    let (asked, past) = LeadsPast-all place.packages_must_exist (sizes_at edges place) IsOperatorCall
+    let (asked, past) = LeadsPast-all (IsPassed edges place) place.packages_must_exist (sizes_at edges place) IsOperatorCall
     (all_calls operated.talked.2.rounds) (with_mirrors (g.B.Budgets.present c.args.budgets.now)
     (begun c.args.self.now.press (g.K.Records.first records) (g.K.Records.kept records)))
     (with_mirrors (g.B.Budgets.present c.operate-served.new.budgets) left) operated.talked.2.leads in (
