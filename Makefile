@@ -8,6 +8,7 @@
 # make commands      runs the commands on the profiles of examples/, and verifies each track's
 #                    certificate; reviews random catalogues; the program is built without a proof
 # make serving       tests the server and the walk, after make install, over the loopback
+# make metrics       tests the pages of an operator's address, after make install; it needs promtool
 # make idle          tests the server before thousands of idle and slow connections, after make install; it needs wrk
 # make history       kills a server with a history 500 times while it publishes, after make install, and looks
 #                    for what it replied to
@@ -35,7 +36,7 @@ CRATES := $(wordlist 2,$(words $(MAKECMDGOALS)),$(MAKECMDGOALS))
 $(eval $(CRATES):;@:)
 endif
 
-.PHONY: demo test mutants commands serving idle history cluster install deb allocations fuzz bench load instructions $(CRATES)
+.PHONY: demo test mutants commands serving metrics idle history cluster install deb allocations fuzz bench load instructions $(CRATES)
 
 demo:
 	@examples/demo.py
@@ -61,6 +62,9 @@ commands:
 serving:
 	tests/serve.py
 	tests/walk.py
+
+metrics:
+	tests/metrics.py
 
 idle:
 	tests/idle.py
