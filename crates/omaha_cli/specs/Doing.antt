@@ -23,8 +23,8 @@ use Rattle.omaha_commands.specs.declared.failure.Failure.{Failure}
 use Rattle.omaha_commands.specs.declared.operating.Manner.{Manner}
 use Rattle.omaha_cli.specs.declared.running.Task.{Task}
 
--- a reply to a request, a report on a profile or on its packages, a review, a picture, descriptions of files, the explanation of a
--- code, a script, what a history has, a server, a walk, or a call of an operator's listener
+-- a reply to a request, a report on a profile or on its packages, a review, a picture, descriptions of files, the
+-- explanation of a code, a script, what a history has, a server, a walk, or a call of an operator's listener
 abbrev pub DoesBy : World → Manner → Command → Streams → Streams → Result (Unit {0}) Failure → Type 0
 DoesBy world manner (command.Once once) old new result = Responds world.files once old new result
 DoesBy world manner (command.Report report) old new result = Reports world.files report old new result

@@ -314,19 +314,21 @@ fn advise<R: Disk + Looks + AllocGlobal, F: WriteWhole>(rt: &R, ended: &Ended, e
 
 // rule: Status of the program
 // rule: Edges of the program
-/// Runs the program with the arguments after its name, and returns its exit status. A server's ports, packages and log are
-/// those of `system`, and histories those of `stores`.
+/// Runs the program with the arguments after its name, and returns its exit status. A server's ports, packages and log
+/// are those of `system`, and histories those of `stores`.
 ///
-/// Without arguments, or with `once` and its options, it does what `respond` does; with `check`, `certify` or
-/// `verify` what `report_on` does, with `review` what `review_on` does, with `graph` what `graph_on` does; with `check F --packages DIR` it compares
-/// packages with files, with `describe` it describes files; with `script` it prints a script; with `history` it reads a
-/// history; with `serve` it serves until its last session; with `walk` it walks along a server's offers; with `publish`,
-/// `raise`, `dump` and `status` it calls an operator's listener. It returns 0 if the command did that, or the help or the version
-/// was printed; 1 if the command failed, after one line on `errors`, or none if that listener declined; and 2 if the
-/// arguments are invalid, after `clap`'s message on `errors`. With `--log -` a server also logs its replies there. With
-/// `--verbose`, or if `errors` is a terminal, `dump` prints the number of the server's edition there, and a failure's line
-/// is followed by one with what `advice_on` has to say of it. If `writer` is a
-/// terminal, the reply of an operator's listener is printed without control characters.
+/// Without arguments, or with `once` and its options, it does what `respond` does; with `check`, `certify` or `verify`
+/// what `report_on` does, with `review` what `review_on` does, with `graph` what `graph_on` does; with `check` and a
+/// folder it compares packages with files, with `describe` it describes files; with `script` it prints a script; with
+/// `history` it reads a history; with `serve` it serves until its last session; with `walk` it walks along a server's
+/// offers; with `publish`, `raise`, `dump` and `status` it calls an operator's listener.
+///
+/// It returns 0 if the command did that, or the help or the version was printed; 1 if the command failed, after one
+/// line on `errors`, or none if that listener declined; and 2 if the arguments are invalid, after `clap`'s message on
+/// `errors`. With `--log -` a server also logs its replies there. With `--verbose`, or if `errors` is a terminal, a
+/// server says there what it does, `dump` prints the number of the server's edition, and a failure's line is followed
+/// by one with what `advice_on` has to say of it. If `writer` is a terminal, the reply of an operator's listener is
+/// printed without control characters.
 pub fn run<
     P: Port + Send + Drop,
     S: System<P> + Sync,

@@ -122,14 +122,15 @@ fn place_of(alloc: Global, asked: &Serve, verbose: bool) -> Result<Place, AllocE
 }
 
 // rule: Service over HTTP
-/// Serves a profile or a history and its packages, takes the operator's scripts, and prints the mirrors' totals at the end.
+/// Serves a profile or a history and its packages, takes the operator's scripts, and prints the mirrors' totals at the
+/// end.
 ///
-/// With a history each script and each raise is kept before it takes effect. Fails, in this order, with the history, the
-/// profile's file, another profile than the history's, the profile's first fault, its first rejected edit, the first record
-/// that doesn't follow, the log, the folder of packages, a package that must be there and isn't, no place for a worker's
-/// view, the address, the operator's address, the writer, and a thread that can't be started; the writer may also fail after the last session. Replies are
-/// logged on `errors` if the log is `-`, and what the server says of itself if it is `verbose`; otherwise `errors` is left
-/// as it is.
+/// With a history each script and each raise is kept before it takes effect. Fails, in this order, with the history,
+/// the profile's file, another profile than the history's, the profile's first fault, its first rejected edit, the
+/// first record that doesn't follow, the log, the folder of packages, a package that must be there and isn't, no place
+/// for a worker's view, the address, the operator's address, the writer, and a thread that can't be started; the writer
+/// may also fail after the last session. Replies are logged on `errors` if the log is `-`, and what the server says of
+/// itself is written there if it is `verbose`; otherwise `errors` is left as it is.
 pub(crate) fn serve_profile<
     P: Port + Send + Drop,
     S: System<P> + Sync,

@@ -1,14 +1,16 @@
 //! The commands of `omaha` that serve nothing.
 //!
 //! `read_service` and `open_service` make a service of a profile: read `specs/Profiles.antt`. `report_on` does `check`,
-//! `certify` and `verify`: read `specs/Reports.antt`; `review_on` is `review`: read `specs/Reviewing.antt`; `graph_on` is `graph`: read
-//! `specs/Graphing.antt`;
-//! `compare_on` is `check` with a folder of packages, and `describe_files` describes files, by `package_files`: read
-//! `specs/Comparing.antt` and `specs/Describing.antt`. `print_script` is `script`: read `specs/Scripting.antt`. A script is
-//! applied to an edition as `specs/Applying.antt` says.
-//! `explain_code` prints what `explanations` says of a code. `walk_on` is walked by `update_client`: read
-//! `specs/Walking.antt`; `publish_on`, `raise_on`, `dump_on` and `status_on` post by it: read `specs/Operating.antt`, for a script
-//! that is only checked `specs/Judging.antt`, and for its packages `specs/Stocking.antt`. `print` writes what a command found. A `Failure` is why a command fails, and a `HistoryFault` what is wrong with a history.
+//! `certify` and `verify`: read `specs/Reports.antt`; `review_on` is `review`: read `specs/Reviewing.antt`; `graph_on`
+//! is `graph`: read `specs/Graphing.antt`. `compare_on` is `check` with a folder of packages, and `describe_files`
+//! describes files, by `package_files`: read `specs/Comparing.antt` and `specs/Describing.antt`. `print_script` is
+//! `script`: read `specs/Scripting.antt`. A script is applied to an edition as `specs/Applying.antt` says.
+//! `explain_code` prints what `explanations` says of a code.
+//!
+//! `walk_on` is walked by `update_client`: read `specs/Walking.antt`; `publish_on`, `raise_on`, `dump_on` and
+//! `status_on` post by it: read `specs/Operating.antt`, for a script that is only checked `specs/Judging.antt`, and for
+//! its packages `specs/Stocking.antt`. `print` writes what a command found. A `Failure` is why a command fails, and a
+//! `HistoryFault` what is wrong with a history.
 //!
 //! It reads no arguments, and exits with no status.
 

@@ -1,10 +1,11 @@
 //! The server of a service: its update checks and its packages, over HTTP.
 //!
 //! `serve` publishes the service's edition, opens books of the mirrors' budgets, listens, and lets workers begin
-//! together, each of which serves the connections of a port, beside the operator's; it prints each mirror's total at the
-//! end, and gives the ports back, so that its caller knows what passed on them. Read `specs/Serving.antt`. If a log is
-//! asked for, `access_logs` writes a line for each reply. If its place has a name, it says of itself what it serves, what is
-//! published and raised, and which packages it lacks. What it asks of the system is a `System` of `systems`.
+//! together, each of which serves the connections of a port, beside the operator's; it prints each mirror's total at
+//! the end, and gives the ports back, so that its caller knows what passed on them. Read `specs/Serving.antt`. If a log
+//! is asked for, `access_logs` writes a line for each reply. If its place has a name, it says of itself what it serves,
+//! what is published and raised, and which packages it lacks. The operator's desk also shows pages: read
+//! `specs/Showing.antt`. What it asks of the system is a `System` of `systems`.
 //!
 //! It knows no command line.
 

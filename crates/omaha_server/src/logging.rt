@@ -73,8 +73,8 @@ fn count_errors(threads: usize, is_log: bool, is_named: bool) -> usize {
     }
 }
 
-/// Opens the lines of a server, with a sender for each of so many threads to its log, if there is one, and has what it says
-/// of itself sent to the standard error.
+/// Opens the lines of a server, with a sender for each of so many threads to its log, if there is one, and has what it
+/// says of itself sent to the standard error.
 pub(crate) fn open_outlets<'a, 'b, 'c, 'd, S, R: Wait + AllocGlobal, F: WriteWhole>(
     setup: &Setup<'_, S, R>,
     threads: usize,

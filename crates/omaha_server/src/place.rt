@@ -31,7 +31,7 @@ pub struct Place {
     pub pinned_tables: u64,
     /// Whether each package of the catalogue must be in the folder with its size, before it is published.
     pub packages_must_exist: bool,
-    /// What is served, by its name, if the server says of itself what it does on the standard error, or `None` if it doesn't.
+    /// What is served, by its name, if the server says on the standard error what it does; `None` if it says nothing.
     pub named: Option<Text>,
     /// The version of the program that serves.
     pub version: Text,

@@ -63,8 +63,8 @@ fn open_views<R: Wait>(
 }
 
 // rule: Totals of a server
-// Runs the jobs of the workers and of the operator, with a till for each worker, beside a thread for the log and one for
-// what the server says of itself, if it does. The press still shows what the operator left when the workers' views are compared with it.
+// Runs the jobs of the workers and of the operator, with a till for each worker, beside a thread for each page that
+// lines are written to. The press still shows what the operator left when the workers' views are compared with it.
 fn run_jobs<
     P: Port + Send + Drop,
     S: System<P> + Sync,
@@ -342,27 +342,27 @@ fn serve_on_errors<
 
 // rule: Run of a server
 // rule: Edges of a server
-/// Serves a service's update checks and its packages, takes the operator's scripts and raises of budgets, and prints the
-/// mirrors' totals at the end.
+/// Serves a service's update checks and its packages, takes the operator's scripts and raises of budgets, and prints
+/// the mirrors' totals at the end.
 ///
-/// Opens the log, if there is to be one, looks for the folder of packages, and for the packages of the edition, if they must
-/// exist, publishes the edition, binds the addresses and
-/// opens a port for each worker and one for the operator, prints `ready`, opens books of the mirrors' budgets, and lets its
-/// workers begin together, each in a thread of its own: each serves its port, with its portion of the clients'
-/// connections, and the calling thread the operator's. No connection holds another up. Then it prints a line for each
-/// mirror: its name and how many bytes it was granted. `gate` is called in each worker's thread before it serves. Returns
-/// the ports. Fails, in this order, with the log, the folder, the first package that isn't there, memory, no place for a
-/// view, the address, the operator's address, the output, and a thread that can't be started; in that case no connection
-/// was accepted. Memory may also run
-/// out after `ready`; then no total is printed. Nor is one if a worker's view at its end is not of what the operator
-/// published, which no test has seen.
+/// Opens the log, if there is to be one, looks for the folder of packages, and for the packages of the edition, if they
+/// must exist, publishes the edition, binds the addresses and opens a port for each worker and one for the operator,
+/// prints `ready`, opens books of the mirrors' budgets, and lets its workers begin together, each in a thread of its
+/// own: each serves its port, with its portion of the clients' connections, and the calling thread the operator's. No
+/// connection holds another up. Then it prints a line for each mirror: its name and how many bytes it was granted.
+/// `gate` is called in each worker's thread before it serves. Returns the ports.
+///
+/// Fails, in this order, with the log, the folder, the first package that isn't there, memory, no place for a view, the
+/// address, the operator's address, the output, and a thread that can't be started; in that case no connection was
+/// accepted. Memory may also run out after `ready`; then no total is printed. Nor is one if a worker's view at its end
+/// is not of what the operator published, which no test has seen.
 ///
 /// The log gets a line for each reply, as `access_logs` has it, at the end of its file, or on `errors`, which is
 /// otherwise left as it is; workers never mix their lines. A line that can't be written is lost, and holds up no reply.
 ///
-/// If the place has a name, the server says of itself on `errors`, in lines that begin with `omaha: `, what it serves, which
-/// packages are not in the folder, what is published and raised, which package kept a script from being published, and
-/// once in an edition that the downloads of a package fail.
+/// If the place has a name, the server says of itself on `errors`, in lines that begin with `omaha: `, what it serves,
+/// which packages are not in the folder, what is published and raised, which package kept a script from being
+/// published, and once in an edition that the downloads of a package fail.
 pub fn serve<
     'a,
     P: Port + Send + Drop,
