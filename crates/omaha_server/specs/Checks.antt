@@ -1,5 +1,5 @@
 -- Packages that must be in the folder before they are published; this project's profile.
-use Rattle.std.specs.Prelude.{◌≡◌, ◌⊎◌, ⊤, ℕ, Bool, true, List, [], ◌∷◌, ◌++◌, codes, Result, Ok, Err, IfErr}
+use Rattle.std.specs.Prelude.{◌≡◌, ◌≢◌, ◌⊎◌, ⊤, ℕ, Bool, true, List, [], ◌∷◌, ◌++◌, codes, Result, Ok, Err, IfErr}
 use Rattle.catalogue.specs.declared.edit.Edit.{Edit}
 use Rattle.catalogue_laws.specs.Histories.{History}
 use Rattle.editions.specs.Editions.{content_of}
@@ -15,6 +15,7 @@ use Rattle.systems.specs.Edges.{Edges}
 use Rattle.omaha_server.specs.declared.error.ServerError.{ServerError}
 use Rattle.omaha_server.specs.declared.error.ServerError.TheVariants as server
 use Rattle.omaha_server.specs.declared.place.Place.{Place}
+use Rattle.omaha_server.specs.Showing.{status_word}
 
 -- the sizes of the files of a place's folder
 abbrev pub sizes_at : Edges → Place → Sizes
@@ -47,19 +48,20 @@ abbrev pub IsStocked : Sizes → List ℕ → Type 0
 IsStocked sizes body =
     (base : ℕ) (batch : List Edit) → script_of_bytes body ≡ Ok (base, batch) → AreThere sizes (sizes_in batch)
 
--- the packages of a call were looked for, and are there
-abbrev pub IsLookedFor : Sizes → Call → Type 0
-IsLookedFor sizes (Asks body moment answer) = IsStocked sizes body
-IsLookedFor sizes (Looks name found) = ⊤
-IsLookedFor sizes (Shows at page) = ⊤
+-- a call for which a desk is asked: a body other than `status`, whose packages were looked for if they must exist, and are
+-- there; or a package of a name; and no page
+abbrev pub IsAskedFor : Bool → Sizes → Call → Type 0
+IsAskedFor must sizes (Asks body moment answer) = (body ≢ status_word) × (must ≡ true → IsStocked sizes body)
+IsAskedFor must sizes (Looks name found) = ⊤
+IsAskedFor must sizes (Shows at page) = ⊥
 
 -- rule: Packages that must exist
--- a call at a desk before which another desk looks at it: it isn't asked for what passes it, and nothing changes; for all else
--- it is asked, and what is added is there, if packages must exist
+-- a call at a desk before which another desk looks at it: it isn't asked for what passes it, and nothing changes; for all
+-- else it is asked
 abbrev pub ChecksCall : {D : Type 0} → (D → Call → Type 0) → Bool → Sizes → (D → Call → D → Type 0) → D → Call → D → Type 0
 ChecksCall Passes must sizes steps before call after =
     (Passes before call × (after ≡ before))
-    ⊎ ((must ≡ true → IsLookedFor sizes call) × steps before call after)
+    ⊎ (IsAskedFor must sizes call × steps before call after)
 
 -- the calls at such a desk, and those of them for which it was asked, in their order, which lead it on
 abbrev pub LeadsPast :
@@ -67,7 +69,7 @@ abbrev pub LeadsPast :
 LeadsPast Passes must sizes steps before [] asked after = (asked ≡ []) × (after ≡ before)
 LeadsPast {D} Passes must sizes steps before (call ∷ calls) asked after =
     (Passes before call × LeadsPast Passes must sizes steps before calls asked after)
-    ⊎ ((must ≡ true → IsLookedFor sizes call)
+    ⊎ (IsAskedFor must sizes call
     × ((next : D) × (rest : List Call) × (asked ≡ call ∷ rest) × steps before call next
     × LeadsPast Passes must sizes steps next calls rest after))
 

@@ -1,4 +1,4 @@
-use Rattle.std.proofs.Common.{◌≡◌, ℕ, List, inl, inr, refl, rules, subst, sym}
+use Rattle.std.proofs.Common.{◌≡◌, ◌≢◌, ℕ, List, inl, inr, refl, rules, subst, sym}
 use Rattle.http_desks.specs.Calls.{answer_in}
 use Rattle.service_desks.specs.States.{State, Store, store}
 use Rattle.omaha_server.specs.Showing.{ShowsStatus, status_word}
@@ -18,4 +18,5 @@ returns-then-eq-clause-steps g c =
 pub returns-in-None-clause-steps : goal.returns-in-None-clause-steps
 returns-in-None-clause-steps g c =
     let looked = rw c.as_str.ensures at (rw c.new-folder.ensures.path at (rw c.new-folder.ensures.system at c.in-None.ensures)) in
-    (refl, refl, refl, refl, refl, inr (looked, c.ask_over-answered.ensures.called))
+    let differs : c.args.body.now ≢ status_word = search rules in
+    (refl, refl, refl, refl, refl, inr ((differs, looked), c.ask_over-answered.ensures.called))
