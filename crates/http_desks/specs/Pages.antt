@@ -4,11 +4,21 @@ use Rattle.http_desks.specs.declared.desk.Off.{Off}
 use Rattle.http_desks.specs.declared.page.Page.{Page}
 use Rattle.http_desks.specs.declared.page.PageKind.{PageKind}
 use Rattle.http_desks.specs.declared.page.PageKind.TheVariants as kind
+use Rattle.http_heads.specs.declared.status.Status.{Status}
+use Rattle.http_heads.specs.declared.status.Status.TheVariants as status
+
+-- the status of a page
+abbrev pub page_status : PageKind → Status
+page_status kind.Plain = status.Success
+page_status kind.Ending = status.ServiceUnavailable
+page_status kind.Metrics = status.Success
+page_status kind.Html = status.Success
 
 -- what is after `Content-Type: ` in the head of a page: its type, and for HTML what keeps a browser from fetching or
 -- running anything
 abbrev pub page_fields : PageKind → List ℕ
 page_fields kind.Plain = codes "text/plain; charset=utf-8"
+page_fields kind.Ending = codes "text/plain; charset=utf-8"
 page_fields kind.Metrics = codes "text/plain; version=0.0.4; charset=utf-8"
 page_fields kind.Html =
     codes "text/html; charset=utf-8\r\nContent-Security-Policy: default-src 'none'; style-src 'unsafe-inline'"

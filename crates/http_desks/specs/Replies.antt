@@ -19,7 +19,7 @@ use Rattle.http_desks.specs.declared.method.Method.{Method}
 use Rattle.http_desks.specs.declared.method.Method.TheVariants as method
 use Rattle.http_desks.specs.declared.page.PageKind.{PageKind}
 use Rattle.http_desks.specs.Calls.{Call, Leads}
-use Rattle.http_desks.specs.Pages.{page_fields}
+use Rattle.http_desks.specs.Pages.{page_fields, page_status}
 use Rattle.http_desks.specs.Uses.{Fetch, Mismatched, Read, Broken, IsFetch, Use, Paged, Misused, Barred, Asked, Unknown, Untaken, Fetched, calls_of}
 
 -- the status of the reply
@@ -64,7 +64,7 @@ fetch_reply declared closes fetch =
 -- a page, for a message that may have it
 abbrev pub page_reply : Bool → Method → PageKind → List ℕ → List ℕ
 page_reply closes method.Get kind body =
-    head_lines status.Success (page_fields kind) None (length body) closes ++ body
+    head_lines (page_status kind) (page_fields kind) None (length body) closes ++ body
 page_reply closes method.ForeignGet kind body = empty_reply status.Forbidden None closes
 page_reply closes method.Post kind body = empty_reply status.MethodNotAllowed (Some allow.Get) closes
 page_reply closes method.BrowserPost kind body = empty_reply status.MethodNotAllowed (Some allow.Get) closes

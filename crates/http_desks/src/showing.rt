@@ -43,7 +43,7 @@ fn send_page<W: Sink>(
     ensures failed { W.failures sink.new ≡ W.failures sink.old + (if is_ok result then 0 else 1) }
 {
     let head = ReplyHead {
-        status: Status::Success,
+        status: page.kind.status(),
         kind: page.kind.fields(),
         allow: None,
         size: page.body.len(),

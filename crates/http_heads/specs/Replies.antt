@@ -21,6 +21,7 @@ status_line status.UnprocessableContent = codes "HTTP/1.1 422 Unprocessable Cont
 status_line status.FieldsTooLarge = codes "HTTP/1.1 431 Request Header Fields Too Large\r\n"
 status_line status.InternalServerError = codes "HTTP/1.1 500 Internal Server Error\r\n"
 status_line status.NotImplemented = codes "HTTP/1.1 501 Not Implemented\r\n"
+status_line status.ServiceUnavailable = codes "HTTP/1.1 503 Service Unavailable\r\n"
 
 -- the field that names the body's type, if it has one
 unfoldable pub type_line : List ℕ → List ℕ

@@ -28,6 +28,8 @@ pub enum Status {
     InternalServerError,
     /// 501: a `Transfer-Encoding` field.
     NotImplemented,
+    /// 503: the service is ending.
+    ServiceUnavailable,
 }
 
 impl Status {
@@ -50,6 +52,7 @@ impl Status {
             Status::FieldsTooLarge => "HTTP/1.1 431 Request Header Fields Too Large\r\n",
             Status::InternalServerError => "HTTP/1.1 500 Internal Server Error\r\n",
             Status::NotImplemented => "HTTP/1.1 501 Not Implemented\r\n",
+            Status::ServiceUnavailable => "HTTP/1.1 503 Service Unavailable\r\n",
         }
     }
 }

@@ -5,3 +5,7 @@ use Rattle.http_heads.proofs.status.Status.line.Goals as goal
 pub returns-in-NotImplemented : goal.returns-in-NotImplemented
 unfolding status_line
 returns-in-NotImplemented c = search rules
+
+pub returns-in-ServiceUnavailable : goal.returns-in-ServiceUnavailable
+unfolding status_line
+returns-in-ServiceUnavailable c = search rules
