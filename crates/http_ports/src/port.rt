@@ -1,4 +1,4 @@
-ghost use Rattle.std.specs.Prelude.{◌≡◌, ◌<◌, ◌+◌, ℕ, length};
+ghost use Rattle.std.specs.Prelude.{◌≡◌, ◌<◌, ◌+◌, ℕ, IsTrue, length};
 ghost use Rattle.http_ports.specs.Ports.{Closes, IsDone, Reads, Reports, Rests, Writes, accepted_by};
 ghost use Rattle.http_ports.specs.Traffic.{Changes, HasPassed, IsOpen, Slot, marked};
 ghost use Rattle.http_ports.specs.declared.last.Last.TheVariants.{Yields};
@@ -21,7 +21,7 @@ pub trait Port {
     // how many connections were accepted
     ghost accepted: { Self → ℕ };
 
-    // no more connections will be accepted
+    // no connection is open, and no more will be accepted
     ghost is_over: { Self → Type 0 };
 
     /// Returns the address of a slot's peer, if it has a connection and the system gives its address.
@@ -30,6 +30,10 @@ pub trait Port {
     /// Returns how many connections may be open at once: the slots are those below.
     fn capacity(&self) -> usize
         ensures { result ≡ (terms self.now).capacity };
+
+    /// Whether as many connections were accepted as the terms say.
+    fn has_accepted_all(&self) -> bool
+        ensures { IsTrue result → accepted self.now ≡ (terms self.now).limit };
 
     // rule: Events of a port
     // rule: Rest of a connection

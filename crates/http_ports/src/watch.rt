@@ -18,8 +18,8 @@ pub trait WatchEach {
     /// These bytes of a reply were written.
     fn writes(&self, seen: &mut Self::Seen, bytes: &[u8]);
 
-    /// The server ends the connection, and has written all that it made of its replies: of a package whose file is missing,
-    /// or isn't the declared one, a first part.
+    /// The server ends the connection, and has written all that it made of its replies: of a package whose file is
+    /// missing, or isn't the declared one, a first part.
     fn finishes(&self, _seen: &mut Self::Seen) {}
 
     /// The connection has ended.

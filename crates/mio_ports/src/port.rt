@@ -1,9 +1,11 @@
 ghost use Rattle.std.specs.Prelude.{◌≡◌, ◌≤◌, ℕ, [], IfSome, vec_len};
 ghost use Rattle.port_books.specs.Books.{accepted_in};
 
+use crate::door::Door;
 use crate::drained::DrainedList;
 use crate::lingering::LingeringList;
 use crate::listener::Listener;
+use crate::sign::EndSign;
 use crate::times::Times;
 use crate::waiting_list::WaitingList;
 use http_ports::Terms;
@@ -26,7 +28,7 @@ pub(crate) const EVENTS: usize = 256;
 #[derive(Drop)]
 pub struct MioPort<'a, R: Wait> {
     pub(crate) rt: &'a R,
-    pub(crate) listener: Arc<Listener, Global>,
+    pub(crate) door: Door<'a>,
     pub(crate) poll: Poll,
     pub(crate) events: Events,
     // what is kept of each slot, and what has passed there
@@ -38,9 +40,6 @@ pub struct MioPort<'a, R: Wait> {
     pub(crate) turns: usize,
     // the address of each slot's peer
     pub(crate) peers: Vec<Option<IpAddr>>,
-    // whether the listener may have a connection, and whether the last one that was accepted failed
-    pub(crate) knocks: bool,
-    pub(crate) failed: bool,
     // what it serves by, and how many connections were accepted
     pub(crate) terms: Terms,
     pub(crate) accepted: u64,
@@ -73,9 +72,9 @@ fn addresses(alloc: Global, slots: usize) -> Result<Vec<Option<IpAddr>>, AllocEr
 }
 
 impl<'a, R: Wait> MioPort<'a, R> {
-    /// Returns the address that its connections come to, unless that is a path.
+    /// Returns the address that its connections come to, unless that is a path, or the port has let its listener go.
     pub fn local_address(&self) -> Option<SocketAddr> {
-        self.listener.local_address()
+        self.door.local_address()
     }
 }
 
@@ -83,9 +82,15 @@ impl<'a, R: Wait + Net + Clock + AllocGlobal> MioPort<'a, R> {
     /// Makes the port of a listener that doesn't block, by these terms. Without a slot it accepts no connection.
     ///
     /// A connection that waits for longer than the terms say is late. If there is no free slot for one more, that which
-    /// has been idle for longest is late at once. Returns `None` if memory runs out, or the system can't watch the
-    /// listener.
-    pub fn new(rt: &'a R, listener: Arc<Listener, Global>, terms: Terms) -> Option<MioPort<'a, R>>
+    /// has been idle for longest is late at once. Once the sign asks it to end, it accepts no more after a second or
+    /// less, and a connection is late once it waits for the first byte of a message. Returns `None` if memory runs out,
+    /// or the system can't watch the listener.
+    pub fn new(
+        rt: &'a R,
+        listener: Arc<Listener, Global>,
+        sign: &'a EndSign,
+        terms: Terms,
+    ) -> Option<MioPort<'a, R>>
         ensures fresh { IfSome result (λ port. port.book.moves ≡ []) }
         ensures terms { IfSome result (λ port. port.terms ≡ terms) }
     {
@@ -107,7 +112,7 @@ impl<'a, R: Wait + Net + Clock + AllocGlobal> MioPort<'a, R> {
             .ok()?;
         Some(MioPort {
             rt,
-            listener,
+            door: Door::new(listener, sign),
             poll,
             events,
             book,
@@ -115,8 +120,6 @@ impl<'a, R: Wait + Net + Clock + AllocGlobal> MioPort<'a, R> {
             free,
             turns: 0,
             peers,
-            knocks: true,
-            failed: false,
             terms,
             accepted: 0,
             times,

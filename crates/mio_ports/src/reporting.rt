@@ -1,6 +1,6 @@
 // What a port over sockets has to report without waiting.
 
-ghost use Rattle.std.specs.Prelude.{◌≡◌, ◌<◌, ◌+◌, ℕ, None, Some, true, IfNone, IfSome, IsSome, IsTrue, vec_len};
+ghost use Rattle.std.specs.Prelude.{◌≡◌, ◌⊎◌, ◌<◌, ◌+◌, ℕ, None, Some, true, IfNone, IfSome, IsSome, IsTrue, vec_len};
 ghost use Rattle.port_books.specs.Books.{accepted_in, slot_waits, slots_after};
 ghost use Rattle.mio_ports.specs.Polled.{MayReport, accepted_of};
 
@@ -9,7 +9,6 @@ use http_ports::{Event, Last};
 use mio::net::TcpStream;
 use mio::{Interest, Token};
 use port_books::Change;
-use std::io::ErrorKind;
 use std::sync::Wait;
 use std::time::Clock;
 
@@ -64,23 +63,10 @@ impl<R: Wait + Clock> MioPort<'_, R> {
         ensures book { self.new.book ≡ self.old.book }
         ensures terms { self.new.terms ≡ self.old.terms }
     {
-        let (stream, peer) = match self.listener.accept() {
-            Ok(accepted) => accepted,
-            Err(error) => {
-                let kind = error.kind();
-                // one that was aborted may be followed by others
-                self.knocks = kind == ErrorKind::ConnectionAborted;
-                self.failed = kind != ErrorKind::WouldBlock;
-                return None;
-            }
-        };
-        stream.set_nonblocking(true).ok()?;
+        let (mut stream, peer) = self.door.accept()?;
         if let Some(address) = self.peers.get_mut(slot) {
             *address = peer;
         }
-        // a connection to a path has nothing to delay
-        let _ = stream.set_nodelay(true);
-        let mut stream = TcpStream::from_std(stream);
         let both = Interest::READABLE | Interest::WRITABLE;
         let watched = self
             .poll
@@ -111,7 +97,7 @@ impl<R: Wait + Clock> MioPort<'_, R> {
     pub(crate) fn may_accept(&self) -> bool
         ensures { IsTrue result → self.now.accepted < self.now.terms.limit }
     {
-        self.knocks && self.accepted < self.terms.limit
+        self.door.is_open() && self.accepted < self.terms.limit
     }
 
     // Accepts a connection at a free slot, if there are both.
@@ -161,7 +147,10 @@ impl<R: Wait + Clock> MioPort<'_, R> {
         ensures { IsTrue result → slot_waits (slots_after self.now.book.moves slot) ≡ Some true }
     {
         match self.book.waits(slot) {
-            Some(true) => self.times.is_late(slot, &self.terms),
+            Some(true) => {
+                self.times.is_late(slot, &self.terms)
+                    || (self.door.is_ending && self.times.is_free(slot))
+            }
             _ => false,
         }
     }
@@ -236,12 +225,13 @@ impl<R: Wait + Clock> MioPort<'_, R> {
         self.report_idle()
     }
 
-    // Whether so many connections were accepted, and none is open or lingers.
+    // Whether all connections were accepted, or the port is to end, and none is open or lingers.
     pub(crate) fn is_done(&self) -> bool
-        ensures over { IsTrue result → self.now.accepted ≡ self.now.terms.limit }
+        ensures over { IsTrue result → (self.now.accepted ≡ self.now.terms.limit) ⊎ (self.now.door.is_ending ≡ true) }
         ensures idle { IsTrue result → (k : ℕ) → k < vec_len self.now.book.places
             → slot_waits (slots_after self.now.book.moves k) ≡ None }
     {
-        self.accepted == self.terms.limit && self.lingering.is_empty() && self.is_idle()
+        let is_over = self.accepted == self.terms.limit || self.door.is_ending;
+        is_over && self.lingering.is_empty() && self.is_idle()
     }
 }

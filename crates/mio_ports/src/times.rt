@@ -10,6 +10,8 @@ struct Wait {
     since: u64,
     // its last reply is sent, and no byte of another message has come
     is_idle: bool,
+    // the same, or no byte has come
+    is_free: bool,
 }
 
 /// Since when the connection of each slot waits.
@@ -26,6 +28,7 @@ impl Times {
         let none = Wait {
             since: 0,
             is_idle: false,
+            is_free: true,
         };
         let waits = vec![in alloc; none; slots]?;
         Ok(Times { waits, now: 0 })
@@ -38,21 +41,20 @@ impl Times {
             *wait = Wait {
                 since,
                 is_idle: false,
+                is_free: true,
             };
         }
     }
 
     /// Notes that bytes were read: they begin a message, or go on with one.
     pub(crate) fn read(&mut self, slot: usize) {
-        let since = self.now;
-        match self.waits.get_mut(slot) {
-            Some(wait) if wait.is_idle => {
-                *wait = Wait {
-                    since,
-                    is_idle: false,
-                };
+        let now = self.now;
+        if let Some(wait) = self.waits.get_mut(slot) {
+            if wait.is_idle {
+                wait.since = now;
             }
-            _ => {}
+            wait.is_idle = false;
+            wait.is_free = false;
         }
     }
 
@@ -63,6 +65,7 @@ impl Times {
             *wait = Wait {
                 since,
                 is_idle: true,
+                is_free: true,
             };
         }
     }
@@ -71,6 +74,7 @@ impl Times {
     pub(crate) fn held(&mut self, slot: usize) {
         if let Some(wait) = self.waits.get_mut(slot) {
             wait.is_idle = false;
+            wait.is_free = false;
         }
     }
 
@@ -85,6 +89,14 @@ impl Times {
             terms.message
         };
         self.now.saturating_sub(wait.since) > limit
+    }
+
+    /// Whether no message of the connection of a slot has begun whose reply isn't sent.
+    pub(crate) fn is_free(&self, slot: usize) -> bool {
+        match self.waits.get(slot) {
+            Some(wait) => wait.is_free,
+            None => false,
+        }
     }
 
     /// Since when the connection of a slot has been idle, if it is.

@@ -23,21 +23,31 @@ impl<R: Wait + Clock> MioPort<'_, R> {
         if now != self.times.now {
             self.times.now = now;
             self.is_due = true;
-            self.knocks |= self.failed;
+            self.door.retry();
         }
     }
 
     // How many milliseconds the sockets are waited for: none if there is something to do without them, and few if the
-    // port ends once no connection lingers.
+    // port is to end, or ends once no connection lingers.
     fn pause(&self) -> u64 {
         let accepts = self.may_accept() && self.free.len() > 0;
+        let lingers = !self.lingering.is_empty() && self.accepted == self.terms.limit;
         if accepts || self.ready.len() > 0 {
             0
-        } else if self.lingering.is_empty() || self.accepted < self.terms.limit {
-            1000
-        } else {
+        } else if self.door.is_ending || lingers {
             10
+        } else {
+            1000
         }
+    }
+
+    // Looks whether the port is asked to end: then each connection is to be looked at, and its listener may be let go.
+    fn note_sign(&mut self)
+        ensures book { self.new.book ≡ self.old.book }
+        ensures terms { self.new.terms ≡ self.old.terms }
+    {
+        self.door.look();
+        self.is_due |= self.door.is_ending;
     }
 
     // Waits for the sockets, and gives each slot that is ready its turn.
@@ -52,7 +62,7 @@ impl<R: Wait + Clock> MioPort<'_, R> {
             room = room.saturating_sub(1);
             let token = usize::from(event.token());
             if token == LISTENER {
-                self.knocks = true;
+                self.door.knock();
             } else {
                 self.ready.push(token);
                 self.drained.reported(token, event.is_read_closed());
@@ -60,6 +70,7 @@ impl<R: Wait + Clock> MioPort<'_, R> {
         }
         self.turns = self.ready.len();
         self.note_time();
+        self.note_sign();
         // with no room left the system may have more to report, of a connection that would be late
         if self.is_due && room > 0 {
             self.is_due = false;
@@ -71,7 +82,7 @@ impl<R: Wait + Clock> MioPort<'_, R> {
 }
 
 impl<R: Wait + Clock> Port for MioPort<'_, R> {
-    ghost use Rattle.std.specs.Prelude.{◌≡◌};
+    ghost use Rattle.std.specs.Prelude.{◌≡◌, ◌⊎◌, true};
     ghost use Rattle.port_books.specs.Books.{accepted_in, slots_after};
 
     ghost slots = { λ port. slots_after port.book.moves };
@@ -80,8 +91,8 @@ impl<R: Wait + Clock> Port for MioPort<'_, R> {
 
     ghost accepted = { λ port. accepted_in port.book.moves };
 
-    // so many connections were accepted
-    ghost is_over = { λ port. accepted_in port.book.moves ≡ port.terms.limit };
+    // so many connections were accepted, or it is to end
+    ghost is_over = { λ port. (accepted_in port.book.moves ≡ port.terms.limit) ⊎ (port.door.is_ending ≡ true) };
 
     fn peer(&self, slot: usize) -> Option<IpAddr> {
         *self.peers.get(slot)?
@@ -89,6 +100,10 @@ impl<R: Wait + Clock> Port for MioPort<'_, R> {
 
     fn capacity(&self) -> usize {
         self.book.capacity()
+    }
+
+    fn has_accepted_all(&self) -> bool {
+        self.accepted == self.terms.limit
     }
 
     fn wait(&mut self) -> Event {

@@ -6,7 +6,7 @@ use http_memory::{FixedClock, Shelf};
 use http_ports::Terms;
 use http_talks::{Connections, serve_port};
 use http_wire::Unwatched;
-use mio_ports::{Listener, MioPort};
+use mio_ports::{EndSign, Listener, MioPort};
 use std::alloc::Global;
 use std::net::{Net, TcpListener};
 use std::sync::{Arc, Wait};
@@ -38,7 +38,8 @@ fn serve_limited<R: Wait + Net + Clock + AllocGlobal>(
         message: 1,
         idle: 1,
     };
-    let mut port = MioPort::new(rt, listener, terms)?;
+    let sign = EndSign::new(false);
+    let mut port = MioPort::new(rt, listener, &sign, terms)?;
     let room = Connections::new(rt.alloc(), 1).ok()?;
     let site = Site {
         packages: &EMPTY,

@@ -11,7 +11,7 @@ use http_ports::{Terms, run};
 use http_sessions::Buffers;
 use http_talks::{Talk, Talks, Watched, WatchedTalks};
 use http_wire::Unwatched;
-use mio_ports::{Listener, MioPort};
+use mio_ports::{EndSign, Listener, MioPort};
 use std::alloc::Global;
 use std::io::{Read, Write};
 use std::net::{Net, Shutdown, TcpListener, TcpStream};
@@ -68,11 +68,12 @@ fn terms_of(limit: u64) -> Terms
     }
 }
 
-// Serves so many connections of a listener; for how many memory ran out.
+// Serves so many connections of a listener, or fewer if it is asked to end; for how many memory ran out.
 fn serve<R: Wait + Net + Clock + AllocGlobal>(
     rt: &R,
     listener: TcpListener,
     limit: u64,
+    sign: &EndSign,
 ) -> Option<u64> {
     let alloc = rt.alloc();
     let site = Site {
@@ -85,7 +86,7 @@ fn serve<R: Wait + Net + Clock + AllocGlobal>(
     let mut room = Buffers::new(alloc).ok()?;
     let mut conns: [Option<Talk>; 2] = [None, None];
     let listener = Arc::new(alloc, Listener::Tcp(listener)).ok()?;
-    let mut port = MioPort::new(rt, listener, terms_of(limit))?;
+    let mut port = MioPort::new(rt, listener, sign, terms_of(limit))?;
     Some(run(
         rt,
         &mut port,
@@ -121,7 +122,7 @@ fn wrong_client<'a>(alloc: Global, streams: &mut [TcpStream], rows: &'a str) -> 
 fn serves_others_beside_silent_clients_of_a_listener(rt: HostRuntime) -> Result<(), Fail> {
     let mut streams = Vec::new(rt.alloc());
     let listener = connect_all(&rt, &mut streams, CLIENTS).ok_or("no clients")?;
-    assert!(rt; serve(&rt, listener, 5) == Some(0));
+    assert!(rt; serve(&rt, listener, 5, &EndSign::new(false)) == Some(0));
     let wrong = wrong_client(rt.alloc(), &mut streams, CLIENTS);
     assert!(rt; wrong.is_empty(), "{wrong}");
     Ok(())
@@ -132,7 +133,7 @@ fn serves_others_beside_silent_clients_of_a_listener(rt: HostRuntime) -> Result<
 fn sends_packages_side_by_side_over_sockets(rt: HostRuntime) -> Result<(), Fail> {
     let mut streams = Vec::new(rt.alloc());
     let listener = connect_all(&rt, &mut streams, DOWNLOADS).ok_or("no clients")?;
-    assert!(rt; serve(&rt, listener, 3) == Some(0));
+    assert!(rt; serve(&rt, listener, 3, &EndSign::new(false)) == Some(0));
     let wrong = wrong_client(rt.alloc(), &mut streams, DOWNLOADS);
     assert!(rt; wrong.is_empty(), "{wrong}");
     Ok(())
@@ -164,7 +165,8 @@ fn serve_logged<R: Wait + Net + Clock + AllocGlobal>(
     let mut room = Buffers::new(alloc).ok()?;
     let mut conns: [Option<Watched<Seen>>; 2] = [None, None];
     let listener = Arc::new(alloc, Listener::Tcp(listener)).ok()?;
-    let mut port = MioPort::new(rt, listener, terms_of(2))?;
+    let sign = EndSign::new(false);
+    let mut port = MioPort::new(rt, listener, &sign, terms_of(2))?;
     Some(run(
         rt,
         &mut port,
@@ -194,6 +196,24 @@ fn serves_a_client_beside_one_of_many_messages(rt: HostRuntime) -> Result<(), Fa
     assert!(rt; serve_logged(&rt, listener, &mut lines) == Some(0));
     assert!(rt; lines_before_the_second(&lines) < 150);
     let wrong = wrong_client(rt.alloc(), &mut streams, PIPELINE);
+    assert!(rt; wrong.is_empty(), "{wrong}");
+    Ok(())
+}
+
+// A client that leaves its connection open once it has its reply, and one that sends nothing.
+const OPEN: &str = "\
+GET /a HTTP/1.1~~+|HTTP/1.1 404 Not Found~Content-Length: 0~~
++|";
+
+// rule: Events of a port
+#[test]
+fn a_port_that_is_asked_to_end_closes_what_waits(rt: HostRuntime) -> Result<(), Fail> {
+    let mut streams = Vec::new(rt.alloc());
+    let listener = connect_all(&rt, &mut streams, OPEN).ok_or("no clients")?;
+    let sign = EndSign::new(false);
+    sign.set();
+    assert!(rt; serve(&rt, listener, 9, &sign) == Some(0));
+    let wrong = wrong_client(rt.alloc(), &mut streams, OPEN);
     assert!(rt; wrong.is_empty(), "{wrong}");
     Ok(())
 }

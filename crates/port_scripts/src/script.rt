@@ -1,6 +1,6 @@
 // A port over peers in memory.
 
-ghost use Rattle.std.specs.Prelude.{◌≡◌, ◌+◌, ◌<◌, ◌≤◌, ◌^◌, ℕ, IfNone, IfSome, IsSome, vec_len};
+ghost use Rattle.std.specs.Prelude.{◌≡◌, ◌+◌, ◌<◌, ◌≤◌, ◌^◌, ℕ, IfNone, IfSome, IsSome, IsTrue, vec_len};
 ghost use Rattle.http_ports.specs.Ports.{Reports, accepted_by};
 ghost use Rattle.http_ports.specs.Traffic.{unused};
 ghost use Rattle.port_scripts.specs.Seats.{AreDone, IsOfSlot, IsQuietAt, accepted_in, peers_in, peers_of, slots_of};
@@ -37,6 +37,19 @@ fn count_peers(seats: &[Seat]) -> Option<u64>
         count = count.checked_add(seat.peers.len() as u64)?;
     }
     Some(count)
+}
+
+// Whether each peer has connected and ended.
+fn all_done(seats: &[Seat]) -> bool
+    ensures { IsTrue result → AreDone seats.now }
+{
+    for slot in 0..seats.len() {
+        let seat = &seats[slot];
+        if seat.is_open || seat.ended != seat.peers.len() {
+            return false;
+        }
+    }
+    true
 }
 
 impl Script {
@@ -180,6 +193,10 @@ impl Port for Script {
 
     fn capacity(&self) -> usize {
         self.seats.len()
+    }
+
+    fn has_accepted_all(&self) -> bool {
+        all_done(&self.seats)
     }
 
     fn wait(&mut self) -> Event {

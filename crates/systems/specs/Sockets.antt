@@ -1,5 +1,5 @@
 -- Ports over sockets, as they are opened; this project's profile.
-use Rattle.std.specs.Prelude.{◌≡◌, ℕ, true, IfSome, List, Option}
+use Rattle.std.specs.Prelude.{◌≡◌, ◌⊎◌, ℕ, true, IfSome, List, Option}
 use Rattle.http_desks.specs.Downloads.{Reads}
 use Rattle.http_devices.specs.Names.{is_file_name}
 use Rattle.mio_ports.specs.declared.port.MioPort.{MioPort}
@@ -10,7 +10,7 @@ use Rattle.systems.specs.NewPorts.{IsNew}
 abbrev pub IsNewSocketPort : {R : Type 0} → MioPort R → Type 0
 IsNewSocketPort port =
     IsNew (λ p. p.terms) (λ p. slots_after p.book.moves) (λ p. accepted_in p.book.moves)
-    (λ p. accepted_in p.book.moves ≡ p.terms.limit) port
+    (λ p. (accepted_in p.book.moves ≡ p.terms.limit) ⊎ (p.door.is_ending ≡ true)) port
 
 -- a size, and bytes, are those of a file of the folder
 abbrev pub has_size : List ℕ → Option ℕ → Type 0

@@ -10,5 +10,5 @@
 mod sockets;
 mod system;
 
-pub use crate::sockets::{LogFile, Sockets};
+pub use crate::sockets::{EndSigns, LogFile, Sockets};
 pub use crate::system::{OpenError, System};

@@ -9,7 +9,7 @@ use http_devices::{Folder, SystemClock};
 use http_ports::{Terms, WatchEach};
 use http_talks::{Connections, serve_port};
 use http_wire::Unwatched;
-use mio_ports::{Listener, MioPort};
+use mio_ports::{EndSign, Listener, MioPort};
 use std::alloc::{AllocError, Global};
 use std::fs::{File, OpenOptions, Permissions};
 use std::io;
@@ -41,11 +41,40 @@ impl LogFile for File {
     }
 }
 
+/// Whether ports are asked to end, by the number of their listener.
+#[derive(Drop)]
+pub struct EndSigns {
+    clients: EndSign,
+    operator: EndSign,
+}
+
+impl EndSigns {
+    /// No port is asked to end. The operator's listener stays bound until its port is gone, so that whoever waits for the
+    /// end of a server sees it there.
+    pub fn new() -> EndSigns {
+        EndSigns {
+            clients: EndSign::new(false),
+            operator: EndSign::new(true),
+        }
+    }
+
+    // The sign of the ports of a listener's number.
+    fn sign(&self, listener: u64) -> &EndSign {
+        if listener == 0 {
+            &self.clients
+        } else {
+            &self.operator
+        }
+    }
+}
+
 /// The sockets, files and clock of a runtime, as a server's system.
 #[derive(Drop)]
 pub struct Sockets<'a, R> {
     /// The runtime.
     pub rt: &'a R,
+    /// Whether its ports are asked to end: those of the listener 0, and all others.
+    pub signs: &'a EndSigns,
 }
 
 // The number in a line of `/proc/self/limits` that says how many files may be open.
@@ -116,12 +145,14 @@ fn has_room(listener: &Listener) -> bool {
 fn open_one<'a, R: Net + Clock + Wait + AllocGlobal>(
     rt: &'a R,
     listener: &Arc<Listener, Global>,
+    signs: &'a EndSigns,
     terms: Terms,
 ) -> Result<MioPort<'a, R>, OpenError>
     ensures terms { IfOk result (λ port. port.terms ≡ terms) }
     ensures new { IfOk result IsNewSocketPort }
 {
-    match MioPort::new(rt, listener.clone()?, terms) {
+    let sign = signs.sign(terms.listener);
+    match MioPort::new(rt, listener.clone()?, sign, terms) {
         Some(port) => Ok(port),
         None if has_room(&**listener) => Err(OpenError::Memory),
         None => Err(OpenError::Net),
@@ -132,6 +163,7 @@ fn open_one<'a, R: Net + Clock + Wait + AllocGlobal>(
 fn open_all<'a, R: Net + Clock + Wait + AllocGlobal>(
     rt: &'a R,
     listener: &Arc<Listener, Global>,
+    signs: &'a EndSigns,
     terms: &[Terms],
 ) -> Result<Vec<MioPort<'a, R>>, OpenError>
     ensures terms { IfOk result (λ ports. map (λ port. port.terms) ports.items ≡ terms.now) }
@@ -139,7 +171,7 @@ fn open_all<'a, R: Net + Clock + Wait + AllocGlobal>(
 {
     let mut ports = Vec::new(rt.alloc());
     for each in terms {
-        let port = open_one(rt, listener, *each)?;
+        let port = open_one(rt, listener, signs, *each)?;
         let Ok(()) = ports.push(port) else {
             return Err(OpenError::Memory);
         };
@@ -183,7 +215,7 @@ where
         let Ok(listener) = Arc::new(self.rt.alloc(), listener) else {
             return Err(OpenError::Memory);
         };
-        open_all(self.rt, &listener, terms)
+        open_all(self.rt, &listener, self.signs, terms)
     }
 
     fn address_of(
@@ -196,6 +228,10 @@ where
             Some(given) => format!(in alloc; "{given}"),
             None => format!(in alloc; "{address}"),
         }
+    }
+
+    fn end_ports(&self, listener: u64) {
+        self.signs.sign(listener).set();
     }
 
     fn close_address(&self, address: &str) {

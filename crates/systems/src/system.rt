@@ -57,6 +57,10 @@ pub trait System<P: Port> {
     /// Writes the address of a port that was opened at this one, with the number that the system gave for port 0.
     fn address_of(&self, alloc: Global, port: &P, address: &str) -> Result<String, AllocError>;
 
+    /// Has the ports of a listener's number end, within a second or so: they accept no more connections, end those that
+    /// wait for the first byte of a message, and serve the others until their last reply is sent.
+    fn end_ports(&self, _listener: u64) {}
+
     /// Lets go what an address has in the system once its ports are closed: the socket at a path.
     fn close_address(&self, _address: &str) {}
 
