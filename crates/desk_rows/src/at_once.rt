@@ -10,7 +10,7 @@ use std::io;
 use std::sync::Wait;
 use std::thread::{Threads, join};
 use std::time::Clock;
-use systems::{Sockets, System};
+use systems::{EndSigns, Sockets, System};
 use values::Text;
 
 // Two workers at a free port, and no connection.
@@ -78,5 +78,10 @@ fn serves<
 // rule: Run of a server
 #[test]
 fn workers_of_a_server_begin_at_once_after_their_gate(rt: HostRuntime) {
-    assert!(rt; serves(&rt, &Sockets { rt: &rt }) == Some(true));
+    let signs = EndSigns::new();
+    let sockets = Sockets {
+        rt: &rt,
+        signs: &signs,
+    };
+    assert!(rt; serves(&rt, &sockets) == Some(true));
 }

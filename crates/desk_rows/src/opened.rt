@@ -10,6 +10,7 @@ use service_desks::Worker;
 use std::alloc::{AllocError, Global};
 use std::sync::Wait;
 use std::thread::Threads;
+use tallies::Uncounted;
 
 // One second after 01:01 on 1 January 2026.
 const STOPPED: FixedClock = FixedClock {
@@ -58,7 +59,7 @@ fn end_of(served: &Result<Served, Fault>) -> &'static str {
 // Serves a connection by the desk of a worker, and returns how the session ended.
 fn serve_at<R: Wait + AllocGlobal, T: Till>(
     rt: &R,
-    desk: &mut Worker<'_, R, T>,
+    desk: &mut Worker<'_, R, T, Uncounted>,
     connection: &mut Connection<'_>,
 ) -> &'static str {
     let Connection { input, output } = connection;
@@ -68,7 +69,7 @@ fn serve_at<R: Wait + AllocGlobal, T: Till>(
 // Serves what is sent up to each byte but the last; returns how often that is unfinished and gets nothing.
 fn serve_cuts<R: Wait + AllocGlobal, T: Till>(
     rt: &R,
-    desk: &mut Worker<'_, R, T>,
+    desk: &mut Worker<'_, R, T, Uncounted>,
     connection: &mut Connection<'_>,
 ) -> usize {
     let sent = connection.input.left;
@@ -111,7 +112,7 @@ fn ended_before(how: &'static str) -> Ended {
 // Serves a connection by a desk: how often it was unfinished, and how it ended.
 fn serve_all<R: Wait + AllocGlobal, T: Till>(
     rt: &R,
-    desk: &mut Worker<'_, R, T>,
+    desk: &mut Worker<'_, R, T, Uncounted>,
     session: &mut OneSession<'_, '_>,
 ) -> (usize, &'static str) {
     let unfinished = if session.is_cut {

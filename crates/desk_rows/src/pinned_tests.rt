@@ -7,6 +7,7 @@ use service_desks::Worker;
 use std::alloc::{AllocError, Global};
 use std::sync::Wait;
 use std::thread::Threads;
+use tallies::Uncounted;
 
 // The update check of a client at 2.0 with a prefix.
 fn check_with(alloc: Global, prefix: &str) -> Result<String, AllocError> {
@@ -17,7 +18,7 @@ fn check_with(alloc: Global, prefix: &str) -> Result<String, AllocError> {
 
 // The bytes that a worker asks for of that client; 0 if it asks for none.
 fn asked_for<R: Wait + AllocGlobal>(
-    worker: &mut Worker<'_, R, PlainTill>,
+    worker: &mut Worker<'_, R, PlainTill, Uncounted>,
     prefix: &str,
 ) -> Option<u64> {
     let body = check_with(worker.rt.alloc(), prefix).ok()?;
@@ -32,7 +33,7 @@ fn asked_for<R: Wait + AllocGlobal>(
 
 // Whether it asks for so many bytes of clients with the prefixes 3 and 4, twice in turn.
 fn asks<R: Wait + AllocGlobal>(
-    worker: &mut Worker<'_, R, PlainTill>,
+    worker: &mut Worker<'_, R, PlainTill, Uncounted>,
     three: u64,
     four: u64,
 ) -> bool {

@@ -9,6 +9,7 @@ use service_desks::Worker;
 use std::alloc::Global;
 use std::sync::Wait;
 use std::thread::Threads;
+use tallies::{Cell, Kind, Outcome, Tally, Track, Uncounted};
 
 // A press, with its one view.
 fn open_one<R: Threads + Wait>(rt: &R, alloc: Global) -> Option<(Press, View)> {
@@ -28,14 +29,14 @@ fn worker_of<'a, R: Wait + AllocGlobal>(
     rt: &'a R,
     view: View,
     grants: bool,
-) -> Option<Worker<'a, R, PlainTill>> {
+) -> Option<Worker<'a, R, PlainTill, Uncounted>> {
     let mirrors = mirrors_of(rt.alloc(), "1000000").ok()?;
     Some(Worker::new(rt, view, PlainTill::new(mirrors, grants)))
 }
 
 // What a body gets, one second after 01:01 on 1 January 2026.
 fn send<R: Wait + AllocGlobal>(
-    worker: &mut Worker<'_, R, PlainTill>,
+    worker: &mut Worker<'_, R, PlainTill, Uncounted>,
     body: &str,
 ) -> Option<String> {
     let answer = worker.answer(body.as_bytes(), 1767229261);
@@ -47,7 +48,7 @@ const CHECK: &str =
     r#"{"request":{"app":[{"appid":"demo","cohort":"stable:0","packages":{"package":[{"fp":"1.2222222222222222222222222222222222222222222222222222222222222222"}]},"updatecheck":{},"version":"2.0"}],"protocol":"3.1"}}"#;
 
 // What that client gets.
-fn ask<R: Wait + AllocGlobal>(worker: &mut Worker<'_, R, PlainTill>) -> Option<String> {
+fn ask<R: Wait + AllocGlobal>(worker: &mut Worker<'_, R, PlainTill, Uncounted>) -> Option<String> {
     send(worker, CHECK)
 }
 
@@ -59,7 +60,9 @@ fn has(reply: Option<String>, words: &str) -> bool {
 }
 
 // Whether a worker says that no mirror has room.
-fn says_busy<R: Wait + AllocGlobal>(worker: &mut Worker<'_, R, PlainTill>) -> Option<bool> {
+fn says_busy<R: Wait + AllocGlobal>(
+    worker: &mut Worker<'_, R, PlainTill, Uncounted>,
+) -> Option<bool> {
     let body = request_of(worker.rt.alloc(), 1).ok()?;
     let reply = send(worker, body.as_str())?;
     Some(reply.as_str().strip_prefix("200 ") == Some(BUSY))
@@ -107,7 +110,7 @@ fn replies_by_the_edition_that_it_enters(rt: HostRuntime) {
 }
 
 // Whether a worker knows the package of 2.0.
-fn knows<R: Wait + AllocGlobal>(worker: &mut Worker<'_, R, PlainTill>) -> bool {
+fn knows<R: Wait + AllocGlobal>(worker: &mut Worker<'_, R, PlainTill, Uncounted>) -> bool {
     match worker.package(b"demo-2.0.bin") {
         Some(declared) => declared.size == 1200,
         None => false,
@@ -118,7 +121,7 @@ fn knows<R: Wait + AllocGlobal>(worker: &mut Worker<'_, R, PlainTill>) -> bool {
 fn closes<R: Threads + Wait + AllocGlobal>(
     rt: &R,
     press: Press,
-    worker: &mut Worker<'_, R, PlainTill>,
+    worker: &mut Worker<'_, R, PlainTill, Uncounted>,
 ) -> bool {
     let is_known = knows(worker);
     press.end(rt);
@@ -145,4 +148,55 @@ fn is_closed_once_the_press_has_ended(rt: HostRuntime) {
         panic!(rt; "no press")
     };
     assert!(rt; is_closed(&rt, press, view));
+}
+
+// An update check of an app that isn't there, none of one that is, and one that is disabled.
+const OTHERS: &str =
+    r#"{"request":{"app":[{"appid":"none","updatecheck":{}},{"appid":"demo"},{"appid":"demo","cohort":"stable:0","updatecheck":{"updatedisabled":true}}],"protocol":"3.1"}}"#;
+
+// Replies to both bodies, and counts in a tally.
+fn reply_to_both<R: Wait + AllocGlobal>(
+    rt: &R,
+    view: View,
+    grants: bool,
+    tally: &Tally,
+) -> Option<bool> {
+    let till = PlainTill::new(mirrors_of(rt.alloc(), "1000000").ok()?, grants);
+    let mut worker = Worker::with_counter(rt, view, till, 0, tally);
+    let is_replied = worker.answer(CHECK.as_bytes(), 1).is_ok();
+    Some(is_replied && worker.answer(OTHERS.as_bytes(), 1).is_ok())
+}
+
+fn checks(tally: &Tally, outcome: Outcome) -> u64 {
+    tally.number(Cell::Checks(Track { app: 0, cohort: 0 }, outcome))
+}
+
+// What was counted: offers, their bytes, checks without an update or without room, and of unknown apps.
+fn counted(tally: &Tally) -> [u64; 5] {
+    [
+        checks(tally, Outcome::Offered),
+        tally.number(Cell::Bytes(0, Kind::Differential)),
+        checks(tally, Outcome::NoUpdate),
+        checks(tally, Outcome::Internal),
+        tally.number(Cell::Unknown),
+    ]
+}
+
+// What a worker counts that grants all, or nothing.
+fn count_both<R: Threads + Wait + AllocGlobal>(rt: &R, grants: bool) -> Option<[u64; 5]> {
+    let tally = Tally::new(rt.alloc(), 1, &[2]).ok()?;
+    let (press, view) = open_one(rt, rt.alloc())?;
+    let is_replied = reply_to_both(rt, view, grants, &tally);
+    press.end(rt);
+    match is_replied {
+        Some(true) => Some(counted(&tally)),
+        _ => None,
+    }
+}
+
+// rule: Counted update check
+#[test]
+fn counts_what_it_replies(rt: HostRuntime) {
+    assert!(rt; count_both(&rt, true) == Some([1, 200, 1, 0, 1]));
+    assert!(rt; count_both(&rt, false) == Some([0, 0, 1, 1, 1]));
 }

@@ -1,5 +1,6 @@
 pub mod Answering
 pub mod Asking
+pub mod Counting
 pub mod Entries
 pub mod Keeping
 pub mod Kept

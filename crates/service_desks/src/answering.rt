@@ -11,15 +11,17 @@ use mirror_ledger::Till;
 use omaha_json::read_request;
 use std::alloc::Global;
 use std::sync::Wait;
+use tallies::CountChecks;
 use values::ReadError;
 
 // rule: Desk of a worker
 /// Replies to a message: reads it first, and enters an edition only for a request.
-pub(crate) fn answer_by<T: Till, R: Wait>(
+pub(crate) fn answer_by<T: Till, R: Wait, C: CountChecks>(
     rt: &R,
     alloc: Global,
     view: &mut HeldView,
     till: &mut T,
+    counter: &C,
     body: &[u8],
     moment: u64,
 ) -> Result<Answer, Off>
@@ -30,7 +32,7 @@ pub(crate) fn answer_by<T: Till, R: Wait>(
         → T.alone till.new × GrantsFirst (T.mirrors till.old) (T.asks till.old) (T.asks till.new) }
 {
     match read_request(alloc, body) {
-        Ok(request) => match view.reply(rt, alloc, till, moment, &request) {
+        Ok(request) => match view.reply(rt, alloc, till, counter, moment, &request) {
             Ok(reply) => Ok(Answer {
                 status: DeskStatus::Success,
                 body: reply,

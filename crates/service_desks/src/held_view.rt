@@ -4,6 +4,7 @@ ghost use Rattle.std.specs.Prelude.{◌≡◌, MatchResult, Ok, Err};
 ghost use Rattle.service_desks.specs.Workers.{Finds, Replies};
 ghost use Rattle.service_desks.specs.Asking.{GrantsFirst};
 
+use crate::asked::Asked;
 use crate::kept_tables::KeptTables;
 use crate::replying::{find_by, reply_by};
 use http_desks::{Declared, Off};
@@ -13,6 +14,7 @@ use publisher::View;
 use std::alloc::Global;
 use std::marker::Model;
 use std::sync::Wait;
+use tallies::CountChecks;
 
 /// A view that enters an edition for each call, which contracts see as the view.
 ///
@@ -68,12 +70,14 @@ impl HeldView {
         }
     }
 
-    /// Replies to a request from the edition that the view enters, by what a till grants.
-    pub fn reply<T: Till, R: Wait>(
+    /// Replies to a request from the edition that the view enters, by what a till grants, and shows a counter what the
+    /// update checks came to.
+    pub fn reply<T: Till, R: Wait, C: CountChecks>(
         &mut self,
         rt: &R,
         alloc: Global,
         till: &mut T,
+        counter: &C,
         moment: u64,
         request: &Request,
     ) -> Result<Vec<u8>, Off>
@@ -89,7 +93,8 @@ impl HeldView {
         let Some(view) = self.view.take() else {
             unreachable!()
         };
-        let (reply, view) = reply_by(rt, alloc, view, &mut self.kept, till, moment, request);
+        let asked = Asked { request, moment };
+        let (reply, view) = reply_by(rt, alloc, view, &mut self.kept, till, counter, &asked);
         self.view = Some(view);
         reply
     }

@@ -5,15 +5,18 @@
 //! offers, and offers nothing that no mirror granted: read `specs/Asking.antt` and `specs/Answering.antt`.
 //! `find_package` finds what a catalogue declares of a package. A `Worker` is the `Desk` of `http_desks` that enters the
 //! published edition for each request, and replies from that edition alone: read `specs/Entries.antt` and
-//! `specs/Workers.antt`. An `Operator` is the desk that borrows the press and the budgets: read `specs/Scripts.antt`,
-//! `specs/Raises.antt` and `specs/Operators.antt`. `perform_script` publishes a script without a desk.
+//! `specs/Workers.antt`. Its counter is shown what each update check came to: read `specs/Counting.antt`. An `Operator`
+//! is the desk that borrows the press and the budgets: read `specs/Scripts.antt`, `specs/Raises.antt` and
+//! `specs/Operators.antt`. `perform_script` publishes a script without a desk.
 //!
 //! It opens no press and no books, reads no stream and starts no session.
 
 #![tactic(auto)]
 
 mod answering;
+mod asked;
 mod asking;
+mod counting;
 mod dumps;
 mod held_view;
 mod kept_tables;
@@ -26,6 +29,7 @@ mod scripts;
 mod update_checks;
 mod worker;
 
+pub use crate::asked::Asked;
 pub use crate::held_view::HeldView;
 pub use crate::operator::Operator;
 pub use crate::packages::find_package;

@@ -5,34 +5,35 @@ ghost use Rattle.service_desks.specs.Kept.{AreKept};
 ghost use Rattle.service_desks.specs.Workers.{Finds, Replies};
 ghost use Rattle.service_desks.specs.Asking.{GrantsFirst};
 
+use crate::asked::Asked;
 use crate::kept_tables::KeptTables;
 use crate::packages::find_package;
 use crate::update_checks::reply_to;
 use http_desks::{Declared, Off};
 use mirror_ledger::Till;
-use omaha_json::Request;
 use publisher::View;
 use std::alloc::Global;
 use std::sync::Wait;
+use tallies::CountChecks;
 
 // rule: Reply of a worker
 // rule: Entry for a call
 /// Replies to a request from the edition that a view enters, by what a till grants, and gives the view back.
-pub(crate) fn reply_by<T: Till, R: Wait>(
+pub(crate) fn reply_by<T: Till, R: Wait, C: CountChecks>(
     rt: &R,
     alloc: Global,
     view: View,
     kept: &mut KeptTables,
     till: &mut T,
-    moment: u64,
-    request: &Request,
+    counter: &C,
+    asked: &Asked<'_>,
 ) -> (Result<Vec<u8>, Off>, View)
     requires { AreKept view kept.old }
     ensures replies { MatchResult result.0
-        (λ text. Replies (T.mirrors till.old) (record { sight = view; asks = T.asks till.old }) request.now moment
-        (Ok text.items) (record { sight = result.1; asks = T.asks till.new }))
-        (λ off. Replies (T.mirrors till.old) (record { sight = view; asks = T.asks till.old }) request.now moment
-        (Err off) (record { sight = result.1; asks = T.asks till.new })) }
+        (λ text. Replies (T.mirrors till.old) (record { sight = view; asks = T.asks till.old })
+        asked.now.request.now asked.now.moment (Ok text.items) (record { sight = result.1; asks = T.asks till.new }))
+        (λ off. Replies (T.mirrors till.old) (record { sight = view; asks = T.asks till.old })
+        asked.now.request.now asked.now.moment (Err off) (record { sight = result.1; asks = T.asks till.new })) }
     ensures mirrors { T.mirrors till.new ≡ T.mirrors till.old }
     ensures alone { T.alone till.old
         → T.alone till.new × GrantsFirst (T.mirrors till.old) (T.asks till.old) (T.asks till.new) }
@@ -45,7 +46,7 @@ pub(crate) fn reply_by<T: Till, R: Wait>(
     let edition = entered.edition();
     let _catalogue = edition.catalogue();
     kept.turn_to(edition);
-    match reply_to(rt, alloc, edition, &mut kept.tables, till, moment, request) {
+    match reply_to(rt, alloc, edition, &mut kept.tables, till, counter, asked) {
         Ok(text) => (Ok(text), entered.leave()),
         Err(_) => (Err(Off::Memory), entered.leave()),
     }

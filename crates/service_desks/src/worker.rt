@@ -6,6 +6,7 @@ use http_desks::{Answer, Declared, Desk, Off, Page};
 use mirror_ledger::Till;
 use publisher::View;
 use std::sync::Wait;
+use tallies::{CountChecks, Uncounted};
 
 // rule: Desk of a worker
 /// The desk of update checks, by a view of the published editions and a till.
@@ -15,18 +16,20 @@ use std::sync::Wait;
 /// if memory runs out, and what was granted before stays so; and if its view enters nothing, as after the press has
 /// ended. A package is looked up in the edition that its view enters, and isn't found if there is none. It shows no page.
 #[derive(Drop)]
-pub struct Worker<'a, R: Wait + AllocGlobal, T: Till> {
+pub struct Worker<'a, R: Wait + AllocGlobal, T: Till, C: CountChecks> {
     /// What waits for locks and has the memory of replies.
     pub rt: &'a R,
     /// The view.
     pub view: HeldView,
     /// What grants the bytes of update checks.
     pub till: T,
+    /// What is shown each update check that was replied to.
+    pub counter: C,
 }
 
-impl<'a, R: Wait + AllocGlobal, T: Till> Worker<'a, R, T> {
-    /// Makes a worker of a view and a till, which keeps no tables.
-    pub fn new(rt: &'a R, view: View, till: T) -> Worker<'a, R, T>
+impl<'a, R: Wait + AllocGlobal, T: Till> Worker<'a, R, T, Uncounted> {
+    /// Makes a worker of a view and a till, which keeps no tables and counts nothing.
+    pub fn new(rt: &'a R, view: View, till: T) -> Worker<'a, R, T, Uncounted>
         ensures view { result.view ≡ view }
         ensures till { result.till ≡ till }
     {
@@ -34,16 +37,40 @@ impl<'a, R: Wait + AllocGlobal, T: Till> Worker<'a, R, T> {
     }
 
     // rule: Tables that a worker keeps
-    /// Makes a worker of a view and a till, which keeps so many tables of pinned clients' tracks at most.
+    /// Makes a worker of a view and a till, which keeps so many tables of pinned clients' tracks at most, and counts
+    /// nothing.
     ///
     /// Its replies are those of a worker that keeps none. A table takes some 24 bytes for each release of its app.
     /// Making the worker takes no memory. If memory runs out for keeping a table, it is not kept.
-    pub fn with_tables(rt: &'a R, view: View, till: T, tables: usize) -> Worker<'a, R, T>
+    pub fn with_tables(rt: &'a R, view: View, till: T, tables: usize) -> Worker<'a, R, T, Uncounted>
+        ensures view { result.view ≡ view }
+        ensures till { result.till ≡ till }
+    {
+        Worker::with_counter(rt, view, till, tables, Uncounted)
+    }
+}
+
+impl<'a, R: Wait + AllocGlobal, T: Till, C: CountChecks> Worker<'a, R, T, C> {
+    /// Makes a worker as `with_tables` does, whose counter is shown each update check that was replied to.
+    ///
+    /// The replies are the same.
+    pub fn with_counter(
+        rt: &'a R,
+        view: View,
+        till: T,
+        tables: usize,
+        counter: C,
+    ) -> Worker<'a, R, T, C>
         ensures view { result.view ≡ view }
         ensures till { result.till ≡ till }
     {
         let view = HeldView::with_tables(view, tables);
-        Worker { rt, view, till }
+        Worker {
+            rt,
+            view,
+            till,
+            counter,
+        }
     }
 
     /// Gives the view and the till back.
@@ -56,7 +83,7 @@ impl<'a, R: Wait + AllocGlobal, T: Till> Worker<'a, R, T> {
     }
 }
 
-impl<R: Wait + AllocGlobal, T: Till> Desk for Worker<'_, R, T> {
+impl<R: Wait + AllocGlobal, T: Till, C: CountChecks> Desk for Worker<'_, R, T, C> {
     ghost use Rattle.std.specs.Prelude.{◌≡◌};
     ghost use Rattle.service_desks.specs.Workers.{IsCall};
     ghost use Rattle.service_desks.specs.Asking.{GrantsFirst};
@@ -82,7 +109,15 @@ impl<R: Wait + AllocGlobal, T: Till> Desk for Worker<'_, R, T> {
 
     fn answer(&mut self, body: &[u8], moment: u64) -> Result<Answer, Off> {
         let alloc = self.rt.alloc();
-        answer_by(self.rt, alloc, &mut self.view, &mut self.till, body, moment)
+        answer_by(
+            self.rt,
+            alloc,
+            &mut self.view,
+            &mut self.till,
+            &self.counter,
+            body,
+            moment,
+        )
     }
 
     fn package(&mut self, name: &[u8]) -> Option<Declared> {
