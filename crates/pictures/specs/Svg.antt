@@ -1,10 +1,8 @@
 -- Pictures as SVG images: SVG 1.1, and the colours of a light and a dark page by CSS; this project's profile.
-use Rattle.std.specs.Prelude.{ℕ, ◌+◌, ◌-◌, ◌*◌, ◌/◌, max, nat_lt, if◌then◌else◌, codes, decimal, List, ◌++◌, flat_map, fold, length}
+use Rattle.std.specs.Prelude.{ℕ, ◌+◌, ◌-◌, ◌*◌, ◌/◌, ◌%◌, max, nat_lt, if◌then◌else◌, codes, decimal, List, ◌++◌, flat_map, fold, length}
 use Rattle.records.specs.declared.content.App.{App}
 use Rattle.reviews.specs.Lines.{spelled_at}
 use Rattle.markup.specs.Escaping.{escaped_string}
-use Rattle.payload_graph.specs.declared.payload.Payload.{Payload}
-use Rattle.payload_graph.specs.declared.payload.Payload.TheVariants.{Full, Differ}
 use Rattle.pictures.specs.Labels.{arrow_tip, bytes_of, goals_string, kind_word, label_string, node_tip, pen_string, word_if}
 use Rattle.pictures.specs.declared.arrows.Arrow.{Arrow}
 use Rattle.pictures.specs.declared.nodes.Goal.{Goal}
@@ -127,12 +125,13 @@ frame_string app picture =
 abbrev pub row_of : ℕ → ℕ
 row_of release = 132 + 44 * release
 
--- how far to the left a package's curve is drawn, and how far to the left its bytes end
+-- how far to the left a package's curve is drawn
 abbrev pub bow_of : Arrow → ℕ
 bow_of arrow = 44 + 12 * span_of arrow
 
-abbrev pub apex_of : Arrow → ℕ
-apex_of arrow = 42 + 9 * span_of arrow
+-- how far to the left its bytes end: beside the middle of a downgrade, and beside the beginning of another curve
+abbrev pub bytes_end : Arrow → ℕ
+bytes_end arrow = if nat_lt arrow.to arrow.from then 42 + 9 * span_of arrow else 54 + 3 * span_of arrow
 
 -- how far down its curve begins and ends: it leaves a release below its middle and reaches another above its middle, and the
 -- other way round for a downgrade
@@ -142,16 +141,12 @@ start_of arrow = if nat_lt arrow.to arrow.from then row_of arrow.from - 4 else r
 abbrev pub end_of : Arrow → ℕ
 end_of arrow = if nat_lt arrow.to arrow.from then row_of arrow.to + 4 else row_of arrow.to - 4
 
--- how far below a release the bytes of a package that starts there are written
-abbrev pub bytes_below : Payload → ℕ
-bytes_below (Full release) = 34
-bytes_below (Differ index) = 21
-
--- how far down they are written: beside the middle of a downgrade, and below the release that a package starts at
+-- how far down they are written: beside the middle of a downgrade, and below the release that another package starts at; the
+-- bytes of packages that start at one release and lead up to three releases further than one another have rows of their own
 abbrev pub bytes_row : Arrow → ℕ
 bytes_row arrow =
     if nat_lt arrow.to arrow.from then (row_of arrow.from + row_of arrow.to) / 2 + 4
-    else row_of arrow.from + bytes_below arrow.payload
+    else row_of arrow.from + 8 + 11 * (span_of arrow % 4)
 
 -- an element of what is said of a release or of a package, which a browser shows beside the pointer
 abbrev pub tip_title : List ℕ → List ℕ
@@ -217,7 +212,7 @@ arrow_path app arrow =
 -- the bytes of a package, beside its curve
 abbrev pub arrow_bytes : App → Arrow → List ℕ
 arrow_bytes app arrow =
-    codes "<text class=\"bytes\" x=\"-" ++ (decimal (apex_of arrow) ++ (codes "\" y=\"" ++ (decimal (bytes_row arrow)
+    codes "<text class=\"bytes\" x=\"-" ++ (decimal (bytes_end arrow) ++ (codes "\" y=\"" ++ (decimal (bytes_row arrow)
     ++ (codes "\">" ++ (decimal (bytes_of app arrow.payload) ++ codes " B</text>")))))
 
 -- the line of a package with its parts

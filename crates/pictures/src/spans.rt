@@ -1,10 +1,9 @@
 //! Where the parts of an SVG image are.
 
 ghost use Rattle.std.specs.Prelude.{◌≡◌};
-ghost use Rattle.pictures.specs.Svg.{apex_of, bow_of, bytes_row, end_of, row_of, span_of, start_of};
+ghost use Rattle.pictures.specs.Svg.{bow_of, bytes_end, bytes_row, end_of, row_of, span_of, start_of};
 
 use crate::arrows::Arrow;
-use payload_graph::Payload;
 
 /// How far down a release is.
 pub(crate) fn row_of(release: usize) -> u128
@@ -31,11 +30,15 @@ pub(crate) fn bow_of(arrow: &Arrow) -> u128
     44 + 12 * (span_of(arrow) as u128)
 }
 
-/// How far to the left an arrow's bytes end.
-pub(crate) fn apex_of(arrow: &Arrow) -> u128
-    ensures { result ≡ apex_of arrow.now }
+/// How far to the left an arrow's bytes end: beside the middle of a downgrade, and beside the beginning of another curve.
+pub(crate) fn bytes_end(arrow: &Arrow) -> u128
+    ensures { result ≡ bytes_end arrow.now }
 {
-    42 + 9 * (span_of(arrow) as u128)
+    if arrow.to < arrow.from {
+        42 + 9 * (span_of(arrow) as u128)
+    } else {
+        54 + 3 * (span_of(arrow) as u128)
+    }
 }
 
 /// How far down a package's curve begins.
@@ -60,15 +63,14 @@ pub(crate) fn end_of(arrow: &Arrow) -> u128
     }
 }
 
-/// How far down a package's bytes are written: beside the middle of a downgrade, and below the release that a package starts at.
+/// How far down a package's bytes are written: beside the middle of a downgrade, and below the release that another
+/// package starts at.
 pub(crate) fn bytes_row(arrow: &Arrow) -> u128
     ensures { result ≡ bytes_row arrow.now }
 {
     if arrow.to < arrow.from {
-        return (row_of(arrow.from) + row_of(arrow.to)) / 2 + 4;
-    }
-    match arrow.payload {
-        Payload::Full(_) => row_of(arrow.from) + 34,
-        Payload::Differ(_) => row_of(arrow.from) + 21,
+        (row_of(arrow.from) + row_of(arrow.to)) / 2 + 4
+    } else {
+        row_of(arrow.from) + 8 + 11 * (span_of(arrow) as u128 % 4)
     }
 }

@@ -7,7 +7,7 @@ use crate::arrows::Arrow;
 use crate::labels::{arrow_tip, bytes_of, goals_string, kind_word, node_tip, pen_string, word_if};
 use crate::nodes::{Goal, Node};
 use crate::picture::Picture;
-use crate::spans::{apex_of, bow_of, bytes_row, end_of, row_of, start_of};
+use crate::spans::{bow_of, bytes_end, bytes_row, end_of, row_of, start_of};
 use crate::svg_frame::frame_string;
 use catalogue::App;
 use markup::escaped;
@@ -171,10 +171,10 @@ fn arrow_path(alloc: Global, app: &App, arrow: &Arrow) -> Result<String, AllocEr
 fn arrow_bytes(alloc: Global, app: &App, arrow: &Arrow) -> Result<String, AllocError>
     ensures { IfOk result (λ text. string_bytes text ≡ arrow_bytes app.now arrow.now) }
 {
-    let apex = apex_of(arrow);
+    let side = bytes_end(arrow);
     let row = bytes_row(arrow);
     let bytes = bytes_of(app, arrow.payload);
-    format!(in alloc; "<text class=\"bytes\" x=\"-{apex}\" y=\"{row}\">{bytes} B</text>")
+    format!(in alloc; "<text class=\"bytes\" x=\"-{side}\" y=\"{row}\">{bytes} B</text>")
 }
 
 // The line of a package with its parts.
