@@ -1,9 +1,12 @@
 // Pages of small catalogues, written by hand.
 
-use catalogue::{App, Mirror};
-use fixtures::{STAGED, catalogue_of_profile, keep, mirrors_of_profile};
+use crate::counted::totals_of_two;
+use app_sights::sights_of;
+use catalogue::{Catalogue, Mirror};
+use fixtures::{STAGED, catalogue_of_profile, catalogue_of_script, keep, many, mirrors_of_profile};
 use http_desks::{Page, PageKind};
-use operator_pages::{Counts, Outcome, Shown, page_at};
+use operator_pages::{AppSight, Counts, Outcome, Publish, Publishes, Shown, page_at};
+use par_tables::tables;
 use std::alloc::Global;
 
 // An app and a mirror with bytes that a label or a page must not have as they are.
@@ -27,14 +30,46 @@ fn counts() -> Counts {
         .counted(Outcome::Raised)
 }
 
-fn page_of(alloc: Global, apps: &[App], mirrors: &[Mirror], path: &str) -> Option<&'static Page> {
+// Publishes of the editions from 2 to 12.
+fn publishes() -> Publishes {
+    let mut publishes = Publishes::new();
+    for edition in 2..13u64 {
+        publishes.push(Publish {
+            edition,
+            time: 1_764_340_000 + edition,
+            edits: 3,
+        });
+    }
+    publishes
+}
+
+// What is seen of the apps of a catalogue.
+fn sights(alloc: Global, catalogue: &Catalogue) -> Option<&'static Vec<AppSight>> {
+    let tables = keep(alloc, tables(alloc, catalogue).ok()?)?;
+    keep(alloc, sights_of(alloc, catalogue, tables.as_slice()).ok()?)
+}
+
+fn page_of(
+    alloc: Global,
+    catalogue: &Catalogue,
+    mirrors: &[Mirror],
+    path: &str,
+) -> Option<&'static Page> {
+    let totals = totals_of_two(alloc, catalogue.apps())?;
+    let sights = sights(alloc, catalogue)?;
+    let publishes = keep(alloc, publishes())?;
     let shown = Shown {
-        apps,
+        apps: catalogue.apps(),
+        sights: sights.as_slice(),
         edition: 5,
         mirrors,
         granted: &[6],
         counts: counts(),
+        ending: false,
+        publishes: publishes.as_slice(),
         version: "1.2",
+        address: "127.0.0.1:8080",
+        totals: &totals,
     };
     keep(alloc, page_at(alloc, path.as_bytes(), &shown).ok()??)
 }
@@ -43,14 +78,18 @@ fn page_of(alloc: Global, apps: &[App], mirrors: &[Mirror], path: &str) -> Optio
 fn page_at_path(alloc: Global, profile: &str, path: &str) -> Option<&'static Page> {
     let catalogue = catalogue_of_profile(alloc, profile)?;
     let mirrors = keep(alloc, mirrors_of_profile(alloc, profile.as_bytes())?)?;
-    page_of(alloc, catalogue.apps(), mirrors.as_slice(), path)
+    page_of(alloc, catalogue, mirrors.as_slice(), path)
 }
 
-fn body_at(alloc: Global, profile: &str, path: &str) -> &'static str {
-    match page_at_path(alloc, profile, path) {
+fn string_of(page: Option<&'static Page>) -> &'static str {
+    match page {
         Some(page) => str::from_utf8(page.body.as_slice()).unwrap_or("no string"),
         None => "no page",
     }
+}
+
+fn body_at(alloc: Global, profile: &str, path: &str) -> &'static str {
+    string_of(page_at_path(alloc, profile, path))
 }
 
 // The first of these parts, one a line, that a string lacks.
@@ -60,6 +99,13 @@ fn first_lacking(body: &str, parts: &'static str) -> &'static str {
         .find(|part| !body.contains(*part))
         .unwrap_or("")
 }
+
+const STATUS: &str = "edition 5
+started 1764340000
+address 127.0.0.1:8080
+replies 4
+m0 6 of 1000000
+";
 
 const METRICS: &str = r#"# HELP omaha_build_info Version of the program.
 # TYPE omaha_build_info gauge
@@ -85,6 +131,44 @@ omaha_mirror_budget_bytes{mirror="m0"} 1000000
 # HELP omaha_mirror_granted_bytes Bytes that a mirror granted since the start.
 # TYPE omaha_mirror_granted_bytes gauge
 omaha_mirror_granted_bytes{mirror="m0"} 6
+# HELP omaha_http_requests_total Replies to clients, by status.
+# TYPE omaha_http_requests_total counter
+omaha_http_requests_total{code="200"} 3
+omaha_http_requests_total{code="400"} 0
+omaha_http_requests_total{code="403"} 0
+omaha_http_requests_total{code="404"} 1
+omaha_http_requests_total{code="405"} 0
+omaha_http_requests_total{code="409"} 0
+omaha_http_requests_total{code="411"} 0
+omaha_http_requests_total{code="413"} 0
+omaha_http_requests_total{code="422"} 0
+omaha_http_requests_total{code="431"} 0
+omaha_http_requests_total{code="500"} 0
+omaha_http_requests_total{code="501"} 0
+omaha_http_requests_total{code="503"} 0
+# HELP omaha_update_checks_total Update checks of clients, by cohort and outcome.
+# TYPE omaha_update_checks_total counter
+omaha_update_checks_total{app="demo",cohort="stable",outcome="offered"} 2
+omaha_update_checks_total{app="demo",cohort="stable",outcome="noupdate"} 2
+omaha_update_checks_total{app="demo",cohort="stable",outcome="error_internal"} 0
+omaha_update_checks_total{app="demo",cohort="beta",outcome="offered"} 1
+omaha_update_checks_total{app="demo",cohort="beta",outcome="noupdate"} 0
+omaha_update_checks_total{app="demo",cohort="beta",outcome="error_internal"} 1
+omaha_update_checks_total{outcome="unknown_app"} 3
+# HELP omaha_uncounted_update_checks_total Update checks of cohorts that were added beyond the room for counts.
+# TYPE omaha_uncounted_update_checks_total counter
+omaha_uncounted_update_checks_total 1
+# HELP omaha_offered_bytes_total Bytes of packages that were offered, by mirror and kind.
+# TYPE omaha_offered_bytes_total counter
+omaha_offered_bytes_total{mirror="m0",kind="full"} 100
+omaha_offered_bytes_total{mirror="m0",kind="differential"} 7
+# HELP omaha_connections Open connections of clients.
+# TYPE omaha_connections gauge
+omaha_connections{state="active"} 1
+omaha_connections{state="idle"} 2
+# HELP omaha_package_failures_total Downloads that were cut off as the package is missing or another.
+# TYPE omaha_package_failures_total counter
+omaha_package_failures_total 1
 # HELP omaha_apps Apps of the published catalogue.
 # TYPE omaha_apps gauge
 omaha_apps 1
@@ -110,18 +194,30 @@ omaha_cohort_open{app="demo",cohort="beta"} 1
 // rule: Head of a metric
 // rule: Sample of a metric
 // rule: Counts of an operator
+// rule: Metric of replies
+// rule: Metric of update checks
+// rule: Metric of offered bytes
+// rule: Metric of connections
+// rule: Cell of an update check
+// rule: Cell of offered bytes
+// rule: Cell of a connection
+// rule: Cells of a tally
+// rule: Counted statuses
+// rule: Status of a reply in parts
+// rule: Sums of tallies
+// rule: All replies
 #[test]
 fn prints_health_status_and_metrics(rt: HostRuntime) {
     let alloc = rt.alloc();
     assert!(rt; body_at(alloc, STAGED, "/healthz") == "edition 5\n");
-    assert!(rt;
-        body_at(alloc, STAGED, "/status") == "edition 5\nstarted 1764340000\nm0 6 of 1000000\n"
-    );
+    assert!(rt; body_at(alloc, STAGED, "/status") == STATUS);
     assert!(rt; body_at(alloc, STAGED, "/metrics") == METRICS);
     assert!(rt; body_at(alloc, STAGED, "/metrics/") == "no page");
 }
 
-const LABELS: &str = r#"omaha_releases{app="<b>\"&\"\\n</b>"} 1
+const LABELS: &str =
+    r#"omaha_update_checks_total{app="<b>\"&\"\\n</b>",cohort="all",outcome="noupdate"} 2
+omaha_releases{app="<b>\"&\"\\n</b>"} 1
 omaha_cohort_share{app="<b>\"&\"\\n</b>",cohort="all"} 1000"#;
 
 const PARTS: &str = r#"<h2>&lt;b&gt;&quot;&amp;&quot;\n&lt;/b&gt;</h2>
@@ -174,4 +270,89 @@ fn gives_each_page_its_type(rt: HostRuntime) {
     assert!(rt; is_kind(alloc, "/status", PageKind::Plain));
     assert!(rt; is_kind(alloc, "/metrics", PageKind::Metrics));
     assert!(rt; is_kind(alloc, "/", PageKind::Html));
+}
+
+const STUCK: &str =
+    r#"<tr><th>4.0</th><td>stable, held</td><td>above the target without a downgrade</td></tr>
+<tr><th>4.0</th><td>beta</td><td>above the target without a downgrade</td></tr>
+<g class="release goal stuck" transform="translate(0 264)"><title>4.0: demo-4.0.bin, 1600 bytes, target, stuck clients</title>
+<g class="full"><title>1.0 to 4.0: demo-4.0.bin, 1600 bytes</title>"#;
+
+// rule: Row of stuck clients
+// rule: Named clients
+// rule: Stuck clients of an app
+// rule: Drawing of an app
+// rule: Sight of an app
+// rule: Sights of a catalogue
+#[test]
+fn says_who_is_stuck_and_draws_the_releases(rt: HostRuntime) {
+    let page = body_at(rt.alloc(), STAGED, "/");
+    assert!(rt; first_lacking(page, STUCK) == "", "{page}");
+    let hostile = body_at(rt.alloc(), HOSTILE, "/");
+    assert!(rt;
+        hostile.contains("<p class=\"note\">No clients are stuck.</p>"),
+        "{hostile}"
+    );
+}
+
+// The page of a catalogue of so many releases.
+fn page_of_many(alloc: Global, count: u16) -> Option<&'static Page> {
+    let catalogue = catalogue_of_script(alloc, many(alloc, count)?, "")?;
+    page_of(alloc, catalogue, &[], "/")
+}
+
+const NOT_DRAWN: &str = "Not drawn here: <code>omaha graph</code> draws the releases.";
+
+// rule: Drawing of an app
+#[test]
+fn draws_64_releases_and_no_more(rt: HostRuntime) {
+    let drawn = string_of(page_of_many(rt.alloc(), 64));
+    assert!(rt; drawn.contains("<svg ") && !drawn.contains(NOT_DRAWN));
+    let larger = string_of(page_of_many(rt.alloc(), 65));
+    assert!(rt; larger.contains(NOT_DRAWN) && !larger.contains("<svg "));
+    assert!(rt; larger.contains("No clients are stuck."));
+}
+
+// Seventeen cohorts, of which one is the default.
+const WIDE: &str = r#"schema = 1
+mirror = [{ name = "m0", codebase = "http://m0.example/", budget = 7 }]
+
+[[app]]
+id = "wide"
+default = "c0"
+cohort = [
+    { name = "c1" }, { name = "c2" }, { name = "c3" }, { name = "c4" }, { name = "c5" }, { name = "c6" },
+    { name = "c7" }, { name = "c8" }, { name = "c9" }, { name = "c10" }, { name = "c11" }, { name = "c12" },
+    { name = "c13" }, { name = "c14" }, { name = "c15" }, { name = "c16" },
+]
+release = [
+    { version = "1.0", name = "a.bin", size = 10, sha256 = "1111111111111111111111111111111111111111111111111111111111111111" },
+]
+"#;
+
+// rule: Small catalogue
+#[test]
+fn looks_at_no_large_catalogue(rt: HostRuntime) {
+    let page = body_at(rt.alloc(), WIDE, "/");
+    assert!(rt;
+        page.contains("The catalogue is too large for this page"),
+        "{page}"
+    );
+    assert!(rt;
+        page.contains("<tr><th>c16</th>") && page.contains(NOT_DRAWN),
+        "{page}"
+    );
+}
+
+const LAST: &str =
+    r#"<tr><th>12</th><td class="number">1764340012</td><td class="number">3</td></tr>
+<tr><th>3</th><td class="number">1764340003</td><td class="number">3</td></tr>"#;
+
+// rule: Last publishes
+// rule: Row of a publish
+#[test]
+fn shows_the_ten_newest_publishes(rt: HostRuntime) {
+    let page = body_at(rt.alloc(), STAGED, "/");
+    assert!(rt; first_lacking(page, LAST) == "", "{page}");
+    assert!(rt; !page.contains("<tr><th>2</th>"), "{page}");
 }
