@@ -1,1 +1,2 @@
+mod PublishLemmas
 mod ZipLemmas

@@ -1,21 +1,30 @@
 -- The pages of a server's health and of its status; this project's profile.
-use Rattle.std.specs.Prelude.{ℕ, ◌++◌, List, codes, decimal}
+use Rattle.std.specs.Prelude.{ℕ, ◌++◌, Bool, false, true, List, codes, decimal}
 use Rattle.operator_pages.specs.Spending.{mirror_lines}
 use Rattle.operator_pages.specs.declared.shown.Shown.{Shown}
+use Rattle.tallies.specs.Totals.{all_replies}
 use Rattle.operator_pages.specs.declared.spending.Place.TheVariants as place
 
 -- rule: Health of a server
--- the number of the published edition
-abbrev pub health_string : ℕ → List ℕ
-health_string edition = codes "edition " ++ decimal edition ++ codes "\n"
+-- the number of the published edition, unless the server was asked to end
+abbrev pub health_string : ℕ → Bool → List ℕ
+health_string edition false = codes "edition " ++ decimal edition ++ codes "\n"
+health_string edition true = codes "stopping\n"
 
 -- that number, and when the server started
 abbrev pub status_head : ℕ → ℕ → List ℕ
 status_head edition started =
     codes "edition " ++ decimal edition ++ codes "\nstarted " ++ decimal started ++ codes "\n"
 
+-- the clients' address, and how many replies clients got
+abbrev pub status_traffic : List ℕ → ℕ → List ℕ
+status_traffic address replies =
+    codes "address " ++ address ++ codes "\nreplies " ++ decimal replies ++ codes "\n"
+
 -- rule: Status of a server
 -- the same, and a line for each mirror
 abbrev pub status_string : Shown → List ℕ
 status_string shown =
-    status_head shown.edition shown.counts.started ++ mirror_lines place.Status shown.mirrors.now shown.granted.now
+    status_head shown.edition shown.counts.started
+    ++ (status_traffic shown.address.now (all_replies shown.totals.now.replies)
+    ++ mirror_lines place.Status shown.mirrors.now shown.granted.now)

@@ -7,7 +7,10 @@ pub mod MetricNames
 pub mod Metrics
 pub mod Pages
 pub mod Paths
+pub mod Publishes
 pub mod Samples
 pub mod Sections
+pub mod Sights
 pub mod Spending
 pub mod Tables
+pub mod Traffic

@@ -16,6 +16,12 @@ name_of metric.Apps = codes "omaha_apps"
 name_of metric.Releases = codes "omaha_releases"
 name_of metric.Share = codes "omaha_cohort_share"
 name_of metric.Open = codes "omaha_cohort_open"
+name_of metric.Requests = codes "omaha_http_requests_total"
+name_of metric.Checks = codes "omaha_update_checks_total"
+name_of metric.Uncounted = codes "omaha_uncounted_update_checks_total"
+name_of metric.Offered = codes "omaha_offered_bytes_total"
+name_of metric.Connections = codes "omaha_connections"
+name_of metric.Failures = codes "omaha_package_failures_total"
 
 abbrev pub gauge : List ℕ
 gauge = codes "gauge"
@@ -36,6 +42,12 @@ kind_of metric.Apps = gauge
 kind_of metric.Releases = gauge
 kind_of metric.Share = gauge
 kind_of metric.Open = gauge
+kind_of metric.Requests = counter
+kind_of metric.Checks = counter
+kind_of metric.Uncounted = counter
+kind_of metric.Offered = counter
+kind_of metric.Connections = gauge
+kind_of metric.Failures = counter
 
 abbrev pub help_of : Metric → List ℕ
 help_of metric.Build = codes "Version of the program."
@@ -49,3 +61,9 @@ help_of metric.Apps = codes "Apps of the published catalogue."
 help_of metric.Releases = codes "Releases of an app."
 help_of metric.Share = codes "Clients of a cohort that have its target, of 1000."
 help_of metric.Open = codes "Whether a client may ask for the cohort."
+help_of metric.Requests = codes "Replies to clients, by status."
+help_of metric.Checks = codes "Update checks of clients, by cohort and outcome."
+help_of metric.Uncounted = codes "Update checks of cohorts that were added beyond the room for counts."
+help_of metric.Offered = codes "Bytes of packages that were offered, by mirror and kind."
+help_of metric.Connections = codes "Open connections of clients."
+help_of metric.Failures = codes "Downloads that were cut off as the package is missing or another."

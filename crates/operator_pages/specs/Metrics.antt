@@ -3,6 +3,7 @@ use Rattle.std.specs.Prelude.{ℕ, List, ◌++◌, length}
 use Rattle.operator_pages.specs.Families.{build_family, cohort_family, mirror_family, publishes_family, releases_family}
 use Rattle.operator_pages.specs.Samples.{plain_family}
 use Rattle.operator_pages.specs.declared.metric.Metric.TheVariants as metric
+use Rattle.operator_pages.specs.Traffic.{checks_family, connections_family, offered_family, requests_family}
 use Rattle.operator_pages.specs.declared.shown.Shown.{Shown}
 
 -- the metrics of the server and of its operator's calls
@@ -28,6 +29,17 @@ catalogue_metrics shown =
     ++ (cohort_family metric.Share shown.apps.now
     ++ cohort_family metric.Open shown.apps.now))
 
+-- the metrics of what the workers counted
+unfoldable pub traffic_metrics : Shown → List ℕ
+traffic_metrics shown =
+    requests_family shown.totals.now.replies
+    ++ (checks_family shown.apps.now shown.totals.now
+    ++ (plain_family metric.Uncounted shown.totals.now.uncounted
+    ++ (offered_family shown.mirrors.now shown.totals.now.bytes
+    ++ (connections_family shown.totals.now
+    ++ plain_family metric.Failures shown.totals.now.failures))))
+
 -- rule: Metrics of a server
 abbrev pub metrics_string : Shown → List ℕ
-metrics_string shown = server_metrics shown ++ (spending_metrics shown ++ catalogue_metrics shown)
+metrics_string shown =
+    server_metrics shown ++ (spending_metrics shown ++ (traffic_metrics shown ++ catalogue_metrics shown))

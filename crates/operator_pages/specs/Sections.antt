@@ -1,5 +1,6 @@
 -- The sections of the page; this project's profile.
-use Rattle.std.specs.Prelude.{ℕ, List, ◌++◌, codes, decimal, flat_map, length}
+use Rattle.std.specs.Prelude.{ℕ, ◌==◌, if◌then◌else◌, List, ◌++◌, codes, decimal, flat_map, length}
+use Rattle.std.specs.List.{zip}
 use Rattle.markup.specs.Escaping.{escaped_string}
 use Rattle.records.specs.declared.content.App.{App}
 use Rattle.records.specs.declared.content.Cohort.{Cohort}
@@ -7,12 +8,14 @@ use Rattle.records.specs.declared.content.Release.{Release}
 use Rattle.records.specs.declared.mirror.Mirror.{Mirror}
 use Rattle.operator_pages.specs.Counts.{count_of, word_of}
 use Rattle.operator_pages.specs.Html.{name_cell, number_cell}
+use Rattle.operator_pages.specs.Sights.{sight_part}
 use Rattle.operator_pages.specs.Spending.{mirror_lines}
 use Rattle.operator_pages.specs.Tables.{cohort_rows, release_rows}
 use Rattle.operator_pages.specs.declared.counts.Counts.{Counts}
 use Rattle.operator_pages.specs.declared.counts.Outcome.{Outcome}
 use Rattle.operator_pages.specs.declared.counts.Outcome.TheVariants as outcome
-use Rattle.operator_pages.specs.declared.headings.TheConstants.{CALLS, COHORTS, MIRRORS, RELEASES, TABLE_END}
+use Rattle.operator_pages.specs.declared.headings.TheConstants.{CALLS, COHORTS, MIRRORS, NO_RELEASES, RELEASES, TABLE_END}
+use Rattle.operator_pages.specs.declared.sights.AppSight.{AppSight}
 use Rattle.operator_pages.specs.declared.spending.Place.TheVariants as place
 
 -- the mirrors, with the bytes that they granted, in their order
@@ -34,19 +37,25 @@ release_table releases =
     release_summary (length releases) ++ (RELEASES.now ++ (release_rows releases
     ++ (TABLE_END.now ++ codes "</details>\n")))
 
+-- what is seen of the releases of an app, and these; or that there are none
+unfoldable pub seen_releases : AppSight → List Release → List ℕ
+seen_releases sight releases =
+    if length releases == 0 then NO_RELEASES.now else sight_part sight ++ release_table releases
+
 unfoldable pub app_heading : List ℕ → List ℕ
 app_heading id = codes "<section>\n<h2>" ++ (escaped_string id ++ codes "</h2>\n")
 
-unfoldable pub app_tables : App → List ℕ
-app_tables app = cohort_table app.cohorts ++ (release_table app.releases ++ codes "</section>\n")
+unfoldable pub app_tables : App → AppSight → List ℕ
+app_tables app sight = cohort_table app.cohorts ++ seen_releases sight app.releases
 
 -- rule: Section of an app
--- its identifier, its cohorts and its releases
-unfoldable pub app_section : App → List ℕ
-app_section app = app_heading app.id ++ app_tables app
+-- its identifier, its cohorts, what is seen of its releases, and these
+unfoldable pub app_section : App × AppSight → List ℕ
+app_section seen = app_heading seen.0.id ++ (app_tables seen.0 seen.1 ++ codes "</section>\n")
 
-abbrev pub app_sections : List App → List ℕ
-app_sections apps = flat_map app_section apps
+-- the apps with what is seen of them, in their order
+abbrev pub app_sections : List App → List AppSight → List ℕ
+app_sections apps sights = flat_map app_section (zip apps sights)
 
 -- how many calls came to something
 unfoldable pub call_row : Counts → Outcome → List ℕ

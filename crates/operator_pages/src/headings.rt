@@ -30,6 +30,55 @@ pub(crate) const RELEASES: &str = "<div class=\"wide\"><table class=\"releases\"
 <tbody>
 ";
 
+/// That an app has no releases.
+pub(crate) const NO_RELEASES: &str = "<p class=\"note\">No releases.</p>
+";
+
+/// The table of an app's stuck clients, up to their rows.
+pub(crate) const STUCK: &str = "<div class=\"wide\"><table class=\"stuck\">
+<thead><tr><th scope=\"col\">Stuck at</th><th scope=\"col\">Clients</th><th scope=\"col\">Why</th></tr></thead>
+<tbody>
+";
+
+/// That an app has no stuck clients.
+pub(crate) const NO_STUCK: &str = "<p class=\"note\">No clients are stuck.</p>
+";
+
+/// That stuck clients weren't looked for.
+pub(crate) const UNKNOWN_STUCK: &str =
+    "<p class=\"note\">The catalogue is too large for this page: <code>omaha review</code> prints the stuck releases.</p>
+";
+
+/// The part of a picture, up to its image.
+pub(crate) const DRAWING: &str = "<details open>
+<summary>Graph</summary>
+<div class=\"wide\">";
+
+/// Its end.
+pub(crate) const DRAWING_END: &str = "</div>
+</details>
+";
+
+/// That an app isn't drawn.
+pub(crate) const NO_DRAWING: &str =
+    "<p class=\"note\">Not drawn here: <code>omaha graph</code> draws the releases.</p>
+";
+
+/// The section of the last publishes, up to their rows.
+pub(crate) const PUBLISHES: &str = "<section>
+<h2>Last publishes</h2>
+<div class=\"wide\"><table class=\"publishes\">
+<thead><tr><th scope=\"col\">Edition</th><th scope=\"col\" class=\"number\">Seconds since 1970</th><th scope=\"col\" class=\"number\">Edits</th></tr></thead>
+<tbody>
+";
+
+/// That nothing was published.
+pub(crate) const NO_PUBLISHES: &str = "<section>
+<h2>Last publishes</h2>
+<p class=\"note\">None since the start.</p>
+</section>
+";
+
 /// The section of the operator's calls, up to their rows.
 pub(crate) const CALLS: &str = "<section>
 <h2>Operator's calls since the start</h2>

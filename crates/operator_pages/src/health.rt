@@ -1,7 +1,7 @@
 //! The pages of the server's health and of its status.
 
 ghost use Rattle.std.specs.Prelude.{◌≡◌, ◌++◌, IfOk, OnOk, string_bytes};
-ghost use Rattle.operator_pages.specs.Health.{health_string, status_head, status_string};
+ghost use Rattle.operator_pages.specs.Health.{health_string, status_head, status_string, status_traffic};
 
 use crate::shown::Shown;
 use crate::spending::{Place, push_mirrors};
@@ -9,13 +9,18 @@ use std::alloc::{AllocError, Global};
 use std::fmt::Write;
 
 // rule: Health of a server
-/// Writes the number of the published edition, as `edition 5`, and a line feed.
+/// Writes the number of the published edition, as `edition 5`, and a line feed; or `stopping`, if the server was asked
+/// to end.
 ///
 /// Out of memory is the only error.
-pub fn health_string(alloc: Global, edition: u64) -> Result<String, AllocError>
-    ensures { IfOk result (λ text. string_bytes text ≡ health_string edition) }
+pub fn health_string(alloc: Global, edition: u64, ending: bool) -> Result<String, AllocError>
+    ensures { IfOk result (λ text. string_bytes text ≡ health_string edition ending) }
 {
-    format!(in alloc; "edition {edition}\n")
+    if ending {
+        String::from_str(alloc, "stopping\n")
+    } else {
+        format!(in alloc; "edition {edition}\n")
+    }
 }
 
 fn push_status_head(text: &mut String, edition: u64, started: u64) -> Result<(), AllocError>
@@ -24,9 +29,15 @@ fn push_status_head(text: &mut String, edition: u64, started: u64) -> Result<(),
     write!(text, "edition {edition}\nstarted {started}\n")
 }
 
+fn push_status_traffic(text: &mut String, address: &str, replies: u64) -> Result<(), AllocError>
+    ensures { OnOk result (string_bytes text.new ≡ string_bytes text.old ++ status_traffic address.now replies) }
+{
+    write!(text, "address {address}\nreplies {replies}\n")
+}
+
 // rule: Status of a server
-/// Writes the number of the published edition, when the server started, and a line for each mirror, as
-/// `m0 1000 of 2000000`: the bytes that it granted so far, of its present budget.
+/// Writes the number of the published edition, when the server started, the clients' address, how many replies clients
+/// got, and a line for each mirror, as `m0 1000 of 2000000`: the bytes that it granted so far, of its present budget.
 ///
 /// Out of memory is the only error.
 pub fn status_string(alloc: Global, shown: &Shown<'_>) -> Result<String, AllocError>
@@ -34,6 +45,7 @@ pub fn status_string(alloc: Global, shown: &Shown<'_>) -> Result<String, AllocEr
 {
     let mut text = String::new(alloc);
     push_status_head(&mut text, shown.edition, shown.counts.started)?;
+    push_status_traffic(&mut text, shown.address, shown.totals.all_replies())?;
     push_mirrors(
         alloc,
         &mut text,

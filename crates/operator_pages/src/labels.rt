@@ -27,7 +27,8 @@ fn push_label_char(text: &mut String, c: char) -> Result<(), AllocError>
 }
 
 // rule: Value of a label
-fn push_label_value(text: &mut String, value: &str) -> Result<(), AllocError>
+/// Adds a string as the value of a label has it.
+pub(crate) fn push_label_value(text: &mut String, value: &str) -> Result<(), AllocError>
     ensures { OnOk result (string_bytes text.new ≡ string_bytes text.old ++ label_value value.now) }
 {
     for c in value.chars() {

@@ -1,9 +1,9 @@
 //! The pages that an operator's address serves: its health, its metrics, and a page of the published edition for people.
 //!
-//! `page_at` finds the page of a path, and makes it of what is `Shown`: the apps of the published catalogue, the edition's
-//! number, the mirrors with their present budgets, and the `Counts` of the operator's own calls. `health_string`,
-//! `metrics_string` and `page_string` make the bodies. Read `specs/Paths.antt`, `specs/Metrics.antt` and
-//! `specs/Pages.antt`.
+//! `page_at` finds the page of a path, and makes it of what is `Shown`: the apps of the published catalogue with an
+//! `AppSight` each, the edition's number, the mirrors with their present budgets, the `Counts` of the operator's own calls
+//! and the last `Publishes`. `health_string`, `metrics_string` and `page_string` make the bodies. Read `specs/Paths.antt`,
+//! `specs/Metrics.antt` and `specs/Pages.antt`.
 //!
 //! It knows no connection, changes nothing, and reads no clock.
 
@@ -19,16 +19,21 @@ mod metric;
 mod metrics;
 mod page;
 mod paths;
+mod publishes;
 mod samples;
 mod sections;
 mod shown;
+mod sights;
 mod spending;
 mod style;
 mod tables;
+mod traffic;
 
 pub use crate::counts::{Counts, Outcome};
 pub use crate::health::{health_string, status_string};
 pub use crate::metrics::metrics_string;
 pub use crate::page::page_string;
 pub use crate::paths::page_at;
+pub use crate::publishes::{Publish, Publishes};
 pub use crate::shown::Shown;
+pub use crate::sights::{AppSight, StuckClients, StuckList};

@@ -28,6 +28,18 @@ pub(crate) enum Metric {
     Share,
     /// Whether a client's hint may name a cohort.
     Open,
+    /// The replies to clients, by status.
+    Requests,
+    /// The update checks, by cohort and outcome.
+    Checks,
+    /// The update checks that no cohort's count has.
+    Uncounted,
+    /// The bytes that were offered, by mirror and kind of payload.
+    Offered,
+    /// The clients' connections that are open.
+    Connections,
+    /// The downloads that were cut off.
+    Failures,
 }
 
 // rule: Metric
@@ -47,6 +59,12 @@ pub(crate) fn name_of(metric: Metric) -> &'static str
         Metric::Releases => "omaha_releases",
         Metric::Share => "omaha_cohort_share",
         Metric::Open => "omaha_cohort_open",
+        Metric::Requests => "omaha_http_requests_total",
+        Metric::Checks => "omaha_update_checks_total",
+        Metric::Uncounted => "omaha_uncounted_update_checks_total",
+        Metric::Offered => "omaha_offered_bytes_total",
+        Metric::Connections => "omaha_connections",
+        Metric::Failures => "omaha_package_failures_total",
     }
 }
 
@@ -56,6 +74,8 @@ pub(crate) fn kind_of(metric: Metric) -> &'static str
 {
     match metric {
         Metric::Publishes | Metric::Raises => "counter",
+        Metric::Requests | Metric::Checks | Metric::Uncounted => "counter",
+        Metric::Offered | Metric::Failures => "counter",
         _ => "gauge",
     }
 }
@@ -76,5 +96,11 @@ pub(crate) fn help_of(metric: Metric) -> &'static str
         Metric::Releases => "Releases of an app.",
         Metric::Share => "Clients of a cohort that have its target, of 1000.",
         Metric::Open => "Whether a client may ask for the cohort.",
+        Metric::Requests => "Replies to clients, by status.",
+        Metric::Checks => "Update checks of clients, by cohort and outcome.",
+        Metric::Uncounted => "Update checks of cohorts that were added beyond the room for counts.",
+        Metric::Offered => "Bytes of packages that were offered, by mirror and kind.",
+        Metric::Connections => "Open connections of clients.",
+        Metric::Failures => "Downloads that were cut off as the package is missing or another.",
     }
 }

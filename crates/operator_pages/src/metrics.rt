@@ -1,7 +1,7 @@
 //! The page of the metrics, in the exposition format of Prometheus.
 
 ghost use Rattle.std.specs.Prelude.{◌≡◌, ◌++◌, IfOk, OnOk, string_bytes};
-ghost use Rattle.operator_pages.specs.Metrics.{catalogue_metrics, metrics_string, server_metrics, spending_metrics};
+ghost use Rattle.operator_pages.specs.Metrics.{catalogue_metrics, metrics_string, server_metrics, spending_metrics, traffic_metrics};
 
 use crate::families::{
     push_build, push_cohorts, push_mirror_family, push_publishes, push_releases,
@@ -9,6 +9,7 @@ use crate::families::{
 use crate::metric::Metric;
 use crate::samples::push_plain;
 use crate::shown::Shown;
+use crate::traffic::{push_checks, push_connections, push_offered, push_requests};
 use std::alloc::{AllocError, Global};
 
 #[tactic(auto, unfolding(crate::specs::Metrics::server_metrics))]
@@ -28,6 +29,18 @@ fn push_spending(alloc: Global, text: &mut String, shown: &Shown<'_>) -> Result<
 {
     push_mirror_family(alloc, text, Metric::Budget, shown.mirrors, shown.granted)?;
     push_mirror_family(alloc, text, Metric::Granted, shown.mirrors, shown.granted)
+}
+
+#[tactic(auto, unfolding(crate::specs::Metrics::traffic_metrics))]
+fn push_traffic(alloc: Global, text: &mut String, shown: &Shown<'_>) -> Result<(), AllocError>
+    ensures { OnOk result (string_bytes text.new ≡ string_bytes text.old ++ traffic_metrics shown.now) }
+{
+    push_requests(alloc, text, shown.totals.replies.as_slice())?;
+    push_checks(alloc, text, shown.apps, shown.totals)?;
+    push_plain(text, Metric::Uncounted, shown.totals.uncounted)?;
+    push_offered(alloc, text, shown.mirrors, shown.totals.bytes.as_slice())?;
+    push_connections(alloc, text, shown.totals)?;
+    push_plain(text, Metric::Failures, shown.totals.failures)
 }
 
 #[tactic(auto, unfolding(crate::specs::Metrics::catalogue_metrics))]
@@ -50,6 +63,7 @@ pub fn metrics_string(alloc: Global, shown: &Shown<'_>) -> Result<String, AllocE
     let mut text = String::new(alloc);
     push_server(alloc, &mut text, shown)?;
     push_spending(alloc, &mut text, shown)?;
+    push_traffic(alloc, &mut text, shown)?;
     push_catalogue(alloc, &mut text, shown)?;
     Ok(text)
 }

@@ -4,6 +4,7 @@ ghost use Rattle.std.specs.Prelude.{◌≡◌, ◌++◌, IfOk, OnOk, string_byte
 ghost use Rattle.operator_pages.specs.Pages.{document_head, header, heading, main_of, page_string, sections_of, title};
 
 use crate::headings::{END, HEAD};
+use crate::publishes::push_publishes;
 use crate::sections::{push_apps, push_calls, push_mirror_section};
 use crate::shown::Shown;
 use crate::style::STYLE;
@@ -47,8 +48,9 @@ fn push_header(text: &mut String, edition: u64, version: &str) -> Result<(), All
 fn push_sections(alloc: Global, text: &mut String, shown: &Shown<'_>) -> Result<(), AllocError>
     ensures { OnOk result (string_bytes text.new ≡ string_bytes text.old ++ sections_of shown.now) }
 {
-    push_apps(alloc, text, shown.apps)?;
+    push_apps(alloc, text, shown.apps, shown.sights)?;
     push_mirror_section(alloc, text, shown.mirrors, shown.granted)?;
+    push_publishes(text, shown.publishes)?;
     push_calls(text, &shown.counts)
 }
 
@@ -62,10 +64,11 @@ fn push_main(alloc: Global, text: &mut String, shown: &Shown<'_>) -> Result<(), 
 }
 
 // rule: Page of an edition
-/// Writes the page: the edition, its apps with their cohorts and releases, the mirrors' budgets and the operator's calls.
+/// Writes the page: the edition, its apps with their cohorts and releases and what is seen of these, the mirrors' budgets,
+/// the last publishes and the operator's calls.
 ///
-/// It is HTML without a script, and fetches nothing. Each string of the catalogue and of the mirrors is escaped. Out of
-/// memory is the only error.
+/// It is HTML without a script, and fetches nothing. Each string is escaped but the images of the apps' sights, which are
+/// markup. An app without a sight isn't there. Out of memory is the only error.
 pub fn page_string(alloc: Global, shown: &Shown<'_>) -> Result<String, AllocError>
     ensures { IfOk result (λ text. string_bytes text ≡ page_string shown.now) }
 {

@@ -35,11 +35,18 @@ fn subject_at(path: &[u8]) -> Option<Subject>
     }
 }
 
-fn kind_of(subject: Subject) -> PageKind
-    ensures { result ≡ kind_of subject }
+fn kind_of(subject: Subject, ending: bool) -> PageKind
+    ensures { result ≡ kind_of subject ending }
 {
     match subject {
-        Subject::Health | Subject::Status => PageKind::Plain,
+        Subject::Health => {
+            if ending {
+                PageKind::Ending
+            } else {
+                PageKind::Plain
+            }
+        }
+        Subject::Status => PageKind::Plain,
         Subject::Metrics => PageKind::Metrics,
         Subject::Edition => PageKind::Html,
     }
@@ -49,7 +56,7 @@ fn body_of(alloc: Global, subject: Subject, shown: &Shown<'_>) -> Result<String,
     ensures { IfOk result (λ text. string_bytes text ≡ body_of subject shown.now) }
 {
     match subject {
-        Subject::Health => health_string(alloc, shown.edition),
+        Subject::Health => health_string(alloc, shown.edition, shown.ending),
         Subject::Status => status_string(alloc, shown),
         Subject::Metrics => metrics_string(alloc, shown),
         Subject::Edition => page_string(alloc, shown),
@@ -68,7 +75,7 @@ pub fn page_at(alloc: Global, path: &[u8], shown: &Shown<'_>) -> Result<Option<P
     };
     let text = body_of(alloc, subject, shown)?;
     Ok(Some(Page {
-        kind: kind_of(subject),
+        kind: kind_of(subject, shown.ending),
         body: text.into_bytes(),
     }))
 }

@@ -1,11 +1,12 @@
 //! The sections of the page.
 
 ghost use Rattle.std.specs.Prelude.{◌≡◌, ◌++◌, OnOk, string_bytes};
-ghost use Rattle.operator_pages.specs.Sections.{app_heading, app_section, app_sections, app_tables, call_row, call_rows, calls_section, cohort_table, mirror_section, release_summary, release_table};
+ghost use Rattle.operator_pages.specs.Sections.{app_heading, app_section, app_sections, app_tables, call_row, call_rows, calls_section, cohort_table, mirror_section, release_summary, release_table, seen_releases};
 
 use crate::counts::{Counts, Outcome, count_of, word_of};
-use crate::headings::{CALLS, COHORTS, MIRRORS, RELEASES, TABLE_END};
+use crate::headings::{CALLS, COHORTS, MIRRORS, NO_RELEASES, RELEASES, TABLE_END};
 use crate::html::{push_name_cell, push_number_cell};
+use crate::sights::{AppSight, push_sight};
 use crate::spending::{Place, push_mirrors};
 use crate::tables::{push_cohorts, push_releases};
 use markup::push_escaped;
@@ -59,6 +60,18 @@ fn push_release_table(text: &mut String, releases: &[Release]) -> Result<(), All
     text.push_str("</details>\n")
 }
 
+// Adds what is seen of the releases of an app, and these; or that there are none.
+#[tactic(auto, unfolding(crate::specs::Sections::seen_releases))]
+fn push_seen(text: &mut String, sight: &AppSight, releases: &[Release]) -> Result<(), AllocError>
+    ensures { OnOk result (string_bytes text.new ≡ string_bytes text.old ++ seen_releases sight.now releases.now) }
+{
+    if releases.len() == 0 {
+        return text.push_str(NO_RELEASES);
+    }
+    push_sight(text, sight)?;
+    push_release_table(text, releases)
+}
+
 #[tactic(auto, unfolding(crate::specs::Sections::app_heading))]
 fn push_app_heading(text: &mut String, id: &str) -> Result<(), AllocError>
     ensures { OnOk result (string_bytes text.new ≡ string_bytes text.old ++ app_heading id.now) }
@@ -69,29 +82,39 @@ fn push_app_heading(text: &mut String, id: &str) -> Result<(), AllocError>
 }
 
 #[tactic(auto, unfolding(crate::specs::Sections::app_tables))]
-fn push_app_tables(alloc: Global, text: &mut String, app: &App) -> Result<(), AllocError>
-    ensures { OnOk result (string_bytes text.new ≡ string_bytes text.old ++ app_tables app.now) }
+fn push_app_tables(
+    alloc: Global,
+    text: &mut String,
+    app: &App,
+    sight: &AppSight,
+) -> Result<(), AllocError>
+    ensures { OnOk result (string_bytes text.new ≡ string_bytes text.old ++ app_tables app.now sight.now) }
 {
     push_cohort_table(alloc, text, app.cohorts.as_slice())?;
-    push_release_table(text, app.releases.as_slice())?;
-    text.push_str("</section>\n")
+    push_seen(text, sight, app.releases.as_slice())
 }
 
 // rule: Section of an app
 #[tactic(auto, unfolding(crate::specs::Sections::app_section))]
-fn push_app(alloc: Global, text: &mut String, app: &App) -> Result<(), AllocError>
-    ensures { OnOk result (string_bytes text.new ≡ string_bytes text.old ++ app_section app.now) }
+fn push_app(alloc: Global, text: &mut String, app: &App, sight: &AppSight) -> Result<(), AllocError>
+    ensures { OnOk result (string_bytes text.new ≡ string_bytes text.old ++ app_section (app.now, sight.now)) }
 {
     push_app_heading(text, app.id.as_str())?;
-    push_app_tables(alloc, text, app)
+    push_app_tables(alloc, text, app, sight)?;
+    text.push_str("</section>\n")
 }
 
-/// Adds the sections of the apps.
-pub(crate) fn push_apps(alloc: Global, text: &mut String, apps: &[App]) -> Result<(), AllocError>
-    ensures { OnOk result (string_bytes text.new ≡ string_bytes text.old ++ app_sections apps.now) }
+/// Adds the sections of the apps, each with what is seen of its releases.
+pub(crate) fn push_apps(
+    alloc: Global,
+    text: &mut String,
+    apps: &[App],
+    sights: &[AppSight],
+) -> Result<(), AllocError>
+    ensures { OnOk result (string_bytes text.new ≡ string_bytes text.old ++ app_sections apps.now sights.now) }
 {
-    for app in apps {
-        push_app(alloc, text, app)?;
+    for index in 0..apps.len().min(sights.len()) {
+        push_app(alloc, text, &apps[index], &sights[index])?;
     }
     Ok(())
 }

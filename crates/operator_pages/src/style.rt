@@ -30,6 +30,15 @@ td,th{overflow-wrap:anywhere}
 .withdrawn{border-color:currentColor;color:var(--warn)}
 details{margin-top:1rem}
 summary{cursor:pointer;color:var(--soft);font-size:.9rem}
+.note{margin:.75rem 0 0;color:var(--soft);font-size:.9rem}
+code{font:.95em ui-monospace,monospace}
+.stuck{margin-top:1rem}
+.stuck tbody th{color:var(--warn)}
+.publishes{width:auto}
+svg{display:block;margin:-1.75rem 0 0 -1.25rem}
+svg .back,svg .name{fill:none}
+svg .withdrawn .mark{fill:var(--paper)}
+svg .bytes{stroke:var(--paper)}
 @media(max-width:36rem){
 body{padding:1rem .5rem 3rem}
 section{padding:.75rem}
@@ -47,6 +56,9 @@ td:empty{display:none}
 .mirrors td:nth-child(4)::before{content:\"granted \"}
 .mirrors td:nth-child(5)::before{content:\"of \"}
 .calls th{flex:0 0 7rem}
+.publishes th::before{content:\"edition \"}
+.publishes td:nth-child(2)::after{content:\" seconds since 1970\"}
+.publishes td:nth-child(3)::after{content:\" edits\"}
 }
 </style>
 </head>
