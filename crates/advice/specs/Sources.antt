@@ -46,6 +46,7 @@ server_of (command.Publish asked) = asked.to
 server_of (command.Raise asked) = asked.to
 server_of (command.Dump asked) = asked.to
 server_of (command.Status asked) = asked.to
+server_of (command.Stop asked) = asked.to
 server_of other = []
 
 -- what a command does at an address

@@ -78,6 +78,7 @@ pub(crate) fn server_of(command: &Command) -> &str
         Command::Raise(asked) => asked.to.as_str(),
         Command::Dump(asked) => asked.to.as_str(),
         Command::Status(asked) => asked.to.as_str(),
+        Command::Stop(asked) => asked.to.as_str(),
         _ => "",
     }
 }

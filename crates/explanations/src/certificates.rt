@@ -31,10 +31,10 @@ Remedy: C1: the end is not the target. C2: a price is too high or missing. C3: t
     (
         "no",
         "no track
-Found in: a certificate.
-The profile has no table of prices for that track.
+Found in: a certificate, and the output of `graph`.
+The profile has no table of prices for that track. Of `graph`: it has no such app, cohort or release.
 Usual cause: No such app or cohort, a cohort without that target, or a downgrade that the cohort doesn't allow.
-Remedy: Set `target`, `held` or `rollback` of the cohort, or name another track.
+Remedy: Set `target`, `held` or `rollback` of the cohort, or name another track; of `graph`, another app or release.
 ",
     ),
 ];

@@ -1,6 +1,6 @@
 // What there is to say of the lines of a server's operator and of reports, by their first words.
 
-pub(crate) const LINES: [(&str, &str); 18] = [
+pub(crate) const LINES: [(&str, &str); 19] = [
     (
         "edition",
         "edition N
@@ -53,6 +53,15 @@ Found in: the reply to a raise.
 The mirror's budget is that many bytes, with those that were granted already.
 Usual cause: A raise of at least the present budget.
 Remedy: None is needed; without --history write the number into the profile, or the next start has the old one.
+",
+    ),
+    (
+        "stopping",
+        "stopping ADDR, or stopping
+Found in: the output of `stop`, and alone also the reply to `/healthz`.
+Alone: the server ends once it has finished what it began. With ADDR: it hasn't within `--timeout` seconds, and goes on.
+Usual cause: A stop; with an address, a large download, or a client that reads slowly.
+Remedy: None is needed; with an address, stop it again with a longer --timeout, or end it at once by a signal.
 ",
     ),
     (
@@ -148,7 +157,7 @@ Remedy: `omaha review F` prints each of them with its reason, and `omaha review 
     (
         "status",
         "status N at ADDR
-Found in: the second line of a failed `publish`, `raise` or `dump`, with `--verbose` or at a terminal.
+Found in: the second line of a failed `publish`, `raise`, `dump`, `status` or `stop`, with `--verbose` or at a terminal.
 Who listens at the address replied with the HTTP status N, and not as an operator's listener does to a script.
 Usual cause: The clients' address in place of the operator's (404), a script of over 262144 bytes (413), or a proxy.
 Remedy: Use the address that `serve --operator` was given, and no proxy before it.

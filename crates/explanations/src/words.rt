@@ -1,6 +1,6 @@
 // What there is to say of other words.
 
-pub(crate) const WORDS: [(&str, &str); 11] = [
+pub(crate) const WORDS: [(&str, &str); 12] = [
     (
         "edit",
         "edit N: CODE
@@ -25,7 +25,7 @@ Remedy: Try `head F`; of a log, `touch F`; of packages, `ls F`.
         "net ADDR
 Found in: an address of the command line.
 `serve` can't listen on the address, or may not open two more files, for a connection and a package. `publish`,
-`raise` and `dump` can't reach an operator's listener there, or its reply isn't whole.
+`raise`, `dump`, `status` and `stop` can't reach an operator's listener there, or its reply isn't whole.
 Usual cause: No address and port, a port in use, or one below 1024 without the right to it; a server that is not running.
 Of unix:PATH, another file, or no right to the folder.
 Remedy: Try another port, or `ss -ltn` to see who has it, `ls -l PATH`; see that `ulimit -n` is above 8.
@@ -63,6 +63,15 @@ Remedy: Raise the limit, or serve with fewer workers.
         "unpublished
 Found in: the end of `serve`.
 A worker's view of the editions was found not to be of what the operator published. No total is printed.
+Usual cause: An error in omaha. The replies were sent, each from one edition.
+Remedy: Report it, and start it again. What the mirrors were granted is in no line then.
+",
+    ),
+    (
+        "ended",
+        "ended early
+Found in: the end of `serve`.
+A port ended before its last connection, though nobody stopped the server. No total is printed.
 Usual cause: An error in omaha. The replies were sent, each from one edition.
 Remedy: Report it, and start it again. What the mirrors were granted is in no line then.
 ",

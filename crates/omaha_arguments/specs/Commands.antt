@@ -14,6 +14,7 @@ use Rattle.omaha_arguments.specs.ReportArguments.{certify_app, check_app, compar
 use Rattle.omaha_arguments.specs.ReviewArguments.{faults_of_review, review_app, review_in}
 use Rattle.omaha_arguments.specs.ScriptArguments.{faults_of_script, script_app, script_in}
 use Rattle.omaha_arguments.specs.ServeArguments.{faults_of_serve, serve_app, serve_in}
+use Rattle.omaha_arguments.specs.StopArguments.{faults_of_stop, stop_app, stop_in}
 use Rattle.omaha_arguments.specs.WalkArguments.{faults_of_walk, walk_app, walk_in}
 use Rattle.omaha_arguments.specs.declared.command.Command.{Command}
 use Rattle.omaha_arguments.specs.declared.command.Command.TheVariants as command
@@ -52,10 +53,12 @@ omaha_app =
     (with_own
     (with_own
     (with_own
+    (with_own
     (with_own (with_own (with_own plain_app serve_app) publish_app) script_app)
     raise_app)
     dump_app)
     status_app)
+    stop_app)
     history_app)
     check_app)
     review_app)
@@ -114,7 +117,8 @@ name_of name =
     else (if bytes_eq name (codes "raise") then kind.Raise
     else (if bytes_eq name (codes "dump") then kind.Dump
     else (if bytes_eq name (codes "status") then kind.Status
-    else (if bytes_eq name (codes "history") then kind.History else other_name_of name))))))
+    else (if bytes_eq name (codes "stop") then kind.Stop
+    else (if bytes_eq name (codes "history") then kind.History else other_name_of name)))))))
 
 -- what a command is asked to do; any other one is to report on a profile, by its name
 abbrev pub command_named : Name → List ℕ → List Row → Command
@@ -125,6 +129,7 @@ command_named kind.Script name options = command.Script (script_in options)
 command_named kind.Raise name options = command.Raise (raise_in options)
 command_named kind.Dump name options = command.Dump (server_in options)
 command_named kind.Status name options = command.Status (server_in options)
+command_named kind.Stop name options = command.Stop (stop_in options)
 command_named kind.History name options = command.History (asked_in options)
 command_named kind.Explain name options = command.Explain (first_of (codes "CODE") options)
 command_named kind.Walk name options = command.Walk (walk_in options)
@@ -143,6 +148,7 @@ faults_named kind.Script name options = faults_of_script options
 faults_named kind.Raise name options = faults_of_timeout options
 faults_named kind.Dump name options = faults_of_timeout options
 faults_named kind.Status name options = faults_of_timeout options
+faults_named kind.Stop name options = faults_of_stop options
 faults_named kind.History name options = faults_of_history options
 faults_named kind.Explain name options = []
 faults_named kind.Walk name options = faults_of_walk options

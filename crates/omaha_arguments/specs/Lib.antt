@@ -8,4 +8,5 @@ pub mod GraphArguments
 pub mod ReviewArguments
 pub mod ScriptArguments
 pub mod ServeArguments
+pub mod StopArguments
 pub mod WalkArguments

@@ -94,4 +94,5 @@ IsAskable (command.Script asked) = ⊤
 IsAskable (command.Raise raise) = ⊤
 IsAskable (command.Dump asked) = ⊤
 IsAskable (command.Status asked) = ⊤
+IsAskable (command.Stop asked) = ⊤
 IsAskable (command.History asked) = ⊤

@@ -43,6 +43,8 @@ pub enum Command {
     Dump(ServerAsked),
     /// To print the edition of a running server, and what its mirrors granted.
     Status(ServerAsked),
+    /// To stop a running server.
+    Stop(Stop),
     /// To read a history, or to make it shorter.
     History(HistoryAsked),
 }
@@ -132,6 +134,15 @@ pub struct ServerAsked {
     /// The operator's listener, as `HOST:PORT`.
     pub to: Text,
     /// How many seconds the whole exchange may take: 1 to 86400.
+    pub timeout: u64,
+}
+
+/// What the command `stop` is asked to do.
+#[derive(Drop)]
+pub struct Stop {
+    /// The operator's listener, as `HOST:PORT`.
+    pub to: Text,
+    /// How many seconds the server may take to end: 1 to 86400.
     pub timeout: u64,
 }
 

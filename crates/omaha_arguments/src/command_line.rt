@@ -25,6 +25,7 @@ use crate::report_arguments::{
 use crate::review_arguments::{read_review, review_command};
 use crate::script_arguments::{read_script, script_command};
 use crate::serve_arguments::{read_serve, serve_command};
+use crate::stop_arguments::{read_stop, stop_command};
 use crate::walk_arguments::{read_walk, walk_command};
 use clap::{ArgMatches, Error};
 use std::alloc::Global;
@@ -87,6 +88,7 @@ fn omaha_command<'a>(alloc: Global) -> Making<'a>
     let program = with_command(alloc, program, raise_command(alloc));
     let program = with_command(alloc, program, dump_command(alloc));
     let program = with_command(alloc, program, status_command(alloc));
+    let program = with_command(alloc, program, stop_command(alloc));
     let program = with_command(alloc, program, history_command(alloc));
     let program = with_command(alloc, program, check_command(alloc));
     let program = with_command(alloc, program, review_command(alloc));
@@ -122,6 +124,7 @@ enum Name {
     Raise,
     Dump,
     Status,
+    Stop,
     History,
     Explain,
     Walk,
@@ -183,6 +186,9 @@ fn name_of(name: &str) -> Name
     if name == "status" {
         return Name::Status;
     }
+    if name == "stop" {
+        return Name::Stop;
+    }
     if name == "history" {
         return Name::History;
     }
@@ -203,6 +209,7 @@ fn read_command(alloc: Global, name: &str, matches: &ArgMatches<'_>) -> Result<C
         Name::Raise => read_raise(alloc, matches),
         Name::Dump => read_dump(alloc, matches),
         Name::Status => read_status(alloc, matches),
+        Name::Stop => read_stop(alloc, matches),
         Name::History => read_history(alloc, matches),
         Name::Explain => read_code(alloc, matches),
         Name::Walk => read_walk(alloc, matches),

@@ -16,7 +16,8 @@ use clap::{ArgMatches, Error};
 use std::alloc::{AllocError, Global};
 use values::Text;
 
-const TO: &str = "The operator's address of the server: 127.0.0.1:8081, unix:PATH";
+/// The help of `--to`.
+pub(crate) const TO: &str = "The operator's address of the server: 127.0.0.1:8081, unix:PATH";
 
 const TIMEOUT: &str = "Seconds that the whole exchange may take, 1 to 86400 [default: 30]";
 
@@ -136,6 +137,8 @@ const STATUS: &str = "Prints a running server's edition, and what its mirrors gr
 const AFTER_STATUS: &str = "Prints the server's reply:
   edition 5               the number of the published edition
   started 1764340000      when the server started, in seconds since 1 January 1970 UTC
+  address 127.0.0.1:8080  the clients' address
+  replies 3000            how many replies clients got since then
   eu 1000 of 2000000      the mirror `eu` granted 1000 bytes, of a budget of 2000000 bytes
 What is granted counts from the server's start. A mirror that grants no more rejects clients, or the
 next one is asked: raise its budget with `omaha raise`.
@@ -208,8 +211,8 @@ pub(crate) fn timeout_in(matches: &ArgMatches<'_>) -> Option<u64>
     seconds_in(matches, "timeout", 30)
 }
 
-// The error for a time limit that is none, of the command of a full name.
-fn invalid_timeout(alloc: Global, command: Making<'_>, name: &str) -> Error
+/// The error for a time limit that is none, of the command of a full name.
+pub(crate) fn invalid_timeout(alloc: Global, command: Making<'_>, name: &str) -> Error
     ensures { HasKind (ErrorKind.ValueValidation ∷ []) result }
 {
     rejection(

@@ -69,11 +69,12 @@ under `/p/`. Each worker is a thread that serves many connections at once, and n
 client holds up another. If as many are connected as may be, the one that has waited longest
 between two messages is closed for the next. An operator may
 `POST /operate` to the operator's address meanwhile: a script is published as the next edition,
-`raise NAME BUDGET` raises a mirror's budget, and `dump` gets the profile of what is published.
-Any program that reaches that address may publish and raise; a page in a browser may not. So it
-must be 127.x.x.x:PORT, [::1]:PORT, or unix:PATH, a socket that the server's user and its group may
-use, unless --operator-anywhere is given. After the last session it prints one line for each
-mirror: its name, and how many bytes it was granted.
+`raise NAME BUDGET` raises a mirror's budget, `dump` gets the profile of what is published, and
+`stop` ends the server once it has finished what it has begun: `omaha stop` waits for that.
+Any program that reaches that address may publish, raise and stop; a page in a browser may not. So
+it must be 127.x.x.x:PORT, [::1]:PORT, or unix:PATH, a socket that the server's user and its group
+may use, unless --operator-anywhere is given. After a stop, or its last session, it prints one line
+for each mirror: its name, and how many bytes it was granted.
 
 By `GET` the operator's address shows /healthz, /status, /metrics for Prometheus, and a page, /.
 With --verbose standard error says what is served, where, and each edition, raise and failed
@@ -102,7 +103,8 @@ If the command fails, it prints one line on standard error.
   omaha: write                 standard output failed
   omaha: memory                out of memory
 
-Exit status: 0 after the last session, 1 if the command failed, 2 if the arguments are invalid.
+Exit status: 0 after a stop or the last session, 1 if the command failed, 2 if the arguments are
+invalid.
 
 Example:
   omaha serve --profile profile.toml --packages packages --listen 127.0.0.1:8080 \\

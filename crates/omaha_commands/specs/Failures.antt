@@ -35,10 +35,12 @@ failure_string (failure.Code code) = codes "no code " ++ shown_string code
 failure_string (failure.Net address) = codes "net " ++ shown_string address
 failure_string (failure.History path fault) =
     codes "history " ++ shown_string path ++ codes ": " ++ history_fault_string fault
+failure_string (failure.Stopping address) = codes "stopping " ++ shown_string address
 failure_string failure.NoPlace = codes "no place"
 failure_string failure.Closed = codes "closed"
 failure_string failure.Thread = codes "thread"
 failure_string failure.Unpublished = codes "unpublished"
+failure_string failure.EndedEarly = codes "ended early"
 failure_string (failure.Walk fault) = walk_fault_text fault
 failure_string (failure.Declined reply) = codes "declined"
 failure_string failure.Memory = codes "memory"

@@ -18,5 +18,6 @@ pub mod ScriptFiles
 pub mod Scripting
 pub mod ShownReplies
 pub mod Stocking
+pub mod Stopping
 pub mod Streams
 pub mod Walking

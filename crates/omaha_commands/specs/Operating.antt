@@ -1,4 +1,4 @@
--- What the commands `publish`, `raise` and `dump` do; this project's profile.
+-- What the commands `publish`, `raise`, `dump` and `status` do; this project's profile.
 use Rattle.std.specs.Prelude.{◌≡◌, ◌⊎◌, ◌++◌, ◌≤◌, ◌<◌, ⊤, ℕ, Bool, true, false, List, [], bytes_eq, codes, length, Result, Ok, Err}
 use Rattle.std.specs.Io.KnownBytes.{Appends}
 use Rattle.streams.specs.Reading.{IsLonger, IsWhole}

@@ -54,6 +54,9 @@ pub enum Failure {
     Net(Text),
     /// The history at that path can't be used, for that reason. The path prints without control characters.
     History(Text, HistoryFault),
+    /// The server of the listener at that address was asked to end, and hasn't in time. The address prints without control
+    /// characters.
+    Stopping(Text),
     /// There is no place for a view of the editions.
     NoPlace,
     /// A view entered no edition.
@@ -62,6 +65,8 @@ pub enum Failure {
     Thread,
     /// A worker's view is not of what the operator published.
     Unpublished,
+    /// A port ended before its last connection, though nobody stopped the server.
+    EndedEarly,
     /// A walk failed.
     Walk(Fault),
     /// The operator's listener replied so, with another status than 200. Its reply is printed, and nothing else. A script
@@ -127,10 +132,17 @@ impl fmt::Display for Failure {
                 };
                 write!(f, "history {path}: {fault}")
             }
+            Failure::Stopping(address) => {
+                let address = Shown {
+                    string: address.as_str(),
+                };
+                write!(f, "stopping {address}")
+            }
             Failure::NoPlace => write!(f, "no place"),
             Failure::Closed => write!(f, "closed"),
             Failure::Thread => write!(f, "thread"),
             Failure::Unpublished => write!(f, "unpublished"),
+            Failure::EndedEarly => write!(f, "ended early"),
             Failure::Walk(fault) => write!(f, "{fault}"),
             Failure::Declined(_) => write!(f, "declined"),
             Failure::Memory => write!(f, "memory"),

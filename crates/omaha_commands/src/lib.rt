@@ -9,8 +9,8 @@
 //!
 //! `walk_on` is walked by `update_client`: read `specs/Walking.antt`; `publish_on`, `raise_on`, `dump_on` and
 //! `status_on` post by it: read `specs/Operating.antt`, for a script that is only checked `specs/Judging.antt`, and for
-//! its packages `specs/Stocking.antt`. `print` writes what a command found. A `Failure` is why a command fails, and a
-//! `HistoryFault` what is wrong with a history.
+//! its packages `specs/Stocking.antt`. `stop_on` also waits for the end of a server: read `specs/Stopping.antt`. `print`
+//! writes what a command found. A `Failure` is why a command fails, and a `HistoryFault` what is wrong with a history.
 //!
 //! It reads no arguments, and exits with no status.
 
@@ -36,6 +36,7 @@ mod script_file;
 mod scripting;
 mod shown_reply;
 mod stocking;
+mod stopping;
 mod walking;
 
 pub use crate::comparing::compare_on;
@@ -50,4 +51,5 @@ pub use crate::profile::{open_service, read_named, read_service, service_in};
 pub use crate::reporting::report_on;
 pub use crate::reviewing::review_on;
 pub use crate::scripting::print_script;
+pub use crate::stopping::stop_on;
 pub use crate::walking::walk_on;

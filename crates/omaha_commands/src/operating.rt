@@ -134,8 +134,8 @@ fn call<R: Connector, W: WriteWhole>(
     }
 }
 
-// The same if the reply is a line, and the exchange may take so many seconds.
-fn call_for_line<R: Connector, W: WriteWhole>(
+/// The same if the reply is a line, and the exchange may take so many seconds.
+pub(crate) fn call_for_line<R: Connector, W: WriteWhole>(
     rt: &R,
     alloc: Global,
     shown: bool,

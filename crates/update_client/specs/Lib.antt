@@ -1,5 +1,6 @@
 pub mod Bodies
 pub mod Clients
+pub mod Endings
 pub mod Faults
 pub mod Installed
 pub mod Installing

@@ -8,8 +8,8 @@
 //! `HttpLink` is the `Link` over TCP, a connection for each post and each download, with a time limit for each post and
 //! each 64 KiB of a download. `post_over` and `open_over` do so over any source and sink, and `post_to` returns replies of any status: read
 //! `specs/Replies.antt` and `specs/Bodies.antt`. `walk_app` walks and prints a line for each step, `walk_app_at` of a
-//! `Connector` does so over TCP, and `operate_at` posts to an operator's listener: read `specs/Lines.antt` and
-//! `specs/Walking.antt`.
+//! `Connector` does so over TCP, and `operate_at` posts to an operator's listener, whose end `is_gone` sees: read
+//! `specs/Lines.antt`, `specs/Walking.antt` and `specs/Endings.antt`.
 //!
 //! It keeps no file, follows no redirect, reads no arguments, and looks for no server.
 
@@ -29,6 +29,7 @@ mod lines;
 mod link;
 mod opening;
 mod posting;
+mod presence;
 mod printed_walk;
 mod reading;
 mod timed;
@@ -47,6 +48,7 @@ pub use crate::lines::DoneLine;
 pub use crate::link::Link;
 pub use crate::opening::open_over;
 pub use crate::posting::{Reply, post_over};
+pub use crate::presence::Patience;
 pub use crate::printed_walk::walk_app;
 pub use crate::walk_at::{Connector, Limits};
 pub use crate::walking::{MAX_STEPS, Walk};

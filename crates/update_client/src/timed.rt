@@ -25,8 +25,8 @@ impl Deadline {
         })
     }
 
-    // The time that is left; it fails if there is none.
-    fn left<R: Clock>(&self, rt: &R) -> io::Result<Duration> {
+    /// The time that is left; it fails if there is none.
+    pub(crate) fn left<R: Clock>(&self, rt: &R) -> io::Result<Duration> {
         let spent = self.begun.elapsed(rt)?;
         match self.limit.checked_sub(spent) {
             Some(left) => Ok(left),

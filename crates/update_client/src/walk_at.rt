@@ -1,6 +1,6 @@
 // What can reach a server.
 
-ghost use Rattle.std.specs.Prelude.{◌≤◌, IfErr, IfOk, length};
+ghost use Rattle.std.specs.Prelude.{◌≡◌, ◌≤◌, IfErr, IfOk, false, length, true};
 ghost use Rattle.update_client.specs.Replies.{IsPostFault};
 ghost use Rattle.update_client.specs.Walking.{IsWalkOver};
 
@@ -10,6 +10,7 @@ use crate::connecting::{post_at, post_to};
 use crate::fault::Fault;
 use crate::http_link::HttpLink;
 use crate::posting::Reply;
+use crate::presence::{Patience, is_host_gone, is_path_gone};
 use crate::printed_walk::walk_app;
 use crate::walking::Walk;
 use http_client_heads::Post;
@@ -44,6 +45,7 @@ fn operation<'a>(host: &'a str, body: &'a [u8]) -> Post<'a> {
 /// What can reach a server: a runtime with a network, or a test's stand-in for one.
 pub trait Connector {
     ghost use Rattle.std.specs.Prelude.{ℕ, List};
+    ghost use Rattle.update_client.specs.Endings.{Endings};
     ghost use Rattle.update_client.specs.Walks.{Post};
     ghost use Rattle.update_client.specs.declared.posting.Reply.{Reply};
 
@@ -52,6 +54,9 @@ pub trait Connector {
 
     // the operator's listener at an address gave that reply to that body
     ghost operated: { Self → List ℕ → List ℕ → Reply → Type 0 };
+
+    // what may be seen of the end of the server of an operator's listener
+    ghost endings: { Self → Endings };
 
     // rule: Walk over connections
     /// Walks a client along the offers of the server at an address, as `walk_app` does.
@@ -82,6 +87,20 @@ pub trait Connector {
         ensures ok { IfOk result (λ reply. operated self.now address.now body.now reply) }
         ensures within { IfOk result (λ reply. length reply.body.items ≤ limits.reply) }
         ensures err { IfErr result IsPostFault };
+
+    /// Whether nobody listens at an operator's address: a connection is rejected, or the socket of its path is gone.
+    ///
+    /// The address is one of `operate_at`. A connection may take a second, and is closed at once; nothing is sent.
+    fn is_gone(&self, address: &str) -> bool
+        ensures { result ≡ true → (endings self.now).gone address.now };
+
+    /// Begins a wait of so many seconds; 0 counts as 1.
+    fn begin_wait(&self, seconds: u64) -> Patience
+        ensures { result.seconds ≡ seconds };
+
+    /// Sleeps for a fifth of a second of a wait, or for what is left of it, and returns whether anything was left.
+    fn pause(&self, patience: Patience) -> bool
+        ensures { result ≡ false → (endings self.now).over patience.seconds };
 }
 
 impl<R: Net<Listener = TcpListener, Stream = TcpStream> + Clock> Connector for R {
@@ -90,6 +109,11 @@ impl<R: Net<Listener = TcpListener, Stream = TcpStream> + Clock> Connector for R
     ghost replies = { λ _ _ _. ⊤ };
 
     ghost operated = { λ _ _ _ _. ⊤ };
+
+    ghost endings = { λ _. record {
+      gone = λ _. ⊤;
+      over = λ _. ⊤;
+    } };
 
     fn walk_app_at<W: WriteWhole>(
         &self,
@@ -124,5 +148,20 @@ impl<R: Net<Listener = TcpListener, Stream = TcpStream> + Clock> Connector for R
                 limits.reply,
             ),
         }
+    }
+
+    fn is_gone(&self, address: &str) -> bool {
+        match address.strip_prefix("unix:") {
+            Some(path) => is_path_gone(self, path),
+            None => is_host_gone(self, address),
+        }
+    }
+
+    fn begin_wait(&self, seconds: u64) -> Patience {
+        Patience::begin(self, seconds)
+    }
+
+    fn pause(&self, patience: Patience) -> bool {
+        patience.pause(self)
     }
 }

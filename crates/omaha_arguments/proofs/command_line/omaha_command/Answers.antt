@@ -4,6 +4,7 @@ use Rattle.omaha_arguments.proofs.command_line.omaha_command.Goals as goal
 pub returns : goal.returns
 returns c =
     c.with_command.ensures _ _ refl
+    (c.with_command-program-16.ensures _ _ refl
     (c.with_command-program-15.ensures _ _ refl
     (c.with_command-program-14.ensures _ _ refl
     (c.with_command-program-13.ensures _ _ refl
@@ -24,6 +25,7 @@ returns c =
     c.raise_command.ensures)
     c.dump_command.ensures)
     c.status_command.ensures)
+    c.stop_command.ensures)
     c.history_command.ensures)
     c.check_command.ensures)
     c.review_command.ensures)

@@ -74,6 +74,16 @@ returns-in-Status-clause-command c =
     subst (λ (n : Name). IfOk c.read_status.result (λ command. command ≡ command_named n c.args.name.now (rows_of (found_of c.args.matches.now)))) c.in-Status.ensures
     c.read_status.ensures.command
 
+pub returns-in-Stop-clause-faults : goal.returns-in-Stop-clause-faults
+returns-in-Stop-clause-faults c =
+    subst (λ (n : Name). FailsBy (faults_named n c.args.name.now (rows_of (found_of c.args.matches.now))) c.read_stop.result) c.in-Stop.ensures
+    c.read_stop.ensures.faults
+
+pub returns-in-Stop-clause-command : goal.returns-in-Stop-clause-command
+returns-in-Stop-clause-command c =
+    subst (λ (n : Name). IfOk c.read_stop.result (λ command. command ≡ command_named n c.args.name.now (rows_of (found_of c.args.matches.now)))) c.in-Stop.ensures
+    c.read_stop.ensures.command
+
 pub returns-in-History-clause-faults : goal.returns-in-History-clause-faults
 returns-in-History-clause-faults c =
     subst (λ (n : Name). FailsBy (faults_named n c.args.name.now (rows_of (found_of c.args.matches.now))) c.read_history.result) c.in-History.ensures
