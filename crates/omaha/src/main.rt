@@ -5,7 +5,7 @@
 #![tactic(auto)]
 
 use history::HistoryFiles;
-use omaha_cli::{ReportingStores, Sockets, report_unreadable, run};
+use omaha_cli::{EndSigns, ReportingStores, Sockets, report_unreadable, run};
 use std::process::ExitCode;
 use std::rt::Env;
 use std::{env, io};
@@ -20,6 +20,11 @@ fn main(rt: HostRuntime) -> ExitCode {
     let mut input = rt.stdin();
     let mut output = rt.stdout();
     let mut errors = rt.stderr();
+    let signs = EndSigns::new();
+    let sockets = Sockets {
+        rt: &rt,
+        signs: &signs,
+    };
     let stores = ReportingStores {
         rt: &rt,
         stores: HistoryFiles { rt: &rt },
@@ -27,7 +32,7 @@ fn main(rt: HostRuntime) -> ExitCode {
     ExitCode::from(match arguments(&rt) {
         Ok(arguments) => run(
             &rt,
-            &Sockets { rt: &rt },
+            &sockets,
             &stores,
             &arguments,
             &mut input,

@@ -13,6 +13,7 @@ use Rattle.omaha_commands.specs.Judging.{Publishes}
 use Rattle.omaha_commands.specs.Reports.{Reports}
 use Rattle.omaha_commands.specs.Reviewing.{Reviews}
 use Rattle.omaha_commands.specs.Scripting.{PrintsScript}
+use Rattle.omaha_commands.specs.Stopping.{Stops}
 use Rattle.omaha_cli.specs.Serving.{IsQuiet, ServesOn}
 use Rattle.omaha_commands.specs.Streams.{Streams}
 use Rattle.omaha_commands.specs.Walking.{WalksOn}
@@ -44,6 +45,8 @@ DoesBy world manner (command.Dump asked) old new result =
     Dumps world.operated manner.shown asked.to old.output new.output result × (new.input ≡ old.input)
 DoesBy world manner (command.Status asked) old new result =
     PrintsStatus world.operated manner.shown asked.to old.output new.output result × (new.input ≡ old.input)
+DoesBy world manner (command.Stop asked) old new result =
+    Stops world.operated world.endings manner.shown asked old.output new.output result × (new.input ≡ old.input)
 
 -- what a task does: its command, printed in its manner
 abbrev pub Does : World → Task → Streams → Streams → Result (Unit {0}) Failure → Type 0

@@ -36,6 +36,7 @@ EndsBy server.OperatorNet serve result = (named : Failure) × IsUnbound serve.op
 EndsBy server.NoPlace serve result = result ≡ Err failure.NoPlace
 EndsBy server.Thread serve result = result ≡ Err failure.Thread
 EndsBy server.Unpublished serve result = result ≡ Err failure.Unpublished
+EndsBy server.EndedEarly serve result = result ≡ Err failure.EndedEarly
 EndsBy server.Write serve result = result ≡ Err failure.Write
 EndsBy server.Memory serve result = result ≡ Err failure.Memory
 

@@ -24,5 +24,5 @@ pub use omaha_once::{answer, respond};
 pub use omaha_server::{Place, ServedPort, ServedPorts, ServerError};
 pub use package_files::Folders;
 pub use services::{Service, builtin_service};
-pub use systems::{LogFile, Sockets, System};
+pub use systems::{EndSigns, LogFile, Sockets, System};
 pub use update_client::Connector;

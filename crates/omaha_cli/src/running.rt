@@ -13,7 +13,7 @@ use kept_records::Stores;
 use omaha_arguments::{ArgumentError, Command, Invocation, read_arguments};
 use omaha_commands::{
     Failure, Manner, compare_on, describe_files, dump_on, explain_code, graph_on, print_script,
-    publish_on, raise_on, report_on, review_on, status_on, walk_on,
+    publish_on, raise_on, report_on, review_on, status_on, stop_on, walk_on,
 };
 use omaha_histories::print_history;
 use omaha_once::respond;
@@ -129,7 +129,7 @@ fn obey<
 ) -> Result<(), Failure>
     requires { IsAskable task.now.command }
     ensures logs { Logs (R.operated rt.now) task.now (F.output errors.old) (F.output errors.new) result }
-    ensures does { Does (record { files = R.file_at rt.now; storage = R.storage rt.now; stored = H.found stores.now; edges = S.edges system.now; replies = R.replies rt.now; operated = R.operated rt.now; sights = R.sights rt.now; output_seen = W.seen writer.old; errors_seen = F.seen errors.old }) task.now
+    ensures does { Does (record { files = R.file_at rt.now; storage = R.storage rt.now; stored = H.found stores.now; edges = S.edges system.now; replies = R.replies rt.now; operated = R.operated rt.now; endings = R.endings rt.now; sights = R.sights rt.now; output_seen = W.seen writer.old; errors_seen = F.seen errors.old }) task.now
         (record { input = I.input reader.old; output = W.output writer.old })
         (record { input = I.input reader.new; output = W.output writer.new }) result }
 {
@@ -157,6 +157,7 @@ fn obey<
         Command::Raise(asked) => raise_on(rt, rt.alloc(), asked, manner.shown, writer),
         Command::Dump(asked) => dump_on(rt, rt.alloc(), asked, manner, writer, errors),
         Command::Status(asked) => status_on(rt, rt.alloc(), asked, manner.shown, writer),
+        Command::Stop(asked) => stop_on(rt, rt.alloc(), asked, manner.shown, writer),
         Command::History(asked) => print_history(rt, stores, asked, writer),
     }
 }
@@ -211,7 +212,7 @@ fn carry_out_task<
 ) -> Ended
     requires { IsAskable invocation.command }
     ensures logged { IsLoggedBy (R.operated rt.now) result.task result.ending (F.output errors.old) (F.output errors.new) }
-    ensures ends { EndsTask (record { files = R.file_at rt.now; storage = R.storage rt.now; stored = H.found stores.now; edges = S.edges system.now; replies = R.replies rt.now; operated = R.operated rt.now; sights = R.sights rt.now; output_seen = W.seen writer.old; errors_seen = F.seen errors.old }) invocation result.task
+    ensures ends { EndsTask (record { files = R.file_at rt.now; storage = R.storage rt.now; stored = H.found stores.now; edges = S.edges system.now; replies = R.replies rt.now; operated = R.operated rt.now; endings = R.endings rt.now; sights = R.sights rt.now; output_seen = W.seen writer.old; errors_seen = F.seen errors.old }) invocation result.task
         (record { input = I.input reader.old; output = W.output writer.old })
         (record { input = I.input reader.new; output = W.output writer.new }) result.ending }
 {
@@ -244,7 +245,7 @@ fn carry_out<
     errors: &mut F,
 ) -> Ended
     ensures logged { IsLoggedBy (R.operated rt.now) result.task result.ending (F.output errors.old) (F.output errors.new) }
-    ensures ends { Ends (record { files = R.file_at rt.now; storage = R.storage rt.now; stored = H.found stores.now; edges = S.edges system.now; replies = R.replies rt.now; operated = R.operated rt.now; sights = R.sights rt.now; output_seen = W.seen writer.old; errors_seen = F.seen errors.old }) (map string_bytes arguments.now) result.task
+    ensures ends { Ends (record { files = R.file_at rt.now; storage = R.storage rt.now; stored = H.found stores.now; edges = S.edges system.now; replies = R.replies rt.now; operated = R.operated rt.now; endings = R.endings rt.now; sights = R.sights rt.now; output_seen = W.seen writer.old; errors_seen = F.seen errors.old }) (map string_bytes arguments.now) result.task
         (record { input = I.input reader.old; output = W.output writer.old })
         (record { input = I.input reader.new; output = W.output writer.new }) result.ending }
     ensures untouched { IsMistaken result.ending → (reader.new ≡ reader.old) × (writer.new ≡ writer.old) }
@@ -321,7 +322,8 @@ fn advise<R: Disk + Looks + AllocGlobal, F: WriteWhole>(rt: &R, ended: &Ended, e
 /// what `report_on` does, with `review` what `review_on` does, with `graph` what `graph_on` does; with `check` and a
 /// folder it compares packages with files, with `describe` it describes files; with `script` it prints a script; with
 /// `history` it reads a history; with `serve` it serves until its last session; with `walk` it walks along a server's
-/// offers; with `publish`, `raise`, `dump` and `status` it calls an operator's listener.
+/// offers; with `publish`, `raise`, `dump` and `status` it calls an operator's listener, and with `stop` it waits for the end
+/// of its server, too.
 ///
 /// It returns 0 if the command did that, or the help or the version was printed; 1 if the command failed, after one
 /// line on `errors`, or none if that listener declined; and 2 if the arguments are invalid, after `clap`'s message on
@@ -346,7 +348,7 @@ pub fn run<
     writer: &mut W,
     errors: &mut F,
 ) -> u8
-    ensures run { Runs (record { files = R.file_at rt.now; storage = R.storage rt.now; stored = H.found stores.now; edges = S.edges system.now; replies = R.replies rt.now; operated = R.operated rt.now; sights = R.sights rt.now; output_seen = W.seen writer.old; errors_seen = F.seen errors.old }) (map string_bytes arguments.now)
+    ensures run { Runs (record { files = R.file_at rt.now; storage = R.storage rt.now; stored = H.found stores.now; edges = S.edges system.now; replies = R.replies rt.now; operated = R.operated rt.now; endings = R.endings rt.now; sights = R.sights rt.now; output_seen = W.seen writer.old; errors_seen = F.seen errors.old }) (map string_bytes arguments.now)
         (record { input = I.input reader.old; output = W.output writer.old })
         (record { input = I.input reader.new; output = W.output writer.new })
         (F.output errors.old) (F.output errors.new) result }

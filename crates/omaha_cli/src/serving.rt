@@ -59,6 +59,7 @@ fn end_of<A: Drop>(ended: Result<A, ServerError>, asked: &Serve) -> Result<(), F
         Err(ServerError::NoPlace) => Err(Failure::NoPlace),
         Err(ServerError::Thread) => Err(Failure::Thread),
         Err(ServerError::Unpublished) => Err(Failure::Unpublished),
+        Err(ServerError::EndedEarly) => Err(Failure::EndedEarly),
         Err(ServerError::Write) => Err(Failure::Write),
         Err(ServerError::Memory) => Err(Failure::Memory),
     }

@@ -16,6 +16,7 @@ use service_desks::HeldView;
 use services::{Mirrors, Service};
 use std::alloc::Global;
 use std::sync::Wait;
+use tallies::Uncounted;
 use values::ReadError;
 
 // The reply to one request by the till of one worker.
@@ -37,9 +38,14 @@ impl<R: Wait> Work<R> for OneReply<'_> {
         let Some(mut till) = tills.pop() else {
             return Err(Off::Memory);
         };
-        let reply = self
-            .view
-            .reply(rt, self.alloc, &mut till, self.moment, self.request);
+        let reply = self.view.reply(
+            rt,
+            self.alloc,
+            &mut till,
+            &Uncounted,
+            self.moment,
+            self.request,
+        );
         if tills.push(till).is_err() {
             unreachable!()
         }

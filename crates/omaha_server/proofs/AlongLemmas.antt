@@ -1,6 +1,9 @@
 -- Ports that were served, seen by a part of the desk's state.
-use Rattle.std.proofs.Common.{◌≡◌, ◌∙◌, ℕ, Bool, true, List, [], ◌∷◌, Option, Some, None, ap, inl, inr, refl, subst, sym}
-use Rattle.http_desks.specs.Calls.{Call, Leads}
+use Rattle.std.proofs.Common.{◌≡◌, ◌∙◌, ℕ, Bool, true, List, [], ◌∷◌, Option, Some, None, Result, Ok, Err, ap, inl, inr, refl, subst, sym}
+use Rattle.http_desks.specs.Calls.{Call, Asks, Leads, Looks, Shows}
+use Rattle.http_desks.specs.declared.desk.DeskStatus.{DeskStatus}
+use Rattle.http_desks.specs.declared.desk.Off.{Off}
+use Rattle.http_desks.specs.declared.desk.Off.TheVariants as off
 use Rattle.http_ports.specs.Rounds.{all_calls}
 use Rattle.http_ports.specs.declared.terms.Terms.{Terms}
 use Rattle.http_talks.specs.Ports.{Passage}
@@ -8,13 +11,14 @@ use Rattle.mirror_ledger.specs.Asks.{Ask}
 use Rattle.publisher.specs.Sights.{Sight}
 use Rattle.records.specs.declared.mirror.Mirror.{Mirror}
 use Rattle.service_desks.specs.Operators.{IsCall as IsOperatorCall}
-use Rattle.service_desks.specs.States.{State}
 use Rattle.service_desks.specs.Workers.{IsCall, Progress}
 use Rattle.service_desks.specs.Asking.{GrantsFirst}
 use Rattle.systems.specs.Edges.{Edges}
 use Rattle.package_files.specs.Lacking.{Sizes}
 use Rattle.omaha_server.specs.Checks.{ChecksCall, LeadsPast, sizes_at}
-use Rattle.omaha_server.specs.Serving.{AreOperated, DeskSteps, IsOperated, IsPassed, IsServedPort, IsWorkersPort, OperatorSteps, desk_path, desk_type, operator_path, operator_type}
+use Rattle.omaha_server.specs.Serving.{AreOperated, DeskSteps, IsAsked, IsOperated, IsPassed, IsServedPort, IsWorkersPort, OperatorSteps, desk_path, desk_type, operator_path, operator_type}
+use Rattle.omaha_server.specs.Overviews.{Overview}
+use Rattle.omaha_server.specs.Stopping.{IsEnding}
 use Rattle.omaha_server.specs.declared.place.Place.{Place}
 use Rattle.omaha_server.specs.declared.setup.Setup.{Setup}
 
@@ -47,7 +51,7 @@ IsServedPort-along part Kept steps along follows edges place path kind terms pas
       led.0,
       record {
         by = port.by;
-        all = port.all;
+        few = port.few;
         talked = (
           lost,
           is,
@@ -113,18 +117,19 @@ Leads-worked edges place terms single mirrors sight after passage calls port cal
 
 -- one more call at a desk before which another looks at it
 LeadsPast-more :
-    {D : Type 0} (Passes : D → Call → Type 0) (must : Bool) (sizes : Sizes) (steps : D → Call → D → Type 0) (before : D) (call : Call) (next : D)
-    (calls asked : List Call) (after : D)
+    {D : Type 0} (Passes : D → Call → D → Type 0) (must : Bool) (sizes : Sizes) (steps : D → Call → D → Type 0) (before : D) (call : Call)
+    (next : D) (calls asked : List Call) (after : D)
     → ChecksCall Passes must sizes steps before call next → LeadsPast Passes must sizes steps next calls asked after
     → (all : List Call) × LeadsPast Passes must sizes steps before (call ∷ calls) all after
-LeadsPast-more {D} Passes must sizes steps before call next calls asked after (inl (passed, same)) past =
-    (asked, inl (passed, subst (λ (d : D). LeadsPast Passes must sizes steps d calls asked after) same past))
+LeadsPast-more Passes must sizes steps before call next calls asked after (inl passed) past =
+    (asked, (next, inl (passed, past)))
 LeadsPast-more Passes must sizes steps before call next calls asked after (inr (looked, step)) past =
-    (call ∷ asked, inr (looked, (next, asked, refl, step, past)))
+    (call ∷ asked, (next, inr (looked, (asked, refl, step, past))))
 
 -- some of the calls at such a desk are those for which it was asked
 pub LeadsPast-all :
-    {D : Type 0} (Passes : D → Call → Type 0) (must : Bool) (sizes : Sizes) (steps : D → Call → D → Type 0) (calls : List Call) (before after : D)
+    {D : Type 0} (Passes : D → Call → D → Type 0) (must : Bool) (sizes : Sizes) (steps : D → Call → D → Type 0) (calls : List Call)
+    (before after : D)
     → Leads (ChecksCall Passes must sizes steps) before calls after
     → (asked : List Call) × LeadsPast Passes must sizes steps before calls asked after
 LeadsPast-all Passes must sizes steps [] before after same = ([], (refl, same))
@@ -132,34 +137,71 @@ LeadsPast-all Passes must sizes steps (call ∷ calls) before after (next, step,
     let (asked, past) = LeadsPast-all Passes must sizes steps calls next after leads in
     LeadsPast-more Passes must sizes steps before call next calls asked after step past
 
--- and they lead it on
+-- and they change the part of it that all others keep
 Leads-asked :
-    {D : Type 0} (Passes : D → Call → Type 0) (must : Bool) (sizes : Sizes) (steps : D → Call → D → Type 0) (calls asked : List Call) (before after : D)
-    → LeadsPast Passes must sizes steps before calls asked after → Leads steps before asked after
-Leads-asked Passes must sizes steps [] asked before after (none, same) =
-    subst (λ (these : List Call). Leads steps before these after) (sym none) same
-Leads-asked Passes must sizes steps (call ∷ calls) asked before after (inl (passed, past)) =
-    Leads-asked Passes must sizes steps calls asked before after past
-Leads-asked Passes must sizes steps (call ∷ calls) asked before after (inr (looked, (next, rest, is, step, past))) =
-    subst (λ (these : List Call). Leads steps before these after) (sym is)
-    (next, step, Leads-asked Passes must sizes steps calls rest next after past)
+    {D E : Type 0} (part : D → E) (along : E → Call → E → Type 0) (Passes : D → Call → D → Type 0) (must : Bool) (sizes : Sizes)
+    (steps : D → Call → D → Type 0)
+    → ((old : D) (call : Call) (new : D) → Passes old call new → part new ≡ part old)
+    → ((old : D) (call : Call) (new : D) → steps old call new → along (part old) call (part new))
+    → (calls asked : List Call) (before after : D)
+    → LeadsPast Passes must sizes steps before calls asked after → Leads along (part before) asked (part after)
+Leads-asked part along Passes must sizes steps stays follows [] asked before after (none, same) =
+    subst (λ (these : List Call). Leads along (part before) these (part after)) (sym none) (ap part same)
+Leads-asked {D} {E} part along Passes must sizes steps stays follows (call ∷ calls) asked before after (next, inl (passed, past)) =
+    subst (λ (e : E). Leads along e asked (part after)) (stays before call next passed)
+    (Leads-asked part along Passes must sizes steps stays follows calls asked next after past)
+Leads-asked part along Passes must sizes steps stays follows (call ∷ calls) asked before after (next, inr (looked, (rest, is, step, past))) =
+    subst (λ (these : List Call). Leads along (part before) these (part after)) (sym is)
+    (part next, follows before call next step, Leads-asked part along Passes must sizes steps stays follows calls rest next after past)
+
+-- whoever asks the server to end publishes nothing
+IsEnding-keeps :
+    (before : Overview) (answer : Result (DeskStatus × List ℕ) Off) (after : Overview) → IsEnding before answer after →
+    after.state ≡ before.state
+IsEnding-keeps before (Ok reply) after told = told.1
+IsEnding-keeps before (Err off.Memory) after same = same.state
+IsEnding-keeps before (Err off.Closed) after never = absurd never
+
+-- what passes the operator's desk publishes nothing
+IsPassed-keeps :
+    (edges : Edges) (place : Place) (before : Overview) (call : Call) (after : Overview) → IsPassed edges place before call after →
+    after.state ≡ before.state
+IsPassed-keeps edges place before (Asks body moment answer) after (inl (word, shown, same)) = same.state
+IsPassed-keeps edges place before (Asks body moment answer) after (inr (inl (word, told))) = IsEnding-keeps before answer after told
+IsPassed-keeps edges place before (Asks body moment answer) after (inr (inr (must, stopped, same))) = same.state
+IsPassed-keeps edges place before (Looks name found) after never = absurd never
+IsPassed-keeps edges place before (Shows at page) after (shown, same) = same.state
 
 -- those of the operator lead the service on
 pub Leads-operated :
-    (edges : Edges) (place : Place) (terms : Option Terms) (before : State) (calls : List Call) (after : State)
+    (edges : Edges) (place : Place) (terms : Option Terms) (before : Overview) (calls : List Call) (after : Overview)
     (passage : Option Passage)
-    → IsOperated edges place terms before calls after passage → Leads IsOperatorCall before calls after
+    → IsOperated edges place terms before calls after passage → Leads IsOperatorCall before.state calls after.state
 Leads-operated edges place None before calls after None operated =
-    subst (λ (these : List Call). Leads IsOperatorCall before these after) (sym operated.0) operated.1
+    subst (λ (these : List Call). Leads IsOperatorCall before.state these after.state) (sym operated.0)
+    (ap (λ (s : Overview). s.state) operated.1)
 Leads-operated edges place None before calls after (Some passage) never = absurd never
 Leads-operated edges place (Some terms) before calls after None never = absurd never
 Leads-operated edges place (Some terms) before calls after (Some passage) (port, past) =
-    Leads-asked (IsPassed edges place) place.packages_must_exist (sizes_at edges place) IsOperatorCall (all_calls port.talked.2.rounds) calls before after past
+    Leads-asked (λ (s : Overview). s.state) IsOperatorCall (IsPassed edges place) place.packages_must_exist (sizes_at edges place)
+    IsAsked (IsPassed-keeps edges place) (λ old call new step. step.0) (all_calls port.talked.2.rounds) calls before after past
+
+-- the calls of an operator's port, and those of them for which the operator's desk was asked
+pub LeadsPast-operated :
+    (edges : Edges) (place : Place) (terms : Terms) (before after : Overview) (passage : Passage)
+    (port : AreOperated edges place terms before after passage)
+    → (asked : List Call)
+    × LeadsPast (IsPassed edges place) place.packages_must_exist (sizes_at edges place) IsAsked before (all_calls port.talked.2.rounds)
+    asked after
+LeadsPast-operated edges place terms before after passage port =
+    LeadsPast-all (IsPassed edges place) place.packages_must_exist (sizes_at edges place) IsAsked (all_calls port.talked.2.rounds) before after
+    (Leads-weaker (OperatorSteps edges place) (ChecksCall (IsPassed edges place) place.packages_must_exist (sizes_at edges place) IsAsked)
+    (λ old call new stepped. stepped.0) (all_calls port.talked.2.rounds) before after port.talked.2.leads)
 
 -- what stays of the operator's desk: what it is served with, and the names of what it borrows
 pub AreOperated-along :
     {S R D N M Q O : Type 0} (edges_of : S → Edges) (set : D → Setup S R)
-    (name : D → N) (other : D → M) (third : D → Q) (fourth : D → O) (part : D → State) (steps : D → Call → D → Type 0)
+    (name : D → N) (other : D → M) (third : D → Q) (fourth : D → O) (part : D → Overview) (steps : D → Call → D → Type 0)
     (setup : Setup S R) (terms : Terms) (passage : Passage) (before behind : D)
     → ((old : D) (call : Call) (new : D) → steps old call new →
     (set new ≡ set old)

@@ -1,5 +1,5 @@
 -- What the workers of a server and its operator came to, once all began.
-use Rattle.std.proofs.Common.{◌≡◌, ◌∙◌, ℕ, zero, suc, ◌<◌, All, Bool, List, [], ◌∷◌, Option, Some, None, Result, Ok, Err, IfOk, inl, inr, refl, ap, arith, get_or, length, map, option_map, subst, sym}
+use Rattle.std.proofs.Common.{◌≡◌, ◌∙◌, ◌⊎◌, ℕ, zero, suc, ◌<◌, All, Bool, true, List, [], ◌∷◌, Option, Some, None, Result, Ok, Err, IfOk, inl, inr, refl, ap, arith, get_or, length, map, option_map, subst, sym}
 use Rattle.std.specs.Io.KnownBytes.{Appends}
 use Rattle.std.specs.List.{AllZip}
 use Rattle.std.specs.Option.{is_some}
@@ -24,10 +24,13 @@ use Rattle.systems.specs.Edges.{Edges}
 use Rattle.omaha_server.specs.Jobs.{IsClients, IsManned}
 use Rattle.omaha_server.specs.Opening.{AreClientTerms, IsOperatorsPort, client_terms}
 use Rattle.omaha_server.specs.OperatorPorts.{has_operator, terms_left}
-use Rattle.omaha_server.specs.Passages.{Passages, passage_of, passages_of}
+use Rattle.omaha_server.specs.Passages.{HaveAcceptedAll, Passages, passage_of, passages_of}
 use Rattle.omaha_server.specs.Places.{ArePorts}
 use Rattle.omaha_server.specs.Runs.{HasServed, HaveRun, IsPublished, PrintsLines}
 use Rattle.omaha_server.specs.Serving.{AreServed, AreTotals, IsOperated, IsReady, IsWorkersPort, PrintsTotals, Serves, ServesToEnd, begun, is_single, with_mirrors}
+use Rattle.omaha_server.specs.Overviews.{overview, overview_at}
+use Rattle.operator_pages.specs.declared.counts.Counts.{Counts}
+use Rattle.operator_pages.specs.declared.publishes.Publish.{Publish}
 use Rattle.services.specs.Totals.{names_of, totals_string}
 use Rattle.omaha_server.specs.declared.clients.Clients.{Clients}
 use Rattle.omaha_server.specs.declared.clients.Visited.{Visited}
@@ -48,7 +51,7 @@ use Rattle.omaha_server.proofs.AlongLemmas.{Leads-operated, Leads-worked}
 use Rattle.omaha_server.proofs.ChoiceLemmas.{AllZip-by, chosen}
 
 -- an item of a list that was mapped
-get_or-mapped :
+pub get_or-mapped :
     {A B : Type 0} (f : A → B) (items : List A) (index : ℕ) (a : A) (b : B) → index < length items →
     get_or (map f items) index b ≡ f (get_or items index a)
 get_or-mapped f [] index a b below = absurd (omega (arith, below))
@@ -91,9 +94,10 @@ module _ {S R P K : Type 0} (edges_of : S → Edges) (terms_of : P → Terms) (s
   -- what the operator's job comes to
   abbrev led : Operating S R P K → List Mirror → List Mirror → Operated P → Type 0
   led own before after end =
-      (left : Publication) × (calls : List Call)
+      (left : Publication) × (calls : List Call) × (started : ℕ) × (counts : Counts) × (publishes : List Publish)
       × IsOperated (edges_of own.setup.now.system.now) own.setup.now.place.now (terms_left terms_of own.port)
-      (with_mirrors before (begun own.press (first_of own.records) (kept_of own.records))) calls (with_mirrors after left)
+      (overview_at started (with_mirrors before (begun own.press (first_of own.records) (kept_of own.records)))) calls
+      (overview (with_mirrors after left) counts publishes end.ending)
       (option_map (passage_of terms_of slots_of accepted_of) end.served)
       × IfOk end.left (λ receipt. receipt ≡ left.history)
 
@@ -191,7 +195,7 @@ module _ {S R P K : Type 0} (edges_of : S → Edges) (terms_of : P → Terms) (s
       IsManned terms_of setup jobs own → is_single (is_some setup.place.now.operator) setup.place.now.workers ≡ single →
       IfOk ran (λ done. (asks : List (List Ask)) × HaveWorked (comes single) jobs asks done.ends.items × AreTotalsOf done.mirrors.items asks done.totals.items) →
       IfOk ran (λ done. HasEnded (λ before after. led own before after) mirrors done.mirrors.items done.own) →
-      HaveRun ran ended → IsPublished ended run →
+      HaveRun ran ended → IsPublished terms_of slots_of accepted_of ended run →
       AreTotals (edges_of setup.system.now) setup.place.now (record { edition = own.press; mirrors = mirrors })
       (begun own.press (first_of own.records) (kept_of own.records)).store
       (passages_of terms_of slots_of accepted_of run.ports) run.totals.items
@@ -207,23 +211,29 @@ module _ {S R P K : Type 0} (edges_of : S → Edges) (terms_of : P → Terms) (s
       let long : length worked.worked ≡ length jobs = AllZip-long (λ job its. WorksAs (comes single) job its.0 its.1) jobs worked.worked worked.each in
       let ended_all : length ended.clients.items ≡ length jobs = as_many worked.worked ended.clients.items same ∙ long in
       let asked : length asks ≡ place.workers = ap length worked.asked ∙ length-map worked.worked (λ its. its.0) ∙ long ∙ manned.many in
-      let (left, calls, there, receipt) = subst (λ (o : Option (Operated P)). HasEnded (λ before after. led own before after) mirrors done.mirrors.items o) ended_own operated in
+      let (left, calls, started, counts, publishes, there, receipt) = subst (λ (o : Option (Operated P)). HasEnded (λ before after. led own before after) mirrors done.mirrors.items o) ended_own operated in
+      let behind = overview (with_mirrors done.mirrors.items left) counts publishes ended.own.ending in
       let is : published.left ≡ left.history = subst (λ (r : Result History _). IfOk r (λ history. history ≡ left.history)) published.is receipt in
       let allowed = subst (λ (history : History). All (λ (end : Visited P). Allows end.view history) ended.clients.items) is published.allowed in
       let all = chosen (IsSo single own.press left.history manned.capacity asks (map passage ports)) place.workers
       (λ worker below. served-at single own.press left.history manned.capacity jobs asks done.ends.items ended.clients.items worker worked same
       (omega (arith, below, manned.many)) ended_all manned.each (λ d. manned.ports worker d below) allowed) in
+      let whole = subst (λ (list : List (ServedPort P)). (ended.own.ending ≡ true)
+      ⊎ HaveAcceptedAll (record { clients = map passage list; operator = option_map passage ended.own.served })) published.clients
+      (subst (λ (one : Option (ServedPort P)). (ended.own.ending ≡ true)
+      ⊎ HaveAcceptedAll (record { clients = map passage run.ports.clients.items; operator = option_map passage one })) published.operator
+      published.whole) in
       let ran : AreTotals edges place (record { edition = own.press; mirrors = mirrors }) first.store
       (record { clients = map passage ports; operator = option_map passage ended.own.served }) ended.totals.items = record {
         calls = all.0;
         operator_calls = calls;
-        left = with_mirrors done.mirrors.items left;
+        left = behind;
         run = record {
           some = valid.some;
           few = valid.few;
           due = refl;
           operated = Leads-operated (edges_of own.setup.now.system.now) own.setup.now.place.now (terms_left terms_of own.port)
-              (with_mirrors mirrors first) calls (with_mirrors done.mirrors.items left) (option_map passage ended.own.served) there;
+              (overview_at started (with_mirrors mirrors first)) calls behind (option_map passage ended.own.served) there;
           asks = asks;
           worked = AllZip-by (IsWorked mirrors own.press left.history) all.0 asks (all.1 ∙ sym asked)
               (λ worker c a below. (all.2 worker c (omega (arith, below, all.1))).0 a);
@@ -237,8 +247,10 @@ module _ {S R P K : Type 0} (edges_of : S → Edges) (terms_of : P → Terms) (s
             (get_or all.0 worker c) (get_or asks worker a) (get_or (map passage ports) worker p)) (sym alone) ((all.2 worker c below).1 a p);
         operator = terms_left terms_of own.port;
         port = manned.port;
+        started = started;
         operated = subst (λ (s : Setup S R). IsOperated (edges_of s.system.now) s.place.now (terms_left terms_of own.port)
-            (with_mirrors mirrors first) calls (with_mirrors done.mirrors.items left) (option_map passage ended.own.served)) manned.with there;
+            (overview_at started (with_mirrors mirrors first)) calls behind (option_map passage ended.own.served)) manned.with there;
+        whole = whole;
       } in
       subst (λ (list : List (ServedPort P)). AreTotals edges place (record { edition = own.press; mirrors = mirrors }) first.store
       (record { clients = map passage list; operator = option_map passage run.ports.operator }) run.totals.items) (sym published.clients)
@@ -306,3 +318,4 @@ module _ (edges : Edges) (place : Place) (service : Service) (kept : Store) (old
   Serves-unprinted names new server.NoPlace named never = absurd never
   Serves-unprinted names new server.Thread named never = absurd never
   Serves-unprinted names new server.Unpublished named never = absurd never
+  Serves-unprinted names new server.EndedEarly named never = absurd never

@@ -15,7 +15,7 @@ use Rattle.systems.specs.Edges.{Edges}
 use Rattle.omaha_server.specs.declared.error.ServerError.{ServerError}
 use Rattle.omaha_server.specs.declared.error.ServerError.TheVariants as server
 use Rattle.omaha_server.specs.declared.place.Place.{Place}
-use Rattle.omaha_server.specs.Showing.{status_word}
+use Rattle.omaha_server.specs.Outcomes.{status_word, stop_word}
 
 -- the sizes of the files of a place's folder
 abbrev pub sizes_at : Edges → Place → Sizes
@@ -48,30 +48,31 @@ abbrev pub IsStocked : Sizes → List ℕ → Type 0
 IsStocked sizes body =
     (base : ℕ) (batch : List Edit) → script_of_bytes body ≡ Ok (base, batch) → AreThere sizes (sizes_in batch)
 
--- a call for which a desk is asked: a body other than `status`, whose packages were looked for if they must exist, and are
--- there; or a package of a name; and no page
+-- a call for which a desk is asked: a body other than `status` and `stop`, whose packages were looked for if they must
+-- exist, and are there; or a package of a name; and no page
 abbrev pub IsAskedFor : Bool → Sizes → Call → Type 0
-IsAskedFor must sizes (Asks body moment answer) = (body ≢ status_word) × (must ≡ true → IsStocked sizes body)
+IsAskedFor must sizes (Asks body moment answer) =
+    (body ≢ status_word) × (body ≢ stop_word) × (must ≡ true → IsStocked sizes body)
 IsAskedFor must sizes (Looks name found) = ⊤
 IsAskedFor must sizes (Shows at page) = ⊥
 
 -- rule: Packages that must exist
--- a call at a desk before which another desk looks at it: it isn't asked for what passes it, and nothing changes; for all
--- else it is asked
-abbrev pub ChecksCall : {D : Type 0} → (D → Call → Type 0) → Bool → Sizes → (D → Call → D → Type 0) → D → Call → D → Type 0
+-- a call at a desk before which another desk looks at it: it isn't asked for what passes it; for all else it is asked
+abbrev pub ChecksCall :
+    {D : Type 0} → (D → Call → D → Type 0) → Bool → Sizes → (D → Call → D → Type 0) → D → Call → D → Type 0
 ChecksCall Passes must sizes steps before call after =
-    (Passes before call × (after ≡ before))
-    ⊎ (IsAskedFor must sizes call × steps before call after)
+    Passes before call after ⊎ (IsAskedFor must sizes call × steps before call after)
 
 -- the calls at such a desk, and those of them for which it was asked, in their order, which lead it on
 abbrev pub LeadsPast :
-    {D : Type 0} → (D → Call → Type 0) → Bool → Sizes → (D → Call → D → Type 0) → D → List Call → List Call → D → Type 0
+    {D : Type 0} → (D → Call → D → Type 0) → Bool → Sizes → (D → Call → D → Type 0) → D → List Call → List Call → D → Type 0
 LeadsPast Passes must sizes steps before [] asked after = (asked ≡ []) × (after ≡ before)
 LeadsPast {D} Passes must sizes steps before (call ∷ calls) asked after =
-    (Passes before call × LeadsPast Passes must sizes steps before calls asked after)
+    (next : D)
+    × ((Passes before call next × LeadsPast Passes must sizes steps next calls asked after)
     ⊎ (IsAskedFor must sizes call
-    × ((next : D) × (rest : List Call) × (asked ≡ call ∷ rest) × steps before call next
-    × LeadsPast Passes must sizes steps next calls rest after))
+    × ((rest : List Call) × (asked ≡ call ∷ rest) × steps before call next
+    × LeadsPast Passes must sizes steps next calls rest after)))
 
 -- the packages of a history are in the folder, if they must be
 abbrev pub HasPackages : Edges → Place → History → Type 0

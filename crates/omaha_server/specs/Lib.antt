@@ -4,8 +4,11 @@ pub mod Jobs
 pub mod Notes
 pub mod Opening
 pub mod OperatorPorts
+pub mod Outcomes
 pub mod Passages
 pub mod Places
 pub mod Runs
 pub mod Showing
 pub mod Serving
+pub mod Overviews
+pub mod Stopping

@@ -1,5 +1,5 @@
 -- What passed at the ports of a server; this project's profile.
-use Rattle.std.specs.Prelude.{ℕ, List, map, Option, option_map, Result, Ok, Err}
+use Rattle.std.specs.Prelude.{◌≡◌, ℕ, All, IfSome, List, map, Option, option_map, Result, Ok, Err}
 use Rattle.http_ports.specs.Traffic.{Slot}
 use Rattle.http_ports.specs.declared.terms.Terms.{Terms}
 use Rattle.http_talks.specs.Ports.{Passage}
@@ -10,6 +10,15 @@ use Rattle.omaha_server.specs.declared.ports.ServedPorts.{ServedPorts}
 pub record Passages : Type 0 where
   pub clients : List Passage
   pub operator : Option Passage
+
+-- a port accepted all its connections
+abbrev pub HasAcceptedAll : Passage → Type 0
+HasAcceptedAll passage = passage.accepted ≡ passage.terms.limit
+
+-- each port did
+pub record HaveAcceptedAll (passages : Passages) : Type 0 where
+  pub clients : All HasAcceptedAll passages.clients
+  pub operator : IfSome passages.operator HasAcceptedAll
 
 -- what passed at a port, as the port knows it
 abbrev pub passage_of : {P : Type 0} → (P → Terms) → (P → ℕ → Slot) → (P → ℕ) → ServedPort P → Passage

@@ -1,14 +1,16 @@
 -- What a server's workers came to, up to its totals.
-use Rattle.std.specs.Prelude.{◌≡◌, ℕ, All, List, Some, Result, Ok, Err, map}
+use Rattle.std.specs.Prelude.{◌≡◌, ◌⊎◌, ℕ, true, All, List, Some, Result, Ok, Err, map}
 use Rattle.mirror_ledger.specs.declared.running.Ran.{Ran}
 use Rattle.std.specs.Io.KnownBytes.{Appends}
 use Rattle.catalogue_laws.specs.Histories.{History}
+use Rattle.http_ports.specs.Traffic.{Slot}
+use Rattle.http_ports.specs.declared.terms.Terms.{Terms}
 use Rattle.publisher.specs.Sights.{Allows}
 use Rattle.service_desks.specs.States.{Store}
 use Rattle.streams.specs.Streams.{Known}
 use Rattle.streams.specs.Writing.{Breaks}
 use Rattle.systems.specs.Edges.{Edges}
-use Rattle.omaha_server.specs.Passages.{Passages}
+use Rattle.omaha_server.specs.Passages.{HaveAcceptedAll, Passages, passages_of}
 use Rattle.omaha_server.specs.Serving.{AreTotals, IsOpen, IsReady}
 use Rattle.services.specs.Totals.{totals_string}
 use Rattle.omaha_server.specs.declared.error.ServerError.{ServerError}
@@ -26,14 +28,17 @@ HaveRun (Ok ran) ended =
     (ran.ends.items ≡ map Ok ended.clients.items) × (ran.own ≡ Some ended.own) × (ran.totals.items ≡ ended.totals.items)
 HaveRun (Err error) ended = ⊥
 
--- the ports and the totals of jobs that came to these ends, of which each worker's view may enter what the operator left
-pub record IsPublished {P : Type 0} (ended : Ended (Visited P) (Operated P)) (run : Run P) : Type 0 where
+-- the ports and the totals of jobs that came to these ends, of which each worker's view may enter what the operator left,
+-- and each port accepted all its connections, unless the operator asked the server to end
+pub record IsPublished {P : Type 0} (terms_of : P → Terms) (slots_of : P → ℕ → Slot) (accepted_of : P → ℕ)
+    (ended : Ended (Visited P) (Operated P)) (run : Run P) : Type 0 where
   pub left : History
   pub is : ended.own.left ≡ Ok left
   pub allowed : All (λ (visited : Visited P). Allows visited.view left) ended.clients.items
   pub clients : run.ports.clients.items ≡ map (λ (visited : Visited P). visited.served) ended.clients.items
   pub operator : run.ports.operator ≡ ended.own.served
   pub totals : run.totals.items ≡ ended.totals.items
+  pub whole : (ended.own.ending ≡ true) ⊎ HaveAcceptedAll (passages_of terms_of slots_of accepted_of run.ports)
 
 -- listeners were bound, `ready` was printed and nothing else, and the service was served with these totals
 pub record HasServed (edges : Edges) (place : Place) (service : Service) (kept : Store) (old new : Known) (passages : Passages) (totals : List ℕ) : Type 0 where

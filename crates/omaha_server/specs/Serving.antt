@@ -1,5 +1,5 @@
 -- What a server does from its start to its end; this project's profile.
-use Rattle.std.specs.Prelude.{◌≡◌, ◌⊎◌, ◌&&◌, ◌<◌, ℕ, Bool, true, false, nat_eq, not, List, [], bytes_eq, codes, length, slice_index_or, Option, Some, None, Result, Ok, Err, IfErr, ⊤}
+use Rattle.std.specs.Prelude.{◌≡◌, ◌⊎◌, ◌&&◌, ◌<◌, ◌≤◌, ℕ, Bool, true, false, nat_eq, not, List, [], bytes_eq, codes, length, slice_index_or, Option, Some, None, Result, Ok, Err, IfErr, ⊤}
 use Rattle.std.specs.Io.KnownBytes.{Appends}
 use Rattle.std.specs.Option.{is_some}
 use Rattle.catalogue_laws.specs.Histories.{History}
@@ -22,20 +22,23 @@ use Rattle.service_desks.specs.Asking.{GrantsFirst}
 use Rattle.systems.specs.Edges.{Edges, IsTime}
 use Rattle.omaha_server.specs.Checks.{ChecksCall, IsStopped, LeadsPast, sizes_at}
 use Rattle.omaha_server.specs.Opening.{IsOperatorsPort, client_terms, clients_listener, operator_listener, ready_line}
-use Rattle.omaha_server.specs.Passages.{Passages}
-use Rattle.omaha_server.specs.Showing.{ShowsPage, ShowsStatus, status_word}
+use Rattle.omaha_server.specs.Outcomes.{status_word, stop_word}
+use Rattle.omaha_server.specs.Passages.{HaveAcceptedAll, Passages}
+use Rattle.omaha_server.specs.Showing.{ShowsPage, ShowsStatus}
+use Rattle.omaha_server.specs.Overviews.{IsUnmoved, Overview, counts_after, overview_at, publishes_after}
+use Rattle.omaha_server.specs.Stopping.{IsEnding}
 use Rattle.services.specs.Totals.{names_of, totals_string}
 use Rattle.omaha_server.specs.declared.error.ServerError.{ServerError}
 use Rattle.omaha_server.specs.declared.error.ServerError.TheVariants as server
 use Rattle.omaha_server.specs.declared.place.Place.{Place}
 use Rattle.services.specs.declared.service.Service.{Service}
 
--- a port of these terms was served to its end by a desk of this path and type, with the packages of the place's folder: it
--- accepted all its connections, and each has ended
+-- a port of these terms was served to its end by a desk of this path and type, with the packages of the place's folder:
+-- each connection that it accepted has ended
 pub record IsServedPort {D : Type 0} (edges : Edges) (place : Place) (path kind : List ℕ) (steps : D → Call → D → Type 0)
     (before behind : D) (terms : Terms) (passage : Passage) : Type 0 where
   pub by : passage.terms ≡ terms
-  pub all : passage.accepted ≡ terms.limit
+  pub few : passage.accepted ≤ terms.limit
   pub talked : HasTalked (IsUse path IsTime (edges.sizes place.packages) (edges.reads place.packages)) kind steps before behind passage
 
 -- the path of update checks, and the type of a reply
@@ -77,36 +80,43 @@ operator_path = codes "/operate"
 abbrev pub operator_type : List ℕ
 operator_type = codes "text/plain"
 
--- a call at the operator's port for which the operator's desk isn't asked: it asks for the status or for a page, or its
--- packages aren't there and must exist
-abbrev pub IsPassed : Edges → Place → State → Call → Type 0
-IsPassed edges place state (Asks body moment answer) =
-    ((body ≡ status_word) × ShowsStatus place.version state answer)
-    ⊎ ((place.packages_must_exist ≡ true) × IsStopped (sizes_at edges place) (Asks body moment answer))
-IsPassed edges place state (Looks name found) = ⊥
-IsPassed edges place state (Shows at page) = ShowsPage place.version state at page
+-- a call at the operator's port for which the operator's desk isn't asked: it asks for the status or for a page, asks the
+-- server to end, or its packages aren't there and must exist
+abbrev pub IsPassed : Edges → Place → Overview → Call → Overview → Type 0
+IsPassed edges place before (Asks body moment answer) after =
+    ((body ≡ status_word) × ShowsStatus place.version before answer × IsUnmoved before after)
+    ⊎ ((body ≡ stop_word) × IsEnding before answer after)
+    ⊎ ((place.packages_must_exist ≡ true) × IsStopped (sizes_at edges place) (Asks body moment answer) × IsUnmoved before after)
+IsPassed edges place before (Looks name found) after = ⊥
+IsPassed edges place before (Shows at page) after = ShowsPage place.version before at page × IsUnmoved before after
 
--- a call at the operator's port, whose desk is asked for what doesn't pass it
-abbrev pub OperatorSteps : Edges → Place → State → Call → State → Type 0
+-- a call for which it is asked
+abbrev pub IsAsked : Overview → Call → Overview → Type 0
+IsAsked before call after = IsOperatorCall before.state call after.state × (after.ending ≡ before.ending)
+
+-- a call at the operator's port, whose desk is asked for what doesn't pass it; each is counted, and a publish noted
+abbrev pub OperatorSteps : Edges → Place → Overview → Call → Overview → Type 0
 OperatorSteps edges place before call after =
-    ChecksCall (IsPassed edges place) place.packages_must_exist (sizes_at edges place) IsOperatorCall before call after
+    ChecksCall (IsPassed edges place) place.packages_must_exist (sizes_at edges place) IsAsked before call after
+    × (after.counts ≡ counts_after call before.counts)
+    × (after.publishes ≡ publishes_after call after.state before.publishes)
 
 -- rule: Sessions of an operator
 -- a port of these terms was served to its end by the operator's desk, from a published history and the mirrors with
 -- their budgets to those that its calls lead to
-abbrev pub AreOperated : Edges → Place → Terms → State → State → Passage → Type 0
+abbrev pub AreOperated : Edges → Place → Terms → Overview → Overview → Passage → Type 0
 AreOperated edges place terms before after passage =
     IsServedPort edges place operator_path operator_type (OperatorSteps edges place) before after terms passage
 
 -- the same, and these are the calls for which the desk was asked, if there is a port for the operator; without one there is
--- no call, nothing is published, and no budget raised
-abbrev pub IsOperated : Edges → Place → Option Terms → State → List Call → State → Option Passage → Type 0
+-- no call, nothing is published, no budget raised, and the server is not asked to end
+abbrev pub IsOperated : Edges → Place → Option Terms → Overview → List Call → Overview → Option Passage → Type 0
 IsOperated edges place None before calls after None = (calls ≡ []) × (after ≡ before)
 IsOperated edges place None before calls after (Some passage) = ⊥
 IsOperated edges place (Some terms) before calls after None = ⊥
 IsOperated edges place (Some terms) before calls after (Some passage) =
     (served : AreOperated edges place terms before after passage)
-    × LeadsPast (IsPassed edges place) place.packages_must_exist (sizes_at edges place) IsOperatorCall before (all_calls served.talked.2.rounds)
+    × LeadsPast (IsPassed edges place) place.packages_must_exist (sizes_at edges place) IsAsked before (all_calls served.talked.2.rounds)
     calls after
 
 -- a press and records as they are when the operator begins: nothing is due
@@ -124,14 +134,15 @@ state_of service kept = record { mirrors = service.mirrors; history = service.ed
 -- rule: Totals of a server
 -- what was done at the ports is a run of the service, from its edition and from what was kept: each worker served a port
 -- with its portion of the sessions, with a view that had seen that edition; the operator's port was served, if there is an
--- operator; each worker's view may enter what is left; and the totals are the sums of what the workers asked for, each
--- within the budget that its mirror has after the operator's last connection
+-- operator; each worker's view may enter what is left; the totals are the sums of what the workers asked for, each
+-- within the budget that its mirror has after the operator's last connection; and each port accepted all its connections,
+-- unless the operator asked the server to end
 pub record AreTotals (edges : Edges) (place : Place) (service : Service) (kept : Store) (passages : Passages) (totals : List ℕ) : Type 0 where
   pub calls : List (List Call)
   pub operator_calls : List Call
-  pub left : State
+  pub left : Overview
   pub run : IsServed service.mirrors service.edition kept
-      (record { workers = calls; operator = operator_calls; totals = totals }) left
+      (record { workers = calls; operator = operator_calls; totals = totals }) left.state
   pub many : length calls ≡ place.workers
   pub ports : length passages.clients ≡ place.workers
   pub capacity : ℕ
@@ -141,7 +152,9 @@ pub record AreTotals (edges : Edges) (place : Place) (service : Service) (kept :
       (slice_index_or passages.clients worker p)
   pub operator : Option Terms
   pub port : IsOperatorsPort place operator
-  pub operated : IsOperated edges place operator (state_of service kept) operator_calls left passages.operator
+  pub started : ℕ
+  pub operated : IsOperated edges place operator (overview_at started (state_of service kept)) operator_calls left passages.operator
+  pub whole : (left.ending ≡ true) ⊎ HaveAcceptedAll passages
 
 -- the line that says that the server listens was printed
 abbrev pub IsReady : Known → Known → Type 0
@@ -168,6 +181,7 @@ Stops edges place old new (server.Package name what) = new ≡ old
 Stops edges place old new server.NoPlace = new ≡ old
 Stops edges place old new server.Thread = IsOpen edges place × IsReady old new
 Stops edges place old new server.Unpublished = IsOpen edges place × IsReady old new
+Stops edges place old new server.EndedEarly = IsOpen edges place × IsReady old new
 Stops edges place old new server.Write = IsOpen edges place × Breaks old new ready_line
 Stops edges place old new server.Memory = (new ≡ old) ⊎ (IsOpen edges place × IsReady old new)
 
@@ -181,6 +195,7 @@ IsUnlogged (server.Package name what) = ⊤
 IsUnlogged server.NoPlace = ⊤
 IsUnlogged server.Thread = ⊤
 IsUnlogged server.Unpublished = ⊤
+IsUnlogged server.EndedEarly = ⊤
 IsUnlogged server.Write = ⊤
 IsUnlogged server.Memory = ⊤
 
@@ -194,6 +209,7 @@ IsLater (server.Package name what) = ⊥
 IsLater server.NoPlace = ⊤
 IsLater server.Thread = ⊤
 IsLater server.Unpublished = ⊤
+IsLater server.EndedEarly = ⊤
 IsLater server.Write = ⊤
 IsLater server.Memory = ⊤
 

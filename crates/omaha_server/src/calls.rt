@@ -1,7 +1,7 @@
 // What a server says of the calls of the operator's desk.
 
 use crate::lacks::note_added;
-use crate::notes::{note_of, note_reply};
+use crate::notes::{note, note_of, note_reply};
 use crate::setup::Setup;
 use http_desks::{Answer, Off};
 use http_ports::Port;
@@ -40,4 +40,12 @@ pub(crate) fn note_answer<S: System<P>, R: Wait + AllocGlobal, P: Port>(
         note_reply(setup, line);
         note_script::<S, R, P>(setup, body);
     }
+}
+
+/// Says that the server was asked to end, if the place has a name, and has its ports end.
+pub(crate) fn end_server<S: System<P>, R: Wait, P: Port>(setup: &Setup<'_, S, R>) {
+    if setup.place.named.is_some() {
+        note(setup, "stopping");
+    }
+    setup.ending.ask::<S, P>(setup.system);
 }

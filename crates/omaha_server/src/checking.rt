@@ -3,22 +3,25 @@
 ghost use Rattle.std.specs.Prelude.{◌≡◌, ◌-◌, MatchResult, true};
 ghost use Rattle.std.specs.Option.{ForSome};
 ghost use Rattle.http_desks.specs.Calls.{Asks, answer_in};
-ghost use Rattle.http_desks.specs.declared.desk.DeskStatus.TheVariants.{UnprocessableContent};
+ghost use Rattle.http_desks.specs.declared.desk.DeskStatus.TheVariants.{Success, UnprocessableContent};
 ghost use Rattle.http_desks.specs.declared.desk.Off.TheVariants.{Memory};
 ghost use Rattle.omaha_server.specs.Checking.{IsLookedAt, StopsFor, StopsIf};
 ghost use Rattle.omaha_server.specs.Checks.{lacking_line};
+ghost use Rattle.omaha_server.specs.Overviews.{publish_of};
+ghost use Rattle.omaha_server.specs.Stopping.{stopping_line};
 ghost use Rattle.profile_toml.specs.Laws.{AreMirrors};
 ghost use Rattle.service_desks.specs.Operators.{IsCall as IsOperatorCall};
-ghost use Rattle.service_desks.specs.States.{GoesOn, store};
+ghost use Rattle.service_desks.specs.States.{GoesOn, State, earlier_in, store};
 
-use crate::calls::{note_answer, note_stop};
+use crate::calls::{end_server, note_answer, note_stop};
+use crate::circumstances::Circumstances;
 use crate::setup::Setup;
-use crate::showing::{Circumstances, count_call, show_page, show_status};
+use crate::showing::{count_call, note_publish, publish_of, show_page, show_status};
 use http_desks::{Answer, Declared, Desk, DeskStatus, Off, Page};
 use http_ports::Port;
 use kept_records::Records;
 use mirror_ledger::Budgets;
-use operator_pages::Counts;
+use operator_pages::{Counts, Publish, Publishes};
 use package_files::{Lacking, PackageSizes, look_for_added};
 use profile_toml::read_script;
 use publisher::{Prepared, Press};
@@ -167,17 +170,44 @@ fn ask_over<S, R: Threads + Wait + AllocGlobal, B: Budgets, K: Records>(
 }
 
 // What the operator's thread knows beside what is published.
-fn circumstances_of<K: Records>(records: &K, counts: Counts) -> Circumstances
-    ensures { result.earlier ≡ K.first records.now - 1 }
+fn circumstances_of<K: Records>(records: &K, counts: Counts, ending: bool) -> Circumstances
+    ensures earlier { result.earlier ≡ K.first records.now - 1 }
+    ensures counts { result.counts ≡ counts }
+    ensures ending { result.ending ≡ ending }
 {
     Circumstances {
         earlier: records.first() - 1,
         counts,
+        ending,
+    }
+}
+
+// The publish of the edition that a press has published, at a time.
+fn publish_at<K: Records>(press: &Press, records: &K, moment: u64) -> Publish
+    ensures { (state : State) → state.history ≡ press.now → earlier_in state.store ≡ K.first records.now - 1
+        → result ≡ publish_of state moment }
+{
+    publish_of(press.edition(), records.first() - 1, moment)
+}
+
+// rule: Stop of a server
+// The reply to whoever asks the server to end.
+fn stopping(alloc: Global) -> Result<Answer, Off>
+    ensures { MatchResult result
+        (λ answer. (answer.status ≡ Success) × (answer.body.items ≡ stopping_line)) (λ off. off ≡ Memory) }
+{
+    match Vec::from_slice(alloc, b"stopping\n") {
+        Ok(body) => Ok(Answer {
+            status: DeskStatus::Success,
+            body,
+        }),
+        Err(_) => Err(Off::Memory),
     }
 }
 
 /// The operator's desk, which looks for packages first: if the place's packages must exist, it isn't asked for a script
-/// that adds one which isn't in the folder with its size. It isn't asked for the status, nor for pages.
+/// that adds one which isn't in the folder with its size. It isn't asked for the status, nor for pages, nor when the
+/// server is asked to end.
 #[derive(Drop)]
 pub(crate) struct Checked<
     's,
@@ -204,6 +234,10 @@ pub(crate) struct Checked<
     pub(crate) due: &'d mut Option<Prepared>,
     /// What the operator's calls came to.
     pub(crate) counts: Counts,
+    /// The last publishes.
+    pub(crate) publishes: Publishes,
+    /// Whether the server was asked to end.
+    pub(crate) ending: bool,
     /// The ports of the system.
     pub(crate) ports: PhantomData<P>,
     ghost listed: { AreMirrors (B.present budgets.now) },
@@ -216,6 +250,7 @@ impl<S: System<P>, R: Threads + Wait + AllocGlobal, P: Port, B: Budgets, K: Reco
     for Checked<'_, '_, '_, '_, '_, '_, S, R, P, B, K> {
     ghost use Rattle.std.specs.Prelude.{◌≡◌, codes};
     ghost use Rattle.omaha_server.specs.Serving.{OperatorSteps};
+    ghost use Rattle.omaha_server.specs.Overviews.{overview};
     ghost use Rattle.service_desks.specs.States.{store};
 
     ghost path = { λ _. codes "/operate" };
@@ -226,8 +261,8 @@ impl<S: System<P>, R: Threads + Wait + AllocGlobal, P: Port, B: Budgets, K: Reco
         × (new.press.ghost_name ≡ old.press.ghost_name) × (new.budgets.ghost_name ≡ old.budgets.ghost_name)
         × (new.records.ghost_name ≡ old.records.ghost_name) × (new.due.ghost_name ≡ old.due.ghost_name)
         × OperatorSteps (S.edges old.setup.now.system.now) old.setup.now.place.now
-        (record { mirrors = B.present old.budgets.now; history = old.press.now; store = store (K.first old.records.now) (K.kept old.records.now) old.due.now }) call
-        (record { mirrors = B.present new.budgets.now; history = new.press.now; store = store (K.first new.records.now) (K.kept new.records.now) new.due.now }) };
+        (overview (record { mirrors = B.present old.budgets.now; history = old.press.now; store = store (K.first old.records.now) (K.kept old.records.now) old.due.now }) old.counts old.publishes old.ending) call
+        (overview (record { mirrors = B.present new.budgets.now; history = new.press.now; store = store (K.first new.records.now) (K.kept new.records.now) new.due.now }) new.counts new.publishes new.ending) };
 
     fn path(&self) -> &str {
         "/operate"
@@ -240,16 +275,36 @@ impl<S: System<P>, R: Threads + Wait + AllocGlobal, P: Port, B: Budgets, K: Reco
     fn answer(&mut self, body: &[u8], moment: u64) -> Result<Answer, Off> {
         let place = self.setup.place;
         let rt = self.setup.rt;
+        if body == b"stop".as_slice() {
+            return match stopping(rt.alloc()) {
+                Ok(answer) => {
+                    self.ending = true;
+                    end_server::<S, R, P>(self.setup);
+                    Ok(answer)
+                }
+                Err(off) => Err(off),
+            };
+        }
         if body == b"status".as_slice() {
-            let circumstances = circumstances_of(self.records, self.counts);
+            let circumstances = circumstances_of(self.records, self.counts, self.ending);
             let version = place.version.as_str();
-            return show_status(rt, self.press, self.budgets, version, &circumstances);
+            let publishes = self.publishes.as_slice();
+            return show_status(
+                self.setup,
+                self.press,
+                self.budgets,
+                version,
+                publishes,
+                &circumstances,
+            );
         }
         let folder = SystemFolder::<S, P>::new(self.setup.system, place.packages.as_str());
         let must = place.packages_must_exist;
         match stop_if(rt.alloc(), must, &folder, body) {
             Some(stopped) => {
                 note_stop(self.setup, &stopped);
+                let publish = publish_at(self.press, self.records, moment);
+                note_publish(&mut self.publishes, body, &stopped, publish);
                 self.counts = count_call(self.counts, body, &stopped);
                 stopped
             }
@@ -264,6 +319,8 @@ impl<S: System<P>, R: Threads + Wait + AllocGlobal, P: Port, B: Budgets, K: Reco
                     moment,
                 );
                 note_answer::<S, R, P>(self.setup, body, &answered);
+                let publish = publish_at(self.press, self.records, moment);
+                note_publish(&mut self.publishes, body, &answered, publish);
                 self.counts = count_call(self.counts, body, &answered);
                 answered
             }
@@ -275,9 +332,17 @@ impl<S: System<P>, R: Threads + Wait + AllocGlobal, P: Port, B: Budgets, K: Reco
     }
 
     fn page(&mut self, at: &[u8]) -> Result<Option<Page>, Off> {
-        let (rt, place) = (self.setup.rt, self.setup.place);
-        let circumstances = circumstances_of(self.records, self.counts);
-        let version = place.version.as_str();
-        show_page(rt, self.press, self.budgets, version, &circumstances, at)
+        let circumstances = circumstances_of(self.records, self.counts, self.ending);
+        let version = self.setup.place.version.as_str();
+        let publishes = self.publishes.as_slice();
+        show_page(
+            self.setup,
+            self.press,
+            self.budgets,
+            version,
+            publishes,
+            &circumstances,
+            at,
+        )
     }
 }

@@ -42,6 +42,8 @@ pub(crate) struct Clients<'s, 'a, S, R, P: Port> {
     pub(crate) view: View,
     /// The worker's end of the log, if there is one.
     pub(crate) lines: Option<LineSender>,
+    /// The worker's number, from 0.
+    pub(crate) number: usize,
 }
 
 // rule: Sessions of a server
@@ -63,11 +65,14 @@ impl<S: System<P>, R: Clock + Wait + AllocGlobal, P: Port + Send + Drop> TillJob
             port,
             view,
             lines,
+            number,
         } = self;
         let mut lines = lines;
         let tables = setup.place.pinned_tables as usize;
-        let mut desk = Worker::with_tables(setup.rt, view, till, tables);
-        let served = serve_new(setup, port, &mut desk, &mut lines);
+        let tally = setup.traffic.tally(number);
+        let mut desk = Worker::with_counter(setup.rt, view, till, tables, tally);
+        let served = serve_new(setup, port, &mut desk, &mut lines, Some(tally));
+        setup.ending.leave::<S, P>(setup.system);
         let (left, till) = desk.into_parts();
         if let Some(lines) = lines {
             let _ = lines.finish();
@@ -126,6 +131,7 @@ fn clients_of<'s, 'a, S, R, P: Port + Drop>(
     port: P,
     view: View,
     lines: Option<LineSender>,
+    number: usize,
 ) -> Result<Clients<'s, 'a, S, R, P>, AllocError>
     requires { IsNew P.terms P.slots P.accepted P.is_over port }
     ensures clients { IfOk result (IsClients setup.now view) }
@@ -137,6 +143,7 @@ fn clients_of<'s, 'a, S, R, P: Port + Drop>(
         port,
         view,
         lines,
+        number,
     })
 }
 
@@ -161,7 +168,7 @@ pub(crate) fn all_clients<'s, 'a, S, R, P: Port + Drop>(
         let Some(view) = views.pop() else {
             unreachable!()
         };
-        let clients = clients_of(alloc, setup, port, view, senders.pop())?;
+        let clients = clients_of(alloc, setup, port, view, senders.pop(), jobs.len())?;
         let Ok(()) = jobs.push(clients) else {
             return Err(AllocError);
         };

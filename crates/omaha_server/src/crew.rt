@@ -14,7 +14,7 @@ use crate::new_port::NewPort;
 use crate::opening::Ports;
 use crate::operating::{Operating, OperatorPort};
 use crate::setup::Setup;
-use crate::starts::note_start;
+use crate::starts::{bind_traffic, note_start};
 use http_ports::Port;
 use kept_records::Records;
 use publisher::{Press, View};
@@ -99,6 +99,9 @@ pub(crate) fn crew_of<
 {
     let Publishing { press, records } = publishing;
     let alloc = setup.rt.alloc();
+    if bind_traffic(setup, &ports).is_err() {
+        return Err(press);
+    }
     let Ok((senders, writings)) = open_outlets(setup, setup.place.workers + 1, outlets) else {
         return Err(press);
     };

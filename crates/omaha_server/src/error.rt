@@ -23,6 +23,8 @@ pub enum ServerError {
     Thread,
     /// A worker's view is not of what the operator published.
     Unpublished,
+    /// A port ended before its last connection, though nobody asked the server to end.
+    EndedEarly,
     /// The output could not be written.
     Write,
     /// Memory ran out.

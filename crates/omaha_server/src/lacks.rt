@@ -65,9 +65,7 @@ impl<'s, 'a, S: System<P>, R: Wait + AllocGlobal, P: Port> Look<'s, 'a, S, R, P>
         if more == 0 {
             return;
         }
-        if let Ok(said) = format!(in self.setup.rt.alloc();
-            "packages that are lacking, too: {more}"
-        ) {
+        if let Ok(said) = format!(in self.setup.rt.alloc(); "and {more} more packages") {
             note(self.setup, said.as_str());
         }
     }

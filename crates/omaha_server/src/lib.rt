@@ -13,8 +13,10 @@
 
 mod calls;
 mod checking;
+mod circumstances;
 mod clients;
 mod crew;
+mod ending;
 mod error;
 mod lacks;
 mod logging;
@@ -29,6 +31,7 @@ mod serving;
 mod setup;
 mod showing;
 mod starts;
+mod traffic;
 mod watches;
 
 pub use crate::error::ServerError;

@@ -1,11 +1,14 @@
 // The connections of the operator.
 
-ghost use Rattle.std.specs.Prelude.{◌≡◌, IfSome, None, Option, true};
+ghost use Rattle.std.specs.Prelude.{◌≡◌, IfSome, List, None, Option, true};
 ghost use Rattle.catalogue_laws.specs.Histories.{History};
 ghost use Rattle.profile_toml.specs.Laws.{AreMirrors};
+ghost use Rattle.operator_pages.specs.declared.counts.Counts.{Counts as Numbers};
+ghost use Rattle.operator_pages.specs.declared.publishes.Publish.{Publish};
 ghost use Rattle.omaha_server.specs.Opening.{operator_terms};
 ghost use Rattle.omaha_server.specs.Passages.{passage_of};
 ghost use Rattle.omaha_server.specs.Serving.{AreOperated};
+ghost use Rattle.omaha_server.specs.Overviews.{overview, overview_at};
 ghost use Rattle.service_desks.specs.States.{store};
 
 use crate::checking::Checked;
@@ -17,7 +20,7 @@ use http_ports::{Port, Terms};
 use kept_records::Records;
 use log_queues::LineSender;
 use mirror_ledger::{BudgetJob, Budgets};
-use operator_pages::Counts;
+use operator_pages::{Counts, Publishes};
 use publisher::{Prepared, Press, Receipt};
 use std::alloc::AllocError;
 use std::marker::PhantomData;
@@ -25,6 +28,7 @@ use std::sync::Wait;
 use std::thread::Threads;
 use std::time::Clock;
 use systems::System;
+use tallies::Tally;
 
 // How many connections of the operator may be open at once.
 const CONNECTIONS: usize = 32;
@@ -74,6 +78,16 @@ pub(crate) struct Operated<P> {
     pub(crate) served: Option<ServedPort<P>>,
     /// A receipt of what is published then.
     pub(crate) left: Result<Receipt, AllocError>,
+    /// Whether the server was asked to end.
+    pub(crate) ending: bool,
+}
+
+// The operator's port that was served, when it began, and whether the server was asked to end.
+#[derive(Drop)]
+struct Operation<P> {
+    served: ServedPort<P>,
+    started: u64,
+    ending: bool,
 }
 
 // Serves a port by the operator's desk, which looks for packages first.
@@ -95,11 +109,11 @@ fn serve_desk<
     ensures same_records { checked.new.records.ghost_name ≡ checked.old.records.ghost_name }
     ensures same_due { checked.new.due.ghost_name ≡ checked.old.due.ghost_name }
     ensures operated { AreOperated (S.edges setup.now.system.now) setup.now.place.now (P.terms port)
-        (record { mirrors = B.present checked.old.budgets.now; history = checked.old.press.now; store = store (K.first checked.old.records.now) (K.kept checked.old.records.now) checked.old.due.now })
-        (record { mirrors = B.present checked.new.budgets.now; history = checked.new.press.now; store = store (K.first checked.new.records.now) (K.kept checked.new.records.now) checked.new.due.now })
+        (overview (record { mirrors = B.present checked.old.budgets.now; history = checked.old.press.now; store = store (K.first checked.old.records.now) (K.kept checked.old.records.now) checked.old.due.now }) checked.old.counts checked.old.publishes checked.old.ending)
+        (overview (record { mirrors = B.present checked.new.budgets.now; history = checked.new.press.now; store = store (K.first checked.new.records.now) (K.kept checked.new.records.now) checked.new.due.now }) checked.new.counts checked.new.publishes checked.new.ending)
         (passage_of P.terms P.slots P.accepted result) }
 {
-    serve_new(setup, port, checked, lines)
+    serve_new(setup, port, checked, lines, None::<&'static Tally>)
 }
 
 // The same, over a press, records and budgets that may be raised.
@@ -117,25 +131,35 @@ fn operate<
     due: &mut Option<Prepared>,
     budgets: &mut B,
     lines: &mut Option<LineSender>,
-) -> ServedPort<P>
+) -> Operation<P>
     requires listed { AreMirrors (B.present budgets.old) }
     requires rising { B.rises budgets.old ≡ true }
     requires none { due.old ≡ None }
-    ensures operated { AreOperated (S.edges setup.now.system.now) setup.now.place.now (P.terms port)
-        (record { mirrors = B.present budgets.old; history = press.old; store = store (K.first records.old) (K.kept records.old) due.old })
-        (record { mirrors = B.present budgets.new; history = press.new; store = store (K.first records.new) (K.kept records.new) due.new })
-        (passage_of P.terms P.slots P.accepted result) }
+    ensures operated { (counts : Numbers) × (publishes : List Publish)
+        × AreOperated (S.edges setup.now.system.now) setup.now.place.now (P.terms port)
+        (overview_at result.started (record { mirrors = B.present budgets.old; history = press.old; store = store (K.first records.old) (K.kept records.old) due.old }))
+        (overview (record { mirrors = B.present budgets.new; history = press.new; store = store (K.first records.new) (K.kept records.new) due.new }) counts publishes result.ending)
+        (passage_of P.terms P.slots P.accepted result.served) }
 {
+    let started = seconds_now(setup.rt);
     let mut checked = Checked {
         setup,
         press,
         budgets,
         records,
         due,
-        counts: Counts::new(seconds_now(setup.rt)),
+        counts: Counts::new(started),
+        publishes: Publishes::new(),
+        ending: false,
         ports: PhantomData,
     };
-    serve_desk(setup, port, &mut checked, lines)
+    let served = serve_desk(setup, port, &mut checked, lines);
+    let ending = checked.ending;
+    Operation {
+        served,
+        started,
+        ending,
+    }
 }
 
 // rule: Sessions of an operator
@@ -145,7 +169,10 @@ impl<
     P: Port + Send + Drop,
     K: Records,
 > BudgetJob for Operating<'_, '_, S, R, P, K> {
-    ghost use Rattle.std.specs.Prelude.{◌≡◌, IfOk, List, option_map};
+    ghost use Rattle.std.specs.Prelude.{◌≡◌, ℕ, IfOk, List, option_map};
+    ghost use Rattle.operator_pages.specs.declared.counts.Counts.{Counts as Numbers};
+    ghost use Rattle.operator_pages.specs.declared.publishes.Publish.{Publish};
+    ghost use Rattle.omaha_server.specs.Overviews.{overview, overview_at};
     ghost use Rattle.http_desks.specs.Calls.{Call};
     ghost use Rattle.service_desks.specs.States.{Publication};
     ghost use Rattle.omaha_server.specs.OperatorPorts.{has_operator, terms_left};
@@ -156,9 +183,11 @@ impl<
 
     ghost raises = { λ own. has_operator own.port };
 
-    ghost comes_to = { λ before after old end. (left : Publication) × (calls : List Call)
+    ghost comes_to = { λ before after old end.
+        (left : Publication) × (calls : List Call) × (started : ℕ) × (counts : Numbers) × (publishes : List Publish)
         × IsOperated (S.edges old.setup.now.system.now) old.setup.now.place.now (terms_left P.terms old.port)
-        (with_mirrors before (begun old.press (K.first old.records) (K.kept old.records))) calls (with_mirrors after left)
+        (overview_at started (with_mirrors before (begun old.press (K.first old.records) (K.kept old.records)))) calls
+        (overview (with_mirrors after left) counts publishes end.ending)
         (option_map (passage_of P.terms P.slots P.accepted) end.served)
         × IfOk end.left (λ receipt. receipt ≡ left.history) };
 
@@ -168,13 +197,14 @@ impl<
             _ => return Operated {
                 served: None,
                 left: self.press.receipt(),
+                ending: false,
             },
         }
         let OperatorPort::New(port) = std::mem::replace(&mut self.port, OperatorPort::Served) else {
             unreachable!()
         };
         let mut due = None;
-        let served = operate(
+        let operation = operate(
             self.setup,
             port,
             &mut self.press,
@@ -187,9 +217,11 @@ impl<
             let _ = lines.finish();
         }
         let left = self.press.receipt();
+        let Operation { served, ending, .. } = operation;
         Operated {
             served: Some(served),
             left,
+            ending,
         }
     }
 }

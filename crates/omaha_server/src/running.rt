@@ -1,14 +1,16 @@
 // What the jobs of a server came to.
 
-ghost use Rattle.std.specs.Prelude.{◌≡◌, ◌⊎◌, All, IfErr, IfOk, Ok, map};
+ghost use Rattle.std.specs.Prelude.{◌≡◌, ◌⊎◌, All, IfErr, IfOk, IfSome, IsTrue, Ok, map, option_map};
 ghost use Rattle.publisher.specs.Sights.{Allows};
+ghost use Rattle.omaha_server.specs.Passages.{HasAcceptedAll, HaveAcceptedAll, passage_of, passages_of};
 ghost use Rattle.omaha_server.specs.Runs.{HaveRun, IsPublished};
-ghost use Rattle.omaha_server.specs.declared.error.ServerError.TheVariants.{Memory, Thread, Unpublished};
+ghost use Rattle.omaha_server.specs.declared.error.ServerError.TheVariants.{Memory, Thread, Unpublished, EndedEarly};
 
 use crate::clients::Visited;
 use crate::error::ServerError;
 use crate::operating::Operated;
 use crate::ports::{ServedPort, ServedPorts};
+use http_ports::Port;
 use mirror_ledger::{BudgetJob, Ran, TillJob};
 use publisher::{Receipt, may_enter};
 use std::alloc::{AllocError, Global};
@@ -98,20 +100,51 @@ fn published_ports<P: Drop>(
     Ok(ports)
 }
 
+// Whether the ports of workers accepted all their connections.
+fn have_clients_accepted<P: Port>(ports: &[ServedPort<P>]) -> bool
+    ensures { IsTrue result → All HasAcceptedAll (map (passage_of P.terms P.slots P.accepted) ports.now) }
+{
+    for index in 0..ports.len() {
+        if !ports[index].port.has_accepted_all() {
+            return false;
+        }
+    }
+    true
+}
+
+// Whether the operator's port did, if there is one.
+fn has_operator_accepted<P: Port>(port: &Option<ServedPort<P>>) -> bool
+    ensures { IsTrue result → IfSome (option_map (passage_of P.terms P.slots P.accepted) port.now) HasAcceptedAll }
+{
+    match port {
+        Some(served) => served.port.has_accepted_all(),
+        None => true,
+    }
+}
+
+// Whether all did.
+fn have_accepted_all<P: Port>(ports: &ServedPorts<P>) -> bool
+    ensures { IsTrue result → HaveAcceptedAll (passages_of P.terms P.slots P.accepted ports.now) }
+{
+    have_clients_accepted(ports.clients.as_slice()) && has_operator_accepted(&ports.operator)
+}
+
 // rule: Run of a service
-/// The ports and the totals of jobs that came to their ends, if each worker's view may enter what the operator left.
-pub(crate) fn published_run<P: Drop>(
+/// The ports and the totals of jobs that came to their ends, if each worker's view may enter what the operator left, and
+/// each port accepted all its connections, or the server was asked to end.
+pub(crate) fn published_run<P: Port + Drop>(
     alloc: Global,
     ended: Ended<Visited<P>, Operated<P>>,
 ) -> Result<Run<P>, ServerError>
-    ensures ok { IfOk result (IsPublished ended) }
-    ensures err { IfErr result (λ error. (error ≡ Unpublished) ⊎ (error ≡ Memory)) }
+    ensures ok { IfOk result (IsPublished P.terms P.slots P.accepted ended) }
+    ensures err { IfErr result (λ error. (error ≡ Unpublished) ⊎ (error ≡ EndedEarly) ⊎ (error ≡ Memory)) }
 {
     let Ended {
         clients,
         own: Operated {
             served: operator,
             left,
+            ending,
         },
         totals,
     } = ended;
@@ -120,5 +153,8 @@ pub(crate) fn published_run<P: Drop>(
     };
     let clients = published_ports(alloc, clients, &left)?;
     let ports = ServedPorts { clients, operator };
+    if !ending && !have_accepted_all(&ports) {
+        return Err(ServerError::EndedEarly);
+    }
     Ok(Run { ports, totals })
 }

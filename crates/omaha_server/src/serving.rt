@@ -9,11 +9,12 @@ ghost use Rattle.omaha_server.specs.Jobs.{IsManned};
 ghost use Rattle.omaha_server.specs.Passages.{passages_in, passages_of};
 ghost use Rattle.omaha_server.specs.Runs.{HasServed, PrintsLines};
 ghost use Rattle.omaha_server.specs.Serving.{AreTotals, IsLogged, IsSilent, IsLater, IsUnlogged, Serves, Stops, begun};
-ghost use Rattle.omaha_server.specs.declared.error.ServerError.TheVariants.{Memory, NoPlace, Thread, Unpublished};
+ghost use Rattle.omaha_server.specs.declared.error.ServerError.TheVariants.{Memory, NoPlace, Thread, Unpublished, EndedEarly};
 
 use crate::checking::SystemFolder;
 use crate::clients::Clients;
 use crate::crew::{Crew, Publishing, crew_of};
+use crate::ending::Ending;
 use crate::error::ServerError;
 use crate::logging::{Outlets, Writings, end_writing, start_writing};
 use crate::notes::Notes;
@@ -23,6 +24,7 @@ use crate::place::Place;
 use crate::ports::ServedPorts;
 use crate::running::{Run, ends_of, published_run};
 use crate::setup::Setup;
+use crate::traffic::Traffic;
 use editions::Edition;
 use http_ports::Port;
 use kept_records::Records;
@@ -85,7 +87,7 @@ fn run_jobs<
         (record { edition = own.old.press; mirrors = mirrors })
         (begun own.old.press (K.first own.old.records) (K.kept own.old.records)).store
         (passages_of P.terms P.slots P.accepted run.ports) run.totals.items) }
-    ensures err { IfErr result (λ error. (error ≡ Thread) ⊎ (error ≡ Unpublished) ⊎ (error ≡ Memory)) }
+    ensures err { IfErr result (λ error. (error ≡ Thread) ⊎ (error ≡ Unpublished) ⊎ (error ≡ EndedEarly) ⊎ (error ≡ Memory)) }
 {
     thread::scope(
         thread::scope_env(),
@@ -96,7 +98,7 @@ fn run_jobs<
                 (record { edition = own.entry.now.press; mirrors = mirrors })
                 (begun own.entry.now.press (K.first own.entry.now.records) (K.kept own.entry.now.records)).store
                 (passages_of P.terms P.slots P.accepted run.ports) run.totals.items) }
-            ensures err { IfErr result (λ error. (error ≡ Thread) ⊎ (error ≡ Unpublished) ⊎ (error ≡ Memory)) }
+            ensures err { IfErr result (λ error. (error ≡ Thread) ⊎ (error ≡ Unpublished) ⊎ (error ≡ EndedEarly) ⊎ (error ≡ Memory)) }
         {
             let rt = setup.runtime();
             let Writings { errors, file } = writings;
@@ -247,6 +249,9 @@ fn serve_found<
     ensures later { IfErr result IsLater }
 {
     let (rt, place) = (setup.rt, setup.place);
+    if setup.traffic.is_short() {
+        return Err(ServerError::Memory);
+    }
     let KeptService { service, records } = kept;
     let names = names_of(rt.alloc(), service.mirrors.as_slice())?;
     let Service { edition, mirrors } = service;
@@ -340,6 +345,12 @@ fn serve_on_errors<
     serve_with(setup, kept, gate, out, errors, file)
 }
 
+// What a server of a service counts in.
+fn traffic_of(alloc: Global, workers: usize, service: &Service) -> Traffic {
+    let apps = service.edition.catalogue().apps();
+    Traffic::new(alloc, workers, service.mirrors.as_slice().len(), apps)
+}
+
 // rule: Run of a server
 // rule: Edges of a server
 /// Serves a service's update checks and its packages, takes the operator's scripts and raises of budgets, and prints
@@ -355,7 +366,11 @@ fn serve_on_errors<
 /// Fails, in this order, with the log, the folder, the first package that isn't there, memory, no place for a view, the
 /// address, the operator's address, the output, and a thread that can't be started; in that case no connection was
 /// accepted. Memory may also run out after `ready`; then no total is printed. Nor is one if a worker's view at its end
-/// is not of what the operator published, which no test has seen.
+/// is not of what the operator published, or if a port ended early though nobody asked the server to end, neither of
+/// which a test has seen.
+///
+/// The operator may ask the server to end: then the workers' ports accept no more connections, end those on which no
+/// message has begun, and reply to the messages that have; and then the operator's port ends.
 ///
 /// The log gets a line for each reply, as `access_logs` has it, at the end of its file, or on `errors`, which is
 /// otherwise left as it is; workers never mix their lines. A line that can't be written is lost, and holds up no reply.
@@ -390,11 +405,15 @@ pub fn serve<
     ensures silent { IsSilent place.now → errors.new ≡ errors.old }
 {
     let notes = Mutex::new(Notes::new(rt.alloc()));
+    let ending = Ending::new(place.workers);
+    let traffic = traffic_of(rt.alloc(), place.workers, &kept.service);
     let setup = Setup {
         system,
         rt,
         place,
         notes: &notes,
+        ending: &ending,
+        traffic: &traffic,
     };
     if place.named.is_some() {
         let page = Mutex::new(Page::new(errors));

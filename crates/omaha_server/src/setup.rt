@@ -4,10 +4,12 @@ ghost use Rattle.std.specs.Prelude.{◌≡◌};
 ghost use Rattle.omaha_server.specs.Passages.{passage_of};
 ghost use Rattle.omaha_server.specs.Serving.{IsServedPort};
 
+use crate::ending::Ending;
 use crate::new_port::NewPort;
 use crate::notes::Notes;
 use crate::place::Place;
 use crate::ports::ServedPort;
+use crate::traffic::Traffic;
 use crate::watches::Watches;
 use access_logs::ReplyLog;
 use http_desks::{Clock, Desk};
@@ -19,6 +21,7 @@ use std::marker::PhantomData;
 use std::sync::{Mutex, Wait};
 use std::time;
 use systems::System;
+use tallies::Tally;
 
 /// What the ports of a server are served with.
 #[derive(Drop)]
@@ -31,6 +34,10 @@ pub(crate) struct Setup<'a, S, R> {
     pub(crate) place: &'a Place,
     /// What the server says of itself, if the place has a name.
     pub(crate) notes: &'a Mutex<Notes>,
+    /// Whether the server was asked to end.
+    pub(crate) ending: &'a Ending,
+    /// What the server has served so far.
+    pub(crate) traffic: &'a Traffic,
 }
 
 impl<'a, S, R> Setup<'a, S, R> {
@@ -57,12 +64,14 @@ fn log_of<'l, C: Clock>(
     }
 }
 
-/// Serves a port by a desk, and sends a line for each reply, if they are logged.
+/// Serves a port by a desk, sends a line for each reply, if they are logged, and counts what is served in a tally, if there
+/// is one.
 pub(crate) fn serve_new<P: Port + Drop, S: System<P>, R: time::Clock + Wait + AllocGlobal, D: Desk>(
     setup: &Setup<'_, S, R>,
     port: NewPort<P>,
     desk: &mut D,
     lines: &mut Option<LineSender>,
+    tally: Option<&Tally>,
 ) -> ServedPort<P>
     ensures { IsServedPort (S.edges setup.now.system.now) setup.now.place.now (D.path desk.old) (D.content_type desk.old) D.steps
         desk.old desk.new (P.terms port) (passage_of P.terms P.slots P.accepted result) }
@@ -72,6 +81,7 @@ pub(crate) fn serve_new<P: Port + Drop, S: System<P>, R: time::Clock + Wait + Al
     let watches = Watches {
         log: log_of(rt.alloc(), &clock, lines),
         setup,
+        tally,
         ports: PhantomData,
     };
     let (port, room) = port.into_parts();

@@ -1,34 +1,37 @@
 // The pages of the operator's address, and its status.
 
-ghost use Rattle.std.specs.Prelude.{◌≡◌, ◌≤◌, ◌^◌, IfOk, length};
+ghost use Rattle.std.specs.Prelude.{◌≡◌, ◌≤◌, ◌^◌, IfOk, bytes_eq, codes, length, true};
+ghost use Rattle.app_sights.specs.Sights.{AreSights};
+ghost use Rattle.editions.specs.Editions.{content_of};
 ghost use Rattle.http_desks.specs.Calls.{answer_in};
 ghost use Rattle.http_desks.specs.Pages.{page_in};
-ghost use Rattle.omaha_server.specs.Showing.{AreGranted, IsKnown, ShowsPage, ShowsStatus, counted_by, outcome_in, outcome_of};
+ghost use Rattle.omaha_server.specs.Outcomes.{counted_by, is_word, outcome_in, outcome_of};
+ghost use Rattle.omaha_server.specs.Showing.{AreGranted, IsKnown, ShowsPage, ShowsStatus, IsOverview};
+ghost use Rattle.omaha_server.specs.Overviews.{Overview, last_edits, publish_of, published_by};
 ghost use Rattle.service_desks.specs.States.{State, earlier_in};
 
+use crate::circumstances::Circumstances;
+use crate::setup::Setup;
+use crate::traffic::{Served, Traffic};
+use app_sights::sights_of;
+use editions::Edition;
 use http_desks::{Answer, DeskStatus, Off, Page};
 use mirror_ledger::Budgets;
-use operator_pages::{Counts, Outcome, Shown, page_at, status_string};
+use operator_pages::{
+    AppSight, Counts, Outcome, Publish, Publishes, Shown, page_at, status_string,
+};
 use publisher::Press;
 use records::Mirror;
 use std::alloc::{AllocError, Global};
 use std::sync::Wait;
 
-/// What the operator's thread knows beside what is published.
-#[derive(Clone, Copy)]
-pub(crate) struct Circumstances {
-    /// How many editions there were before the first record.
-    pub(crate) earlier: u64,
-    /// What the operator's calls came to.
-    pub(crate) counts: Counts,
-    ghost bounded: { earlier ≤ 2 ^ 53 },
-}
-
-// The mirrors with their present budgets, and what each granted so far.
+// The mirrors with their present budgets, what each granted so far, what was served, and what is seen of the apps.
 #[derive(Drop)]
 struct Funds {
     mirrors: Vec<Mirror>,
     granted: Vec<u64>,
+    served: Served,
+    sights: Vec<AppSight>,
 }
 
 // What each of so many mirrors granted so far.
@@ -51,12 +54,28 @@ fn granted_of<R: Wait, B: Budgets>(
     Ok(granted)
 }
 
-// The mirrors with their present budgets, and what they granted.
+// What is seen of the apps of an edition, if it is to be seen.
+fn sights_if(alloc: Global, edition: &Edition, is_seen: bool) -> Result<Vec<AppSight>, AllocError>
+    ensures { IfOk result (λ sights. is_seen ≡ true → AreSights (content_of edition.now) sights.items) }
+{
+    if is_seen {
+        sights_of(alloc, edition.catalogue(), edition.tables())
+    } else {
+        Ok(Vec::new(alloc))
+    }
+}
+
+// The mirrors with their present budgets, what they granted, what was served of the apps of an edition, and what is seen
+// of them, if it is to be.
 fn funds_of<R: Wait, B: Budgets>(
     rt: &R,
     alloc: Global,
     budgets: &mut B,
+    traffic: &Traffic,
+    edition: &Edition,
+    is_seen: bool,
 ) -> Result<Funds, AllocError>
+    ensures seen { IfOk result (λ funds. is_seen ≡ true → AreSights (content_of edition.now) funds.sights.items) }
     ensures mirrors { IfOk result (λ funds. funds.mirrors.items ≡ B.present budgets.old) }
     ensures granted { IfOk result (λ funds. AreGranted (B.present budgets.old) funds.granted.items) }
     ensures present { B.present budgets.new ≡ B.present budgets.old }
@@ -64,7 +83,14 @@ fn funds_of<R: Wait, B: Budgets>(
 {
     let mirrors = budgets.mirrors(alloc)?;
     let granted = granted_of(rt, alloc, budgets, mirrors.len())?;
-    Ok(Funds { mirrors, granted })
+    let served = traffic.served(alloc, mirrors.len(), edition.catalogue().apps())?;
+    let sights = sights_if(alloc, edition, is_seen)?;
+    Ok(Funds {
+        mirrors,
+        granted,
+        served,
+        sights,
+    })
 }
 
 // What the pages of a program of this version are made of.
@@ -72,20 +98,27 @@ fn shown_of<'a>(
     press: &'a Press,
     funds: &'a Funds,
     version: &'a str,
+    publishes: &'a [Publish],
     circumstances: &Circumstances,
 ) -> Shown<'a>
     requires { AreGranted funds.now.mirrors.items funds.now.granted.items }
-    ensures { (state : State) → state.history ≡ press.now → state.mirrors ≡ funds.now.mirrors.items
-        → earlier_in state.store ≡ circumstances.now.earlier → IsKnown version.now state result }
+    ensures sights { result.sights.now ≡ funds.now.sights.items }
+    ensures known { (overview : Overview) → IsOverview press.now funds.now.mirrors.items publishes.now circumstances.now overview
+        → IsKnown version.now overview result }
 {
     let edition = press.edition();
     Shown {
         apps: edition.catalogue().apps(),
+        sights: funds.sights.as_slice(),
         edition: circumstances.earlier + edition.number(),
         mirrors: funds.mirrors.as_slice(),
         granted: funds.granted.as_slice(),
         counts: circumstances.counts,
+        ending: circumstances.ending,
+        publishes,
         version,
+        address: funds.served.address.as_str(),
+        totals: &funds.served.totals,
     }
 }
 
@@ -95,14 +128,16 @@ fn page_of<'a>(
     press: &'a Press,
     funds: &'a Funds,
     version: &'a str,
+    publishes: &'a [Publish],
     circumstances: &Circumstances,
     at: &[u8],
 ) -> Result<Option<Page>, Off>
-    requires { AreGranted funds.now.mirrors.items funds.now.granted.items }
-    ensures { (state : State) → state.history ≡ press.now → state.mirrors ≡ funds.now.mirrors.items
-        → earlier_in state.store ≡ circumstances.now.earlier → ShowsPage version.now state at.now (page_in result) }
+    requires granted { AreGranted funds.now.mirrors.items funds.now.granted.items }
+    requires seen { bytes_eq at.now (codes "/") ≡ true → AreSights (content_of press.now) funds.now.sights.items }
+    ensures { (overview : Overview) → IsOverview press.now funds.now.mirrors.items publishes.now circumstances.now overview
+        → ShowsPage version.now overview at.now (page_in result) }
 {
-    let shown = shown_of(press, funds, version, circumstances);
+    let shown = shown_of(press, funds, version, publishes, circumstances);
     match page_at(alloc, at, &shown) {
         Ok(page) => Ok(page),
         Err(_) => Err(Off::Memory),
@@ -115,13 +150,14 @@ fn status_of<'a>(
     press: &'a Press,
     funds: &'a Funds,
     version: &'a str,
+    publishes: &'a [Publish],
     circumstances: &Circumstances,
 ) -> Result<Answer, Off>
     requires { AreGranted funds.now.mirrors.items funds.now.granted.items }
-    ensures { (state : State) → state.history ≡ press.now → state.mirrors ≡ funds.now.mirrors.items
-        → earlier_in state.store ≡ circumstances.now.earlier → ShowsStatus version.now state (answer_in result) }
+    ensures { (overview : Overview) → IsOverview press.now funds.now.mirrors.items publishes.now circumstances.now overview
+        → ShowsStatus version.now overview (answer_in result) }
 {
-    let shown = shown_of(press, funds, version, circumstances);
+    let shown = shown_of(press, funds, version, publishes, circumstances);
     match status_string(alloc, &shown) {
         Ok(text) => Ok(Answer {
             status: DeskStatus::Success,
@@ -133,43 +169,63 @@ fn status_of<'a>(
 
 // rule: Pages of an operator
 /// Returns the page of a path, if it has one.
-pub(crate) fn show_page<R: Wait + AllocGlobal, B: Budgets>(
-    rt: &R,
+pub(crate) fn show_page<S, R: Wait + AllocGlobal, B: Budgets>(
+    setup: &Setup<'_, S, R>,
     press: &Press,
     budgets: &mut B,
     version: &str,
+    publishes: &[Publish],
     circumstances: &Circumstances,
     at: &[u8],
 ) -> Result<Option<Page>, Off>
-    ensures shows { (state : State) → state.history ≡ press.now → state.mirrors ≡ B.present budgets.old
-        → earlier_in state.store ≡ circumstances.now.earlier → ShowsPage version.now state at.now (page_in result) }
+    ensures shows { (overview : Overview) → IsOverview press.now (B.present budgets.old) publishes.now circumstances.now overview
+        → ShowsPage version.now overview at.now (page_in result) }
     ensures present { B.present budgets.new ≡ B.present budgets.old }
     ensures rises { B.rises budgets.new ≡ B.rises budgets.old }
 {
-    match funds_of(rt, rt.alloc(), budgets) {
-        Ok(funds) => page_of(rt.alloc(), press, &funds, version, circumstances, at),
+    let (rt, traffic) = (setup.rt, setup.traffic);
+    let is_seen = at == b"/".as_slice();
+    match funds_of(rt, rt.alloc(), budgets, traffic, press.edition(), is_seen) {
+        Ok(funds) => page_of(
+            rt.alloc(),
+            press,
+            &funds,
+            version,
+            publishes,
+            circumstances,
+            at,
+        ),
         Err(_) => Err(Off::Memory),
     }
 }
 
 // rule: Status on demand
 /// Returns the reply to the body that asks for the status.
-pub(crate) fn show_status<R: Wait + AllocGlobal, B: Budgets>(
-    rt: &R,
+pub(crate) fn show_status<S, R: Wait + AllocGlobal, B: Budgets>(
+    setup: &Setup<'_, S, R>,
     press: &Press,
     budgets: &mut B,
     version: &str,
+    publishes: &[Publish],
     circumstances: &Circumstances,
 ) -> Result<Answer, Off>
-    ensures shows { (state : State) → state.history ≡ press.now → state.mirrors ≡ B.present budgets.old
-        → earlier_in state.store ≡ circumstances.now.earlier → ShowsStatus version.now state (answer_in result) }
+    ensures shows { (overview : Overview) → IsOverview press.now (B.present budgets.old) publishes.now circumstances.now overview
+        → ShowsStatus version.now overview (answer_in result) }
     ensures present { B.present budgets.new ≡ B.present budgets.old }
     ensures rises { B.rises budgets.new ≡ B.rises budgets.old }
 {
-    match funds_of(rt, rt.alloc(), budgets) {
-        Ok(funds) => status_of(rt.alloc(), press, &funds, version, circumstances),
+    let (rt, traffic) = (setup.rt, setup.traffic);
+    match funds_of(rt, rt.alloc(), budgets, traffic, press.edition(), false) {
+        Ok(funds) => status_of(rt.alloc(), press, &funds, version, publishes, circumstances),
         Err(_) => Err(Off::Memory),
     }
+}
+
+// Whether a body publishes and raises nothing.
+fn is_word(body: &[u8]) -> bool
+    ensures { result ≡ is_word body.now }
+{
+    body == b"dump".as_slice() || body == b"status".as_slice() || body == b"stop".as_slice()
 }
 
 // What a call of 200 came to.
@@ -178,7 +234,7 @@ fn outcome_of(body: &[u8]) -> Option<Outcome>
 {
     if body.starts_with(b"raise ") {
         Some(Outcome::Raised)
-    } else if body == b"dump".as_slice() {
+    } else if is_word(body) {
         None
     } else {
         Some(Outcome::Published)
@@ -208,5 +264,43 @@ pub(crate) fn count_call(counts: Counts, body: &[u8], answered: &Result<Answer, 
     match outcome_in(body, answered) {
         None => counts,
         Some(outcome) => counts.counted(outcome),
+    }
+}
+
+// How many edits the last batch of an edition has.
+fn last_edits(edition: &Edition) -> u64
+    ensures { result ≡ last_edits edition.now }
+{
+    let batches = edition.batches();
+    match batches.len() {
+        0 => 0,
+        many => batches[many - 1].edits().len() as u64,
+    }
+}
+
+/// The publish of the edition that is published, at a time.
+pub(crate) fn publish_of(edition: &Edition, earlier: u64, moment: u64) -> Publish
+    requires { earlier ≤ 2 ^ 53 }
+    ensures { (state : State) → state.history ≡ edition.now → earlier_in state.store ≡ earlier
+        → result ≡ publish_of state moment }
+{
+    Publish {
+        edition: earlier + edition.number(),
+        time: moment,
+        edits: last_edits(edition),
+    }
+}
+
+/// Notes a publish, if a call came to one, by its body and its reply.
+pub(crate) fn note_publish(
+    publishes: &mut Publishes,
+    body: &[u8],
+    answered: &Result<Answer, Off>,
+    publish: Publish,
+)
+    ensures { publishes.new ≡ published_by (outcome_in body.now (answer_in answered.now)) publish publishes.old }
+{
+    if let Some(Outcome::Published) = outcome_in(body, answered) {
+        publishes.push(publish);
     }
 }

@@ -34,6 +34,16 @@ fn clients_address<P: Port, S: System<P>, R: AllocGlobal>(
     }
 }
 
+/// Notes the address that the clients' ports were given.
+pub(crate) fn bind_traffic<P: Port, S: System<P>, R: AllocGlobal>(
+    setup: &Setup<'_, S, R>,
+    ports: &Ports<P>,
+) -> Result<(), AllocError> {
+    let address = clients_address(setup, ports)?;
+    setup.traffic.bind(address);
+    Ok(())
+}
+
 // The address that the operator's port was given, if there is one.
 fn operator_address<P: Port, S: System<P>, R: AllocGlobal>(
     setup: &Setup<'_, S, R>,

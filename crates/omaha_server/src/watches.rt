@@ -1,4 +1,4 @@
-// What is seen of the connections of a port: their replies, for the log, and the downloads that fail.
+// What is seen of the connections of a port: their replies, for the log and to be counted, and the downloads that fail.
 
 use crate::notes::note;
 use crate::setup::Setup;
@@ -14,14 +14,17 @@ use std::net::IpAddr;
 use std::str;
 use std::sync::Wait;
 use systems::System;
+use tallies::{Cell, Tally, Visit};
 
 /// What is seen of the connections of a port.
 #[derive(Drop)]
-pub(crate) struct Watches<'l, 's, 'a, C: Clock, S, R, P> {
+pub(crate) struct Watches<'l, 's, 'a, 't, C: Clock, S, R, P> {
     /// The log, if there is one.
     pub(crate) log: Option<ReplyLog<'l, C, LineSender>>,
     /// What the port is served with.
     pub(crate) setup: &'s Setup<'a, S, R>,
+    /// Where what is served is counted, if it is.
+    pub(crate) tally: Option<&'t Tally>,
     /// The ports of the system.
     pub(crate) ports: PhantomData<P>,
 }
@@ -31,8 +34,12 @@ pub(crate) struct Watches<'l, 's, 'a, C: Clock, S, R, P> {
 pub(crate) struct Sight {
     // for the log, if there is one
     logged: Option<Seen>,
-    // its last reply, if failed downloads are reported
+    // for the tally, if there is one
+    visit: Option<Visit>,
+    // its last reply, if failed downloads are reported or counted
     last: Option<LastReply>,
+    // whether its last message may ask for a package
+    may_fetch: bool,
 }
 
 // The name of the package that a message with this first line asks for.
@@ -71,56 +78,98 @@ fn note_failed<S: System<P>, R: Wait + AllocGlobal, P: Port>(
     Ok(())
 }
 
-// Says that a reply was cut off, if it is a package.
+// Counts that a reply was cut off, if it is a package, and says so, if the place has a name.
 fn note_cut<S: System<P>, R: Wait + AllocGlobal, P: Port>(
     setup: &Setup<'_, S, R>,
+    tally: Option<&Tally>,
     cut: &CutReply<'_>,
 ) {
-    if let Some(name) = package_in(cut.line) {
+    let Some(name) = package_in(cut.line) else {
+        return;
+    };
+    if let Some(tally) = tally {
+        tally.add(Cell::Failures, 1);
+    }
+    if setup.place.named.is_some() {
         let _ = note_failed::<S, R, P>(setup, name, cut.size);
     }
 }
 
+// What is counted of a connection that was accepted.
+fn visit_of(tally: Option<&Tally>) -> Option<Visit> {
+    match tally {
+        Some(tally) => Some(Visit::open(tally)),
+        None => None,
+    }
+}
+
+impl Sight {
+    // Notes the first bytes of a message. No package is asked for by a `POST`.
+    fn begin(&mut self, tally: Option<&Tally>, waiting: &[u8]) {
+        if let (Some(tally), Some(visit)) = (tally, &mut self.visit) {
+            visit.begin(tally, waiting);
+        }
+        self.may_fetch = !waiting.starts_with(b"POST ");
+        if let (true, Some(last)) = (self.may_fetch, &mut self.last) {
+            last.begin(waiting);
+        }
+    }
+
+    // Notes bytes of a reply.
+    fn write(&mut self, tally: Option<&Tally>, bytes: &[u8]) {
+        if let (Some(tally), Some(visit)) = (tally, &mut self.visit) {
+            visit.write(tally, bytes);
+        }
+        if let (true, Some(last)) = (self.may_fetch, &mut self.last) {
+            last.write(bytes);
+        }
+    }
+}
+
 impl<C: Clock, S: System<P>, R: Wait + AllocGlobal, P: Port> WatchEach
-    for Watches<'_, '_, '_, C, S, R, P> {
+    for Watches<'_, '_, '_, '_, C, S, R, P> {
     type Seen = Sight;
 
     fn opens(&self, peer: Option<IpAddr>) -> Sight {
-        let last = match &self.setup.place.named {
-            Some(_) => Some(LastReply::new(self.setup.rt.alloc())),
-            None => None,
+        let visit = visit_of(self.tally);
+        let is_reported = visit.is_some() || self.setup.place.named.is_some();
+        let last = if is_reported {
+            Some(LastReply::new(self.setup.rt.alloc()))
+        } else {
+            None
         };
         Sight {
             logged: self.log.opens(peer),
+            visit,
             last,
+            may_fetch: false,
         }
     }
 
     fn begins(&self, seen: &mut Sight, waiting: &[u8]) {
         self.log.begins(&mut seen.logged, waiting);
-        if let Some(last) = &mut seen.last {
-            last.begin(waiting);
-        }
+        seen.begin(self.tally, waiting);
     }
 
     fn writes(&self, seen: &mut Sight, bytes: &[u8]) {
         self.log.writes(&mut seen.logged, bytes);
-        if let Some(last) = &mut seen.last {
-            last.write(bytes);
-        }
+        seen.write(self.tally, bytes);
     }
 
     fn finishes(&self, seen: &mut Sight) {
         self.log.finishes(&mut seen.logged);
-        if let Some(last) = &seen.last {
+        if let (true, Some(last)) = (seen.may_fetch, &seen.last) {
             if let Some(cut) = last.cut() {
-                note_cut::<S, R, P>(self.setup, &cut);
+                note_cut::<S, R, P>(self.setup, self.tally, &cut);
             }
         }
     }
 
     fn ends(&self, seen: Sight) {
-        let Sight { logged, last: _ } = seen;
+        let Sight { logged, visit, .. } = seen;
+        if let (Some(tally), Some(visit)) = (self.tally, visit) {
+            visit.end(tally);
+        }
         self.log.ends(logged);
     }
 }

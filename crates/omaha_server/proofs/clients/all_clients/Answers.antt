@@ -33,3 +33,6 @@ loop-port-preserved g c =
                 (All-push (IsClients c.args.setup.now (fresh history)) at.jobs.items made jobs (rw one at c.in_ok-clients.ensures.clients)),
           );
     }
+
+pub returns-clause-jobs : goal.returns-clause-jobs
+returns-clause-jobs g c = λ history all. (c.loop-port.invariant.jobs history all).1

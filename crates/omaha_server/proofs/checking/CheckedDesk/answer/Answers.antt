@@ -1,22 +1,60 @@
-use Rattle.std.proofs.Common.{◌≡◌, ◌≢◌, ℕ, List, inl, inr, refl, rules, subst, sym}
+use Rattle.std.proofs.Common.{◌≡◌, ◌≢◌, ◌∙◌, ℕ, List, Option, ap, inl, inr, refl, rules, subst, sym}
 use Rattle.http_desks.specs.Calls.{answer_in}
 use Rattle.service_desks.specs.States.{State, Store, store}
-use Rattle.omaha_server.specs.Showing.{ShowsStatus, status_word}
-use Rattle.omaha_server.proofs.ShowLemmas.{same_state, state_by}
+use Rattle.operator_pages.specs.declared.counts.Outcome.{Outcome}
+use Rattle.omaha_server.specs.Outcomes.{counted_by, outcome_in, status_word, stop_word}
+use Rattle.operator_pages.specs.declared.publishes.Publish.{Publish}
+use Rattle.omaha_server.specs.Overviews.{Overview, overview, publish_of, published_by}
+use Rattle.omaha_server.specs.Showing.{IsOverview, ShowsStatus}
+use Rattle.omaha_server.proofs.CountLemmas.{status-nothing}
+use Rattle.omaha_server.proofs.ShowLemmas.{is_overview, state_by, unmoved}
 use Rattle.omaha_server.proofs.checking.CheckedDesk.answer.Goals as goal
 
-pub returns-then-eq-clause-steps : goal.returns-then-eq-clause-steps
-returns-then-eq-clause-steps g c =
-    let records = c.args.self.now.records.now in
-    let kept : Store = store (g.K.Records.first records) (g.K.Records.kept records) c.args.self.now.due.now in
-    let before : State = state_by c.args.self.now.press.now kept (g.B.Budgets.present c.args.self.now.budgets.now) in
+pub returns-then-eq-2-clause-steps : goal.returns-then-eq-2-clause-steps
+returns-then-eq-2-clause-steps g c =
+    let desk = c.args.self.now in
+    let kept : Store = store (g.K.Records.first desk.records.now) (g.K.Records.kept desk.records.now) desk.due.now in
+    let mirrors = g.B.Budgets.present desk.budgets.now in
+    let before : Overview = overview (state_by desk.press.now kept mirrors) desk.counts desk.publishes desk.ending in
+    let known = c.circumstances_of-circumstances in
     let word : c.args.body.now ≡ status_word = search rules in
     let shown = subst (λ (v : List ℕ). ShowsStatus v before (answer_in c.show_status.result)) c.as_str-version.ensures
-    (c.show_status.ensures.shows before refl refl (sym c.circumstances_of-circumstances.ensures)) in
-    (refl, refl, refl, refl, refl, inl (inl (word, shown), same_state c.args.self.now.press.now kept _ _ c.show_status.ensures.present))
+    (c.show_status.ensures.shows before
+    (subst (λ (list : List Publish). IsOverview desk.press.now mirrors list known.result before) (sym c.as_slice-publishes.ensures)
+    (is_overview desk.press.now kept mirrors known.result desk.counts desk.publishes desk.ending known.ensures.earlier known.ensures.counts known.ensures.ending))) in
+    let nothing = status-nothing desk.setup.now.place.now.version c.args.body.now before (answer_in c.show_status.result) word shown in (
+      refl,
+      refl,
+      refl,
+      refl,
+      refl,
+      (
+        inl (inl (word, shown, unmoved desk.press.now kept _ _ desk.counts desk.publishes desk.ending c.show_status.ensures.present)),
+        ap (λ (o : Option Outcome). counted_by o desk.counts) nothing,
+        ap (λ (o : Option Outcome). published_by o (publish_of (state_by desk.press.now kept (g.B.Budgets.present c.show_status.new.budgets)) c.args.moment) desk.publishes) nothing,
+      ),
+    )
 
 pub returns-in-None-clause-steps : goal.returns-in-None-clause-steps
 returns-in-None-clause-steps g c =
+    let desk = c.args.self.now in
+    let asked = c.ask_over-answered in
     let looked = rw c.as_str.ensures at (rw c.new-folder.ensures.path at (rw c.new-folder.ensures.system at c.in-None.ensures)) in
     let differs : c.args.body.now ≢ status_word = search rules in
-    (refl, refl, refl, refl, refl, inr ((differs, looked), c.ask_over-answered.ensures.called))
+    let unlike : c.args.body.now ≢ stop_word = search rules in
+    let kept : Store = store (g.K.Records.first asked.new.records) (g.K.Records.kept asked.new.records) asked.new.due in
+    let after : State = state_by asked.new.press kept (g.B.Budgets.present asked.new.budgets) in
+    let outcome : Option Outcome = outcome_in c.args.body.now (answer_in asked.result) in
+    let noted = ap (λ (publish : Publish). published_by outcome publish desk.publishes)
+    (c.publish_at-publish-in-None.ensures after refl refl) in (
+      refl,
+      refl,
+      refl,
+      refl,
+      refl,
+      (
+        inr ((differs, unlike, looked), (asked.ensures.called, refl)),
+        c.count_call-self-in-None.ensures,
+        c.note_publish-in-None.ensures ∙ noted,
+      ),
+    )

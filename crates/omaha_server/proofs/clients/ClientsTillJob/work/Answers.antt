@@ -13,8 +13,8 @@ returns g c = λ single alone none.
     let passage = passage_of g.P.Port.terms g.P.Port.slots g.P.Port.accepted c.serve_new-served.result in
     let mirrors = g.T.Till.mirrors in
     let asks = g.T.Till.asks in
-    let till = c.with_tables-desk.ensures.till in
-    let first = c.with_tables-desk.result in
+    let till = c.with_counter-desk.ensures.till in
+    let first = c.with_counter-desk.result in
     let behind = c.serve_new-served.new.desk in
     let parts = c.into_parts-left.result in
     let served =
@@ -22,6 +22,6 @@ returns g c = λ single alone none.
     first behind (λ old call new stepped. (stepped.0, stepped.1, stepped.2))
     (λ is. subst g.T.Till.alone (sym till) (alone is)) (ap asks till ∙ none) c.serve_new-served.ensures in
     subst (λ t. IsWorkersPort edges place terms single (mirrors t) c.args.self.view (record { sight = parts.0; asks = asks parts.1 }) passage) till
-    (subst (λ (s : Sight). IsWorkersPort edges place terms single (mirrors first.till) s (record { sight = parts.0; asks = asks parts.1 }) passage) c.with_tables-desk.ensures.view
+    (subst (λ (s : Sight). IsWorkersPort edges place terms single (mirrors first.till) s (record { sight = parts.0; asks = asks parts.1 }) passage) c.with_counter-desk.ensures.view
     (subst (λ (s : Sight). IsWorkersPort edges place terms single (mirrors first.till) first.view (record { sight = s; asks = asks parts.1 }) passage) (sym c.into_parts-left.ensures.view)
     (subst (λ t. IsWorkersPort edges place terms single (mirrors first.till) first.view (record { sight = behind.view; asks = asks t }) passage) (sym c.into_parts-left.ensures.till) served)))

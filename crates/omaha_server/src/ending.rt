@@ -1,0 +1,50 @@
+// How a server is asked to end.
+
+use http_ports::Port;
+use std::sync::atomic::{AtomicBool, AtomicUsize, Ordering};
+use systems::System;
+
+// The number of the clients' listener, and of the operator's.
+const CLIENTS: u64 = 0;
+
+const OPERATOR: u64 = 1;
+
+/// Whether a server was asked to end, and how many workers still serve.
+///
+/// Once it was asked, the workers' ports end; once no worker serves any more, the operator's does, which can be asked
+/// how the server is until then.
+#[derive(Drop)]
+pub(crate) struct Ending {
+    asked: AtomicBool,
+    serving: AtomicUsize,
+}
+
+impl Ending {
+    /// Begins with so many workers.
+    pub(crate) fn new(workers: usize) -> Ending {
+        Ending {
+            asked: AtomicBool::new(false),
+            serving: AtomicUsize::new(workers),
+        }
+    }
+
+    // Ends the operator's port, if the server was asked to end and no worker serves any more.
+    fn end_operator<S: System<P>, P: Port>(&self, system: &S) {
+        if self.asked.load(Ordering::SeqCst) && self.serving.load(Ordering::SeqCst) == 0 {
+            system.end_ports(OPERATOR);
+        }
+    }
+
+    /// Asks the server to end.
+    pub(crate) fn ask<S: System<P>, P: Port>(&self, system: &S) {
+        self.asked.store(true, Ordering::SeqCst);
+        system.end_ports(CLIENTS);
+        self.end_operator::<S, P>(system);
+    }
+
+    /// Notes that a worker has served its port.
+    pub(crate) fn leave<S: System<P>, P: Port>(&self, system: &S) {
+        self.serving.fetch_sub(1, Ordering::SeqCst);
+        self.end_operator::<S, P>(system);
+    }
+}

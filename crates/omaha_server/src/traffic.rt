@@ -1,0 +1,94 @@
+// What a server has served so far, and where.
+
+use catalogue::App;
+use std::alloc::{AllocError, Global};
+use std::sync::OnceLock;
+use tallies::{Tallies, Tally, Totals};
+use values::Text;
+
+/// What a server has served so far, and where. Any thread may use it, without a lock.
+#[derive(Drop)]
+pub(crate) struct Traffic {
+    tallies: Tallies,
+    // the address that the clients' ports were given
+    address: OnceLock<Text>,
+}
+
+/// The same at one time.
+#[derive(Drop)]
+pub(crate) struct Served {
+    /// What the workers counted.
+    pub(crate) totals: Totals,
+    /// The address of the clients.
+    pub(crate) address: Text,
+}
+
+// How many cohorts each app has.
+fn cohorts_of(alloc: Global, apps: &[App]) -> Result<Vec<usize>, AllocError> {
+    let mut cohorts = Vec::with_capacity(alloc, apps.len())?;
+    for app in apps {
+        cohorts.push(app.cohorts.as_slice().len())?;
+    }
+    Ok(cohorts)
+}
+
+// A tally for each worker.
+fn tallies_of(
+    alloc: Global,
+    workers: usize,
+    mirrors: usize,
+    apps: &[App],
+) -> Result<Tallies, AllocError> {
+    let cohorts = cohorts_of(alloc, apps)?;
+    Tallies::new(alloc, workers, mirrors, &cohorts)
+}
+
+impl Traffic {
+    /// Begins with nothing, for so many workers and mirrors, and for the apps of a catalogue.
+    pub(crate) fn new(alloc: Global, workers: usize, mirrors: usize, apps: &[App]) -> Traffic {
+        let tallies = match tallies_of(alloc, workers, mirrors, apps) {
+            Ok(tallies) => tallies,
+            Err(_) => Tallies::empty(alloc),
+        };
+        Traffic {
+            tallies,
+            address: OnceLock::new(),
+        }
+    }
+
+    /// Whether there was no memory for what is counted.
+    pub(crate) fn is_short(&self) -> bool {
+        self.tallies.is_empty()
+    }
+
+    /// What a worker counts in, by its number from 0.
+    pub(crate) fn tally(&self, worker: usize) -> &Tally {
+        self.tallies.of(worker)
+    }
+
+    /// Notes the address that the clients' ports were given.
+    pub(crate) fn bind(&self, address: Text) {
+        let _ = self.address.try_set(address);
+    }
+
+    // That address, or none before the ports are there.
+    fn address(&self, alloc: Global) -> Result<Text, AllocError> {
+        match self.address.get() {
+            Some(address) => address.clone(),
+            None => Ok(Text::new(String::new(alloc))),
+        }
+    }
+
+    /// What was served so far, for so many mirrors and for the apps of a catalogue.
+    pub(crate) fn served(
+        &self,
+        alloc: Global,
+        mirrors: usize,
+        apps: &[App],
+    ) -> Result<Served, AllocError> {
+        let cohorts = cohorts_of(alloc, apps)?;
+        let totals = self.tallies.totals(alloc, mirrors, &cohorts)?;
+        let address = self.address(alloc)?;
+        Ok(Served { totals, address })
+    }
+}
