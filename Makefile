@@ -65,6 +65,7 @@ serving:
 
 metrics:
 	tests/metrics.py
+	tests/scrape.py
 
 idle:
 	tests/idle.py

@@ -84,6 +84,8 @@ def main():
         wanted = ["/etc/omaha/profile.toml", "/usr/bin/omaha", f"/{HISTORY}", "/var/lib/omaha/packages"]
         expect("paths of the unit", paths, wanted)
         expect("paths that are missing", [path for path in paths if not (root / path[1:]).exists()], [f"/{HISTORY}"])
+        stops = [line for line in lines.split("\n") if line.startswith("ExecStop=")]
+        expect("the stop of the unit", stops, ["ExecStop=-/usr/bin/omaha stop --to unix:/run/omaha/operator --timeout 300"])
         expect("the folder of the history", "StateDirectory=omaha" in lines.split("\n"), True)
 
         profile.write_text(profile.read_text() + ADDED)

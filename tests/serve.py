@@ -745,7 +745,165 @@ def logs_whole_lines_of_all_workers(program):
         expect("kinds of lines", {line[:2] for line in lines}, {(f'"POST {PATH} HTTP/1.1"', "200")})
 
 
+def page(port, path):
+    """A page of the operator's address: its status and its body."""
+    try:
+        with urllib.request.urlopen(f"http://127.0.0.1:{port}{path}", timeout=20) as reply:
+            return reply.status, reply.read()
+    except urllib.error.HTTPError as error:
+        return error.code, error.read()
+
+
+def wait_for(what, holds):
+    """Whether something holds within ten seconds."""
+    end = time.monotonic() + 10
+    while not holds():
+        if time.monotonic() > end:
+            return expect(what, "not within ten seconds", "soon")
+        time.sleep(0.02)
+
+
+def begin_stop(program, folder, to, *more):
+    """Begins to stop a server, once its operator's address says that it is stopping: the command."""
+    pipes = {"stdout": subprocess.PIPE, "stderr": subprocess.PIPE}
+    stop = subprocess.Popen([program, "stop", "--to", to, *more], cwd=folder, **pipes)
+    wait_for("it is stopping", lambda: page(to.split(":")[1], "/healthz") == (503, b"stopping\n"))
+    return stop
+
+
+def big_profile(content):
+    """The example's profile, with another app of one package."""
+    app = '[[app]]\nid = "big"\ndefault = "stable"\ncohort = [{ name = "stable", target = "1.0" }]\n'
+    release = f'[[app.release]]\nversion = "1.0"\nname = "big.bin"\nsize = {len(content)}\n'
+    return f'{PROFILE}\n{app}{release}sha256 = "{hashlib.sha256(content).hexdigest()}"\n'
+
+
+def finishes_a_slow_download(program):
+    """24 MiB by a client that takes 2 MiB at a time while the operator stops the server."""
+    content = os.urandom(24 << 20)
+    with tempfile.TemporaryDirectory() as folder:
+        to = f"127.0.0.1:{free_port()}"
+        shutil.copytree(EXAMPLES / "packages", pathlib.Path(folder, "packages"))
+        pathlib.Path(folder, "packages", "big.bin").write_bytes(content)
+        more = ["--operator", to, "--workers", "2"]
+        server = Server(program, folder, profile=big_profile(content), log="access.log", more=more)
+        idle, slow = server.connect(), server.connect()
+        idle.sendall(post(ASK))
+        expect("a reply before", read_reply(idle)[0], 200)
+        slow.sendall(get("big.bin"))
+        found = slow.recv(65536)
+        stop = begin_stop(program, folder, to)
+        expect("the end of an idle connection", read_all(idle), b"")
+        wait_for("a connection is rejected", lambda: is_rejected(server.port))
+        expect("the status of a server that is stopping", page(to.split(":")[1], "/status")[0], 200)
+        expect("a second stop", operate(to.split(":")[1], b"stop"), (200, b"stopping\n"))
+        expect("the command waits", stop.poll(), None)
+        while piece := slow.recv(65536):
+            found += piece
+            if len(found) % (2 << 20) < len(piece):
+                time.sleep(0.25)
+        body = found.partition(b"\r\n\r\n")[2]
+        wanted = (len(content), hashlib.sha256(content).hexdigest())
+        expect("the download", (len(body), hashlib.sha256(body).hexdigest()), wanted)
+        expect("the command", (*stop.communicate(timeout=20), stop.returncode), (b"stopping\n", b"", 0))
+        expect("output and status", server.end(), (b"ready\nm0 1960\n", b"", 0))
+        lines = [line[:3] for line in logged(pathlib.Path(folder, "access.log").read_bytes())]
+        expect("its line", lines.count(('"GET /p/big.bin HTTP/1.1"', "200", str(len(content)))), 1)
+        expect("the lines of two stops", lines.count(('"POST /operate HTTP/1.1"', "200", "9")), 2)
+        idle.close()
+        slow.close()
+
+
+def is_rejected(port):
+    try:
+        socket.create_connection(("127.0.0.1", port), timeout=5).close()
+    except ConnectionRefusedError:
+        return True
+    return False
+
+
+def read_one(connection):
+    """One reply: its body, or None if the connection ended before its first byte; a cut one is False."""
+    kept = b""
+    with contextlib.suppress(ConnectionResetError):
+        while more := connection.recv(65536):
+            kept += more
+            head, end, body = kept.partition(b"\r\n\r\n")
+            if end and len(body) == int(re.search(rb"content-length: (\d+)", head.lower())[1]):
+                return body
+    return False if kept else None
+
+
+def cuts_no_reply_when_it_is_stopped(program):
+    """Eight clients ask and download as fast as they can, on connections that are kept for five messages."""
+    with tempfile.TemporaryDirectory() as folder:
+        to = f"127.0.0.1:{free_port()}"
+        server = Server(program, folder, log="access.log", more=["--operator", to, "--workers", "4"])
+        package = (server.packages / "mini-2.0.bin").read_bytes()
+        offers, downloads, cut = [], [], []
+
+        def talk(connection):
+            for _ in range(5):
+                for message, found in ((post(ASK), offers), (get("mini-2.0.bin"), downloads)):
+                    connection.sendall(message)
+                    body = read_one(connection)
+                    if body is None:
+                        return
+                    (cut if body is False else found).append(body)
+
+        def ask_until_the_end():
+            while True:
+                try:
+                    connection = server.connect()
+                except ConnectionRefusedError:
+                    return
+                with connection, contextlib.suppress(BrokenPipeError, ConnectionResetError):
+                    talk(connection)
+
+        clients = [threading.Thread(target=ask_until_the_end) for _ in range(8)]
+        for client in clients:
+            client.start()
+        time.sleep(1)
+        stopped = run(program, folder, "stop", "--to", to)
+        for client in clients:
+            client.join()
+        expect("the command", stopped, (b"stopping\n", b"", 0))
+        expect("cut replies", cut, [])
+        expect("offers", all(is_offer(body, "1.0") for body in offers), True)
+        expect("downloads", all(body == package for body in downloads), True)
+        expect("many of them", len(offers) > 50, True)
+        expect("output and status", server.end(), (f"ready\nm0 {1960 * len(offers)}\n".encode(), b"", 0))
+        lines = [line[0] for line in logged(pathlib.Path(folder, "access.log").read_bytes())]
+        messages = [f"POST {PATH}", "GET /p/mini-2.0.bin", "POST /operate"]
+        found = [lines.count(f'"{message} HTTP/1.1"') for message in messages]
+        expect("lines of the log", (found, len(lines)), ([len(offers), len(downloads), 1], sum(found)))
+
+
+def gives_up_a_stop_in_time(program):
+    """A client takes nothing for as long as the server allows; the command fails before, and the server ends after."""
+    content = bytes(24 << 20)
+    with tempfile.TemporaryDirectory() as folder:
+        to = f"127.0.0.1:{free_port()}"
+        shutil.copytree(EXAMPLES / "packages", pathlib.Path(folder, "packages"))
+        pathlib.Path(folder, "packages", "big.bin").write_bytes(content)
+        server = Server(program, folder, profile=big_profile(content), more=["--operator", to])
+        with server.connect() as silent:
+            silent.sendall(get("big.bin"))
+            silent.recv(1)
+            begun = time.monotonic()
+            late = (b"stopping\n", f"omaha: stopping {to}\n".encode(), 1)
+            expect("a stop of a second", run(program, folder, "stop", "--to", to, "--timeout", "1"), late)
+            expect("its seconds", 0.9 < time.monotonic() - begun < 2.5, True)
+            expect("a longer stop", run(program, folder, "stop", "--to", to), (b"stopping\n", b"", 0))
+        expect("output and status", server.end(), (b"ready\nm0 0\n", b"", 0))
+        nobody = (b"", f"omaha: net {to}\n".encode(), 1)
+        expect("a stop of nobody", run(program, folder, "stop", "--to", to), nobody)
+
+
 ALONE = [
+    finishes_a_slow_download,
+    cuts_no_reply_when_it_is_stopped,
+    gives_up_a_stop_in_time,
     publishes_while_it_serves,
     publishes_by_its_commands,
     takes_scripts_at_a_socket,
