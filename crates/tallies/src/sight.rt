@@ -58,6 +58,18 @@ impl StatusSight {
         sight
     }
 
+    // What is seen after some more bytes, of which those before the status only count.
+    fn past(self, bytes: &[u8]) -> StatusSight
+        ensures { result ≡ written self bytes.now }
+    {
+        let skipped = bytes.len().min(BEFORE.saturating_sub(self.count) as usize);
+        let sight = StatusSight {
+            count: self.count + skipped as u8,
+            code: self.code,
+        };
+        sight.after(&bytes[skipped..])
+    }
+
     // rule: Status of a reply in parts
     /// Notes bytes of the reply, and returns the status if they are the first with which it is whole.
     pub fn write(&mut self, bytes: &[u8]) -> Option<u16>
@@ -65,7 +77,7 @@ impl StatusSight {
         ensures code { result ≡ completed self.old self.new }
     {
         let before = self.count;
-        let sight = self.after(bytes);
+        let sight = self.past(bytes);
         *self = sight;
         if before < WHOLE && sight.count == WHOLE {
             Some(sight.code)
