@@ -46,6 +46,8 @@ impl<S: Alter> Records for History<S> {
 
     ghost first = { λ history. history.first };
 
+    ghost was_read = { λ _. ⊥ };
+
     fn first(&self) -> u64 {
         self.first
     }
@@ -102,6 +104,14 @@ impl<S: Alter> Records for History<S> {
         } else {
             Err(ReadFault::Failed(Cause::Closed))
         }
+    }
+
+    /// Returns `false`: `next` gives no record.
+    fn unread(&mut self) -> bool
+        ensures same { self.new ≡ self.old }
+        ensures none { result ≡ false }
+    {
+        false
     }
 
     // rule: Compaction

@@ -69,6 +69,8 @@ impl Records for FileHistory {
 
     ghost first = { λ file. file.first };
 
+    ghost was_read = { λ _. ⊥ };
+
     fn first(&self) -> u64 {
         self.history.first()
     }
@@ -79,6 +81,10 @@ impl Records for FileHistory {
 
     fn next(&mut self, alloc: Global) -> Result<Option<Record>, ReadFault> {
         self.history.next(alloc)
+    }
+
+    fn unread(&mut self) -> bool {
+        self.history.unread()
     }
 
     fn compact(&mut self, alloc: Global, number: u64, bytes: &[u8]) -> Result<(), AppendFault> {

@@ -1,5 +1,5 @@
 -- Records, and what a call makes of those that a handle knows; this project's profile.
-use Rattle.std.specs.Prelude.{◌≡◌, ◌+◌, ◌<◌, ◌≤◌, ◌==◌, ℕ, List, [], ◌∷◌, ◌++◌, if◌then◌else◌, length, sum_by, Option, None, Some, Result, Ok, Err}
+use Rattle.std.specs.Prelude.{◌≡◌, ◌+◌, ◌-◌, ◌<◌, ◌≤◌, ◌==◌, ℕ, Bool, true, false, List, [], ◌∷◌, ◌++◌, if◌then◌else◌, length, sum_by, take, Option, None, Some, Result, Ok, Err}
 use Rattle.kept_records.specs.declared.fault.AppendFault.{AppendFault}
 use Rattle.kept_records.specs.declared.fault.ReadFault.{ReadFault}
 use Rattle.kept_records.specs.declared.record.Kind.{Kind}
@@ -43,6 +43,11 @@ abbrev pub Learns : Result (Option Record) ReadFault → List Record → List Re
 Learns (Ok (Some next)) old new = new ≡ old ++ next ∷ []
 Learns (Ok None) old new = new ≡ old
 Learns (Err fault) old new = new ≡ old
+
+-- the last known record is known no more, or nothing changed
+abbrev pub Forgets : Bool → List Record → List Record → Type 0
+Forgets true old new = new ≡ take (length old - 1) old
+Forgets false old new = new ≡ old
 
 -- rule: Compaction
 -- all records are replaced by one, or are as before

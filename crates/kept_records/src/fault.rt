@@ -23,6 +23,15 @@ pub enum Cause {
     /// An earlier failure closed it, and nothing is written until it is opened again.
     #[error("an earlier failure closed it, restart the server")]
     Closed,
+    /// No server of a shared history replies.
+    #[error("no server of the history replies")]
+    Unreachable,
+    /// A reply of the servers of a shared history can't be read.
+    #[error("a reply of the history's servers cannot be read")]
+    Unreadable,
+    /// Other servers share the history, and know its records by their numbers.
+    #[error("a shared history isn't compacted, export it and begin another")]
+    Shared,
 }
 
 /// Why a record was not appended.

@@ -1,9 +1,9 @@
 // Where records are kept.
 
-ghost use Rattle.std.specs.Prelude.{◌≡◌, ◌≤◌, ◌^◌, ℕ, List, IfOk};
+ghost use Rattle.std.specs.Prelude.{◌≡◌, ◌≤◌, ◌^◌, ℕ, List, IfOk, IfSome, IsTrue};
 ghost use Rattle.kept_records.specs.declared.record.Record.{Record};
 ghost use Rattle.kept_records.specs.declared.record.Kind.TheVariants.{Profile};
-ghost use Rattle.kept_records.specs.Keeping.{Appends, Compacts, Learns, Numbers, record_of};
+ghost use Rattle.kept_records.specs.Keeping.{Appends, Compacts, Forgets, Learns, Numbers, record_of};
 
 use crate::fault::{AppendFault, OpenFault, ReadFault};
 use crate::record::{Kind, Record};
@@ -18,6 +18,9 @@ pub trait Records {
 
     // the number of the first record, which is that of its edition
     ghost first: { Self → ℕ };
+
+    // the last known record was given by `next`
+    ghost was_read: { Self → Type 0 };
 
     /// Returns the number of the first record, from 1 to 2^53: 1, unless earlier ones were removed.
     ///
@@ -37,6 +40,13 @@ pub trait Records {
     /// Reads the record after the last one that is known, or returns `None` if there is none.
     fn next(&mut self, alloc: Global) -> Result<Option<Record>, ReadFault>
         ensures learns { Learns result (kept self.old) (kept self.new) }
+        ensures read { IfOk result (λ found. IfSome found (λ _. was_read self.new)) }
+        ensures first { first self.new ≡ first self.old };
+
+    /// Forgets the last known record, if `next` gave it, so that it is read again; returns whether it did.
+    fn unread(&mut self) -> bool
+        ensures forgets { Forgets result (kept self.old) (kept self.new) }
+        ensures read { was_read self.old → IsTrue result }
         ensures first { first self.new ≡ first self.old };
 
     /// Replaces all records by one, a profile, which gets this number, from 1 to 2^53.

@@ -1,8 +1,8 @@
 // What calls make of records in memory.
 
-ghost use Rattle.std.specs.Prelude.{◌≡◌, ◌≤◌, ◌+◌, ◌^◌, [], None, if◌then◌else◌, is_ok};
+ghost use Rattle.std.specs.Prelude.{◌≡◌, ◌<◌, ◌≤◌, ◌+◌, ◌-◌, ◌^◌, [], None, if◌then◌else◌, is_ok, IfOk, IfSome, IsTrue};
 ghost use Rattle.kept_records.specs.declared.record.Kind.TheVariants.{Profile};
-ghost use Rattle.kept_records.specs.Keeping.{Appends, Compacts, Learns, Numbers, record_of};
+ghost use Rattle.kept_records.specs.Keeping.{Appends, Compacts, Forgets, Learns, Numbers, record_of};
 ghost use Rattle.kept_records.specs.Memories.{AppendsBy, IsCompacted, IsLost, IsPushed, IsSameBut, IsStored, Reads, after_read, fails, known_of, turn_of, turns_after};
 
 use crate::fault::{AppendFault, Cause, ReadFault};
@@ -107,12 +107,14 @@ impl MemoryRecords {
 }
 
 impl Records for MemoryRecords {
-    ghost use Rattle.std.specs.Prelude.{◌≡◌, ◌+◌, ◌≤◌};
+    ghost use Rattle.std.specs.Prelude.{◌≡◌, ◌+◌, ◌<◌, ◌≤◌};
     ghost use Rattle.kept_records.specs.Memories.{known_of};
 
     ghost kept = { known_of };
 
     ghost first = { λ memory. memory.first };
+
+    ghost was_read = { λ memory. 0 < memory.known };
 
     fn first(&self) -> u64 {
         self.first
@@ -137,6 +139,7 @@ impl Records for MemoryRecords {
     // rule: Next record
     fn next(&mut self, alloc: Global) -> Result<Option<Record>, ReadFault>
         ensures learns { Learns result (known_of self.old) (known_of self.new) }
+        ensures read { IfOk result (λ found. IfSome found (λ _. 0 < self.new.known)) }
         ensures first { self.new.first ≡ self.old.first }
         ensures reads { Reads self.old result }
         ensures fails { self.new.fails_after ≡ after_read self.old.fails_after }
@@ -157,6 +160,22 @@ impl Records for MemoryRecords {
             }
             Err(_) => Err(ReadFault::Failed(Cause::Memory)),
         }
+    }
+
+    fn unread(&mut self) -> bool
+        ensures forgets { Forgets result (known_of self.old) (known_of self.new) }
+        ensures read { 0 < self.old.known → IsTrue result }
+        ensures known { self.new.known ≡ self.old.known - 1 }
+        ensures same { (self.new.stored ≡ self.old.stored) × (self.new.first ≡ self.old.first) }
+        ensures limit { self.new.limit ≡ self.old.limit }
+        ensures turns { self.new.turns.items ≡ self.old.turns.items }
+        ensures reads { self.new.fails_after ≡ self.old.fails_after }
+    {
+        if self.known == 0 {
+            return false;
+        }
+        self.known -= 1;
+        true
     }
 
     // rule: Compaction

@@ -57,6 +57,8 @@ impl Records for Unkept {
 
     ghost first = { λ unkept. unkept.first };
 
+    ghost was_read = { λ _. ⊥ };
+
     fn first(&self) -> u64 {
         self.first
     }
@@ -68,6 +70,10 @@ impl Records for Unkept {
 
     fn next(&mut self, _alloc: Global) -> Result<Option<Record>, ReadFault> {
         Ok(None)
+    }
+
+    fn unread(&mut self) -> bool {
+        false
     }
 
     fn compact(&mut self, _alloc: Global, number: u64, bytes: &[u8]) -> Result<(), AppendFault> {

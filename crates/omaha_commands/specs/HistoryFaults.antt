@@ -16,6 +16,9 @@ cause_string cause.Disk = codes "the disk failed"
 cause_string cause.Damaged = codes "damaged"
 cause_string cause.TooLarge = codes "the record is too large"
 cause_string cause.Closed = codes "closed by an earlier failure"
+cause_string cause.Unreachable = codes "none of its servers replies"
+cause_string cause.Unreadable = codes "a reply of its servers cannot be read"
+cause_string cause.Shared = codes "shared by servers, so it isn't compacted"
 
 -- the reason that is printed after the history's path
 abbrev pub history_fault_string : HistoryFault → List ℕ

@@ -36,6 +36,9 @@ fn cause_string(cause: Cause) -> &'static str
         Cause::Damaged => "damaged",
         Cause::TooLarge => "the record is too large",
         Cause::Closed => "closed by an earlier failure",
+        Cause::Unreachable => "none of its servers replies",
+        Cause::Unreadable => "a reply of its servers cannot be read",
+        Cause::Shared => "shared by servers, so it isn't compacted",
     }
 }
 

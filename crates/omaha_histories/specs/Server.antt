@@ -14,3 +14,8 @@ known_in kept_of (Unkept records) = noted records.notes
 abbrev pub first_in : {K : Type 0} → (K → ℕ) → ServerRecords K → ℕ
 first_in first_of (Kept records) = first_of records
 first_in first_of (Unkept records) = records.first
+
+-- the last known one was read
+abbrev pub was_read_in : {K : Type 0} → (K → Type 0) → ServerRecords K → Type 0
+was_read_in was_read (Kept records) = was_read records
+was_read_in was_read (Unkept records) = ⊥

@@ -43,6 +43,8 @@ impl<K: Records> Records for ReportedRecords<'_, K> {
 
     ghost first = { λ reported. K.first reported.kept };
 
+    ghost was_read = { λ reported. K.was_read reported.kept };
+
     fn first(&self) -> u64 {
         self.kept.first()
     }
@@ -64,6 +66,10 @@ impl<K: Records> Records for ReportedRecords<'_, K> {
 
     fn next(&mut self, alloc: Global) -> Result<Option<Record>, ReadFault> {
         self.kept.next(alloc)
+    }
+
+    fn unread(&mut self) -> bool {
+        self.kept.unread()
     }
 
     fn compact(&mut self, alloc: Global, number: u64, bytes: &[u8]) -> Result<(), AppendFault> {

@@ -13,11 +13,13 @@ pub enum ServerRecords<K> {
 }
 
 impl<K: Records> Records for ServerRecords<K> {
-    ghost use Rattle.omaha_histories.specs.Server.{first_in, known_in};
+    ghost use Rattle.omaha_histories.specs.Server.{first_in, known_in, was_read_in};
 
     ghost kept = { λ records. known_in K.kept records };
 
     ghost first = { λ records. first_in K.first records };
+
+    ghost was_read = { λ records. was_read_in K.was_read records };
 
     fn first(&self) -> u64 {
         match self {
@@ -37,6 +39,13 @@ impl<K: Records> Records for ServerRecords<K> {
         match self {
             ServerRecords::Kept(records) => records.next(alloc),
             ServerRecords::Unkept(records) => records.next(alloc),
+        }
+    }
+
+    fn unread(&mut self) -> bool {
+        match self {
+            ServerRecords::Kept(records) => records.unread(),
+            ServerRecords::Unkept(records) => records.unread(),
         }
     }
 
