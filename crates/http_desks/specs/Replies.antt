@@ -28,6 +28,7 @@ status_of answered.Success = status.Success
 status_of answered.BadRequest = status.BadRequest
 status_of answered.Conflict = status.Conflict
 status_of answered.UnprocessableContent = status.UnprocessableContent
+status_of answered.ServiceUnavailable = status.ServiceUnavailable
 
 -- the lines of a head, in their order
 unfoldable pub head_lines : Status → List ℕ → Option Allow → ℕ → Bool → List ℕ

@@ -18,6 +18,8 @@ pub enum DeskStatus {
     Conflict,
     /// 422: the body is rejected for what it says.
     UnprocessableContent,
+    /// 503: what the call needs can't be reached now.
+    ServiceUnavailable,
 }
 
 impl DeskStatus {
@@ -30,6 +32,7 @@ impl DeskStatus {
             DeskStatus::BadRequest => Status::BadRequest,
             DeskStatus::Conflict => Status::Conflict,
             DeskStatus::UnprocessableContent => Status::UnprocessableContent,
+            DeskStatus::ServiceUnavailable => Status::ServiceUnavailable,
         }
     }
 }
