@@ -1,17 +1,20 @@
--- How long the body of a reply is (RFC 9112, section 6). That no chunked body is accepted and no second length, even an
--- equal one, is this project's profile.
-use Rattle.std.specs.Prelude.{ℕ, ◌^◌, ◌&&◌, nat_lt, List, [], ◌∷◌, Result, Ok, Err, if◌then◌else◌, codes, ⊤}
+-- How long the body of a reply is (RFC 9112, sections 6.1 and 6.3). That no transfer coding but `chunked` alone is accepted,
+-- and no second length, even an equal one, is this project's profile.
+use Rattle.std.specs.Prelude.{ℕ, Bool, ◌^◌, ◌&&◌, ◌==◌, nat_lt, List, [], ◌∷◌, Result, Ok, Err, if◌then◌else◌, codes, ⊤}
 use Rattle.std.specs.Str.Parse.{digits_value}
-use Rattle.http_heads.specs.Fields.{Pair, values_named}
+use Rattle.http_heads.specs.Fields.{Pair, is_same_word, values_named}
 use Rattle.http_heads.specs.Framing.{is_number}
 use Rattle.http_client_heads.specs.declared.fault.LinkFault.{LinkFault}
 use Rattle.http_client_heads.specs.declared.fault.LinkFault.TheVariants as fault
+use Rattle.http_client_heads.specs.declared.length.BodyLength.{BodyLength}
+use Rattle.http_client_heads.specs.declared.length.BodyLength.TheVariants as body
 
 -- a fault of a head
 abbrev pub IsHeadFault : LinkFault → Type 0
 IsHeadFault fault.NoHead = ⊤
 IsHeadFault fault.ManyFields = ⊤
 IsHeadFault fault.TransferCoding = ⊤
+IsHeadFault fault.TwoFramings = ⊤
 IsHeadFault fault.NoLength = ⊤
 IsHeadFault fault.TwoLengths = ⊤
 IsHeadFault fault.BadLength = ⊤
@@ -29,13 +32,33 @@ length_by [] = Err fault.NoLength
 length_by (value ∷ []) = length_in value
 length_by (value ∷ another ∷ more) = Err fault.TwoLengths
 
--- the length by the values of `Transfer-Encoding` and of `Content-Length`: the former has none
-abbrev pub length_without : List (List ℕ) → List (List ℕ) → Result ℕ LinkFault
-length_without [] lengths = length_by lengths
-length_without (coding ∷ more) lengths = Err fault.TransferCoding
+-- a length as that of a body
+abbrev pub body_of : Result ℕ LinkFault → Result BodyLength LinkFault
+body_of (Ok size) = Ok (body.Known size)
+body_of (Err why) = Err why
+
+-- the length of a body without a transfer coding, by the values of `Content-Length`
+abbrev pub known_length : List (List ℕ) → Result BodyLength LinkFault
+known_length lengths = body_of (length_by lengths)
+
+-- the coding is `chunked`, in any case, and that of a message of HTTP/1.1: in one of HTTP/1.0 it is faulty
+abbrev pub is_chunked : ℕ → List ℕ → Bool
+is_chunked minor coding = minor == 1 && is_same_word coding (codes "chunked")
+
+-- the length of a chunked body, by the values of `Content-Length`: there is none
+abbrev pub chunked_length : List (List ℕ) → Result BodyLength LinkFault
+chunked_length [] = Ok body.Chunked
+chunked_length (value ∷ more) = Err fault.TwoFramings
+
+-- the length by the values of `Transfer-Encoding` and of `Content-Length`
+abbrev pub length_with : ℕ → List (List ℕ) → List (List ℕ) → Result BodyLength LinkFault
+length_with minor [] lengths = known_length lengths
+length_with minor (coding ∷ []) lengths =
+    if is_chunked minor coding then chunked_length lengths else Err fault.TransferCoding
+length_with minor (coding ∷ another ∷ more) lengths = Err fault.TransferCoding
 
 -- rule: Length of a reply
--- the length of the body, or why the reply is rejected
-unfoldable pub body_length : List Pair → Result ℕ LinkFault
-body_length fields =
-    length_without (values_named (codes "transfer-encoding") fields) (values_named (codes "content-length") fields)
+-- the length of the body in a reply of HTTP/1.`minor`, or why the reply is rejected
+unfoldable pub body_length : ℕ → List Pair → Result BodyLength LinkFault
+body_length minor fields =
+    length_with minor (values_named (codes "transfer-encoding") fields) (values_named (codes "content-length") fields)

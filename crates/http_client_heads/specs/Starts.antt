@@ -5,12 +5,13 @@ use Rattle.httparse.specs.Grammar.{ResponseHead, ReadsResponse, HasNoResponse, M
 use Rattle.httparse.specs.Spans.{ResponseExceeds, name_and_value}
 use Rattle.http_client_heads.specs.declared.fault.LinkFault.{LinkFault}
 use Rattle.http_client_heads.specs.declared.fault.LinkFault.TheVariants as fault
+use Rattle.http_client_heads.specs.declared.length.BodyLength.{BodyLength}
 use Rattle.http_client_heads.specs.declared.start.Start.{Start}
 use Rattle.http_client_heads.specs.Lengths.{IsHeadFault, body_length}
 
 -- how long the body after a head is, or why the head is rejected
-abbrev pub length_after : ResponseHead → Result ℕ LinkFault
-length_after head = body_length (map name_and_value head.fields)
+abbrev pub length_after : ResponseHead → Result BodyLength LinkFault
+length_after head = body_length head.minor (map name_and_value head.fields)
 
 -- why the bytes begin with no head that is accepted: none, or one of too many fields
 abbrev pub LacksHead : List ℕ → LinkFault → Type 0

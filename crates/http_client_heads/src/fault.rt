@@ -2,7 +2,8 @@ use std::alloc::AllocError;
 
 /// Why a post or a download failed.
 ///
-/// A head that is rejected gives `NoHead` to `BadLength`, and nothing else does.
+/// A head that is rejected gives `NoHead` to `BadLength`, and a chunked body `BadChunk` to `LongTrailer`. Nothing else does,
+/// but that a download gives `TransferCoding` to a chunked body.
 #[derive(Clone, Copy, Debug, Drop, PartialEq, Eq)]
 pub enum LinkFault {
     /// The address of a download is invalid.
@@ -19,17 +20,27 @@ pub enum LinkFault {
     NoHead,
     /// More than `MAX_FIELDS` fields.
     ManyFields,
-    /// A `Transfer-Encoding` field.
+    /// A `Transfer-Encoding` that isn't `chunked` alone, once and in HTTP/1.1, or any before a download.
     TransferCoding,
+    /// A `Transfer-Encoding` of `chunked`, and a `Content-Length`.
+    TwoFramings,
     /// No `Content-Length` field.
     NoLength,
     /// More than one `Content-Length` field.
     TwoLengths,
     /// A `Content-Length` that isn't a decimal number below 2^64.
     BadLength,
-    /// The input ended before the head or, at a post, before the body.
+    /// A chunk whose line is invalid, or whose bytes aren't followed by CR LF.
+    BadChunk,
+    /// A chunk whose line isn't whole in `MAX_CHUNK_LINE` bytes.
+    LongChunkLine,
+    /// Fields after the last chunk that are invalid.
+    BadTrailer,
+    /// Fields after the last chunk that aren't whole in `MAX_HEAD` bytes, or more than `MAX_FIELDS`.
+    LongTrailer,
+    /// The input ended before the head or, at a post, before the end of the body.
     Ended,
-    /// The body of a post's reply is announced with more bytes than the caller's limit.
+    /// The body of a post's reply is announced with more bytes than the caller's limit, at once or in chunks.
     Long,
     /// The reply has another status than 200; so a redirect as well.
     Status,

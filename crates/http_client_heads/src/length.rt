@@ -1,7 +1,7 @@
-ghost use Rattle.std.specs.Prelude.{◌≡◌, ◌∷◌, [], length, map, All, IfErr, MatchOption};
+ghost use Rattle.std.specs.Prelude.{◌≡◌, ◌∷◌, [], length, map, All, IfErr, MatchOption, codes};
 ghost use Rattle.httparse.specs.Spans.{IsHeaderWithin, header_bytes};
 ghost use Rattle.http_heads.specs.Fields.{is_named, values_named};
-ghost use Rattle.http_client_heads.specs.Lengths.{IsHeadFault, body_length, length_in};
+ghost use Rattle.http_client_heads.specs.Lengths.{IsHeadFault, body_length, is_chunked, known_length, length_in};
 
 use crate::fault::LinkFault;
 use httparse::spans::HeaderSpan;
@@ -15,6 +15,13 @@ fn is_named(buf: &[u8], field: &HeaderSpan, name: &[u8]) -> bool
     ensures { result ≡ is_named name.now (header_bytes buf.now field.now) }
 {
     field.name.of(buf).eq_ignore_ascii_case(name)
+}
+
+// Whether a body is chunked in a reply of HTTP/1.`minor` with this only transfer coding.
+fn is_chunked(minor: u8, coding: &[u8]) -> bool
+    ensures { result ≡ is_chunked minor coding.now }
+{
+    minor == 1 && coding.eq_ignore_ascii_case(b"chunked")
 }
 
 // The value of the first field with this name, and the fields after it.
@@ -59,25 +66,50 @@ pub(crate) fn read_length(value: &[u8]) -> Result<u64, LinkFault>
     Ok(number as u64)
 }
 
-// rule: Length of a reply
-/// Returns how many bytes follow the head of a reply, or why the reply is rejected.
-///
-/// `fields` are places in `buf`. In this order: a `Transfer-Encoding`; no `Content-Length`, or two; one that isn't a
-/// decimal number below 2^64.
-#[tactic(auto, unfolding(crate::specs::Lengths::body_length))]
-pub fn body_length(buf: &[u8], fields: &[HeaderSpan]) -> Result<u64, LinkFault>
+/// How many bytes the body of a reply has.
+#[derive(Clone, Copy, Drop)]
+pub enum BodyLength {
+    /// As many.
+    Known(u64),
+    /// As many as its chunks have.
+    Chunked,
+}
+
+// The length that the fields write: there is one.
+fn known_length(buf: &[u8], fields: &[HeaderSpan]) -> Result<BodyLength, LinkFault>
     requires { All (IsHeaderWithin (length buf.now)) fields.now }
-    ensures value { result ≡ body_length (map (header_bytes buf.now) fields.now) }
+    ensures value { result ≡ known_length (values_named (codes "content-length") (map (header_bytes buf.now) fields.now)) }
     ensures err { IfErr result IsHeadFault }
 {
-    if find_value(buf, fields, b"transfer-encoding").is_some() {
-        return Err(LinkFault::TransferCoding);
-    }
     let Some((value, rest)) = find_value(buf, fields, b"content-length") else {
         return Err(LinkFault::NoLength);
     };
     if find_value(buf, rest, b"content-length").is_some() {
         return Err(LinkFault::TwoLengths);
     }
-    read_length(value)
+    Ok(BodyLength::Known(read_length(value)?))
+}
+
+// rule: Length of a reply
+/// Returns how many bytes follow the head of a reply of HTTP/1.`minor`, or why the reply is rejected.
+///
+/// `fields` are places in `buf`. In this order: a `Transfer-Encoding` that isn't `chunked` in any case, two of them,
+/// or one in HTTP/1.0; one beside a `Content-Length`. Without one: no `Content-Length`, or two; one that isn't a
+/// decimal number below 2^64.
+#[tactic(auto, unfolding(crate::specs::Lengths::body_length))]
+pub fn body_length(buf: &[u8], minor: u8, fields: &[HeaderSpan]) -> Result<BodyLength, LinkFault>
+    requires { All (IsHeaderWithin (length buf.now)) fields.now }
+    ensures value { result ≡ body_length minor (map (header_bytes buf.now) fields.now) }
+    ensures err { IfErr result IsHeadFault }
+{
+    let Some((coding, rest)) = find_value(buf, fields, b"transfer-encoding") else {
+        return known_length(buf, fields);
+    };
+    if find_value(buf, rest, b"transfer-encoding").is_some() || !is_chunked(minor, coding) {
+        return Err(LinkFault::TransferCoding);
+    }
+    if find_value(buf, fields, b"content-length").is_some() {
+        return Err(LinkFault::TwoFramings);
+    }
+    Ok(BodyLength::Chunked)
 }

@@ -16,6 +16,6 @@ mod start;
 
 pub use crate::address::{Address, parse_address};
 pub use crate::fault::LinkFault;
-pub use crate::length::body_length;
+pub use crate::length::{BodyLength, body_length};
 pub use crate::request::{Post, get_request, post_request};
 pub use crate::start::{MAX_FIELDS, MAX_HEAD, Start, read_start};

@@ -2,7 +2,7 @@ ghost use Rattle.std.specs.Prelude.{◌≡◌};
 ghost use Rattle.http_client_heads.specs.Starts.{StartFound};
 
 use crate::fault::LinkFault;
-use crate::length::body_length;
+use crate::length::{BodyLength, body_length};
 use httparse::spans::{EMPTY_HEADER_SPAN, parse_response};
 use httparse::{Error, Status};
 
@@ -13,14 +13,14 @@ pub const MAX_HEAD: usize = 16384;
 pub const MAX_FIELDS: usize = 100;
 
 /// A reply's head at the front of bytes.
-#[derive(Clone, Copy, Debug, Drop, PartialEq, Eq)]
+#[derive(Clone, Copy, Drop)]
 pub struct Start {
     /// The status, such as 200.
     pub status: u16,
     /// The length of the head in bytes.
     pub head: usize,
-    /// The length of the body that follows, in bytes.
-    pub body: u64,
+    /// The length of the body that follows.
+    pub body: BodyLength,
 }
 
 // rule: Head of a reply that is read
@@ -35,7 +35,7 @@ pub fn read_start(bytes: &[u8]) -> Result<Option<Start>, LinkFault>
     let mut fields = [EMPTY_HEADER_SPAN; MAX_FIELDS];
     match parse_response(bytes, &mut fields) {
         Ok(Status::Complete(spans)) => {
-            match body_length(bytes, &fields[..spans.headers]) {
+            match body_length(bytes, spans.version, &fields[..spans.headers]) {
                 Ok(body) => Ok(Some(Start {
                     status: spans.code,
                     head: spans.len,
