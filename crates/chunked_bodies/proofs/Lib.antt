@@ -1,0 +1,4 @@
+mod BodyLemmas
+mod ChunkLemmas
+mod FrontLemmas
+pub mod ReadsLemmas
