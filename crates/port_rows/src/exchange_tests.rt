@@ -117,7 +117,11 @@ HTTP/1.1 200 OK~Content-Length: 5, 5~~hello|failed
 HTTP/1.1 200 OK~Content-Length: +5~~hello|failed
 HTTP/1.1 200 OK~Content-Length: 18446744073709551616~~hello|failed
 HTTP/1.1 200 OK~Content-Length: 1048577~~hello|failed
-HTTP/1.1 200 OK~Transfer-Encoding: chunked~~5~hello~0~~|failed
+HTTP/1.1 200 OK~Transfer-Encoding: chunked~~5~hello~0~~|hello
+HTTP/1.1 200 OK~Transfer-Encoding: chunked~~5;a=b~hello~7~, world~0~A: b~~|hello, world
+HTTP/1.1 200 OK~Transfer-Encoding: chunked~~100000~#|failed
+HTTP/1.1 200 OK~Transfer-Encoding: chunked~~100001~#|failed
+HTTP/1.1 200 OK~Transfer-Encoding: chunked~Content-Length: 5~~5~hello~0~~|failed
 HTTP/1.1 200 OK~Part: ################~Content-Length: 5~~hello|hello
 HTTP/1.1 200 OK~Part: #################~Content-Length: 5~~hello|failed
 HTTP/1.1 200 OK~Transfer-Encoding: identity~Content-Length: 5~~hello|failed

@@ -8,6 +8,8 @@
 #![tactic(auto)]
 
 #[cfg(test)]
+mod chunked_tests;
+#[cfg(test)]
 mod client;
 #[cfg(test)]
 mod connection_tests;

@@ -2,6 +2,7 @@
 use Rattle.std.specs.Prelude.{◌≡◌, ◌+◌, ◌⊎◌, ℕ, List, [], ◌++◌, take, drop, Option, Result, Ok, Err}
 use Rattle.std.specs.Io.KnownBytes.{Consumes, IsAtEnd, Keeps}
 use Rattle.update_client.specs.declared.body.Body.{Body}
+use Rattle.http_client_heads.specs.declared.length.BodyLength.TheVariants as lengths
 use Rattle.http_client_heads.specs.declared.fault.LinkFault.{LinkFault}
 use Rattle.http_client_heads.specs.declared.fault.LinkFault.TheVariants as fault
 use Rattle.update_client.specs.Replies.{Announces, HeadFails}
@@ -15,12 +16,15 @@ abbrev pub left_of : Body → ℕ
 left_of body = body.left
 
 -- rule: Body that a link opens
--- the head announces the body, and what was read after it waits; or why there is none
+-- the head announces the body, and what was read after it waits; or why there is none: it is chunked, among others
 abbrev pub BodyOpened : Option (List ℕ) → Option (List ℕ) → Result Body LinkFault → Type 0
 BodyOpened old new (Ok body) =
-    (bytes : List ℕ) × Consumes old new bytes × Announces bytes 200 (left_of body) (waiting body)
+    (bytes : List ℕ) × Consumes old new bytes × Announces bytes 200 (lengths.Known (left_of body)) (waiting body)
 BodyOpened old new (Err fault.Status) = (bytes : List ℕ) × (code : ℕ) × (size : ℕ) × (rest : List ℕ)
-    × Consumes old new bytes × Announces bytes code size rest × (code ≡ 200 → ⊥)
+    × Consumes old new bytes × Announces bytes code (lengths.Known size) rest × (code ≡ 200 → ⊥)
+BodyOpened old new (Err fault.TransferCoding) = (bytes : List ℕ)
+    × (HeadFails old new bytes fault.TransferCoding
+    ⊎ ((code : ℕ) × (rest : List ℕ) × Consumes old new bytes × Announces bytes code lengths.Chunked rest))
 BodyOpened old new (Err why) = (bytes : List ℕ) × HeadFails old new bytes why
 
 -- the announced length is kept; or the input ended before

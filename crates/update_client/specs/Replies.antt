@@ -1,26 +1,25 @@
 -- What a link reads of a reply, and what it wrote before; this project's profile.
-use Rattle.std.specs.Prelude.{◌≡◌, ◌<◌, ◌≤◌, ◌==◌, ◌⊎◌, if◌then◌else◌, ℕ, List, ◌++◌, length, Option, None, Some, Result, Ok, Err, ⊤}
+use Rattle.std.specs.Prelude.{◌≡◌, ◌<◌, ◌≤◌, ◌==◌, ◌⊎◌, if◌then◌else◌, ℕ, List, [], ◌++◌, length, Option, None, Some, Result, Ok, Err, Vec, ⊤}
 use Rattle.std.specs.Io.KnownBytes.{Appends, Consumes, IsAtEnd, Keeps}
 use Rattle.httparse.specs.Grammar.{ResponseHead, ReadsResponse, status_code}
 use Rattle.http_wire.specs.Devices.{Came}
 use Rattle.http_wire.specs.Sending.{AppendsPart}
 use Rattle.http_client_heads.specs.Lengths.{IsHeadFault}
 use Rattle.http_client_heads.specs.Starts.{StartFound, length_after}
+use Rattle.http_client_heads.specs.declared.length.BodyLength.{BodyLength}
+use Rattle.http_client_heads.specs.declared.length.BodyLength.TheVariants as lengths
 use Rattle.http_client_heads.specs.declared.start.Start.{Start}
 use Rattle.http_client_heads.specs.declared.fault.LinkFault.{LinkFault}
 use Rattle.http_client_heads.specs.declared.fault.LinkFault.TheVariants as fault
+use Rattle.chunked_bodies.specs.Chunks.{ReadsChunked}
+use Rattle.chunked_bodies.specs.Failures.{ChunkedFails}
+use Rattle.chunked_bodies.specs.Reads.{Sees}
 use Rattle.update_client.specs.declared.posting.Reply.{Reply}
 
--- bytes that are a head with that status, which announces a body of that size, and then the rest
-abbrev pub Announces : List ℕ → ℕ → ℕ → List ℕ → Type 0
+-- bytes that are a head with that status, which announces a body of that length, and then the rest
+abbrev pub Announces : List ℕ → ℕ → BodyLength → List ℕ → Type 0
 Announces bytes code size rest =
     (head : ResponseHead) × ReadsResponse bytes head rest × (status_code head ≡ code) × (length_after head ≡ Ok size)
-
--- a read failed, or memory ran out
-abbrev pub IsBroken : LinkFault → Type 0
-IsBroken fault.Read = ⊤
-IsBroken fault.Memory = ⊤
-IsBroken other = ⊥
 
 -- why a head was not read: other bytes, or fewer
 abbrev pub HeadFails : Option (List ℕ) → Option (List ℕ) → List ℕ → LinkFault → Type 0
@@ -44,25 +43,42 @@ RestRead old new before after size (Err fault.Memory) = ⊤
 RestRead old new before after size (Err fault.Read) = ⊤
 RestRead old new before after size (Err other) = ⊥
 
--- less than a reply: less than its head, or less of its body than it announces
-abbrev pub IsPart : List ℕ → Type 0
-IsPart bytes = StartFound bytes (Ok None)
-    ⊎ ((code : ℕ) × (size : ℕ) × (rest : List ℕ) × Announces bytes code size rest × (length rest < size))
+-- the bytes are a body of that length, and then the rest
+abbrev pub HasBody : BodyLength → List ℕ → List ℕ → List ℕ → Type 0
+HasBody (lengths.Known size) bytes content rest = (bytes ≡ content ++ rest) × (length content ≡ size)
+HasBody lengths.Chunked bytes content rest = ReadsChunked bytes content rest
+
+-- why the bytes don't begin with a body of that length within the limit
+abbrev pub BodyFails : ℕ → BodyLength → List ℕ → LinkFault → Type 0
+BodyFails limit (lengths.Known size) bytes fault.Long = limit < size
+BodyFails limit (lengths.Known size) bytes fault.Ended = (size ≤ limit) × (length bytes < size)
+BodyFails limit (lengths.Known size) bytes other = ⊥
+BodyFails limit lengths.Chunked bytes why = ChunkedFails limit bytes why
+
+-- what was read after the bytes that waited: a body of that length within the limit; or why there is none
+abbrev pub BodyRead : {Z : Type 0} →
+    ℕ → BodyLength → Option (List ℕ) → Option (List ℕ) → List ℕ → Result (Vec ℕ Z) LinkFault → Type 0
+BodyRead limit size old new before (Ok content) = (bytes : List ℕ) × (rest : List ℕ) × Consumes old new bytes
+    × HasBody size (before ++ bytes) content.items rest × (length content.items ≤ limit)
+BodyRead limit size old new before (Err why) = Sees old new before (BodyFails limit size) why
+
+-- why the bytes don't begin with a head that is accepted: they are fewer, or the head is rejected
+abbrev pub StartFails : List ℕ → LinkFault → Type 0
+StartFails bytes fault.Ended = StartFound bytes (Ok None)
+StartFails bytes why = IsHeadFault why × StartFound bytes (Err why)
+
+-- why the bytes don't begin with a reply: there is no head, or no body of the length that it announces
+abbrev pub ReplyFails : ℕ → List ℕ → LinkFault → Type 0
+ReplyFails limit bytes why = StartFails bytes why
+    ⊎ ((code : ℕ) × (size : BodyLength) × (rest : List ℕ) × Announces bytes code size rest × BodyFails limit size rest why)
 
 -- rule: Reply that a link reads
 -- the status and the body that the head announces, whole; or why there is none: it is longer than the limit, among others
 abbrev pub ReplyRead : ℕ → Option (List ℕ) → Option (List ℕ) → Result Reply LinkFault → Type 0
-ReplyRead limit old new (Ok reply) = (bytes : List ℕ) × (rest : List ℕ) × Consumes old new bytes
-    × Announces bytes reply.status (length reply.body.items) (reply.body.items ++ rest)
+ReplyRead limit old new (Ok reply) = (bytes : List ℕ) × (size : BodyLength) × (after : List ℕ) × (rest : List ℕ)
+    × Consumes old new bytes × Announces bytes reply.status size after × HasBody size after reply.body.items rest
     × (length reply.body.items ≤ limit)
-ReplyRead limit old new (Err fault.Ended) =
-    (bytes : List ℕ) × Consumes old new bytes × IsPart bytes × IsAtEnd new
-ReplyRead limit old new (Err fault.Long) = (bytes : List ℕ) × (code : ℕ) × (size : ℕ) × (rest : List ℕ)
-    × Consumes old new bytes × Announces bytes code size rest × (limit < size)
-ReplyRead limit old new (Err fault.Memory) = ⊤
-ReplyRead limit old new (Err fault.Read) = ⊤
-ReplyRead limit old new (Err why) = IsHeadFault why
-    × ((bytes : List ℕ) × Consumes old new bytes × StartFound bytes (Err why))
+ReplyRead limit old new (Err why) = Sees old new [] (ReplyFails limit) why
 
 -- a fault of a post to a host: one that neither an address nor the status of a reply can be
 abbrev pub IsPostFault : LinkFault → Type 0
@@ -87,11 +103,6 @@ RequestWritten old new text (Ok done) = Appends old new text
 RequestWritten old new text (Err fault.Memory) = Appends old new text ⊎ Keeps old new
 RequestWritten old new text (Err fault.Write) = AppendsPart old new text
 RequestWritten old new text (Err other) = Appends old new text
-
--- how many reads failed
-abbrev pub failed_reads : {A : Type 0} → Result A LinkFault → ℕ
-failed_reads (Err fault.Read) = 1
-failed_reads other = 0
 
 -- how many writes failed
 abbrev pub failed_writes : {A : Type 0} → Result A LinkFault → ℕ

@@ -1,11 +1,13 @@
 ghost use Rattle.std.specs.Prelude.{◌≡◌, ◌+◌};
 ghost use Rattle.http_client_heads.specs.Requests.{get_request};
+ghost use Rattle.chunked_bodies.specs.Reads.{failed_reads};
 ghost use Rattle.update_client.specs.Bodies.{BodyOpened};
-ghost use Rattle.update_client.specs.Replies.{RequestWritten, failed_reads, failed_writes};
+ghost use Rattle.update_client.specs.Replies.{RequestWritten, failed_writes};
 
 use crate::body::Body;
-use crate::reading::{BLOCK, read_head};
-use http_client_heads::{Address, LinkFault, get_request};
+use crate::reading::read_head;
+use chunked_bodies::BLOCK;
+use http_client_heads::{Address, BodyLength, LinkFault, get_request};
 use http_wire::{Sink, Source, send};
 use std::alloc::Global;
 
@@ -19,13 +21,16 @@ fn read_opening<S: Source>(alloc: Global, source: &mut S) -> Result<Body, LinkFa
     let mut held = Vec::new(alloc);
     let mut block = [0; BLOCK];
     let start = read_head(source, &mut held, &mut block)?;
+    let BodyLength::Known(left) = start.body else {
+        return Err(LinkFault::TransferCoding);
+    };
     if start.status != 200 {
         return Err(LinkFault::Status);
     }
     Ok(Body {
         held,
         at: start.head,
-        left: start.body,
+        left,
     })
 }
 
@@ -33,7 +38,8 @@ fn read_opening<S: Source>(alloc: Global, source: &mut S) -> Result<Body, LinkFa
 /// Requests the download at an address, and reads the head of the reply.
 ///
 /// Errors: `Memory`, `Write`, and of the reply `Read`, those of `read_start`, `Ended` and `Status`, which say that the
-/// input failed, that the head is rejected, that it isn't whole, or that its status isn't 200.
+/// input failed, that the head is rejected, that it isn't whole, or that its status isn't 200. A chunked body is
+/// `TransferCoding`, whatever the status.
 pub fn open_over<S: Source, W: Sink>(
     alloc: Global,
     source: &mut S,

@@ -1,10 +1,13 @@
-ghost use Rattle.std.specs.Prelude.{◌≡◌, ◌+◌, ◌≤◌, ◌<◌, length, vec_len};
+ghost use Rattle.std.specs.Prelude.{◌≡◌, ◌+◌, ◌≤◌, ◌<◌, drop, length, vec_len};
 ghost use Rattle.http_client_heads.specs.Requests.{post_request};
+ghost use Rattle.http_client_heads.specs.declared.length.BodyLength.TheVariants as lengths;
+ghost use Rattle.chunked_bodies.specs.Reads.{failed_reads};
 ghost use Rattle.update_client.specs.Posts.{PostSent, ReplyAwaited, after_failed_write};
-ghost use Rattle.update_client.specs.Replies.{ReplyRead, RestRead, accepted_reply, failed_reads, failed_writes};
+ghost use Rattle.update_client.specs.Replies.{BodyRead, ReplyRead, RestRead, accepted_reply, failed_writes};
 
-use crate::reading::{BLOCK, read_head, read_more};
-use http_client_heads::{LinkFault, Post, post_request};
+use crate::reading::read_head;
+use chunked_bodies::{BLOCK, read_chunked, read_more};
+use http_client_heads::{BodyLength, LinkFault, Post, Start, post_request};
 use http_wire::{Sink, Source, send};
 use std::alloc::Global;
 
@@ -49,6 +52,55 @@ fn read_rest<S: Source>(
     Ok(())
 }
 
+// Reads a body of that size, whose first bytes wait.
+fn read_known<S: Source>(
+    alloc: Global,
+    source: &mut S,
+    waiting: &[u8],
+    block: &mut [u8],
+    size: u64,
+    limit: u64,
+) -> Result<Vec<u8>, LinkFault>
+    requires { 0 < length block.old }
+    ensures read { BodyRead limit (lengths.Known size) (S.remaining source.old) (S.remaining source.new) waiting.now result }
+    ensures failed { S.failures source.new ≡ S.failures source.old + failed_reads result }
+{
+    if size > limit {
+        return Err(LinkFault::Long);
+    }
+    let size = size as usize;
+    let mut body = Vec::from_slice(alloc, &waiting[..waiting.len().min(size)])?;
+    read_rest(source, &mut body, block, size)?;
+    Ok(body)
+}
+
+// Reads the body after a head; the bytes that are held begin with the head.
+fn read_body<S: Source>(
+    alloc: Global,
+    source: &mut S,
+    held: Vec<u8>,
+    start: Start,
+    block: &mut [u8],
+    limit: u64,
+) -> Result<Vec<u8>, LinkFault>
+    requires head { start.head ≤ vec_len held }
+    requires block { 0 < length block.old }
+    ensures read { BodyRead limit start.body (S.remaining source.old) (S.remaining source.new) (drop start.head held.items) result }
+    ensures failed { S.failures source.new ≡ S.failures source.old + failed_reads result }
+{
+    match start.body {
+        BodyLength::Known(size) => read_known(
+            alloc,
+            source,
+            &held[start.head..],
+            block,
+            size,
+            limit,
+        ),
+        BodyLength::Chunked => read_chunked(alloc, source, held, start.head, block, limit),
+    }
+}
+
 // rule: Reply that a link reads
 // Reads the reply to a post. Memory grows as its bytes come, whatever length is announced.
 fn read_reply<S: Source>(alloc: Global, source: &mut S, limit: u64) -> Result<Reply, LinkFault>
@@ -59,13 +111,7 @@ fn read_reply<S: Source>(alloc: Global, source: &mut S, limit: u64) -> Result<Re
     let mut held = Vec::new(alloc);
     let mut block = [0; BLOCK];
     let start = read_head(source, &mut held, &mut block)?;
-    if start.body > limit {
-        return Err(LinkFault::Long);
-    }
-    let size = start.body as usize;
-    let waiting = &held[start.head..];
-    let mut body = Vec::from_slice(alloc, &waiting[..waiting.len().min(size)])?;
-    read_rest(source, &mut body, &mut block, size)?;
+    let body = read_body(alloc, source, held, start, &mut block, limit)?;
     Ok(Reply {
         status: start.status,
         body,
@@ -90,9 +136,10 @@ fn after_failed_write(reply: Result<Reply, LinkFault>) -> Result<Reply, LinkFaul
 /// If a write fails, the reply is read all the same: a server may reply before it has read the whole request, and close
 /// the connection.
 ///
-/// Errors: `Memory`; `Write`, if a write failed and there is no whole reply; and of the reply `Read`, those of
-/// `read_start`, `Long` and `Ended`, which say that the input failed, that the head is rejected, that more bytes are
-/// announced than the limit, or that the reply isn't whole.
+/// The body may be chunked. Errors: `Memory`; `Write`, if a write failed and there is no whole reply; and of the reply
+/// `Read`, those of `read_start`, `Long`, `Ended` and those of `read_chunked`. They say that the input failed, that the
+/// head is rejected, that more bytes are announced than the limit, that the reply isn't whole, or that its chunks are
+/// rejected.
 pub fn post_over<S: Source, W: Sink>(
     alloc: Global,
     source: &mut S,
