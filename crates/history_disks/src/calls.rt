@@ -1,7 +1,8 @@
 // The calls of a row, and what each comes to.
 //
-// `p:A`, `s:A` and `r:A` append a profile, a script or a raise of these bytes; `n` reads the next record; `c7:A` compacts
-// to a profile with the number 7. After `=` is what the call comes to: `ok` or its fault, and for `n` the record.
+// `p:A`, `s:A` and `r:A` append a profile, a script or a raise of these bytes; `n` reads the next record, and `u` forgets
+// it; `c7:A` compacts to a profile with the number 7. After `=` is what the call comes to: `ok` or its fault, for `n` the
+// record, and for `u` whether it did.
 
 use kept_records::{AppendFault, Kind, ReadFault, Record, Records};
 use std::alloc::Global;
@@ -101,6 +102,9 @@ fn change<R: Records>(
 fn is_call<R: Records>(records: &mut R, alloc: Global, call: &str, wanted: &str) -> Option<bool> {
     if call == "n" {
         return Some(is_next(records.next(alloc), wanted));
+    }
+    if call == "u" {
+        return Some(records.unread() == (wanted == "yes"));
     }
     let (head, bytes) = call.split_once(':')?;
     Some(change(records, alloc, head, bytes.as_bytes())? == wanted)

@@ -10,6 +10,7 @@ const ROWS: &str = "\
 | p:A=ok s:B=ok r:C=ok n=none
 limit=3 | p:AB=ok s:CD=full s:C=ok s:D=full s:=ok
 other=s:X other=r:Y | s:A=taken n=s:X s:A=taken n=r:Y n=none s:A=ok
+other=s:X other=r:Y | u=no n=s:X u=yes n=s:X n=r:Y u=yes n=r:Y n=none
 turn=fails | s:A=failed n=none s:A=ok n=none
 turn=drops | s:A=unknown n=none s:A=ok
 turn=keeps | s:A=unknown n=s:A n=none s:B=ok

@@ -1,0 +1,101 @@
+-- Reading all records, one after another.
+use Rattle.std.proofs.Common.{◌≡◌, ℕ, ◌+◌, List, [], ◌∷◌, ◌++◌, length, Option, Some, None, Result, Ok, Err, refl, sym, ap, subst, ◌∙◌, inl, inr, append_assoc, length-append}
+use Rattle.std.proofs.lemmas.List.{append-nil}
+use Rattle.kept_records.specs.Keeping.{Learns}
+use Rattle.kept_records.specs.declared.fault.ReadFault.{ReadFault}
+use Rattle.kept_records.specs.declared.record.Record.{Record}
+use Rattle.etcd_records.specs.declared.exchange.Exchange.{Exchange}
+use Rattle.etcd_records.specs.Appending.{NextBy, ReadsBy, ReadsFound}
+use Rattle.etcd_records.specs.Asking.{Heard, replied, unreplied, no_memory, IsHeard}
+use Rattle.etcd_records.specs.Handles.{Handle, IsSameBut}
+use Rattle.etcd_records.specs.Keys.{encoded_key}
+use Rattle.etcd_records.specs.Openings.{AreAll, FindsNone, GoesOn}
+use Rattle.etcd_records.specs.Replies.{found_in}
+use Rattle.etcd_records.specs.Requests.{range_path, range_request}
+
+-- so many records were read, and all of them are known
+pub record AreRead {G : Type 0} (exchanges : G → List Exchange) (old now : Handle G) (all : List Record)
+    (count : ℕ) : Type 0 where
+  pub known : now.kept ≡ all
+  pub counted : length all ≡ count
+  pub same : IsSameBut old now
+  pub goes_on : GoesOn (exchanges old.gateway) (exchanges now.gateway)
+
+IsSameBut-trans : {G : Type 0} (old mid new : Handle G) → IsSameBut old mid → IsSameBut mid new → IsSameBut old new
+IsSameBut-trans old mid new one two = record {
+  attempts = two.attempts ∙ one.attempts;
+  prefix = two.prefix ∙ one.prefix;
+  limit = two.limit ∙ one.limit;
+}
+
+GoesOn-trans : (old mid new done : List Exchange) → GoesOn old mid → new ≡ mid ++ done → GoesOn old new
+GoesOn-trans old mid new done one is = (one.0 ++ done, is ∙ ap (λ it. it ++ done) one.1 ∙ append_assoc old one.0 done)
+
+pub none_read : {G : Type 0} (exchanges : G → List Exchange) (old : Handle G) → old.kept ≡ []
+    → AreRead exchanges old old [] 0
+none_read exchanges old none = record {
+  known = none;
+  counted = refl;
+  same = record { attempts = refl; prefix = refl; limit = refl };
+  goes_on = ([], sym (append-nil (exchanges old.gateway)));
+}
+
+-- one more record
+pub one_read : {G : Type 0} (exchanges : G → List Exchange) (old mid new : Handle G) (all : List Record) (count : ℕ) (next : Record) (done : List Exchange)
+    → AreRead exchanges old mid all count → new.kept ≡ mid.kept ++ next ∷ [] → IsSameBut mid new
+    → exchanges new.gateway ≡ exchanges mid.gateway ++ done
+    → AreRead exchanges old new (all ++ next ∷ []) (count + 1)
+one_read exchanges old mid new all count next done was learned same grown = record {
+  known = learned ∙ ap (λ it. it ++ next ∷ []) was.known;
+  counted = length-append all (next ∷ []) ∙ ap (λ n. n + 1) was.counted;
+  same = IsSameBut-trans old mid new was.same same;
+  goes_on = GoesOn-trans (exchanges old.gateway) (exchanges mid.gateway) (exchanges new.gateway) done was.goes_on grown;
+}
+
+-- what stays after a call that learns nothing
+pub goes_on_past : {G : Type 0} (exchanges : G → List Exchange) (old mid new : Handle G) (all : List Record) (count : ℕ) (done : List Exchange)
+    → AreRead exchanges old mid all count → IsSameBut mid new → exchanges new.gateway ≡ exchanges mid.gateway ++ done
+    → IsSameBut old new × GoesOn (exchanges old.gateway) (exchanges new.gateway)
+goes_on_past exchanges old mid new all count done was same grown =
+    (IsSameBut-trans old mid new was.same same, GoesOn-trans (exchanges old.gateway) (exchanges mid.gateway) (exchanges new.gateway) done was.goes_on grown)
+
+not_none : (fault : ReadFault) → (let read : Result (Option Record) ReadFault = Ok None in read ≡ Err fault) → ⊥
+not_none fault is = cc
+
+finds_none : (most : ℕ) (prefix : List ℕ) (number : ℕ) (done : List Exchange) (heard : Heard)
+    → IsHeard most range_path (range_request (encoded_key prefix number)) done heard → ReadsBy heard (Ok None)
+    → FindsNone most prefix number done
+finds_none most prefix number done (replied reply is_doubtful) is reads = (reply, is_doubtful, is, found (found_in reply) refl reads)
+  where
+    found : (value : Option (List ℕ)) → found_in reply ≡ value → ReadsFound value (Ok None) → found_in reply ≡ None
+    found None same read = same
+    found (Some value) same read = absurd read
+finds_none most prefix number done (unreplied why is_doubtful) is reads = absurd (not_none _ reads)
+finds_none most prefix number done no_memory is reads = absurd (not_none _ reads)
+
+-- a read that found no record was after all of them
+pub all_read : (most : ℕ) (prefix : List ℕ) (kept : List Record) (old new done : List Exchange)
+    → new ≡ old ++ done → NextBy most prefix kept done (Ok None) → AreAll most new prefix kept
+all_read most prefix kept old new done is (inl full) = inl full.0
+all_read most prefix kept old new done is (inr (inl cut)) = absurd (not_none _ cut.1)
+all_read most prefix kept old new done is (inr (inr read)) =
+    inr (old, done, is, finds_none most prefix (length kept + 1) done read.heard read.is_heard read.reads)
+
+-- the same by what it is known of
+pub AreAll-at : (most now : ℕ) (exchanges : List Exchange) (prefix after : List ℕ) (kept final : List Record)
+    → now ≡ most → after ≡ prefix → final ≡ kept → AreAll most exchanges prefix kept → AreAll now exchanges after final
+AreAll-at most now exchanges prefix after kept final same also is are =
+    subst (λ (n : ℕ). AreAll n exchanges after final) (sym same)
+    (subst (λ (p : List ℕ). AreAll most exchanges p final) (sym also)
+    (subst (λ (all : List Record). AreAll most exchanges prefix all) (sym is) are))
+
+-- the records after a read that found none
+pub none_after : {G : Type 0} (exchanges : G → List Exchange) (mid new : Handle G) (found : Option Record)
+    → found ≡ None → IsSameBut mid new
+    → Learns (Ok found) mid.kept new.kept
+    → ((done : List Exchange) × (exchanges new.gateway ≡ exchanges mid.gateway ++ done) × NextBy mid.attempts mid.prefix mid.kept done (Ok found))
+    → AreAll new.attempts (exchanges new.gateway) new.prefix new.kept
+none_after exchanges mid new None is same learns by =
+    AreAll-at mid.attempts new.attempts (exchanges new.gateway) mid.prefix new.prefix mid.kept new.kept same.attempts same.prefix learns
+    (all_read mid.attempts mid.prefix mid.kept (exchanges mid.gateway) (exchanges new.gateway) by.0 by.1 by.2)
+none_after exchanges mid new (Some next) is same learns by = cc

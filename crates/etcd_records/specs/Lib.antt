@@ -1,0 +1,9 @@
+pub mod Appending
+pub mod Asking
+pub mod Exchanges
+pub mod Handles
+pub mod Keys
+pub mod Laws
+pub mod Openings
+pub mod Replies
+pub mod Requests
