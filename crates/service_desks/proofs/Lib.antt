@@ -1,6 +1,7 @@
 mod AnswerLemmas
 mod AskLemmas
 pub mod DueLemmas
+mod FollowLemmas
 mod KeptLemmas
 mod MirrorLemmas
 mod OrderLemmas

@@ -1,7 +1,9 @@
 pub mod Answering
 pub mod Asking
+pub mod Attempts
 pub mod Counting
 pub mod Entries
+pub mod Following
 pub mod Keeping
 pub mod Kept
 pub mod Lines

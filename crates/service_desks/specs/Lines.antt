@@ -1,7 +1,9 @@
 -- The lines that the operator's desk replies with; this project's profile.
-use Rattle.std.specs.Prelude.{ℕ, List, ◌++◌, codes, decimal}
+use Rattle.std.specs.Prelude.{◌≡◌, ◌⊎◌, ℕ, List, ◌++◌, codes, decimal}
 use Rattle.catalogue.specs.FaultStrings.{fault_string}
 use Rattle.catalogue.specs.declared.fault.Refused.{Refused}
+use Rattle.http_desks.specs.declared.desk.DeskStatus.{DeskStatus}
+use Rattle.http_desks.specs.declared.desk.DeskStatus.TheVariants as status
 use Rattle.mirror_ledger.specs.FaultStrings.{fault_string as raise_fault_string}
 use Rattle.mirror_ledger.specs.declared.raise_error.RaiseError.{RaiseError}
 use Rattle.profile_toml.specs.FaultStrings.{fault_string as script_fault_string}
@@ -24,6 +26,23 @@ refused_line refused =
 -- there is no room for a batch
 abbrev pub full_line : List ℕ
 full_line = codes "history full\n"
+
+-- the number of the edition that is published, after a record of another server was adopted
+abbrev pub followed_line : ℕ → List ℕ
+followed_line number = codes "followed " ++ decimal number ++ codes "\n"
+
+-- no server of the history replies: nothing was kept
+abbrev pub unreachable_line : List ℕ
+unreachable_line = codes "history unreachable\n"
+
+-- the same, and it may have been kept
+abbrev pub doubt_line : List ℕ
+doubt_line = codes "history in doubt\n"
+
+-- the reply to a script or a raise that no server of the history took, as far as this one knows
+abbrev pub IsUnkept : DeskStatus × List ℕ → Type 0
+IsUnkept reply =
+    (reply ≡ (status.ServiceUnavailable, unreachable_line)) ⊎ (reply ≡ (status.ServiceUnavailable, doubt_line))
 
 -- the fault of a script
 abbrev pub script_line : ProfileFault → List ℕ

@@ -9,6 +9,7 @@ use Rattle.http_desks.specs.declared.desk.Off.{Off}
 use Rattle.http_desks.specs.declared.desk.Off.TheVariants as off
 use Rattle.profile_writer.specs.Profiles.{IsProfileFile, IsReadAs}
 use Rattle.records.specs.declared.mirror.Mirror.{Mirror}
+use Rattle.service_desks.specs.Following.{Follows, GivesWay, follow_word}
 use Rattle.service_desks.specs.Raises.{RaisesBy, is_raise}
 use Rattle.service_desks.specs.Scripts.{Performs}
 use Rattle.service_desks.specs.States.{State, publication_of}
@@ -30,15 +31,26 @@ Dumps mirrors history (Err off.Closed) = ⊥
 abbrev pub dump_word : List ℕ
 dump_word = codes "dump"
 
--- what a body comes to: a dump, if it asks for one, and then all is as before; a raise, if it asks for one, and then
--- nothing is published; else a script, and then no budget is raised
+-- what a body comes to that asks for a raise: a raise, and nothing is published; or another server's record came first
+abbrev pub IsRaised : State → List ℕ → Result (DeskStatus × List ℕ) Off → State → Type 0
+IsRaised before body answer after =
+    (RaisesBy (before.mirrors, before.store) (after.mirrors, after.store) body answer × (after.history ≡ before.history))
+    ⊎ GivesWay before answer after
+
+-- what any other body comes to, a script: it is performed, and no budget is raised; or another server's record came first
+abbrev pub IsPerformed : State → List ℕ → Result (DeskStatus × List ℕ) Off → State → Type 0
+IsPerformed before body answer after =
+    (Performs (publication_of before) body answer (publication_of after) × (after.mirrors ≡ before.mirrors))
+    ⊎ GivesWay before answer after
+
+-- what a body comes to: a dump, if it asks for one, and then all is as before; what another server published or raised is
+-- adopted, if it asks for that; a raise; else a script
 abbrev pub IsOperated : State → List ℕ → Result (DeskStatus × List ℕ) Off → State → Type 0
 IsOperated before body answer after =
     ((body ≡ dump_word) × Dumps before.mirrors before.history answer × (after ≡ before))
-    ⊎ ((is_raise body ≡ true)
-    × RaisesBy (before.mirrors, before.store) (after.mirrors, after.store) body answer × (after.history ≡ before.history))
-    ⊎ ((body ≢ dump_word) × (is_raise body ≡ false)
-    × Performs (publication_of before) body answer (publication_of after) × (after.mirrors ≡ before.mirrors))
+    ⊎ ((body ≡ follow_word) × Follows before answer after)
+    ⊎ ((is_raise body ≡ true) × IsRaised before body answer after)
+    ⊎ ((body ≢ dump_word) × (body ≢ follow_word) × (is_raise body ≡ false) × IsPerformed before body answer after)
 
 -- rule: Operator's desk
 -- a call of the desk, with the mirrors and their budgets, the published history, and what is kept, before and after it; the

@@ -1,5 +1,5 @@
 -- What a raise of a budget comes to that is sent to the operator's desk; this project's profile.
-use Rattle.std.specs.Prelude.{◌≡◌, ℕ, ◌≤◌, ◌-◌, ◌==◌, ◌&&◌, not, Bool, true, false, if◌then◌else◌, List, [], ◌∷◌, ◌++◌, codes, drop, length, nat_eq, nat_lt, slice_index, take, Result, Ok, Err, Option, None, Some}
+use Rattle.std.specs.Prelude.{◌≡◌, ◌⊎◌, ℕ, ◌≤◌, ◌-◌, ◌==◌, ◌&&◌, not, Bool, true, false, if◌then◌else◌, List, [], ◌∷◌, ◌++◌, codes, drop, length, nat_eq, nat_lt, slice_index, take, Result, Ok, Err, Option, None, Some}
 use Rattle.std.specs.Char.{is_ascii_digit}
 use Rattle.std.specs.List.{after_first, before_first, ends_with, list_all, starts_with}
 use Rattle.std.specs.Str.{is_utf8}
@@ -16,7 +16,7 @@ use Rattle.mirror_ledger.specs.Raising.{IsAt, RaisesTo}
 use Rattle.mirror_ledger.specs.declared.raise_error.RaiseError.{RaiseError}
 use Rattle.records.specs.Mirrors.{max_budget}
 use Rattle.records.specs.declared.mirror.Mirror.{Mirror}
-use Rattle.service_desks.specs.Lines.{invalid_raise_line, raised_line, unraised_line}
+use Rattle.service_desks.specs.Lines.{IsUnkept, invalid_raise_line, raised_line, unraised_line}
 use Rattle.service_desks.specs.States.{Store, with_raise}
 
 -- what a body begins with that asks for a raise
@@ -94,9 +94,10 @@ pub record IsRaiseReply (old new : Funds) (raise name digits : List ℕ) (reply 
   pub left : new.1 ≡ left_by old.1 raise outcome
   pub replied : reply ≡ raise_reply name digits outcome
 
--- the reply to a body that asks for a raise; an invalid one raises nothing
+-- the reply to a body that asks for a raise; an invalid one raises nothing, nor does one that can't be kept
 abbrev pub IsReplyToRaise : Funds → Funds → List ℕ → Option (List ℕ × List ℕ) → DeskStatus × List ℕ → Type 0
-IsReplyToRaise old new raise (Some asked) reply = IsRaiseReply old new raise asked.0 asked.1 reply
+IsReplyToRaise old new raise (Some asked) reply =
+    IsRaiseReply old new raise asked.0 asked.1 reply ⊎ (IsUnkept reply × (new ≡ old))
 IsReplyToRaise old new raise None reply = (reply ≡ (status.BadRequest, invalid_raise_line)) × (new ≡ old)
 
 -- rule: Reply to a raise
@@ -106,6 +107,11 @@ abbrev pub RaisesBy : Funds → Funds → List ℕ → Result (DeskStatus × Lis
 RaisesBy old new body (Ok reply) = IsReplyToRaise old new body (raise_of body) reply
 RaisesBy old new body (Err off.Memory) = new ≡ old
 RaisesBy old new body (Err off.Closed) = new ≡ old
+
+-- the same of one that may meet another server's record at its number: then it has no reply yet
+abbrev pub AttemptsToRaise : Funds → Funds → List ℕ → Option (Result (DeskStatus × List ℕ) Off) → Type 0
+AttemptsToRaise old new body (Some answer) = RaisesBy old new body answer
+AttemptsToRaise old new body None = new ≡ old
 
 -- the mirror at an index has the name, and may have its budget raised to the number
 abbrev pub MayRaise : List Mirror → List ℕ → ℕ → ℕ → Type 0

@@ -11,7 +11,7 @@ use Rattle.profile_toml.specs.declared.fault.ProfileFault.{ProfileFault}
 use Rattle.publisher.specs.Publishing.{Prepares, Publishes}
 use Rattle.publisher.specs.declared.fault.PublishError.{PublishError}
 use Rattle.publisher.specs.declared.fault.PublishError.TheVariants as publishing
-use Rattle.service_desks.specs.Lines.{edition_line, full_line, refused_line, script_line, stale_line}
+use Rattle.service_desks.specs.Lines.{IsUnkept, edition_line, full_line, refused_line, script_line, stale_line}
 use Rattle.service_desks.specs.States.{Publication, earlier_in, settled, with_due, with_script}
 
 -- rule: Reply to a script
@@ -49,10 +49,11 @@ pub record IsAhead (before : Publication) (script : List ℕ) (after : Publicati
   pub prepared : Prepares before.history (base - earlier_in before.store) batch (Ok next)
   pub left : after ≡ record { history = before.history; store = with_due before.store script next }
 
--- the reply to a script, or to its fault: 400, and nothing is published
+-- the reply to a script, or to its fault: 400, and nothing is published. Nothing is either if it can't be kept
 abbrev pub IsScriptReply :
     Publication → List ℕ → Result (ℕ × List Edit) ProfileFault → DeskStatus × List ℕ → Publication → Type 0
-IsScriptReply before script (Ok read) reply after = IsPublished before script read.0 read.1 reply after
+IsScriptReply before script (Ok read) reply after =
+    IsPublished before script read.0 read.1 reply after ⊎ (IsUnkept reply × (after ≡ before))
 IsScriptReply before script (Err fault) reply after =
     (reply ≡ (status.BadRequest, script_line fault)) × (after ≡ before)
 
@@ -65,3 +66,9 @@ Performs before input (Ok reply) after = IsScriptReply (settled before) input (s
 Performs before input (Err off.Memory) after =
     (after ≡ before) ⊎ (after ≡ settled before) ⊎ IsAhead (settled before) input after
 Performs before input (Err off.Closed) after = after ≡ settled before
+
+-- what a script comes to that may meet another server's record at its number: then it has no reply yet, and only what was
+-- due is shown
+abbrev pub Attempts : Publication → List ℕ → Option (Result (DeskStatus × List ℕ) Off) → Publication → Type 0
+Attempts before input (Some answer) after = Performs before input answer after
+Attempts before input None after = after ≡ settled before

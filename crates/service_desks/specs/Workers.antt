@@ -51,6 +51,7 @@ HasStatus mirrors before input moment status.BadRequest body after =
     (body ≡ []) × ((fault : RequestFault) × (request_of_bytes input ≡ Err fault)) × (after ≡ before)
 HasStatus mirrors before input moment status.Conflict body after = ⊥
 HasStatus mirrors before input moment status.UnprocessableContent body after = ⊥
+HasStatus mirrors before input moment status.ServiceUnavailable body after = ⊥
 
 -- what the desk returns for an input; it is off if memory runs out, before its view enters or after it, and if there
 -- is no entry

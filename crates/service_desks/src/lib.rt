@@ -6,8 +6,8 @@
 //! `find_package` finds what a catalogue declares of a package. A `Worker` is the `Desk` of `http_desks` that enters the
 //! published edition for each request, and replies from that edition alone: read `specs/Entries.antt` and
 //! `specs/Workers.antt`. Its counter is shown what each update check came to: read `specs/Counting.antt`. An `Operator`
-//! is the desk that borrows the press and the budgets: read `specs/Scripts.antt`, `specs/Raises.antt` and
-//! `specs/Operators.antt`. `perform_script` publishes a script without a desk.
+//! is the desk that borrows the press and the budgets, and adopts what other servers published of the same history: read
+//! `specs/Scripts.antt`, `specs/Raises.antt`, `specs/Following.antt` and `specs/Operators.antt`.
 //!
 //! It opens no press and no books, reads no stream and starts no session.
 
@@ -16,8 +16,10 @@
 mod answering;
 mod asked;
 mod asking;
+mod attempt;
 mod counting;
 mod dumps;
+mod following;
 mod held_view;
 mod kept_tables;
 mod lines;
@@ -34,6 +36,5 @@ pub use crate::held_view::HeldView;
 pub use crate::operator::Operator;
 pub use crate::packages::find_package;
 pub use crate::raises::replay_raise;
-pub use crate::scripts::perform_script;
 pub use crate::update_checks::reply_to;
 pub use crate::worker::Worker;

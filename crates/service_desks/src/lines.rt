@@ -22,6 +22,12 @@ pub(crate) enum Line<'a> {
     Refused(Refused),
     /// There is no room for another edition.
     HistoryFull,
+    /// A record of another server was adopted, and the edition of this number is published.
+    Followed(u64),
+    /// No server of the history replies, and nothing was kept.
+    Unreachable,
+    /// No server of the history replies, and it may have been kept.
+    InDoubt,
     /// It is no script.
     Invalid(&'a ProfileFault),
     /// The budget of the mirror of this name was raised to this number of bytes.
@@ -46,6 +52,9 @@ impl fmt::Display for Line<'_> {
                 write!(f, "refused {index} {fault}\n")
             }
             Line::HistoryFull => write!(f, "history full\n"),
+            Line::Followed(number) => write!(f, "followed {number}\n"),
+            Line::Unreachable => write!(f, "history unreachable\n"),
+            Line::InDoubt => write!(f, "history in doubt\n"),
             Line::Invalid(fault) => write!(f, "{fault}\n"),
             Line::Raised(name, digits) => write!(f, "raised {name} {digits}\n"),
             Line::Unraised(fault) => write!(f, "refused {fault}\n"),
@@ -62,6 +71,9 @@ fn status_of(line: &Line<'_>) -> DeskStatus
         Line::Stale(_) => DeskStatus::Conflict,
         Line::Refused(_) => DeskStatus::UnprocessableContent,
         Line::HistoryFull => DeskStatus::UnprocessableContent,
+        Line::Followed(_) => DeskStatus::Success,
+        Line::Unreachable => DeskStatus::ServiceUnavailable,
+        Line::InDoubt => DeskStatus::ServiceUnavailable,
         Line::Invalid(_) => DeskStatus::BadRequest,
         Line::Raised(_, _) => DeskStatus::Success,
         Line::Unraised(_) => DeskStatus::UnprocessableContent,

@@ -3,14 +3,15 @@
 ghost use Rattle.std.specs.Prelude.{◌≡◌, ◌≤◌, ◌+◌, ◌^◌, MatchResult, None, Some, Err, Ok, length, unwrap_or};
 ghost use Rattle.std.specs.Option.{ForSome};
 ghost use Rattle.catalogue.specs.declared.edit.Edit.{Edit};
-ghost use Rattle.http_desks.specs.Calls.{answer_in};
 ghost use Rattle.http_desks.specs.declared.desk.Off.TheVariants.{Memory};
 ghost use Rattle.profile_toml.specs.Reading.{script_of_bytes};
 ghost use Rattle.publisher.specs.Beginnings.{StartsWith};
+ghost use Rattle.service_desks.specs.Attempts.{attempt_in};
 ghost use Rattle.service_desks.specs.Keeping.{IsKept, IsScriptAnswer};
-ghost use Rattle.service_desks.specs.Scripts.{Performs, publish_reply};
+ghost use Rattle.service_desks.specs.Scripts.{Attempts, publish_reply};
 ghost use Rattle.service_desks.specs.States.{GoesOn, publication};
 
+use crate::attempt::{Attempt, Unkept, give_up, keep, replied};
 use crate::lines::{Line, reply_with};
 use catalogue::Batch;
 use http_desks::{Answer, Off};
@@ -40,8 +41,12 @@ fn reply_to_error(alloc: Global, earlier: u64, error: &PublishError) -> Result<A
 }
 
 // rule: Due edition
-// Shows the edition that is due, if one is; it stays due if memory runs out.
-fn show_due<R: Wait>(rt: &R, press: &mut Press, due: &mut Option<Prepared>) -> Result<(), Off>
+/// Shows the edition that is due, if one is; it stays due if memory runs out.
+pub(crate) fn show_due<R: Wait>(
+    rt: &R,
+    press: &mut Press,
+    due: &mut Option<Prepared>,
+) -> Result<(), Off>
     requires { ForSome due.old (λ next. GoesOn next press.old) }
     ensures { MatchResult result
         (λ _. (press.new ≡ unwrap_or due.old press.old) × (due.new ≡ None))
@@ -59,6 +64,28 @@ fn show_due<R: Wait>(rt: &R, press: &mut Press, due: &mut Option<Prepared>) -> R
     }
 }
 
+/// Shows an edition, or leaves it due if memory runs out.
+pub(crate) fn show_or_owe<R: Wait>(
+    rt: &R,
+    press: &mut Press,
+    due: &mut Option<Prepared>,
+    next: Prepared,
+) -> Result<(), Off>
+    requires follows { StartsWith next press.old }
+    requires none { due.old ≡ None }
+    ensures { MatchResult result
+        (λ _. (press.new ≡ next) × (due.new ≡ None))
+        (λ off. (off ≡ Memory) × (press.new ≡ press.old) × (due.new ≡ Some next)) }
+{
+    match press.show_prepared(rt, next) {
+        Ok(_receipt) => Ok(()),
+        Err(next) => {
+            *due = Some(next);
+            Err(Off::Memory)
+        }
+    }
+}
+
 // rule: Kept script
 // Keeps a script, and then shows its edition, or leaves it due if memory runs out. A script that isn't kept isn't shown.
 fn keep_and_show<R: Wait + AllocGlobal, K: Records>(
@@ -68,22 +95,19 @@ fn keep_and_show<R: Wait + AllocGlobal, K: Records>(
     due: &mut Option<Prepared>,
     next: Prepared,
     input: &[u8],
-) -> Result<(), Off>
+) -> Result<Result<(), Unkept>, Off>
     requires follows { StartsWith next press.old }
     requires none { due.old ≡ None }
     ensures { IsKept input.now next
         (publication press.old (K.first records.old) (K.kept records.old) due.old) result
         (publication press.new (K.first records.new) (K.kept records.new) due.new) }
 {
-    if records.append(rt.alloc(), Kind::Script, input).is_err() {
-        return Err(Off::Closed);
+    if let Err(unkept) = keep(rt.alloc(), records, Kind::Script, input) {
+        return Ok(Err(unkept));
     }
-    match press.show_prepared(rt, next) {
-        Ok(_receipt) => Ok(()),
-        Err(next) => {
-            *due = Some(next);
-            Err(Off::Memory)
-        }
+    match show_or_owe(rt, press, due, next) {
+        Ok(()) => Ok(Ok(())),
+        Err(off) => Err(off),
     }
 }
 
@@ -98,12 +122,12 @@ fn publish_script<R: Threads + Wait + AllocGlobal, K: Records>(
     workers: usize,
     script: (u64, Batch),
     input: &[u8],
-) -> Result<Answer, Off>
+) -> Result<Attempt, Off>
     requires workers { (1 ≤ workers) × (workers ≤ 16) }
     requires none { due.old ≡ None }
     requires read { script_of_bytes input.now ≡ Ok (script.0, script.1) }
     ensures { IsScriptAnswer input.now script.0 script.1
-        (publication press.old (K.first records.old) (K.kept records.old) due.old) (answer_in result)
+        (publication press.old (K.first records.old) (K.kept records.old) due.old) (attempt_in result)
         (publication press.new (K.first records.new) (K.kept records.new) due.new) }
 {
     let alloc = rt.alloc();
@@ -117,10 +141,11 @@ fn publish_script<R: Threads + Wait + AllocGlobal, K: Records>(
     let base = base.saturating_sub(earlier);
     match press.prepare(rt, alloc, base, batch, workers, &Free) {
         Ok(next) => match keep_and_show(rt, press, records, due, next, input) {
-            Ok(()) => Ok(published),
+            Ok(Ok(())) => Ok(Attempt::Replied(published)),
+            Ok(Err(unkept)) => give_up(alloc, unkept),
             Err(off) => Err(off),
         },
-        Err(error) => reply_to_error(alloc, earlier, &error),
+        Err(error) => replied(reply_to_error(alloc, earlier, &error)),
     }
 }
 
@@ -131,21 +156,23 @@ fn publish_script<R: Threads + Wait + AllocGlobal, K: Records>(
 /// What is due is shown first: the edition of a script that was kept when there was no memory to show it. Returns the
 /// reply of the operator's desk: 200 and `edition 2`; 409 and `stale 2`, if another edition than its base is published;
 /// 422 and `refused 0 C11 UnknownRelease`, of the first rejected edit, or `history full`; 400 and the first fault of a
-/// script, as `F3 BadEntry edit[0].on`. Each is one line. The first record is that of the edition of its number. It is
-/// `Closed` if the script can't be kept, and then it isn't published. If memory runs out, for the reply too, nothing is
-/// published but what was due, and nothing is kept; or the script is kept and its edition is due.
-pub fn perform_script<R: Threads + Wait + AllocGlobal, K: Records>(
+/// script, as `F3 BadEntry edit[0].on`; 503 and `history unreachable` or `history in doubt`, if no server of the history
+/// replies. Each is one line. The first record is that of the edition of its number. It is `Overtaken` if another server's
+/// record has its number, and `Closed` if the history fails; in both and after 503 it isn't published. If memory runs out,
+/// for the reply too, nothing is published but what was due, and nothing is kept; or the script is kept and its edition is
+/// due.
+pub(crate) fn perform_script<R: Threads + Wait + AllocGlobal, K: Records>(
     rt: &R,
     press: &mut Press,
     records: &mut K,
     due: &mut Option<Prepared>,
     workers: usize,
     input: &[u8],
-) -> Result<Answer, Off>
+) -> Result<Attempt, Off>
     requires workers { (1 ≤ workers) × (workers ≤ 16) }
     requires due { ForSome due.old (λ next. GoesOn next press.old) }
-    ensures performs { Performs
-        (publication press.old (K.first records.old) (K.kept records.old) due.old) input.now (answer_in result)
+    ensures performs { Attempts
+        (publication press.old (K.first records.old) (K.kept records.old) due.old) input.now (attempt_in result)
         (publication press.new (K.first records.new) (K.kept records.new) due.new) }
     ensures due { ForSome due.new (λ next. GoesOn next press.new) }
 {
@@ -155,7 +182,7 @@ pub fn perform_script<R: Threads + Wait + AllocGlobal, K: Records>(
     }
     match read_script(rt.alloc(), input) {
         Ok(script) => publish_script(rt, press, records, due, workers, script, input),
-        Err(ReadError::Fault(fault)) => reply_with(rt.alloc(), &Line::Invalid(&fault)),
+        Err(ReadError::Fault(fault)) => replied(reply_with(rt.alloc(), &Line::Invalid(&fault))),
         Err(ReadError::Memory) => Err(Off::Memory),
     }
 }

@@ -13,6 +13,7 @@ pub(crate) fn print_answer(alloc: Global, answer: &Result<Answer, Off>) -> Optio
                 DeskStatus::BadRequest => 400,
                 DeskStatus::Conflict => 409,
                 DeskStatus::UnprocessableContent => 422,
+                DeskStatus::ServiceUnavailable => 503,
             };
             let body = str::from_utf8(&answer.body).ok()?;
             format!(in alloc; "{status} {body}").ok()
