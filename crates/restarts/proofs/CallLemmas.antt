@@ -22,8 +22,9 @@ use Rattle.service_desks.specs.Operators.{IsCall}
 use Rattle.service_desks.specs.Raises.{Funds, IsReplyToRaise, RaisesBy, left_by as raise_left_by, raise_of}
 use Rattle.service_desks.specs.Scripts.{IsScriptReply, Performs, left_by}
 use Rattle.service_desks.specs.States.{Publication, State, Store, earlier_in, publication_of, settled}
-use Rattle.restarts.specs.Laws.{RestartsFindWhatWasPublished, found_in}
+use Rattle.restarts.specs.Laws.{RestartsFindWhatWasPublished}
 use Rattle.restarts.specs.Restarting.{Found, LeadTo}
+use Rattle.restarts.proofs.FollowLemmas.{Kept, after-following, after-giving_way}
 use Rattle.restarts.proofs.LeadLemmas.{LeadTo-more}
 
 -- what is found in a publication and mirrors
@@ -56,8 +57,9 @@ after-outcome mirrors before after script read base (Err error) is published lef
 after-reply : (mirrors : List Mirror) (before after : Publication) (script : List ℕ)
     (read : Result (ℕ × List Edit) ProfileFault) (reply : DeskStatus × List ℕ) → script_of_bytes script ≡ read →
     IsScriptReply (settled before) script read reply after → Leading mirrors before → Leading mirrors after
-after-reply mirrors before after script (Ok read) reply is done leads =
+after-reply mirrors before after script (Ok read) reply is (inl done) leads =
     after-outcome mirrors before after script read (read.0 - earlier_in before.store) done.outcome is done.published done.left leads
+after-reply mirrors before after script (Ok read) reply is (inr (unkept, same)) leads = subst (Leading mirrors) (sym same) leads
 after-reply mirrors before after script (Err error) reply is rejected leads =
     subst (Leading mirrors) (sym rejected.1) leads
 
@@ -100,8 +102,10 @@ after-outcome-of-raise history old new body asked (Err error) is raised left lea
 after-reply-to-raise : (history : History) (old new : Funds) (body : List ℕ) (asked : Option (List ℕ × List ℕ))
     (reply : DeskStatus × List ℕ) → raise_of body ≡ asked → IsReplyToRaise old new body asked reply →
     Funded history old → Funded history new
-after-reply-to-raise history old new body (Some asked) reply is done leads =
+after-reply-to-raise history old new body (Some asked) reply is (inl done) leads =
     after-outcome-of-raise history old new body asked done.outcome is done.raised done.left leads
+after-reply-to-raise history old new body (Some asked) reply is (inr (unkept, same)) leads =
+    subst (Funded history) (sym same) leads
 after-reply-to-raise history old new body None reply is none leads = subst (Funded history) (sym none.1) leads
 
 after-raise : (history : History) (old new : Funds) (body : List ℕ) (answer : Result (DeskStatus × List ℕ) Off) →
@@ -111,19 +115,22 @@ after-raise history old new body (Ok reply) raises leads =
 after-raise history old new body (Err off.Memory) same leads = subst (Funded history) (sym same) leads
 after-raise history old new body (Err off.Closed) same leads = subst (Funded history) (sym same) leads
 
-abbrev pub Kept : State → Type 0
-Kept state = LeadTo state.store.records (found_in state)
-
 pub after-call : (before after : State) (call : Call) → IsCall before call after → Kept before → Kept after
 after-call before after (Looks name found) looked leads = subst Kept (sym looked.1) leads
 after-call before after (Shows at page) shown leads = subst Kept (sym shown.1) leads
 after-call before after (Asks body moment answer) (inl (word, dumps, same)) leads = subst Kept (sym same) leads
-after-call before after (Asks body moment answer) (inr (inl (word, raises, same))) leads =
+after-call before after (Asks body moment answer) (inr (inl (word, follows))) leads =
+    after-following before after answer follows leads
+after-call before after (Asks body moment answer) (inr (inr (inl (word, inl (raises, same))))) leads =
     subst (λ (h : History). Funded h (after.mirrors, after.store)) (sym same)
     (after-raise before.history (before.mirrors, before.store) (after.mirrors, after.store) body answer raises leads)
-after-call before after (Asks body moment answer) (inr (inr (dump, raise, performs, same))) leads =
+after-call before after (Asks body moment answer) (inr (inr (inl (word, inr way)))) leads =
+    after-giving_way before after answer way leads
+after-call before after (Asks body moment answer) (inr (inr (inr (dump, follow, raise, inl (performs, same))))) leads =
     subst (λ (m : List Mirror). Leading m (publication_of after)) (sym same)
     (after-script before.mirrors (publication_of before) (publication_of after) body answer performs leads)
+after-call before after (Asks body moment answer) (inr (inr (inr (dump, follow, raise, inr way)))) leads =
+    after-giving_way before after answer way leads
 
 pub restarts_find_what_was_published : RestartsFindWhatWasPublished
 restarts_find_what_was_published before after [] leads same = subst Kept (sym same) leads

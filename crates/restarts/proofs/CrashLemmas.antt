@@ -1,5 +1,5 @@
 -- What is published stays over the calls of an operator's desk, and what a crash leaves of its records.
-use Rattle.std.proofs.Common.{◌≡◌, ◌∙◌, ℕ, ◌-◌, List, [], ◌∷◌, ◌++◌, ap, inl, inr, refl, subst, sym, unwrap_or, Option, Some, None, Result, Ok, Err}
+use Rattle.std.proofs.Common.{◌≡◌, ◌∙◌, ℕ, ◌-◌, List, [], ◌∷◌, ◌++◌, ap, ap₂, inl, inr, refl, subst, sym, unwrap_or, Option, Some, None, Result, Ok, Err}
 use Rattle.std.proofs.lemmas.List.{append-nil, append_assoc}
 use Rattle.std.specs.Bool.{⊤}
 use Rattle.std.specs.Option.{ForSome}
@@ -11,6 +11,7 @@ use Rattle.http_desks.specs.declared.desk.DeskStatus.{DeskStatus}
 use Rattle.http_desks.specs.declared.desk.Off.{Off}
 use Rattle.http_desks.specs.declared.desk.Off.TheVariants as off
 use Rattle.kept_records.specs.Keeping.{record_of}
+use Rattle.kept_records.specs.declared.record.Kind.{Kind}
 use Rattle.kept_records.specs.declared.record.Kind.TheVariants as kind
 use Rattle.kept_records.specs.declared.record.Record.{Record}
 use Rattle.mirror_ledger.specs.declared.raise_error.RaiseError.{RaiseError}
@@ -19,13 +20,15 @@ use Rattle.profile_toml.specs.declared.fault.ProfileFault.{ProfileFault}
 use Rattle.publisher.specs.Beginnings.{StartsWith}
 use Rattle.publisher.specs.Publishing.{Publishes}
 use Rattle.publisher.specs.declared.fault.PublishError.{PublishError}
+use Rattle.service_desks.specs.Following.{Follows, GivesWay, AdoptsLate, StopsEarly, StopsShort, Adopts, AdoptsAs, settled_state}
 use Rattle.service_desks.specs.Operators.{IsCall}
 use Rattle.service_desks.specs.Raises.{Funds, IsReplyToRaise, RaisesBy, left_by as raise_left_by, raise_of}
 use Rattle.service_desks.specs.Scripts.{IsScriptReply, Performs, left_by}
 use Rattle.service_desks.specs.States.{Publication, State, Store, earlier_in, publication_of, settled}
 use Rattle.restarts.specs.Laws.{AddsOne, CrashesLoseNothing, GoesAhead, PublishedEditionsStay, found_in}
 use Rattle.restarts.specs.Restarting.{LeadTo}
-use Rattle.restarts.proofs.CallLemmas.{Kept, after-call, restarts_find_what_was_published}
+use Rattle.restarts.proofs.CallLemmas.{after-call, restarts_find_what_was_published}
+use Rattle.restarts.proofs.FollowLemmas.{Kept}
 
 StartsWith-same : (history : History) → StartsWith history history
 StartsWith-same history = ([], sym (append-nil history))
@@ -81,8 +84,9 @@ Advances-outcome before after script batch base (Err error) published left ahead
 Advances-reply : (before after : Publication) (script : List ℕ) (read : Result (ℕ × List Edit) ProfileFault)
     (reply : DeskStatus × List ℕ) → IsScriptReply (settled before) script read reply after → GoesAhead before →
     Advances before after
-Advances-reply before after script (Ok read) reply done ahead =
+Advances-reply before after script (Ok read) reply (inl done) ahead =
     Advances-outcome before after script read.1 (read.0 - earlier_in before.store) done.outcome done.published done.left ahead
+Advances-reply before after script (Ok read) reply (inr (unkept, same)) ahead = Advances-settled before after same ahead
 Advances-reply before after script (Err error) reply rejected ahead = Advances-settled before after rejected.1 ahead
 
 Advances-script : (before after : Publication) (body : List ℕ) (answer : Result (DeskStatus × List ℕ) Off) →
@@ -114,7 +118,8 @@ AddsRaise-same old new same = subst (λ (f : Funds). AddsRaise old.1 f.1) (sym s
 
 AddsRaise-reply : (old new : Funds) (body : List ℕ) (asked : Option (List ℕ × List ℕ)) (reply : DeskStatus × List ℕ) →
     IsReplyToRaise old new body asked reply → AddsRaise old.1 new.1
-AddsRaise-reply old new body (Some asked) reply done = AddsRaise-outcome old.1 new.1 body done.outcome done.left
+AddsRaise-reply old new body (Some asked) reply (inl done) = AddsRaise-outcome old.1 new.1 body done.outcome done.left
+AddsRaise-reply old new body (Some asked) reply (inr (unkept, same)) = AddsRaise-same old new same
 AddsRaise-reply old new body None reply none = AddsRaise-same old new none.1
 
 AddsRaise-by : (old new : Funds) (body : List ℕ) (answer : Result (DeskStatus × List ℕ) Off) → RaisesBy old new body answer →
@@ -132,6 +137,78 @@ Advances-raise before after (due, adds) same ahead = record {
   adds = adds;
 }
 
+-- what a record of another server makes of a publication
+Advances-taken_as : (before after : State) (kind : Kind) (bytes : List ℕ) → AdoptsAs kind bytes (settled_state before) after →
+    GoesAhead (publication_of before) → Advances (publication_of before) (publication_of after)
+Advances-taken_as before after kind.Profile bytes never ahead = absurd never
+Advances-taken_as before after kind.Script bytes (next, (base, batch, read, continues), left) ahead =
+    let history = (settled_state before).history in
+    let more : StartsWith next history = (batch ∷ [], continues.2) in
+    subst (λ (s : State). Advances (publication_of before) (publication_of s)) (sym left)
+    (record {
+      ahead = none-ahead next;
+      grows = StartsWith-trans next history before.history more (settled-ahead (publication_of before) ahead);
+      adds = inr (record_of kind.Script bytes, refl);
+    })
+Advances-taken_as before after kind.Raise bytes (raised, history, store) ahead =
+    subst (Advances (publication_of before))
+    (sym (ap₂ (λ (h : History) (s : Store). record { history = h; store = s }) history store))
+    (record {
+      ahead = none-ahead (settled_state before).history;
+      grows = settled-ahead (publication_of before) ahead;
+      adds = inr (record_of kind.Raise bytes, refl);
+    })
+
+Advances-taken : (before after : State) → Adopts (settled_state before) after → GoesAhead (publication_of before) →
+    Advances (publication_of before) (publication_of after)
+Advances-taken before after adopted ahead =
+    Advances-taken_as before after adopted.entry.kind adopted.entry.bytes adopted.adopts ahead
+
+Advances-late : (before after : State) → AdoptsLate (settled_state before) after → GoesAhead (publication_of before) →
+    Advances (publication_of before) (publication_of after)
+Advances-late before after is ahead =
+    let history = (settled_state before).history in
+    let (base, batch, read, continues) = is.follows in
+    subst (λ (s : State). Advances (publication_of before) (publication_of s)) (sym is.left)
+    (record {
+      ahead = λ later due. subst (λ (h : History). StartsWith h history) (same_Some is.next later due)
+          (batch ∷ [], continues.2);
+      grows = settled-ahead (publication_of before) ahead;
+      adds = inr (record_of kind.Script is.script, refl);
+    })
+
+Advances-between : (before after : State) → after ≡ settled_state before → GoesAhead (publication_of before) →
+    Advances (publication_of before) (publication_of after)
+Advances-between before after same ahead =
+    Advances-settled (publication_of before) (publication_of after) (ap publication_of same) ahead
+
+Advances-short : (before after : State) (off : Off) → StopsShort (settled_state before) off after →
+    GoesAhead (publication_of before) → Advances (publication_of before) (publication_of after)
+Advances-short before after off.Memory (inl same) ahead = Advances-between before after same ahead
+Advances-short before after off.Memory (inr (inl is)) ahead = Advances-late before after is ahead
+Advances-short before after off.Memory (inr (inr adopted)) ahead = Advances-taken before after adopted ahead
+Advances-short before after off.Closed same ahead = Advances-between before after same ahead
+
+Advances-early : (before after : State) (off : Off) → StopsEarly before off after → GoesAhead (publication_of before) →
+    Advances (publication_of before) (publication_of after)
+Advances-early before after off.Memory (inl same) ahead =
+    Advances-same (publication_of before) (publication_of after) (ap publication_of same) ahead
+Advances-early before after off.Memory (inr stops) ahead = Advances-short before after off.Memory stops ahead
+Advances-early before after off.Closed stops ahead = Advances-short before after off.Closed stops ahead
+
+Advances-follow : (before after : State) (answer : Result (DeskStatus × List ℕ) Off) → Follows before answer after →
+    GoesAhead (publication_of before) → Advances (publication_of before) (publication_of after)
+Advances-follow before after (Ok reply) (inl (adopted, is)) ahead = Advances-taken before after adopted ahead
+Advances-follow before after (Ok reply) (inr (inl (same, is))) ahead = Advances-between before after same ahead
+Advances-follow before after (Ok reply) (inr (inr (same, is))) ahead = Advances-between before after same ahead
+Advances-follow before after (Err off) stops ahead = Advances-early before after off stops ahead
+
+Advances-way : (before after : State) (answer : Result (DeskStatus × List ℕ) Off) → GivesWay before answer after →
+    GoesAhead (publication_of before) → Advances (publication_of before) (publication_of after)
+Advances-way before after (Ok reply) (inl (adopted, is)) ahead = Advances-taken before after adopted ahead
+Advances-way before after (Ok reply) (inr (same, is)) ahead = Advances-between before after same ahead
+Advances-way before after (Err off) stops ahead = Advances-early before after off stops ahead
+
 Advances-call : (before after : State) (call : Call) → IsCall before call after → GoesAhead (publication_of before) →
     Advances (publication_of before) (publication_of after)
 Advances-call before after (Looks name found) looked ahead =
@@ -140,10 +217,16 @@ Advances-call before after (Shows at page) shown ahead =
     Advances-same (publication_of before) (publication_of after) (ap publication_of shown.1) ahead
 Advances-call before after (Asks body moment answer) (inl (word, dumps, same)) ahead =
     Advances-same (publication_of before) (publication_of after) (ap publication_of same) ahead
-Advances-call before after (Asks body moment answer) (inr (inl (word, raises, same))) ahead =
+Advances-call before after (Asks body moment answer) (inr (inl (word, follows))) ahead =
+    Advances-follow before after answer follows ahead
+Advances-call before after (Asks body moment answer) (inr (inr (inl (word, inr way)))) ahead =
+    Advances-way before after answer way ahead
+Advances-call before after (Asks body moment answer) (inr (inr (inr (dump, follow, raise, inr way)))) ahead =
+    Advances-way before after answer way ahead
+Advances-call before after (Asks body moment answer) (inr (inr (inl (word, inl (raises, same))))) ahead =
     Advances-raise before after (AddsRaise-by (before.mirrors, before.store) (after.mirrors, after.store) body answer raises)
     same ahead
-Advances-call before after (Asks body moment answer) (inr (inr (dump, raise, performs, same))) ahead =
+Advances-call before after (Asks body moment answer) (inr (inr (inr (dump, follow, raise, inl (performs, same))))) ahead =
     Advances-script (publication_of before) (publication_of after) body answer performs ahead
 
 pub published_editions_stay : PublishedEditionsStay

@@ -1,4 +1,6 @@
 mod LeadLemmas
 mod OneLemmas
+mod FollowLemmas
 mod CallLemmas
 mod CrashLemmas
+mod ServerLemmas

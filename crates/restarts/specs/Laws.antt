@@ -24,6 +24,14 @@ RestartsFindWhatWasPublished =
     LeadTo before.store.records (found_in before) → Leads IsCall before calls after →
     LeadTo after.store.records (found_in after)
 
+-- rule: Servers of one history
+-- of two servers of one history, one knows the first ones of the records that the other one knows. So what these lead to at
+-- the other begins with the batches that they lead to at the first
+abbrev pub ServersAgree : Type 0
+ServersAgree =
+    (known more : List Record) (one other : Found) → LeadTo known one → LeadTo (known ++ more) other →
+    StartsWith other.history one.history
+
 -- what is due, if anything is, goes on from what is published
 abbrev pub GoesAhead : Publication → Type 0
 GoesAhead published = ForSome published.store.due (λ next. StartsWith next published.history)

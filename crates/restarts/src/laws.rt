@@ -1,10 +1,16 @@
 //! What a restart finds, for all records and all calls.
 
-ghost use Rattle.restarts.specs.Laws.{CrashesLoseNothing, PublishedEditionsStay, RecordsLeadToOne, RestartsFindWhatWasPublished};
+ghost use Rattle.restarts.specs.Laws.{CrashesLoseNothing, PublishedEditionsStay, RecordsLeadToOne, RestartsFindWhatWasPublished, ServersAgree};
 
 /// States that records lead to one history and one list of mirrors at most.
 pub fn records()
     ensures { RecordsLeadToOne }
+{}
+
+// rule: Servers of one history
+/// States that of two servers of one history, one published the first batches that the other one published.
+pub fn servers()
+    ensures { ServersAgree }
 {}
 
 /// States that the records of an operator's desk lead to what it published, and to the budgets that it raised.
