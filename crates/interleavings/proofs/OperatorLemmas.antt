@@ -10,6 +10,8 @@ use Rattle.http_desks.specs.Calls.{Asks, Call, Looks, Shows}
 use Rattle.http_desks.specs.declared.desk.DeskStatus.{DeskStatus}
 use Rattle.http_desks.specs.declared.desk.Off.{Off}
 use Rattle.http_desks.specs.declared.desk.Off.TheVariants as off
+use Rattle.kept_records.specs.declared.record.Kind.{Kind}
+use Rattle.kept_records.specs.declared.record.Kind.TheVariants as kind
 use Rattle.mirror_ledger.specs.Budgets.{Account}
 use Rattle.mirror_ledger.specs.Named.{budget_at}
 use Rattle.mirror_ledger.specs.Raising.{RaisesTo, has_name, raise_at}
@@ -20,7 +22,8 @@ use Rattle.profile_toml.specs.declared.fault.ProfileFault.{ProfileFault}
 use Rattle.records.specs.declared.mirror.Mirror.{Mirror}
 use Rattle.editions.specs.Editions.{Continues}
 use Rattle.publisher.specs.declared.fault.PublishError.{PublishError}
-use Rattle.service_desks.specs.Operators.{IsCall}
+use Rattle.service_desks.specs.Following.{Follows, GivesWay, AdoptsLate, StopsEarly, StopsShort, Adopts, AdoptsAs, settled_state}
+use Rattle.service_desks.specs.Operators.{IsCall, IsPerformed, IsRaised as ComesToRaise}
 use Rattle.service_desks.specs.Raises.{Funds, IsReplyToRaise, RaisesBy, left_by as raise_left_by, raise_of}
 use Rattle.service_desks.specs.Scripts.{IsAhead, IsScriptReply, Performs, left_by}
 use Rattle.service_desks.specs.States.{Publication, State, Store, earlier_in, publication_of, settled}
@@ -89,8 +92,9 @@ mirrors-raise old new name budget (Err (fault.Lower now)) raises =
 
 mirrors-reply : (old new : Funds) (body : List ℕ) (asked : Option (List ℕ × List ℕ)) (reply : DeskStatus × List ℕ) →
     IsReplyToRaise old new body asked reply → MirrorsBy old.0 new.0
-mirrors-reply old new body (Some asked) reply raised =
+mirrors-reply old new body (Some asked) reply (inl raised) =
     mirrors-raise old.0 new.0 asked.0 (digits_value 10 asked.1) raised.outcome raised.raised
+mirrors-reply old new body (Some asked) reply (inr (unkept, same)) = inl (ap (λ (f : Funds). f.0) same)
 mirrors-reply old new body None reply none = inl (ap (λ (f : Funds). f.0) none.1)
 
 mirrors-raising : (old new : Funds) (body : List ℕ) (answer : Result (DeskStatus × List ℕ) Off) →
@@ -107,8 +111,9 @@ due-left store raise (Err refused) = refl
 
 due-reply : (old new : Funds) (body : List ℕ) (asked : Option (List ℕ × List ℕ)) (reply : DeskStatus × List ℕ) →
     IsReplyToRaise old new body asked reply → new.1.due ≡ old.1.due
-due-reply old new body (Some asked) reply raised =
+due-reply old new body (Some asked) reply (inl raised) =
     ap (λ (s : Store). s.due) raised.left ∙ due-left old.1 body raised.outcome
+due-reply old new body (Some asked) reply (inr (unkept, same)) = ap (λ (f : Funds). f.1.due) same
 due-reply old new body None reply none = ap (λ (f : Funds). f.1.due) none.1
 
 due-raising : (old new : Funds) (body : List ℕ) (answer : Result (DeskStatus × List ℕ) Off) →
@@ -140,7 +145,8 @@ due-left-by before script (Err error) none = none
 publishing-reply : (before : Publication) (input : List ℕ) (script : Result (ℕ × List Edit) ProfileFault)
     (reply : DeskStatus × List ℕ) (after : Publication) → before.store.due ≡ None →
     IsScriptReply before input script reply after → IsPublishing before after
-publishing-reply before input (Ok script) reply after none done = record {
+publishing-reply before input (Ok script) reply after none (inr (unkept, same)) = publishing-same before after none same
+publishing-reply before input (Ok script) reply after none (inl done) = record {
   by = inr (script.0 - earlier_in before.store, script.1, is-published before input script.0 script.1 reply after done);
   due = subst (DueAfter after.history)
       (sym (ap (λ (p : Publication). p.store.due) done.left ∙ due-left-by before input done.outcome none)) tt;
@@ -203,35 +209,143 @@ ChangesBy before after =
     ⊎ ((after.mirrors ≡ before.mirrors)
     × ((between : History) × SettlesBy before.store.due before.history between × HistoryBy between after.history))
 
+-- what was due was published, and then the mirrors changed
+abbrev ChangesBoth : State → State → Type 0
+ChangesBoth before after =
+    SettlesBy before.store.due before.history after.history × MirrorsBy before.mirrors after.mirrors
+
 -- what a call made of a state, and what is then due
 record CallsOn (before after : State) : Type 0 where
-  by : ChangesBy before after
+  by : ChangesBy before after ⊎ ChangesBoth before after
   follows : IsDueAfter after.history after.store
 
 calls-same : (before after : State) → IsDueAfter before.history before.store → after ≡ before → CallsOn before after
 calls-same before after follows same = record {
-  by = inl (ap (λ (s : State). s.history) same, inl (ap (λ (s : State). s.mirrors) same));
+  by = inl (inl (ap (λ (s : State). s.history) same, inl (ap (λ (s : State). s.mirrors) same)));
   follows = subst (λ (s : State). IsDueAfter s.history s.store) (sym same) follows;
 }
+
+calls-settled : (before after : State) → IsDueAfter before.history before.store → after ≡ settled_state before →
+    CallsOn before after
+calls-settled before after follows same = record {
+  by = inl (inr (
+    ap (λ (s : State). s.mirrors) same,
+    (
+      (settled_state before).history,
+      settles before.history before.store.due follows,
+      inl (ap (λ (s : State). s.history) same),
+    ),
+  ));
+  follows = subst (λ (s : State). IsDueAfter s.history s.store) (sym same) tt;
+}
+
+-- a record of another server is adopted
+calls-taken_as : (before after : State) (kind : Kind) (bytes : List ℕ) → IsDueAfter before.history before.store →
+    AdoptsAs kind bytes (settled_state before) after → CallsOn before after
+calls-taken_as before after kind.Profile bytes follows never = absurd never
+calls-taken_as before after kind.Script bytes follows (next, (base, batch, read, continues), left) =
+    let history = (settled_state before).history in
+    record {
+      by = inl (inr (
+        ap (λ (s : State). s.mirrors) left,
+        (
+          history,
+          settles before.history before.store.due follows,
+          inr (
+            length history,
+            batch,
+            ap (λ (s : State). s.history) left ∙ sym (next_is_published history batch next continues),
+          ),
+        ),
+      ));
+      follows = subst (λ (s : State). IsDueAfter s.history s.store) (sym left) tt;
+    }
+calls-taken_as before after kind.Raise bytes follows ((asked, is, raised), history, store) = record {
+  by = inr (
+    subst (SettlesBy before.store.due before.history) (sym history) (settles before.history before.store.due follows),
+    mirrors-raise before.mirrors after.mirrors asked.0 (digits_value 10 asked.1) (Ok tt) raised,
+  );
+  follows = subst (DueAfter after.history) (sym (ap (λ (s : Store). s.due) store)) tt;
+}
+
+calls-taken : (before after : State) → IsDueAfter before.history before.store → Adopts (settled_state before) after →
+    CallsOn before after
+calls-taken before after follows adopted =
+    calls-taken_as before after adopted.entry.kind adopted.entry.bytes follows adopted.adopts
+
+calls-late : (before after : State) → IsDueAfter before.history before.store → AdoptsLate (settled_state before) after →
+    CallsOn before after
+calls-late before after follows is =
+    let (base, batch, read, continues) = is.follows in
+    record {
+      by = inl (inr (
+        ap (λ (s : State). s.mirrors) is.left,
+        (
+          (settled_state before).history,
+          settles before.history before.store.due follows,
+          inl (ap (λ (s : State). s.history) is.left),
+        ),
+      ));
+      follows = subst (λ (s : State). IsDueAfter s.history s.store) (sym is.left) (batch, continues);
+    }
+
+calls-short : (before after : State) (off : Off) → IsDueAfter before.history before.store →
+    StopsShort (settled_state before) off after → CallsOn before after
+calls-short before after off.Memory follows (inl same) = calls-settled before after follows same
+calls-short before after off.Memory follows (inr (inl is)) = calls-late before after follows is
+calls-short before after off.Memory follows (inr (inr adopted)) = calls-taken before after follows adopted
+calls-short before after off.Closed follows same = calls-settled before after follows same
+
+calls-early : (before after : State) (off : Off) → IsDueAfter before.history before.store → StopsEarly before off after →
+    CallsOn before after
+calls-early before after off.Memory follows (inl same) = calls-same before after follows same
+calls-early before after off.Memory follows (inr stops) = calls-short before after off.Memory follows stops
+calls-early before after off.Closed follows stops = calls-short before after off.Closed follows stops
+
+calls-follow : (before after : State) (answer : Result (DeskStatus × List ℕ) Off) → IsDueAfter before.history before.store →
+    Follows before answer after → CallsOn before after
+calls-follow before after (Ok reply) follows (inl (adopted, is)) = calls-taken before after follows adopted
+calls-follow before after (Ok reply) follows (inr (inl (same, is))) = calls-settled before after follows same
+calls-follow before after (Ok reply) follows (inr (inr (same, is))) = calls-settled before after follows same
+calls-follow before after (Err off) follows stops = calls-early before after off follows stops
+
+calls-way : (before after : State) (answer : Result (DeskStatus × List ℕ) Off) → IsDueAfter before.history before.store →
+    GivesWay before answer after → CallsOn before after
+calls-way before after (Ok reply) follows (inl (adopted, is)) = calls-taken before after follows adopted
+calls-way before after (Ok reply) follows (inr (same, is)) = calls-settled before after follows same
+calls-way before after (Err off) follows stops = calls-early before after off follows stops
+
+calls-raise : (before after : State) (body : List ℕ) (answer : Result (DeskStatus × List ℕ) Off) →
+    IsDueAfter before.history before.store → ComesToRaise before body answer after → CallsOn before after
+calls-raise before after body answer follows (inl (raises, same)) =
+    let due = due-raising (before.mirrors, before.store) (after.mirrors, after.store) body answer raises in
+    record {
+      by = inl (inl (same, mirrors-raising (before.mirrors, before.store) (after.mirrors, after.store) body answer raises));
+      follows = subst (λ (h : History). DueAfter h after.store.due) (sym same)
+          (subst (DueAfter before.history) (sym due) follows);
+    }
+calls-raise before after body answer follows (inr way) = calls-way before after answer follows way
+
+calls-script : (before after : State) (body : List ℕ) (answer : Result (DeskStatus × List ℕ) Off) →
+    IsDueAfter before.history before.store → IsPerformed before body answer after → CallsOn before after
+calls-script before after body answer follows (inl (performs, same)) =
+    let changes = changes-script (publication_of before) (publication_of after) body answer follows performs in
+    record {
+      by = inl (inr (same, (changes.between, changes.settled_by, changes.by)));
+      follows = changes.due;
+    }
+calls-script before after body answer follows (inr way) = calls-way before after answer follows way
 
 calls-on : (before after : State) (call : Call) → IsDueAfter before.history before.store → IsCall before call after →
     CallsOn before after
 calls-on before after (Looks name found) follows looked = calls-same before after follows looked.1
 calls-on before after (Shows at page) follows shown = calls-same before after follows shown.1
 calls-on before after (Asks body moment answer) follows (inl (word, dumps, same)) = calls-same before after follows same
-calls-on before after (Asks body moment answer) follows (inr (inl (word, raises, same))) =
-    let due = due-raising (before.mirrors, before.store) (after.mirrors, after.store) body answer raises in
-    record {
-      by = inl (same, mirrors-raising (before.mirrors, before.store) (after.mirrors, after.store) body answer raises);
-      follows = subst (λ (h : History). DueAfter h after.store.due) (sym same)
-          (subst (DueAfter before.history) (sym due) follows);
-    }
-calls-on before after (Asks body moment answer) follows (inr (inr (dump, raise, performs, same))) =
-    let changes = changes-script (publication_of before) (publication_of after) body answer follows performs in
-    record {
-      by = inr (same, (changes.between, changes.settled_by, changes.by));
-      follows = changes.due;
-    }
+calls-on before after (Asks body moment answer) follows (inr (inl (word, is))) = calls-follow before after answer follows is
+calls-on before after (Asks body moment answer) follows (inr (inr (inl (word, is)))) =
+    calls-raise before after body answer follows is
+calls-on before after (Asks body moment answer) follows (inr (inr (inr (dump, follow, raise, is)))) =
+    calls-script before after body answer follows is
 
 same-state : (one other : State) → one.mirrors ≡ other.mirrors → one.history ≡ other.history → one.store ≡ other.store →
     one ≡ other
@@ -317,19 +431,85 @@ step-by mirrors service store after follows (inr (same, (between, settles, by)))
       follows = follows;
     }
 
+-- by a raise after the publish of what was due
+step-both : (mirrors : List Mirror) (service : Service) (store : Store) (after : State) →
+    IsDueAfter after.history after.store → SettlesBy store.due service.history after.history →
+    MirrorsBy (present mirrors service) after.mirrors → IsOperatorStep mirrors service store.due after
+step-both mirrors service store after follows (inl same) by = step-by mirrors service store after follows (inl (same, by))
+step-both mirrors service store after follows (inr (batch, some, shown)) (inl same) =
+    step-by mirrors service store after follows (inr (same, (after.history, inr (batch, some, shown), inl refl)))
+step-both mirrors service store after follows (inr (batch, some, shown)) (inr (index, budget, low, raised)) =
+    let first : Event = Publish (length service.history) batch in
+    let second : Event = Raise index budget in
+    record {
+      events = first ∷ second ∷ [];
+      few = omega (arith, one-of store.due after.history some);
+      own = own first (second ∷ []) refl (refl, tt);
+      leaves = same-state (state_of mirrors (run happens mirrors service (first ∷ second ∷ [])) after.store) after
+          (present-raised service.books mirrors index budget low ∙ sym raised) (sym shown) refl;
+      follows = follows;
+    }
+
+step-either : (mirrors : List Mirror) (service : Service) (store : Store) (after : State) →
+    IsDueAfter after.history after.store →
+    ChangesBy (state_of mirrors service store) after ⊎ ChangesBoth (state_of mirrors service store) after →
+    IsOperatorStep mirrors service store.due after
+step-either mirrors service store after follows (inl changes) = step-by mirrors service store after follows changes
+step-either mirrors service store after follows (inr (settles, by)) =
+    step-both mirrors service store after follows settles by
+
 pub operator_calls_are_events : OperatorCallsAreEvents
 operator_calls_are_events mirrors service store call after follows called =
     let calls = calls-on (state_of mirrors service store) after call follows called in
-    step-by mirrors service store after calls.follows calls.by
+    step-either mirrors service store after calls.follows calls.by
 
 -- what an operator's call makes of the mirrors
+mirrors-taken : (before after : State) (kind : Kind) (bytes : List ℕ) → AdoptsAs kind bytes (settled_state before) after →
+    MirrorsBy before.mirrors after.mirrors
+mirrors-taken before after kind.Profile bytes never = absurd never
+mirrors-taken before after kind.Script bytes (next, script, left) = inl (ap (λ (s : State). s.mirrors) left)
+mirrors-taken before after kind.Raise bytes ((asked, is, raised), history, store) =
+    mirrors-raise before.mirrors after.mirrors asked.0 (digits_value 10 asked.1) (Ok tt) raised
+
+mirrors-short : (before after : State) (off : Off) → StopsShort (settled_state before) off after →
+    MirrorsBy before.mirrors after.mirrors
+mirrors-short before after off.Memory (inl same) = inl (ap (λ (s : State). s.mirrors) same)
+mirrors-short before after off.Memory (inr (inl is)) = inl (ap (λ (s : State). s.mirrors) is.left)
+mirrors-short before after off.Memory (inr (inr adopted)) =
+    mirrors-taken before after adopted.entry.kind adopted.entry.bytes adopted.adopts
+mirrors-short before after off.Closed same = inl (ap (λ (s : State). s.mirrors) same)
+
+mirrors-early : (before after : State) (off : Off) → StopsEarly before off after → MirrorsBy before.mirrors after.mirrors
+mirrors-early before after off.Memory (inl same) = inl (ap (λ (s : State). s.mirrors) same)
+mirrors-early before after off.Memory (inr stops) = mirrors-short before after off.Memory stops
+mirrors-early before after off.Closed stops = mirrors-short before after off.Closed stops
+
+mirrors-follow : (before after : State) (answer : Result (DeskStatus × List ℕ) Off) → Follows before answer after →
+    MirrorsBy before.mirrors after.mirrors
+mirrors-follow before after (Ok reply) (inl (adopted, is)) =
+    mirrors-taken before after adopted.entry.kind adopted.entry.bytes adopted.adopts
+mirrors-follow before after (Ok reply) (inr (inl (same, is))) = inl (ap (λ (s : State). s.mirrors) same)
+mirrors-follow before after (Ok reply) (inr (inr (same, is))) = inl (ap (λ (s : State). s.mirrors) same)
+mirrors-follow before after (Err off) stops = mirrors-early before after off stops
+
+mirrors-way : (before after : State) (answer : Result (DeskStatus × List ℕ) Off) → GivesWay before answer after →
+    MirrorsBy before.mirrors after.mirrors
+mirrors-way before after (Ok reply) (inl (adopted, is)) =
+    mirrors-taken before after adopted.entry.kind adopted.entry.bytes adopted.adopts
+mirrors-way before after (Ok reply) (inr (same, is)) = inl (ap (λ (s : State). s.mirrors) same)
+mirrors-way before after (Err off) stops = mirrors-early before after off stops
+
 mirrors-call : (before after : State) (call : Call) → IsCall before call after → MirrorsBy before.mirrors after.mirrors
 mirrors-call before after (Looks name found) looked = inl (ap (λ (s : State). s.mirrors) looked.1)
 mirrors-call before after (Shows at page) shown = inl (ap (λ (s : State). s.mirrors) shown.1)
 mirrors-call before after (Asks body moment answer) (inl (word, dumps, same)) = inl (ap (λ (s : State). s.mirrors) same)
-mirrors-call before after (Asks body moment answer) (inr (inl (word, raises, same))) =
+mirrors-call before after (Asks body moment answer) (inr (inl (word, is))) = mirrors-follow before after answer is
+mirrors-call before after (Asks body moment answer) (inr (inr (inl (word, inl (raises, same))))) =
     mirrors-raising (before.mirrors, before.store) (after.mirrors, after.store) body answer raises
-mirrors-call before after (Asks body moment answer) (inr (inr (dump, raise, performs, same))) = inl same
+mirrors-call before after (Asks body moment answer) (inr (inr (inl (word, inr way)))) = mirrors-way before after answer way
+mirrors-call before after (Asks body moment answer) (inr (inr (inr (dump, follow, raise, inl (performs, same))))) = inl same
+mirrors-call before after (Asks body moment answer) (inr (inr (inr (dump, follow, raise, inr way)))) =
+    mirrors-way before after answer way
 
 -- mirrors whose budgets are no less, one raise after the other
 as-before : (mirrors : List Mirror) → AllZip IsRaised mirrors mirrors

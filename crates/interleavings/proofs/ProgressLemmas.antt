@@ -76,6 +76,7 @@ module _ (mirrors : List Mirror) (before after : Progress) where
   on-status input moment status.BadRequest text (none, fault, same) = on-same same
   on-status input moment status.Conflict text never = absurd never
   on-status input moment status.UnprocessableContent text never = absurd never
+  on-status input moment status.ServiceUnavailable text never = absurd never
 
   pub leads-on : (call : Call) → IsCall mirrors before call after → LeadsOn before after
   leads-on (Looks name found) (inl (history, enters, is), asked) = on-unasked (inr (history, enters)) asked

@@ -19,6 +19,7 @@ use Rattle.http_desks.specs.declared.desk.DeskStatus.{DeskStatus}
 use Rattle.publisher.specs.Sights.{Sight}
 use Rattle.publisher.specs.declared.fault.PublishError.{PublishError}
 use Rattle.service_desks.specs.Scripts.{IsPublished, IsScriptReply, publish_reply}
+use Rattle.service_desks.specs.Lines.{IsUnkept}
 use Rattle.service_desks.specs.States.{Publication, earlier_in, settled}
 use Rattle.service_desks.specs.Workers.{stock_of}
 use Rattle.service_desks.specs.Asking.{asks_of}
@@ -193,7 +194,14 @@ is-published before script base batch reply after done =
     done.outcome reply done.replied
     (press_publishes before.history known batch done.outcome after.history done.published)
 
+published-unless_unkept : (before : Publication) (input : List ℕ) (script : ℕ × List Edit) (reply : DeskStatus × List ℕ)
+    (after : Publication) → (IsUnkept reply → ⊥) → IsScriptReply before input (Ok script) reply after →
+    after.history ≡ published before.history (script.0 - earlier_in before.store) script.1
+published-unless_unkept before input script reply after never (inl done) =
+    is-published before input script.0 script.1 reply after done
+published-unless_unkept before input script reply after never (inr (unkept, same)) = absurd (never unkept)
+
 pub scripts_are_published : ScriptsArePublished
-scripts_are_published before input script reply after read performed =
-    is-published (settled before) input script.0 script.1 reply after
+scripts_are_published before input script reply after read never performed =
+    published-unless_unkept (settled before) input script reply after never
     (subst (λ r. IsScriptReply (settled before) input r reply after) read performed)

@@ -318,6 +318,7 @@ module _ (mirrors : List Mirror) (service : Service) (index : ℕ) (worker : Wor
     by_status input moment status.BadRequest text (none, fault, same) = same-progress same
     by_status input moment status.Conflict text never = absurd never
     by_status input moment status.UnprocessableContent text never = absurd never
+    by_status input moment status.ServiceUnavailable text never = absurd never
 
     by_call : (call : Call) → IsCall mirrors before call after → IsDone (sent_by call)
     by_call (Looks name found) (inl (history, enters, is), asked) = looked history enters

@@ -73,6 +73,7 @@ sent_with input moment status.Success text = sent_to moment text (request_of_byt
 sent_with input moment status.BadRequest text = []
 sent_with input moment status.Conflict text = []
 sent_with input moment status.UnprocessableContent text = []
+sent_with input moment status.ServiceUnavailable text = []
 
 abbrev pub sent_as : List ℕ → ℕ → Result (DeskStatus × List ℕ) Off → List Sent
 sent_as input moment (Ok answer) = sent_with input moment answer.0 answer.1

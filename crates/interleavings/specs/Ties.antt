@@ -22,6 +22,7 @@ use Rattle.publisher.specs.Publishing.{Publishes}
 use Rattle.publisher.specs.declared.fault.PublishError.{PublishError}
 use Rattle.publisher.specs.declared.fault.PublishError.TheVariants as publishing
 use Rattle.records.specs.declared.mirror.Mirror.{Mirror}
+use Rattle.service_desks.specs.Lines.{IsUnkept}
 use Rattle.service_desks.specs.Operators.{IsCall}
 use Rattle.service_desks.specs.Scripts.{Performs}
 use Rattle.service_desks.specs.States.{Publication, State, Store, earlier_in, settled}
@@ -164,10 +165,10 @@ WorkersReplyByOneHistory =
     (mirrors : List Mirror) (before after : Progress) (request : Request) (moment : ℕ) (text : List ℕ) →
     Replies mirrors before request moment (Ok text) after → IsOfOneHistory mirrors before after request moment text
 
--- a script that the operator's desk replies to is a publish, after what was due, by somebody who knows of as many batches
--- as its base says
+-- a script that the operator's desk replies to, unless it says that no server of its history took it, is a publish, after
+-- what was due, by somebody who knows of as many batches as its base says
 abbrev pub ScriptsArePublished : Type 0
 ScriptsArePublished =
     (before : Publication) (input : List ℕ) (script : ℕ × List Edit) (reply : DeskStatus × List ℕ) (after : Publication) →
-    script_of_bytes input ≡ Ok script → Performs before input (Ok reply) after →
+    script_of_bytes input ≡ Ok script → (IsUnkept reply → ⊥) → Performs before input (Ok reply) after →
     after.history ≡ published (settled before).history (script.0 - earlier_in before.store) script.1
