@@ -7,6 +7,7 @@ use Rattle.operator_pages.specs.Counts.{counted}
 use Rattle.operator_pages.specs.declared.counts.Counts.{Counts}
 use Rattle.operator_pages.specs.declared.counts.Outcome.{Outcome}
 use Rattle.operator_pages.specs.declared.counts.Outcome.TheVariants as outcome
+use Rattle.service_desks.specs.Following.{follow_word}
 use Rattle.service_desks.specs.Raises.{is_raise}
 
 -- the body that asks for the status, and the one that asks the server to end
@@ -18,7 +19,8 @@ stop_word = codes "stop"
 
 -- a body that publishes and raises nothing
 abbrev pub is_word : List ℕ → Bool
-is_word body = bytes_eq body (codes "dump") || bytes_eq body status_word || bytes_eq body stop_word
+is_word body =
+    bytes_eq body (codes "dump") || bytes_eq body follow_word || bytes_eq body status_word || bytes_eq body stop_word
 
 -- what a script or a raise of 200 came to
 abbrev pub outcome_of : List ℕ → Option Outcome
@@ -30,6 +32,7 @@ outcome_in body (Ok (status.Success, line)) = outcome_of body
 outcome_in body (Ok (status.BadRequest, line)) = Some outcome.Malformed
 outcome_in body (Ok (status.Conflict, line)) = Some outcome.Stale
 outcome_in body (Ok (status.UnprocessableContent, line)) = Some outcome.Rejected
+outcome_in body (Ok (status.ServiceUnavailable, line)) = None
 outcome_in body (Err off) = None
 
 -- the counts after a call that came to this

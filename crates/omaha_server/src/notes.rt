@@ -3,7 +3,7 @@
 ghost use Rattle.std.specs.Prelude.{◌≡◌, ◌++◌, ◌∷◌, [], IfOk, IsFalse, IsTrue, Some, string_bytes};
 ghost use Rattle.std.specs.Option.{option_copied};
 ghost use Rattle.http_desks.specs.Calls.{answer_in};
-ghost use Rattle.omaha_server.specs.Notes.{IsUnreported, crew_string, note_line, note_of, served_string, serving_string};
+ghost use Rattle.omaha_server.specs.Notes.{IsUnreported, crew_string, is_unsaid, note_line, note_of, served_string, serving_string};
 
 use crate::setup::Setup;
 use http_desks::{Answer, DeskStatus, Off};
@@ -104,13 +104,21 @@ pub(crate) fn note<S, R: Wait>(setup: &Setup<'_, S, R>, said: &str) {
     setup.notes.lock(setup.rt).send(said);
 }
 
+// Whether nothing is said of a reply of 200.
+fn is_unsaid(body: &[u8], line: &[u8]) -> bool
+    ensures { result ≡ is_unsaid body.now line.now }
+{
+    body == b"dump".as_slice() || (body == b"follow".as_slice() && line.starts_with(b"edition "))
+}
+
 // rule: What is said of a call
-/// What a server says of a reply of the operator's desk, with its line feed: what was published or raised.
+/// What a server says of a reply of the operator's desk, with its line feed: what was published, adopted or raised.
 pub(crate) fn note_of<'b>(body: &[u8], answered: &'b Result<Answer, Off>) -> Option<&'b [u8]>
     ensures { option_copied result ≡ note_of body.now (answer_in answered.now) }
 {
     match answered {
-        Ok(answer) if answer.status == DeskStatus::Success && body != b"dump".as_slice() => {
+        Ok(answer)
+            if answer.status == DeskStatus::Success && !is_unsaid(body, answer.body.as_slice()) => {
             Some(answer.body.as_slice())
         }
         _ => None,

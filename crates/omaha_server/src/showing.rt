@@ -225,7 +225,10 @@ pub(crate) fn show_status<S, R: Wait + AllocGlobal, B: Budgets>(
 fn is_word(body: &[u8]) -> bool
     ensures { result ≡ is_word body.now }
 {
-    body == b"dump".as_slice() || body == b"status".as_slice() || body == b"stop".as_slice()
+    body == b"dump".as_slice()
+        || body == b"follow".as_slice()
+        || body == b"status".as_slice()
+        || body == b"stop".as_slice()
 }
 
 // What a call of 200 came to.
@@ -251,6 +254,7 @@ fn outcome_in(body: &[u8], answered: &Result<Answer, Off>) -> Option<Outcome>
             DeskStatus::BadRequest => Some(Outcome::Malformed),
             DeskStatus::Conflict => Some(Outcome::Stale),
             DeskStatus::UnprocessableContent => Some(Outcome::Rejected),
+            DeskStatus::ServiceUnavailable => None,
         },
         Err(_) => None,
     }
