@@ -43,6 +43,7 @@ NO_MUTANT = {
     "Faults of a script": "its parts are rules of their own",
     "Interleaving": "a law's, and no code of this repository",
     "Next ask": "a client's, and no code of this repository",
+    "One history for all servers": "a law, and no code of this repository",
     "Published history": "a law's; `laws::wrong_machines` has wrong ones",
     "Quote by rows": "a law's, and no code of this repository",
     "Reply to an ask": "its parts are rules of their own",
