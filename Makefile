@@ -12,7 +12,7 @@
 # make idle          tests the server before thousands of idle and slow connections, after make install; it needs wrk
 # make history       kills a server with a history 500 times while it publishes, after make install, and looks
 #                    for what it replied to
-# make cluster       tests three servers with nginx as their proxy, after make install; it needs nginx
+# make cluster       tests three servers of one history in etcd, after make install; it needs etcd-server and nginx
 # make install       proves, builds and installs the program below PREFIX
 # make deb           builds a Debian package of the program, after make install, and tests it; it needs
 #                    systemd, and root or fakeroot

@@ -1,6 +1,6 @@
 // What there is to say of the lines of a server's operator and of reports, by their first words.
 
-pub(crate) const LINES: [(&str, &str); 19] = [
+pub(crate) const LINES: [(&str, &str); 20] = [
     (
         "edition",
         "edition N
@@ -30,11 +30,20 @@ Remedy: Correct the edit, or the raise, and send it again with the same base.
     ),
     (
         "history",
-        "history full, or history F: REASON
-Found in: the reply to a script; of a history's file F: `serve` and `history`.
-Alone: the server has published 4096 editions, which is the most. With F: that file can't be used, for the reason.
-Usual cause: Thousands of scripts; a file that a server has open, another profile than the file's first one, a full disk.
-Remedy: Stop the server and use `omaha history compact F`; without a file, start from `omaha dump --to ADDR`, at base 1.
+        "history full, history unreachable, history in doubt, or history F: REASON
+Found in: the reply to a script or a raise; of a history F: `serve` and `history`.
+full: 4096 editions. unreachable: no server of etcd replies. in doubt: none, and it may be kept. F can't be used.
+Usual cause: Thousands of scripts; servers of etcd are down; a file in use, another profile than its first one, a full disk.
+Remedy: full: `omaha history compact F`, or start from `omaha dump`, at base 1. Else: wait, look at the edition, send again.
+",
+    ),
+    (
+        "followed",
+        "followed N
+Found in: the reply to `follow`, which a server with a history in etcd sends to its own operator's address.
+A record of another server was adopted, and edition N is published; there may be a further record.
+Usual cause: A script or a raise that was sent to another server of the history.
+Remedy: None is needed.
 ",
     ),
     (

@@ -1,9 +1,11 @@
 -- The arguments of the command `history`; this project's profile.
-use Rattle.std.specs.Prelude.{ℕ, ◌-◌, ◌==◌, if◌then◌else◌, List, [], ◌∷◌, codes, is_some, length, slice_index_or, Option, None, Some, unwrap_or}
+use Rattle.std.specs.Prelude.{ℕ, ◌-◌, ◌==◌, ◌&&◌, not, if◌then◌else◌, List, [], ◌∷◌, codes, is_some, length, slice_index_or, Option, None, Some, unwrap_or}
 use Rattle.std.specs.Option.{option_and_then}
 use Rattle.std.specs.Str.{bytes_eq}
 use Rattle.clap.specs.Words.{App, Kinds, Row, new_app, with_rule}
 use Rattle.clap.specs.declared.error.kind.ErrorKind.TheVariants.{ValueValidation}
+use Rattle.etcd_paths.specs.declared.fault.EtcdPathFault.{EtcdPathFault}
+use Rattle.omaha_arguments.specs.HistoryPaths.{history_fault}
 use Rattle.omaha_arguments.specs.Options.{option_named, strings_in, wanted_list}
 use Rattle.omaha_arguments.specs.ServeArguments.{limit_in}
 use Rattle.omaha_arguments.specs.declared.command.HistoryAction.{HistoryAction}
@@ -50,10 +52,18 @@ asked_in options = record {
 abbrev pub asked_by : List (List ℕ) → Option ℕ → HistoryAsked
 asked_by words edition = record { path = last_of words; action = unwrap_or (action_in words edition) action.List }
 
+-- what is wrong with the path among some words
+abbrev pub path_fault : List (List ℕ) → Option EtcdPathFault
+path_fault words = history_fault (last_of words)
+
 -- what is wrong with the arguments F
 abbrev pub faults_by : List (List ℕ) → Option ℕ → Kinds
-faults_by words edition = if is_some (action_in words edition) then [] else ValueValidation ∷ []
+faults_by words edition =
+    if is_some (action_in words edition) && not (is_some (path_fault words)) then [] else ValueValidation ∷ []
 
 -- what is wrong with them
 abbrev pub faults_of_history : List Row → Kinds
-faults_of_history options = if is_some (action_asked options) then [] else ValueValidation ∷ []
+faults_of_history options =
+    if is_some (action_asked options) && not (is_some (path_fault (strings_in (codes "F") options)))
+    then []
+    else ValueValidation ∷ []

@@ -1,6 +1,7 @@
 pub mod Commands
 pub mod Errors
 pub mod HistoryArguments
+pub mod HistoryPaths
 pub mod OperatorArguments
 pub mod Options
 pub mod ReportArguments

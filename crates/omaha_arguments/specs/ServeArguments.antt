@@ -1,9 +1,12 @@
 -- The options of the command `serve`; this project's profile.
 use Rattle.std.specs.Prelude.{ℕ, ◌&&◌, ◌||◌, ◌==◌, not, Bool, bytes_eq, if◌then◌else◌, List, [], ◌∷◌, codes, is_some, length, nat_eq, nat_lt, slice_index, true, false, Option, None, Some, unwrap_or}
-use Rattle.std.specs.List.{after_first, before_first, starts_with}
+use Rattle.std.specs.List.{after_first, before_first, ends_with, starts_with}
 use Rattle.std.specs.Option.{option_map, option_map_or}
 use Rattle.clap.specs.Words.{App, Kinds, Row, first_of, new_app, with_rule}
 use Rattle.clap.specs.declared.error.kind.ErrorKind.TheVariants.{MissingRequiredArgument, ValueValidation}
+use Rattle.etcd_paths.specs.Paths.{is_etcd_path}
+use Rattle.etcd_paths.specs.declared.fault.EtcdPathFault.{EtcdPathFault}
+use Rattle.omaha_arguments.specs.HistoryPaths.{history_fault}
 use Rattle.omaha_arguments.specs.Options.{flag_in, flag_named, number_in, number_of, number_within, option_named, seconds_in, string_in, wanted_option, workers_in}
 use Rattle.omaha_arguments.specs.declared.command.Serve.{Serve}
 use Rattle.omaha_arguments.specs.declared.serve_arguments.Bounds.{Bounds}
@@ -20,8 +23,10 @@ with_places app =
     (with_rule
     (with_rule
     (with_rule
+    (with_rule
     (with_rule (with_rule app (option_named (codes "profile"))) (option_named (codes "history")))
     (option_named (codes "history-limit")))
+    (option_named (codes "follow")))
     (wanted_option (codes "packages")))
     (flag_named (codes "packages-must-exist")))
     (wanted_option (codes "listen")))
@@ -45,7 +50,7 @@ with_limits app =
     (option_named (codes "pinned-tables")))
     (option_named (codes "log"))
 
--- the command `serve`, with its sixteen options and flags
+-- the command `serve`, with its seventeen options and flags
 abbrev pub serve_app : App
 serve_app = with_limits (with_places (new_app (codes "serve")))
 
@@ -81,10 +86,14 @@ counts_of options =
 abbrev pub counts_in : List Row → Option Counts
 counts_in options = if has_counts options then Some (counts_of options) else None
 
--- the time limit between messages, and the numbers of connections, tables and bytes, are valid
+-- the milliseconds of `--follow`, 1 to 60000, 500 without the option
+abbrev pub follow_in : List Row → Option ℕ
+follow_in options = number_within (codes "follow") 500 60000 options
+
+-- the time limits between messages and between looks, and the numbers of connections, tables and bytes, are valid
 unfoldable pub has_bounds : List Row → Bool
 has_bounds options =
-    is_some (seconds_in (codes "idle") 60 options) && is_some (connections_in options)
+    is_some (seconds_in (codes "idle") 60 options) && is_some (follow_in options) && is_some (connections_in options)
     && is_some (number_in (codes "pinned-tables") 256 options)
     && is_some (number_in (codes "history-limit") 67108864 options)
 
@@ -93,6 +102,7 @@ unfoldable pub bounds_of : List Row → Bounds
 bounds_of options =
     record {
       idle = unwrap_or (seconds_in (codes "idle") 60 options) 0;
+      follow = unwrap_or (follow_in options) 0;
       connections = unwrap_or (connections_in options) 0;
       pinned_tables = unwrap_or (number_in (codes "pinned-tables") 256 options) 0;
       history_limit = unwrap_or (number_in (codes "history-limit") 67108864 options) 0;
@@ -127,6 +137,7 @@ serve_with counts bounds options =
       profile = first_of (codes "profile") options;
       history = first_of (codes "history") options;
       history_limit = bounds.history_limit;
+      follow = bounds.follow;
       packages = string_in (codes "packages") options;
       packages_must_exist = flag_in (codes "packages-must-exist") options;
       listen = string_in (codes "listen") options;
@@ -197,9 +208,27 @@ is_operator_local options = option_map_or is_local (first_of (codes "operator") 
 unfoldable pub is_operator_allowed : List Row → Bool
 is_operator_allowed options = flag_in (codes "operator-anywhere") options || is_operator_local options
 
+-- the history is in etcd
+abbrev pub is_shared : List Row → Bool
+is_shared options = option_map_or is_etcd_path (first_of (codes "history") options) false
+
+-- there is an operator, and the system chooses no port of its address
+abbrev pub is_operator_known : List Row → Bool
+is_operator_known options =
+    option_map_or (λ address. not (ends_with nat_eq address (codes ":0"))) (first_of (codes "operator") options) false
+
+-- rule: Address that is asked for records
+-- a server of a shared history has an operator's address that can be asked
+unfoldable pub is_followed : List Row → Bool
+is_followed options = not (is_shared options) || is_operator_known options
+
+-- what is wrong with the history's path
+abbrev pub history_fault_in : List Row → Option EtcdPathFault
+history_fault_in options = option_map_or history_fault (first_of (codes "history") options) None
+
 -- what is wrong with the options of `serve`
 abbrev pub faults_of_serve : List Row → Kinds
 faults_of_serve options =
-    if has_counts options && has_bounds options
-    then (if is_named options && is_operator_allowed options then [] else MissingRequiredArgument ∷ [])
+    if has_counts options && has_bounds options && not (is_some (history_fault_in options))
+    then (if is_named options && is_operator_allowed options && is_followed options then [] else MissingRequiredArgument ∷ [])
     else ValueValidation ∷ []

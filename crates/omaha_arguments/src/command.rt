@@ -87,6 +87,8 @@ pub struct Serve {
     pub history: Option<Text>,
     /// How many bytes the history's records may have together.
     pub history_limit: u64,
+    /// How many milliseconds there are between two looks at a history in etcd: 1 to 60000.
+    pub follow: u64,
     /// The path of the folder of packages.
     pub packages: Text,
     /// Whether a release is published only if its packages are in the folder.

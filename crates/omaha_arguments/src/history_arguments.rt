@@ -2,31 +2,34 @@
 
 ghost use Rattle.std.specs.Prelude.{◌≡◌, [], ◌∷◌, IfOk};
 ghost use Rattle.clap.specs.Words.{FailsBy, HasKind, found_of, rows_of};
-ghost use Rattle.omaha_arguments.specs.HistoryArguments.{action_in, action_named, asked_by, asked_in, edition_in, faults_by, faults_of_history, history_app, last_of};
+ghost use Rattle.omaha_arguments.specs.HistoryArguments.{action_in, action_named, asked_by, asked_in, edition_in, faults_by, faults_of_history, history_app, last_of, path_fault};
 ghost use Rattle.omaha_arguments.specs.Options.{IsMade};
 ghost use Rattle.omaha_arguments.specs.WalkArguments.{IsAskable};
 
 use crate::command::{Command, HistoryAction, HistoryAsked};
+use crate::history_paths::{history_fault, invalid_history};
 use crate::options::{Entry, Making, strings_in, titled, with_entries};
 use crate::rejections::{out_of_memory, rejection};
 use crate::serve_arguments::limit_in;
 use clap::error::ErrorKind;
 use clap::{ArgMatches, Error};
+use etcd_paths::EtcdPathFault;
 use std::alloc::{AllocError, Global};
 use values::Text;
 
 const HISTORY: &str = "Reads the history of what a server published, or makes it shorter.";
 
-const WORDS: &str = "The history's file, after `export` or `compact` if that is wanted";
+const WORDS: &str = "The history, after `export` or `compact` if that is wanted";
 
 const EDITION: &str = "The edition whose profile is printed [default: the last one]";
 
 const AFTER_HISTORY: &str =
-    "`omaha serve --history F` keeps each script and each raise in F. The server is stopped for these:
+    "`omaha serve --history F` keeps each script and each raise in F. A server is stopped for these, but
+if F is etcd://A,B,C/PREFIX the servers that share it may go on:
   omaha history F             lists the records: number, kind, bytes, edition, first line
   omaha history export F      prints the profile of the last edition, or of --edition N
   omaha history compact F     replaces all records by the profile of the last edition, which keeps
-                              its number; scripts go on from there
+                              its number; scripts go on from there. Not of one in etcd
 
 If the command fails, it prints one line on standard error.
   omaha: history F: REASON    F can't be opened or read, or is no history
@@ -105,6 +108,16 @@ fn invalid_words(alloc: Global) -> Error
     )
 }
 
+// What is wrong with the path among some words.
+fn path_fault(words: &[Text]) -> Option<EtcdPathFault>
+    ensures { result ≡ path_fault words.now }
+{
+    match words.last() {
+        Some(last) => history_fault(last.as_str()),
+        None => history_fault(""),
+    }
+}
+
 // Reads what some words ask for.
 fn read_words(alloc: Global, words: &[Text], edition: Option<u64>) -> Result<Command, Error>
     ensures faults { FailsBy (faults_by words.now edition) result }
@@ -114,6 +127,9 @@ fn read_words(alloc: Global, words: &[Text], edition: Option<u64>) -> Result<Com
     let Some(action) = action_in(words, edition) else {
         return Err(invalid_words(alloc));
     };
+    if let Some(fault) = path_fault(words) {
+        return Err(invalid_history(alloc, history_command(alloc), "omaha history", fault));
+    }
     match last_of(alloc, words) {
         Ok(path) => Ok(Command::History(HistoryAsked { path, action })),
         Err(error) => Err(out_of_memory(error)),

@@ -6,7 +6,8 @@
 //! `publish`, `raise`, `dump` and `status`, `specs/OperatorArguments.antt`; for `stop`, `specs/StopArguments.antt`; for
 //! `script`, `specs/ScriptArguments.antt`; for `history`, `specs/HistoryArguments.antt`; for `review`,
 //! `specs/ReviewArguments.antt`; for `graph`, `specs/GraphArguments.antt`;
-//! for `walk`, `specs/WalkArguments.antt`. How they are rejected is said by `specs/Errors.antt`.
+//! for `walk`, `specs/WalkArguments.antt`. The path of a history may be one of `etcd_paths`. How they are rejected is said
+//! by `specs/Errors.antt`.
 //!
 //! It opens no file and carries nothing out.
 
@@ -17,6 +18,7 @@ mod command_line;
 mod error;
 mod graph_arguments;
 mod history_arguments;
+mod history_paths;
 mod once_arguments;
 mod operator_arguments;
 mod options;

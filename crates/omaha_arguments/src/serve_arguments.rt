@@ -4,10 +4,11 @@ ghost use Rattle.std.specs.Prelude.{◌≡◌, ◌<◌, ◌==◌, [], ◌∷◌,
 ghost use Rattle.std.specs.List.{after_first, before_first};
 ghost use Rattle.clap.specs.Words.{App, FailsBy, HasKind, first_of, found_of, rows_of};
 ghost use Rattle.omaha_arguments.specs.Options.{IsMade};
-ghost use Rattle.omaha_arguments.specs.ServeArguments.{are_three_octets, bounds_in, connections_in, counts_in, faults_of_serve, files_in, has_leading_zero, is_local, is_loopback, is_loopback_host, is_named, is_octet, is_operator_allowed, is_operator_local, is_path, limit_in, limit_of, places_in, serve_app, serve_in, serve_with, with_limits, with_places};
+ghost use Rattle.omaha_arguments.specs.ServeArguments.{are_three_octets, bounds_in, connections_in, counts_in, faults_of_serve, files_in, follow_in, has_leading_zero, is_local, is_loopback, history_fault_in, is_followed, is_loopback_host, is_named, is_octet, is_operator_allowed, is_operator_known, is_operator_local, is_path, is_shared, limit_in, limit_of, places_in, serve_app, serve_in, serve_with, with_limits, with_places};
 ghost use Rattle.omaha_arguments.specs.WalkArguments.{IsAskable};
 
 use crate::command::{Command, Serve};
+use crate::history_paths::{history_fault, invalid_history};
 use crate::options::{
     Entry, Making, flag_in, number_in, number_of, number_within, optional_string, seconds_in,
     string_in, titled, with_entries, workers_in,
@@ -15,6 +16,7 @@ use crate::options::{
 use crate::rejections::{out_of_memory, rejection};
 use clap::error::ErrorKind;
 use clap::{ArgMatches, Error};
+use etcd_paths::{EtcdPathFault, is_etcd_path};
 use std::alloc::{AllocError, Global};
 use values::Text;
 
@@ -22,9 +24,11 @@ const SERVE: &str = "Serves a profile's catalogue and its packages over HTTP.";
 
 const PROFILE: &str = "The catalogue and its mirrors: a TOML file of at most 256 MiB";
 
-const HISTORY: &str = "Where to keep what is published: a file, new or kept [default: none]";
+const HISTORY: &str = "Where to keep what is published: a file, or etcd://.. [default: none]";
 
 const HISTORY_LIMIT: &str = "How many bytes the history may have [default: 67108864]";
+
+const FOLLOW: &str = "Milliseconds between two looks at etcd, 1 to 60000 [default: 500]";
 
 const PACKAGES: &str = "The folder of the packages, each under its name in the catalogue";
 
@@ -56,7 +60,10 @@ const INVALID_COUNT: &str =
     "--workers is from 1 to 8, --sessions and --edits are below 2^64, and --timeout is from 1 to 86400 seconds";
 
 const INVALID_BOUND: &str =
-    "--idle is from 1 to 86400 seconds, --connections from 1 to 1048576, and --pinned-tables and --history-limit are below 2^64";
+    "--idle is from 1 to 86400 seconds, --follow from 1 to 60000 milliseconds, --connections from 1 to 1048576, and --pinned-tables and --history-limit are below 2^64";
+
+const NO_OPERATOR: &str =
+    "a server with a history in etcd asks its own operator's address for the records of other servers: name one with a port by --operator 127.0.0.1:PORT or unix:PATH";
 
 const NO_PROFILE: &str = "name a profile by --profile <F>, or a history by --history <FILE>";
 
@@ -84,6 +91,12 @@ With --history each script and each raise is kept in that file before it takes e
 replied to, so a server that is started again has the edition, the catalogue and the budgets of all
 that it replied to. A new file begins with the profile. Without --profile the file is enough; with
 it the profile must still be the one that the file began with. `omaha history` reads the file.
+
+With --history etcd://A,B,C/PREFIX the servers of one history share it, in the keys of etcd that
+begin with PREFIX, and A, B and C, each HOST:PORT, are etcd's servers, without TLS. A script that
+one of them publishes is published by all: each looks for new records every --follow
+milliseconds, by a post to its own operator's address, which must be named. A server that no
+server of etcd replies to serves what it has, and publishes nothing until one does.
 
 With --packages-must-exist a script that adds a package which isn't in the folder with its size is
 rejected, and the server starts only if the packages of its catalogue are there.
@@ -118,6 +131,7 @@ fn with_places<'a>(alloc: Global, command: Making<'a>) -> Making<'a>
         Entry::PlainOption("profile", "F", PROFILE),
         Entry::PlainOption("history", "FILE", HISTORY),
         Entry::PlainOption("history-limit", "BYTES", HISTORY_LIMIT),
+        Entry::PlainOption("follow", "MS", FOLLOW),
         Entry::WantedOption("packages", "DIR", PACKAGES),
         Entry::Flag("packages-must-exist", MUST_EXIST),
         Entry::WantedOption("listen", "ADDR", LISTEN),
@@ -179,6 +193,13 @@ fn connections_in(matches: &ArgMatches<'_>) -> Option<u64>
     number_within(matches, "connections", 16384, 1048576)
 }
 
+// How many milliseconds there are between two looks at a history.
+fn follow_in(matches: &ArgMatches<'_>) -> Option<u64>
+    ensures { result ≡ follow_in (rows_of (found_of matches.now)) }
+{
+    number_within(matches, "follow", 500, 60000)
+}
+
 /// Whether an option or an argument is given.
 pub(crate) fn is_given(matches: &ArgMatches<'_>, id: &str) -> bool
     ensures { result ≡ is_some (first_of id.now (rows_of (found_of matches.now))) }
@@ -197,6 +218,47 @@ fn is_named(matches: &ArgMatches<'_>) -> bool
     let by_profile = is_given(matches, "profile");
     let by_history = is_given(matches, "history");
     by_profile || by_history
+}
+
+// Whether the history, if there is one, is in etcd.
+fn is_shared(matches: &ArgMatches<'_>) -> bool
+    ensures { result ≡ is_shared (rows_of (found_of matches.now)) }
+{
+    match matches.get_str("history") {
+        None => false,
+        Some(path) => is_etcd_path(path),
+    }
+}
+
+// Whether the operator's address is one that can be asked: the system chooses no port of it.
+fn is_operator_known(matches: &ArgMatches<'_>) -> bool
+    ensures { result ≡ is_operator_known (rows_of (found_of matches.now)) }
+{
+    match matches.get_str("operator") {
+        None => false,
+        Some(address) => !address.as_bytes().ends_with(b":0"),
+    }
+}
+
+// rule: Address that is asked for records
+// Whether a server of a shared history has an operator's address that can be asked.
+#[tactic(auto, unfolding(crate::specs::ServeArguments::is_followed))]
+fn is_followed(matches: &ArgMatches<'_>) -> bool
+    ensures { result ≡ is_followed (rows_of (found_of matches.now)) }
+{
+    let is_shared = is_shared(matches);
+    let is_operator_known = is_operator_known(matches);
+    !is_shared || is_operator_known
+}
+
+// What is wrong with the history's path, if it is one of etcd.
+fn history_fault_in(matches: &ArgMatches<'_>) -> Option<EtcdPathFault>
+    ensures { result ≡ history_fault_in (rows_of (found_of matches.now)) }
+{
+    match matches.get_str("history") {
+        None => None,
+        Some(path) => history_fault(path),
+    }
 }
 
 // The error of an option, of a kind.
@@ -331,10 +393,12 @@ fn counts_in(matches: &ArgMatches<'_>) -> Option<Counts>
     })
 }
 
-// The time limit between messages, and how many connections, tables and bytes there may be.
+// The time limit between messages, the one between looks at a history, and how many connections, tables and bytes there
+// may be.
 #[derive(Clone, Copy)]
 struct Bounds {
     idle: u64,
+    follow: u64,
     connections: u64,
     pinned_tables: u64,
     history_limit: u64,
@@ -345,8 +409,9 @@ struct Bounds {
 fn bounds_in(matches: &ArgMatches<'_>) -> Option<Bounds>
     ensures { result ≡ bounds_in (rows_of (found_of matches.now)) }
 {
-    let (Some(idle), Some(connections), Some(pinned_tables), Some(history_limit)) = (
+    let (Some(idle), Some(follow), Some(connections), Some(pinned_tables), Some(history_limit)) = (
         seconds_in(matches, "idle", 60),
+        follow_in(matches),
         connections_in(matches),
         number_in(matches, "pinned-tables", 256),
         number_in(matches, "history-limit", 67108864),
@@ -355,6 +420,7 @@ fn bounds_in(matches: &ArgMatches<'_>) -> Option<Bounds>
     };
     Some(Bounds {
         idle,
+        follow,
         connections,
         pinned_tables,
         history_limit,
@@ -421,6 +487,7 @@ fn serve_with(
         profile,
         history,
         history_limit: bounds.history_limit,
+        follow: bounds.follow,
         packages,
         packages_must_exist,
         listen,
@@ -449,11 +516,17 @@ pub(crate) fn read_serve(alloc: Global, matches: &ArgMatches<'_>) -> Result<Comm
     let Some(bounds) = bounds_in(matches) else {
         return Err(rejected_option(alloc, ErrorKind::ValueValidation, INVALID_BOUND));
     };
+    if let Some(fault) = history_fault_in(matches) {
+        return Err(invalid_history(alloc, serve_command(alloc), "omaha serve", fault));
+    }
     if !is_named(matches) {
         return Err(rejected_option(alloc, ErrorKind::MissingRequiredArgument, NO_PROFILE));
     }
     if !is_operator_allowed(matches) {
         return Err(rejected_option(alloc, ErrorKind::MissingRequiredArgument, OPEN_OPERATOR));
+    }
+    if !is_followed(matches) {
+        return Err(rejected_option(alloc, ErrorKind::MissingRequiredArgument, NO_OPERATOR));
     }
     match serve_with(alloc, counts, bounds, matches) {
         Ok(serve) => Ok(Command::Serve(serve)),

@@ -2,6 +2,7 @@
 use Rattle.std.specs.Prelude.{◌≡◌, ◌⊎◌, ℕ, Bool, true, false, codes, max, min, List, Option, None, Some, Result, Ok, Err}
 use Rattle.streams.specs.Streams.{Known}
 use Rattle.omaha_arguments.specs.declared.command.Serve.{Serve}
+use Rattle.etcd_paths.specs.Paths.{is_etcd_path}
 use Rattle.systems.specs.Edges.{Edges}
 use Rattle.omaha_server.specs.Checks.{IsStockedFor}
 use Rattle.omaha_server.specs.Passages.{Passages}
@@ -55,6 +56,16 @@ abbrev pub served_name : Bool → Option (List ℕ) → Option (List ℕ) → Op
 served_name false profile history = None
 served_name true (Some profile) history = Some profile
 served_name true None history = history
+
+-- the operator's address, if the path of the history is one of etcd
+abbrev pub asked_at : Bool → Option (List ℕ) → Option (List ℕ)
+asked_at true operator = operator
+asked_at false operator = None
+
+-- the operator's address of a server that shares its history
+abbrev pub followed_at : Option (List ℕ) → Option (List ℕ) → Option (List ℕ)
+followed_at None operator = None
+followed_at (Some history) operator = asked_at (is_etcd_path history) operator
 
 -- the place that the arguments name: the addresses, the folder, the workers, the sessions, the log and the seconds
 pub record IsPlaceOf (serve : Serve) (verbose : Bool) (place : Place) : Type 0 where

@@ -1,21 +1,29 @@
 // The command `serve`.
 
-ghost use Rattle.std.specs.Prelude.{◌≡◌, IfOk};
-ghost use Rattle.omaha_cli.specs.Serving.{EndsAs, IsPlaceOf, IsQuiet, IsUnbound, IsUnopened, ServesOn, served_name};
+ghost use Rattle.std.specs.Prelude.{◌≡◌, IfOk, IfSome, option_map};
+ghost use Rattle.omaha_cli.specs.Serving.{EndsAs, IsPlaceOf, IsQuiet, IsUnbound, IsUnopened, ServesOn, followed_at, served_name};
+ghost use Rattle.omaha_server.specs.Checks.{IsStockedFor};
+ghost use Rattle.omaha_server.specs.Passages.{passages_in};
+ghost use Rattle.omaha_server.specs.Serving.{IsLogged, IsSilent, Serves, begun};
 ghost use Rattle.streams.specs.Streams.{Known};
 
+use etcd_paths::is_etcd_path;
+use followers::{Follower, follow};
 use http_ports::Port;
-use kept_records::Stores;
+use kept_records::{Records, Stores};
 use omaha_arguments::{Serve, VERSION};
 use omaha_commands::Failure;
 use omaha_histories::open_beginning;
-use omaha_server::{Place, ServerError, serve};
+use omaha_server::{Place, ServedPorts, ServerError, serve};
+use services::KeptService;
 use std::alloc::{AllocError, Global};
 use std::sync::Wait;
-use std::thread::Threads;
+use std::sync::atomic::{AtomicBool, Ordering};
+use std::thread::{Threads, join_mut};
 use std::time::Clock;
 use streams::{Disk, WriteWhole};
 use systems::System;
+use update_client::Connector;
 use values::Text;
 use worker_threads::Free;
 
@@ -122,11 +130,115 @@ fn place_of(alloc: Global, asked: &Serve, verbose: bool) -> Result<Place, AllocE
     })
 }
 
+// The operator's address of a server that shares its history, which other servers may add records to.
+fn followed_at(asked: &Serve) -> Option<&str>
+    ensures { option_map (λ address. address.now) result ≡ followed_at asked.now.history asked.now.operator }
+{
+    let Some(history) = &asked.history else {
+        return None;
+    };
+    if !is_etcd_path(history.as_str()) {
+        return None;
+    }
+    match &asked.operator {
+        Some(operator) => Some(operator.as_str()),
+        None => None,
+    }
+}
+
+// Serves, and meanwhile asks the server's own operator's address for the records of other servers, in another thread.
+fn serve_followed<
+    P: Port + Send + Drop,
+    S: System<P> + Sync,
+    R: Clock + Connector + AllocGlobal + Threads + Sync + Wait,
+    K: Records + Drop,
+    W: WriteWhole,
+    F: WriteWhole + Send,
+>(
+    rt: &R,
+    system: &S,
+    kept: KeptService<K>,
+    place: &Place,
+    follower: &Follower<'_>,
+    writer: &mut W,
+    errors: &mut F,
+) -> Result<ServedPorts<P>, ServerError>
+    ensures serves { Serves (S.edges system.now) place.now kept.service
+        (begun kept.service.edition (K.first kept.records) (K.kept kept.records)).store (W.output writer.old) (W.output writer.new)
+        (passages_in P.terms P.slots P.accepted result) }
+    ensures logged { IsLogged (S.edges system.now) place.now.log result }
+    ensures stocked { IsStockedFor (S.edges system.now) place.now kept.service.edition
+        (W.output writer.old) (W.output writer.new) result }
+    ensures silent { IsSilent place.now → errors.new ≡ errors.old }
+{
+    let mut kept = Some(kept);
+    let ((), served) = join_mut(
+        rt,
+        &mut || follow(rt, rt.alloc(), follower),
+        &mut || -> Result<ServedPorts<P>, ServerError>
+            ensures serves { IfSome kept.entry (λ served. Serves (S.edges system.now) place.now served.service
+                (begun served.service.edition (K.first served.records) (K.kept served.records)).store
+                (W.output writer.entry.now) (W.output writer.exit.now)
+                (passages_in P.terms P.slots P.accepted result)) }
+            ensures logged { IfSome kept.entry (λ served. IsLogged (S.edges system.now) place.now.log result) }
+            ensures stocked { IfSome kept.entry (λ served. IsStockedFor (S.edges system.now) place.now served.service.edition
+                (W.output writer.entry.now) (W.output writer.exit.now) result) }
+            ensures silent { IsSilent place.now → errors.exit.now ≡ errors.entry.now }
+        {
+            let served = match kept.take() {
+                Some(kept) => serve(rt, system, kept, place, &Free, writer, errors),
+                None => Err(ServerError::Memory),
+            };
+            follower.has_ended.store(true, Ordering::SeqCst);
+            served
+        },
+    );
+    served
+}
+
+// Serves; a server that shares its history is kept up to date meanwhile.
+fn serve_kept<
+    P: Port + Send + Drop,
+    S: System<P> + Sync,
+    R: Clock + Connector + AllocGlobal + Threads + Sync + Wait,
+    K: Records + Drop,
+    W: WriteWhole,
+    F: WriteWhole + Send,
+>(
+    rt: &R,
+    system: &S,
+    kept: KeptService<K>,
+    place: &Place,
+    asked: &Serve,
+    writer: &mut W,
+    errors: &mut F,
+) -> Result<ServedPorts<P>, ServerError>
+    ensures serves { Serves (S.edges system.now) place.now kept.service
+        (begun kept.service.edition (K.first kept.records) (K.kept kept.records)).store (W.output writer.old) (W.output writer.new)
+        (passages_in P.terms P.slots P.accepted result) }
+    ensures logged { IsLogged (S.edges system.now) place.now.log result }
+    ensures stocked { IsStockedFor (S.edges system.now) place.now kept.service.edition
+        (W.output writer.old) (W.output writer.new) result }
+    ensures silent { IsSilent place.now → errors.new ≡ errors.old }
+{
+    let Some(operator) = followed_at(asked) else {
+        return serve(rt, system, kept, place, &Free, writer, errors);
+    };
+    let has_ended = AtomicBool::new(false);
+    let follower = Follower {
+        operator,
+        pause: asked.follow,
+        has_ended: &has_ended,
+    };
+    serve_followed(rt, system, kept, place, &follower, writer, errors)
+}
+
 // rule: Service over HTTP
 /// Serves a profile or a history and its packages, takes the operator's scripts, and prints the mirrors' totals at the
 /// end.
 ///
-/// With a history each script and each raise is kept before it takes effect. Fails, in this order, with the history,
+/// With a history each script and each raise is kept before it takes effect. With one in etcd the records of the other
+/// servers are looked for again and again, in a thread of its own. Fails, in this order, with the history,
 /// the profile's file, another profile than the history's, the profile's first fault, its first rejected edit, the
 /// first record that doesn't follow, the log, the folder of packages, a package that must be there and isn't, no place
 /// for a worker's view, the address, the operator's address, the writer, and a thread that can't be started; the writer
@@ -135,7 +247,7 @@ fn place_of(alloc: Global, asked: &Serve, verbose: bool) -> Result<Place, AllocE
 pub(crate) fn serve_profile<
     P: Port + Send + Drop,
     S: System<P> + Sync,
-    R: Disk + Clock + AllocGlobal + Threads + Sync + Wait,
+    R: Disk + Clock + Connector + AllocGlobal + Threads + Sync + Wait,
     H: Stores,
     W: WriteWhole,
     F: WriteWhole + Send,
@@ -160,7 +272,7 @@ pub(crate) fn serve_profile<
     let Ok(place) = place_of(rt.alloc(), asked, verbose) else {
         return Err(Failure::Memory);
     };
-    let ended = serve(rt, system, kept, &place, &Free, writer, errors);
+    let ended = serve_kept(rt, system, kept, &place, asked, writer, errors);
     close_addresses(system, asked, ended.is_ok());
     end_of(ended, asked)
 }

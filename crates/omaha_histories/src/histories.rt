@@ -1,11 +1,16 @@
 // What a server begins with, if what it publishes is kept.
 
-ghost use Rattle.std.specs.Prelude.{◌≡◌, [], IfErr, IfOk, IsTrue, Some};
+ghost use Rattle.std.specs.Prelude.{◌≡◌, [], ◌∷◌, IfErr, IfOk, IsTrue, Some};
 ghost use Rattle.omaha_histories.specs.Histories.{AreBegun, AreBegunAt, BeginWith, HasFirst, IsBeginning, IsFirst, IsHistoryFailure, IsNoBeginning, LeadToService};
 ghost use Rattle.omaha_histories.specs.Server.{first_in, known_in};
+ghost use Rattle.kept_records.specs.Keeping.{record_of};
+ghost use Rattle.kept_records.specs.declared.record.Kind.TheVariants.{Profile};
 
 use crate::server_records::ServerRecords;
-use kept_records::{Kind, OpenFault, Record, Records, Stores, Unkept};
+use etcd_paths::is_etcd_path;
+use kept_records::{
+    AppendFault, Kind, OpenFault, ReadFault, Record, Records, Stores, Unkept,
+};
 use omaha_arguments::Serve;
 use omaha_commands::{Failure, HistoryFault, open_service, read_named, service_in};
 use restarts::{RestoreError, Restored, restore};
@@ -39,6 +44,63 @@ pub(crate) fn restore_failure(path: &Text, first: u64, error: RestoreError) -> F
     }
 }
 
+// Whether a record is a profile with these bytes.
+fn is_profile(record: &Record, bytes: &[u8]) -> bool
+    ensures { IsTrue result → record.now ≡ record_of Profile bytes.now }
+{
+    record.kind == Kind::Profile && record.bytes.as_slice() == bytes
+}
+
+// Reads the first record, which another server kept meanwhile: it has to be the same profile.
+fn adopt_first<R: AllocGlobal, K: Records>(
+    rt: &R,
+    kept: &mut K,
+    path: &Text,
+    bytes: &[u8],
+) -> Result<(), Failure>
+    requires { K.kept kept.old ≡ [] }
+    ensures ok { IfOk result (λ _. K.kept kept.new ≡ record_of Profile bytes.now ∷ []) }
+    ensures first { K.first kept.new ≡ K.first kept.old }
+    ensures err { IfErr result (IsHistoryFailure path.now) }
+{
+    match kept.next(rt.alloc()) {
+        Ok(Some(record)) => {
+            if is_profile(&record, bytes) {
+                Ok(())
+            } else {
+                Err(history_failure(path, HistoryFault::OtherProfile))
+            }
+        }
+        Ok(None) => {
+            let fault = HistoryFault::Append(AppendFault::Taken);
+            Err(history_failure(path, fault))
+        }
+        Err(ReadFault::Failed(cause)) => {
+            let fault = HistoryFault::Open(OpenFault::Failed(cause));
+            Err(history_failure(path, fault))
+        }
+    }
+}
+
+// Keeps the profile as the first record, unless another server of the history just did.
+fn keep_first<R: AllocGlobal, K: Records>(
+    rt: &R,
+    kept: &mut K,
+    path: &Text,
+    bytes: &[u8],
+) -> Result<(), Failure>
+    requires { K.kept kept.old ≡ [] }
+    ensures ok { IfOk result (λ _. K.kept kept.new ≡ record_of Profile bytes.now ∷ []) }
+    ensures first { K.first kept.new ≡ K.first kept.old }
+    ensures err { IfErr result (IsHistoryFailure path.now) }
+{
+    match kept.append(rt.alloc(), Kind::Profile, bytes) {
+        Ok(()) => Ok(()),
+        Err(AppendFault::Taken) => adopt_first(rt, kept, path, bytes),
+        Err(fault) => Err(history_failure(path, HistoryFault::Append(fault))),
+    }
+}
+
 // Makes the profile's service, and keeps the profile as the first record.
 fn begin<R: Disk + AllocGlobal + Threads + Sync, K: Records + Drop>(
     rt: &R,
@@ -59,12 +121,12 @@ fn begin<R: Disk + AllocGlobal + Threads + Sync, K: Records + Drop>(
     let bytes = read_named(rt, profile)?;
     let service = service_in(rt, profile, bytes.as_slice(), workers)?;
     let mut kept = kept;
-    match kept.append(rt.alloc(), Kind::Profile, bytes.as_slice()) {
+    match keep_first(rt, &mut kept, path, bytes.as_slice()) {
         Ok(()) => Ok(KeptService {
             service,
             records: kept,
         }),
-        Err(fault) => Err(history_failure(path, HistoryFault::Append(fault))),
+        Err(failure) => Err(failure),
     }
 }
 
@@ -153,8 +215,12 @@ fn begin_from<R: Disk + AllocGlobal + Threads + Sync, K: Records + Drop>(
     }
 }
 
-/// Whether there is a regular file at a path that can be read. An open makes the file that isn't there.
+/// Whether there is a regular file at a path that can be read, or the path is one of etcd's. An open makes the file that
+/// isn't there.
 pub(crate) fn is_there<R: Disk + AllocGlobal>(rt: &R, path: &Text) -> bool {
+    if is_etcd_path(path.as_str()) {
+        return true;
+    }
     match rt.read_file(rt.alloc(), path.as_str(), 0) {
         Err(ReadFailure::Broken) => false,
         _ => true,
@@ -184,7 +250,7 @@ fn open_history<R: Disk + AllocGlobal + Threads + Sync, H: Stores>(
 
 // rule: Service of a history
 /// Makes what a server begins with: the service of the profile, or the one that its history leads to. A history without
-/// records begins with the profile.
+/// records begins with the profile, also if another server just began it so.
 ///
 /// Fails, in this order, with the history, the profile's file, another profile than the history's, the profile's first
 /// fault or rejected edit, and the first record that doesn't follow.

@@ -1,4 +1,4 @@
-// Histories that print on standard error why a script or a raise isn't kept.
+// Histories that print on standard error why a script or a raise isn't kept, and why no record can be read.
 
 use kept_records::{AppendFault, Cause, Kind, OpenFault, ReadFault, Record, Records, Stores};
 use omaha_commands::HistoryFault;
@@ -7,7 +7,8 @@ use std::rt::HostRuntime;
 use streams::{Shown, offer};
 use values::Text;
 
-/// Histories of other stores. Each prints on standard error why a record after the first one isn't kept.
+/// Histories of other stores. Each prints on standard error why a record after the first one isn't kept, and once why no
+/// further record can be read, until one can be looked for again.
 #[derive(Drop)]
 pub struct ReportingStores<'a, H> {
     /// What has standard error.
@@ -16,21 +17,21 @@ pub struct ReportingStores<'a, H> {
     pub stores: H,
 }
 
-/// A history that prints on standard error why a record after the first one isn't kept.
+/// A history that prints on standard error why a record after the first one isn't kept, or none can be read.
 #[derive(Drop)]
 pub struct ReportedRecords<'a, K> {
     rt: &'a HostRuntime,
     path: Text,
     is_begun: bool,
+    is_read: bool,
     kept: K,
 }
 
-// Prints why a record of the history at a path isn't kept.
-fn report(rt: &HostRuntime, path: &Text, fault: AppendFault) {
+// Prints what is wrong with the history at a path.
+fn report(rt: &HostRuntime, path: &Text, fault: HistoryFault) {
     let path = Shown {
         string: path.as_str(),
     };
-    let fault = HistoryFault::Append(fault);
     let mut errors = rt.stderr();
     match format!(in rt.alloc(); "omaha: history {path}: {fault}\n") {
         Ok(line) => offer(&mut errors, line.as_str().as_bytes()),
@@ -56,8 +57,8 @@ impl<K: Records> Records for ReportedRecords<'_, K> {
                 Ok(())
             }
             Err(fault) => {
-                if self.is_begun {
-                    report(self.rt, &self.path, fault);
+                if self.is_begun && fault != AppendFault::Taken {
+                    report(self.rt, &self.path, HistoryFault::Append(fault));
                 }
                 Err(fault)
             }
@@ -65,7 +66,21 @@ impl<K: Records> Records for ReportedRecords<'_, K> {
     }
 
     fn next(&mut self, alloc: Global) -> Result<Option<Record>, ReadFault> {
-        self.kept.next(alloc)
+        match self.kept.next(alloc) {
+            Ok(found) => {
+                self.is_begun = true;
+                self.is_read = true;
+                Ok(found)
+            }
+            Err(ReadFault::Failed(cause)) => {
+                if self.is_read {
+                    let fault = HistoryFault::Open(OpenFault::Failed(cause));
+                    report(self.rt, &self.path, fault);
+                }
+                self.is_read = false;
+                Err(ReadFault::Failed(cause))
+            }
+        }
     }
 
     fn unread(&mut self) -> bool {
@@ -95,6 +110,7 @@ impl<'a, H: Stores> Stores for ReportingStores<'a, H> {
             rt: self.rt,
             path: name,
             is_begun: !records.is_empty(),
+            is_read: true,
             kept,
         };
         Ok((reported, records))
