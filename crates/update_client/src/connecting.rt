@@ -14,7 +14,7 @@ use std::io::{Read, Write};
 use std::marker::Brand;
 use std::net::{Net, TcpListener, TcpStream};
 use std::sync::ledger::{Blank, Ledger};
-use std::time::Clock;
+use std::time::{Clock, Duration};
 
 // Posts over a connection.
 fn post_on<S: Read + Write + Copy + Drop, A: Ledger, B: Ledger>(
@@ -95,19 +95,20 @@ fn post_once<R: Clock>(
 /// Posts to a host, which is looked up as `HOST:PORT`, over a connection of its own, and returns the reply, whatever its
 /// status.
 ///
-/// The whole exchange may take so many seconds, but for the time that the system takes to look up a name; the reply's body
-/// may have as many bytes as the limit. Errors are those of `post_over` after `Connect`, which says that there is no
-/// connection.
+/// The whole exchange may take so much time, but for what the system takes to look up a name; the reply's body may have as
+/// many bytes as the limit. What is left of the time is rounded up to a microsecond when it is sent or read, and to a
+/// millisecond when it connects. Errors are those of `post_over` after `Connect`, which says that there is no connection
+/// within that time: never one within zero.
 pub fn post_to<R: Net<Listener = TcpListener, Stream = TcpStream> + Clock>(
     alloc: Global,
     rt: &R,
-    seconds: u64,
+    time: Duration,
     post: &Post<'_>,
     limit: u64,
 ) -> Result<Reply, LinkFault>
     ensures { PostedWithin limit result }
 {
-    let Ok(deadline) = Deadline::after(rt, seconds) else {
+    let Ok(deadline) = Deadline::after(rt, time) else {
         return Err(LinkFault::Connect);
     };
     let Ok(stream) = connect(rt, post.host, &deadline) else {
@@ -121,13 +122,13 @@ pub(crate) fn post_at<R: Net + Clock>(
     alloc: Global,
     rt: &R,
     path: &str,
-    seconds: u64,
+    time: Duration,
     post: &Post<'_>,
     limit: u64,
 ) -> Result<Reply, LinkFault>
     ensures { PostedWithin limit result }
 {
-    let Ok(deadline) = Deadline::after(rt, seconds) else {
+    let Ok(deadline) = Deadline::after(rt, time) else {
         return Err(LinkFault::Connect);
     };
     let Ok(stream) = connect_path(rt, path) else {

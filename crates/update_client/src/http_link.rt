@@ -12,7 +12,7 @@ use crate::timed::Deadline;
 use http_client_heads::{LinkFault, Post};
 use std::alloc::Global;
 use std::net::{Net, TcpListener, TcpStream};
-use std::time::Clock;
+use std::time::{Clock, Duration};
 use traces::Trace;
 
 /// The path that update checks are posted to.
@@ -38,7 +38,7 @@ impl Download {
         if self.brought < PORTION {
             return Ok(());
         }
-        let Ok(deadline) = Deadline::after(rt, seconds) else {
+        let Ok(deadline) = Deadline::after(rt, Duration::from_secs(seconds)) else {
             return Err(Failed);
         };
         self.deadline = deadline;
@@ -119,12 +119,13 @@ impl<'a, R: Net<Listener = TcpListener, Stream = TcpStream> + Clock> HttpLink<'a
             kind: "application/json",
             body,
         };
-        post_to(alloc, self.rt, self.seconds, &post, MAX_REPLY)?.error_for_status()
+        let time = Duration::from_secs(self.seconds);
+        post_to(alloc, self.rt, time, &post, MAX_REPLY)?.error_for_status()
     }
 
     // The download at an address.
     fn download_at(&self, address: &str) -> Result<(Download, Body), LinkFault> {
-        let Ok(deadline) = Deadline::after(self.rt, self.seconds) else {
+        let Ok(deadline) = Deadline::after(self.rt, Duration::from_secs(self.seconds)) else {
             return Err(LinkFault::Connect);
         };
         let (stream, body) = open_at(self.alloc, self.rt, address, deadline)?;

@@ -27,7 +27,7 @@ impl Patience {
     pub(crate) fn begin<R: Clock>(rt: &R, seconds: u64) -> Patience
         ensures { result.seconds ≡ seconds }
     {
-        let deadline = Deadline::after(rt, seconds.max(1)).ok();
+        let deadline = Deadline::after(rt, Duration::from_secs(seconds.max(1))).ok();
         Patience { seconds, deadline }
     }
 
@@ -54,7 +54,7 @@ pub(crate) fn is_host_gone<R: Net<Listener = TcpListener, Stream = TcpStream> + 
     rt: &R,
     address: &str,
 ) -> bool {
-    let Ok(deadline) = Deadline::after(rt, SECONDS) else {
+    let Ok(deadline) = Deadline::after(rt, Duration::from_secs(SECONDS)) else {
         return false;
     };
     match connect(rt, address, &deadline) {

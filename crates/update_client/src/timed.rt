@@ -1,5 +1,8 @@
 // Connections whose reads and writes have to end by a time.
 
+ghost use Rattle.std.specs.Prelude.{◌<◌, IfOk};
+ghost use Rattle.std.specs.Duration.{as_nanos};
+
 use std::alloc::AllocError;
 use std::io;
 use std::io::{ErrorKind, Read, Write};
@@ -16,21 +19,20 @@ pub(crate) struct Deadline {
 }
 
 impl Deadline {
-    /// So many seconds from now.
-    pub(crate) fn after<R: Clock>(rt: &R, seconds: u64) -> io::Result<Deadline> {
+    /// So much time from now.
+    pub(crate) fn after<R: Clock>(rt: &R, limit: Duration) -> io::Result<Deadline> {
         let begun = Instant::now(rt)?;
-        Ok(Deadline {
-            begun,
-            limit: Duration::from_secs(seconds),
-        })
+        Ok(Deadline { begun, limit })
     }
 
-    /// The time that is left; it fails if there is none.
-    pub(crate) fn left<R: Clock>(&self, rt: &R) -> io::Result<Duration> {
+    /// The time that is left, which is never zero; it fails if there is none.
+    pub(crate) fn left<R: Clock>(&self, rt: &R) -> io::Result<Duration>
+        ensures { IfOk result (λ left. 0 < as_nanos left) }
+    {
         let spent = self.begun.elapsed(rt)?;
         match self.limit.checked_sub(spent) {
-            Some(left) => Ok(left),
-            None => Err(io::Error::from(ErrorKind::TimedOut)),
+            Some(left) if !left.is_zero() => Ok(left),
+            _ => Err(io::Error::from(ErrorKind::TimedOut)),
         }
     }
 }

@@ -16,7 +16,7 @@ use crate::walking::Walk;
 use http_client_heads::Post;
 use std::alloc::Global;
 use std::net::{Net, TcpListener, TcpStream};
-use std::time::Clock;
+use std::time::{Clock, Duration};
 use streams::WriteWhole;
 use values::ReadError;
 
@@ -134,19 +134,13 @@ impl<R: Net<Listener = TcpListener, Stream = TcpStream> + Clock> Connector for R
         limits: Limits,
         body: &[u8],
     ) -> Result<Reply, LinkFault> {
-        let seconds = limits.seconds.max(1);
+        let time = Duration::from_secs(limits.seconds.max(1));
         match address.strip_prefix("unix:") {
             Some(path) => {
                 let post = operation("localhost", body);
-                post_at(alloc, self, path, seconds, &post, limits.reply)
+                post_at(alloc, self, path, time, &post, limits.reply)
             }
-            None => post_to(
-                alloc,
-                self,
-                seconds,
-                &operation(address, body),
-                limits.reply,
-            ),
+            None => post_to(alloc, self, time, &operation(address, body), limits.reply),
         }
     }
 
