@@ -1,0 +1,14 @@
+//! The path of a history in etcd: `etcd://HOST:PORT,HOST:PORT/PREFIX`.
+//!
+//! `parse_etcd_path` finds the addresses and the prefix of such a path, or why it is invalid. Read `specs/Paths.antt`.
+//!
+//! It looks up no name and connects to nothing.
+
+#![tactic(auto)]
+
+mod address;
+mod fault;
+mod path;
+
+pub use crate::fault::EtcdPathFault;
+pub use crate::path::{EtcdPath, is_etcd_path, parse_etcd_path};
