@@ -18,19 +18,27 @@ use Rattle.operator_pages.specs.declared.spending.Place.TheVariants as place
 unfoldable pub build_family : List ℕ → List ℕ
 build_family version = head_string metric.Build ++ sample_of metric.Build (codes "version") version 1
 
--- how many scripts came to a result
+-- how many scripts, or records of other servers, came to a result
 unfoldable pub result_sample : Counts → Outcome → List ℕ
 result_sample counts outcome =
     sample_of metric.Publishes (codes "result") (word_of outcome) (count_of counts outcome)
 
--- how many scripts came to each result
+-- the same of the results by which something was published
+unfoldable pub published_samples : Counts → List ℕ
+published_samples counts = result_sample counts outcome.Published ++ result_sample counts outcome.Followed
+
+-- the same of those by which nothing was
+unfoldable pub unpublished_samples : Counts → List ℕ
+unpublished_samples counts =
+    result_sample counts outcome.Stale
+    ++ (result_sample counts outcome.Rejected
+    ++ (result_sample counts outcome.Malformed
+    ++ result_sample counts outcome.Unreachable))
+
+-- the same of each result
 unfoldable pub publishes_family : Counts → List ℕ
 publishes_family counts =
-    head_string metric.Publishes
-    ++ (result_sample counts outcome.Published
-    ++ (result_sample counts outcome.Stale
-    ++ (result_sample counts outcome.Rejected
-    ++ result_sample counts outcome.Malformed)))
+    head_string metric.Publishes ++ (published_samples counts ++ unpublished_samples counts)
 
 -- what a metric says of each mirror
 unfoldable pub mirror_family : Metric → List Mirror → List ℕ → List ℕ

@@ -1,10 +1,15 @@
 -- The page of the metrics; this project's profile.
-use Rattle.std.specs.Prelude.{ℕ, List, ◌++◌, length}
+use Rattle.std.specs.Prelude.{ℕ, List, ◌++◌, length, Option, None, Some}
 use Rattle.operator_pages.specs.Families.{build_family, cohort_family, mirror_family, publishes_family, releases_family}
 use Rattle.operator_pages.specs.Samples.{plain_family}
 use Rattle.operator_pages.specs.declared.metric.Metric.TheVariants as metric
 use Rattle.operator_pages.specs.Traffic.{checks_family, connections_family, offered_family, requests_family}
 use Rattle.operator_pages.specs.declared.shown.Shown.{Shown}
+
+-- 1 unless the history is unreachable, by the time since when it is
+abbrev pub reachable_number : Option ℕ → ℕ
+reachable_number None = 1
+reachable_number (Some since) = 0
 
 -- the metrics of the server and of its operator's calls
 unfoldable pub server_metrics : Shown → List ℕ
@@ -13,7 +18,8 @@ server_metrics shown =
     ++ (plain_family metric.Started shown.counts.started
     ++ (plain_family metric.Edition shown.edition
     ++ (publishes_family shown.counts
-    ++ plain_family metric.Raises shown.counts.raised)))
+    ++ (plain_family metric.Raises shown.counts.raised
+    ++ plain_family metric.Reachable (reachable_number shown.counts.lost)))))
 
 -- the metrics of the mirrors: their present budgets, and what they granted
 unfoldable pub spending_metrics : Shown → List ℕ

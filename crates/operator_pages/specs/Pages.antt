@@ -2,7 +2,7 @@
 use Rattle.std.specs.Prelude.{ℕ, List, ◌++◌, codes, decimal}
 use Rattle.markup.specs.Escaping.{escaped_string}
 use Rattle.operator_pages.specs.Publishes.{publishes_section}
-use Rattle.operator_pages.specs.Sections.{app_sections, calls_section, mirror_section}
+use Rattle.operator_pages.specs.Sections.{app_sections, calls_section, mirror_section, reach_note}
 use Rattle.operator_pages.specs.declared.headings.TheConstants.{END, HEAD}
 use Rattle.operator_pages.specs.declared.shown.Shown.{Shown}
 use Rattle.operator_pages.specs.declared.style.TheConstants.{STYLE}
@@ -21,12 +21,13 @@ heading edition = codes "<header>\n<h1>Edition " ++ decimal edition ++ codes "</
 unfoldable pub header : ℕ → List ℕ → List ℕ
 header edition version = heading edition ++ (escaped_string version ++ codes "</p>\n</header>\n")
 
--- the apps, the mirrors, the last publishes and the operator's calls
+-- that the history is unreachable, if it is; the apps, the mirrors, the last publishes and the operator's calls
 unfoldable pub sections_of : Shown → List ℕ
 sections_of shown =
-    app_sections shown.apps.now shown.sights.now
+    reach_note shown.counts.lost
+    ++ (app_sections shown.apps.now shown.sights.now
     ++ (mirror_section shown.mirrors.now shown.granted.now
-    ++ (publishes_section shown.publishes.now ++ calls_section shown.counts))
+    ++ (publishes_section shown.publishes.now ++ calls_section shown.counts)))
 
 unfoldable pub main_of : Shown → List ℕ
 main_of shown = codes "<main>\n" ++ (sections_of shown ++ END.now)

@@ -26,7 +26,7 @@ kind_of subject.Metrics ending = kind.Metrics
 kind_of subject.Edition ending = kind.Html
 
 abbrev pub body_of : Subject → Shown → List ℕ
-body_of subject.Health shown = health_string shown.edition shown.ending
+body_of subject.Health shown = health_string shown.edition shown.counts.lost shown.ending
 body_of subject.Status shown = status_string shown
 body_of subject.Metrics shown = metrics_string shown
 body_of subject.Edition shown = page_string shown

@@ -1,5 +1,5 @@
 -- The last publishes; this project's profile.
-use Rattle.std.specs.Prelude.{ℕ, ◌==◌, if◌then◌else◌, List, ◌∷◌, ◌++◌, codes, decimal, flat_map, length, take}
+use Rattle.std.specs.Prelude.{ℕ, Bool, ◌==◌, if◌then◌else◌, List, ◌∷◌, ◌++◌, codes, decimal, flat_map, length, take}
 use Rattle.operator_pages.specs.Html.{number_cell}
 use Rattle.operator_pages.specs.declared.headings.TheConstants.{NO_PUBLISHES, PUBLISHES, TABLE_END}
 use Rattle.operator_pages.specs.declared.publishes.Publish.{Publish}
@@ -13,12 +13,16 @@ with_publish publish others = take 10 (publish ∷ others)
 unfoldable pub edition_cell : ℕ → List ℕ
 edition_cell edition = codes "<th>" ++ decimal edition ++ codes "</th>"
 
+-- the end of a row, in which a publish that was adopted of another server is marked
+abbrev pub publish_end : Bool → List ℕ
+publish_end adopted = if adopted then codes "<td><span class=\"tag\">adopted</span></td></tr>\n" else codes "</tr>\n"
+
 -- rule: Row of a publish
--- the number of the edition, when it was published, and how many edits its script has
+-- the number of the edition, when it was published, how many edits its script has, and whether it was adopted
 unfoldable pub publish_row : Publish → List ℕ
 publish_row publish =
     codes "<tr>" ++ (edition_cell publish.edition ++ (number_cell publish.time
-    ++ (number_cell publish.edits ++ codes "</tr>\n")))
+    ++ (number_cell publish.edits ++ publish_end publish.adopted)))
 
 abbrev pub publish_rows : List Publish → List ℕ
 publish_rows publishes = flat_map publish_row publishes

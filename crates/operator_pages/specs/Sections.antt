@@ -1,5 +1,5 @@
 -- The sections of the page; this project's profile.
-use Rattle.std.specs.Prelude.{ℕ, ◌==◌, if◌then◌else◌, List, ◌++◌, codes, decimal, flat_map, length}
+use Rattle.std.specs.Prelude.{ℕ, ◌==◌, if◌then◌else◌, List, [], ◌++◌, codes, decimal, flat_map, length, Option, None, Some}
 use Rattle.std.specs.List.{zip}
 use Rattle.markup.specs.Escaping.{escaped_string}
 use Rattle.records.specs.declared.content.App.{App}
@@ -14,9 +14,18 @@ use Rattle.operator_pages.specs.Tables.{cohort_rows, release_rows}
 use Rattle.operator_pages.specs.declared.counts.Counts.{Counts}
 use Rattle.operator_pages.specs.declared.counts.Outcome.{Outcome}
 use Rattle.operator_pages.specs.declared.counts.Outcome.TheVariants as outcome
-use Rattle.operator_pages.specs.declared.headings.TheConstants.{CALLS, COHORTS, MIRRORS, NO_RELEASES, RELEASES, TABLE_END}
+use Rattle.operator_pages.specs.declared.headings.TheConstants.{CALLS, COHORTS, LOST, LOST_END, MIRRORS, NO_RELEASES, RELEASES, TABLE_END}
 use Rattle.operator_pages.specs.declared.sights.AppSight.{AppSight}
 use Rattle.operator_pages.specs.declared.spending.Place.TheVariants as place
+
+-- since when the history is unreachable
+unfoldable pub lost_note : ℕ → List ℕ
+lost_note since = LOST.now ++ (decimal since ++ LOST_END.now)
+
+-- the same, if it is
+abbrev pub reach_note : Option ℕ → List ℕ
+reach_note None = []
+reach_note (Some since) = lost_note since
 
 -- the mirrors, with the bytes that they granted, in their order
 unfoldable pub mirror_section : List Mirror → List ℕ → List ℕ
@@ -62,13 +71,21 @@ unfoldable pub call_row : Counts → Outcome → List ℕ
 call_row counts outcome =
     codes "<tr>" ++ (name_cell (word_of outcome) ++ (number_cell (count_of counts outcome) ++ codes "</tr>\n"))
 
-unfoldable pub call_rows : Counts → List ℕ
-call_rows counts =
-    call_row counts outcome.Published
-    ++ (call_row counts outcome.Stale
+-- the same of what calls published
+unfoldable pub published_rows : Counts → List ℕ
+published_rows counts = call_row counts outcome.Published ++ call_row counts outcome.Followed
+
+-- the same of all else that calls came to
+unfoldable pub other_rows : Counts → List ℕ
+other_rows counts =
+    call_row counts outcome.Stale
     ++ (call_row counts outcome.Rejected
     ++ (call_row counts outcome.Malformed
+    ++ (call_row counts outcome.Unreachable
     ++ call_row counts outcome.Raised)))
+
+unfoldable pub call_rows : Counts → List ℕ
+call_rows counts = published_rows counts ++ other_rows counts
 
 -- the operator's calls, by what they came to
 unfoldable pub calls_section : Counts → List ℕ

@@ -1,7 +1,7 @@
 //! The metrics of more than one sample.
 
 ghost use Rattle.std.specs.Prelude.{◌≡◌, ◌++◌, OnOk, string_bytes};
-ghost use Rattle.operator_pages.specs.Families.{build_family, cohort_family, cohort_number, cohort_sample, cohort_samples, cohorts_of_app, mirror_family, publishes_family, release_samples, releases_family, releases_sample, result_sample};
+ghost use Rattle.operator_pages.specs.Families.{build_family, cohort_family, cohort_number, cohort_sample, cohort_samples, cohorts_of_app, mirror_family, published_samples, publishes_family, release_samples, releases_family, releases_sample, result_sample, unpublished_samples};
 
 use crate::counts::{Counts, Outcome, count_of, word_of};
 use crate::labels::cohort_labels;
@@ -39,7 +39,25 @@ fn push_result(
     )
 }
 
-/// Adds how many scripts came to each result.
+#[tactic(auto, unfolding(crate::specs::Families::published_samples))]
+fn push_published(alloc: Global, text: &mut String, counts: &Counts) -> Result<(), AllocError>
+    ensures { OnOk result (string_bytes text.new ≡ string_bytes text.old ++ published_samples counts.now) }
+{
+    push_result(alloc, text, counts, Outcome::Published)?;
+    push_result(alloc, text, counts, Outcome::Followed)
+}
+
+#[tactic(auto, unfolding(crate::specs::Families::unpublished_samples))]
+fn push_unpublished(alloc: Global, text: &mut String, counts: &Counts) -> Result<(), AllocError>
+    ensures { OnOk result (string_bytes text.new ≡ string_bytes text.old ++ unpublished_samples counts.now) }
+{
+    push_result(alloc, text, counts, Outcome::Stale)?;
+    push_result(alloc, text, counts, Outcome::Rejected)?;
+    push_result(alloc, text, counts, Outcome::Malformed)?;
+    push_result(alloc, text, counts, Outcome::Unreachable)
+}
+
+/// Adds how many scripts and records of other servers came to each result.
 #[tactic(auto, unfolding(crate::specs::Families::publishes_family))]
 pub(crate) fn push_publishes(
     alloc: Global,
@@ -49,10 +67,8 @@ pub(crate) fn push_publishes(
     ensures { OnOk result (string_bytes text.new ≡ string_bytes text.old ++ publishes_family counts.now) }
 {
     push_head(text, Metric::Publishes)?;
-    push_result(alloc, text, counts, Outcome::Published)?;
-    push_result(alloc, text, counts, Outcome::Stale)?;
-    push_result(alloc, text, counts, Outcome::Rejected)?;
-    push_result(alloc, text, counts, Outcome::Malformed)
+    push_published(alloc, text, counts)?;
+    push_unpublished(alloc, text, counts)
 }
 
 /// Adds what a metric says of each mirror: the bytes that it granted, or its budget.

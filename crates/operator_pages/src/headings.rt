@@ -10,6 +10,17 @@ pub(crate) const HEAD: &str = "<!doctype html>
 <meta name=\"color-scheme\" content=\"light dark\">
 ";
 
+/// That the history is unreachable, up to the time since when it is.
+pub(crate) const LOST: &str = "<section>
+<h2>History unreachable</h2>
+<p class=\"note\">No server of the history has replied since ";
+
+/// The rest of that.
+pub(crate) const LOST_END: &str =
+    " (seconds since 1970). Clients are served what is published here.</p>
+</section>
+";
+
 /// The section of the mirrors, up to their rows.
 pub(crate) const MIRRORS: &str = "<section>
 <h2>Mirrors</h2>

@@ -29,7 +29,7 @@ mod style;
 mod tables;
 mod traffic;
 
-pub use crate::counts::{Counts, Outcome};
+pub use crate::counts::{Counts, Outcome, Reach};
 pub use crate::health::{health_string, status_string};
 pub use crate::metrics::metrics_string;
 pub use crate::page::page_string;

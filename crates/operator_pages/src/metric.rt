@@ -12,10 +12,12 @@ pub(crate) enum Metric {
     Started,
     /// The number of the published edition.
     Edition,
-    /// The scripts, by what they came to.
+    /// The scripts and the records of other servers, by what they came to.
     Publishes,
     /// The raises of budgets.
     Raises,
+    /// Whether the history replied when it was last asked.
+    Reachable,
     /// The budgets of the mirrors.
     Budget,
     /// The bytes that the mirrors granted.
@@ -53,6 +55,7 @@ pub(crate) fn name_of(metric: Metric) -> &'static str
         Metric::Edition => "omaha_edition",
         Metric::Publishes => "omaha_publishes_total",
         Metric::Raises => "omaha_raises_total",
+        Metric::Reachable => "omaha_history_reachable",
         Metric::Budget => "omaha_mirror_budget_bytes",
         Metric::Granted => "omaha_mirror_granted_bytes",
         Metric::Apps => "omaha_apps",
@@ -88,8 +91,9 @@ pub(crate) fn help_of(metric: Metric) -> &'static str
         Metric::Build => "Version of the program.",
         Metric::Started => "When the server started, in seconds since 1970.",
         Metric::Edition => "Number of the published edition.",
-        Metric::Publishes => "Scripts that operators sent, by result.",
+        Metric::Publishes => "Scripts that operators sent and records of other servers, by result.",
         Metric::Raises => "Budgets that operators raised.",
+        Metric::Reachable => "Whether the history replied when it was last asked.",
         Metric::Budget => "Present budget of a mirror.",
         Metric::Granted => "Bytes that a mirror granted since the start.",
         Metric::Apps => "Apps of the published catalogue.",

@@ -1,7 +1,7 @@
 //! The page of the metrics, in the exposition format of Prometheus.
 
 ghost use Rattle.std.specs.Prelude.{◌≡◌, ◌++◌, IfOk, OnOk, string_bytes};
-ghost use Rattle.operator_pages.specs.Metrics.{catalogue_metrics, metrics_string, server_metrics, spending_metrics, traffic_metrics};
+ghost use Rattle.operator_pages.specs.Metrics.{catalogue_metrics, metrics_string, reachable_number, server_metrics, spending_metrics, traffic_metrics};
 
 use crate::families::{
     push_build, push_cohorts, push_mirror_family, push_publishes, push_releases,
@@ -12,6 +12,16 @@ use crate::shown::Shown;
 use crate::traffic::{push_checks, push_connections, push_offered, push_requests};
 use std::alloc::{AllocError, Global};
 
+// What the gauge of the history says.
+fn reachable_number(lost: Option<u64>) -> u64
+    ensures { result ≡ reachable_number lost }
+{
+    match lost {
+        None => 1,
+        Some(_) => 0,
+    }
+}
+
 #[tactic(auto, unfolding(crate::specs::Metrics::server_metrics))]
 fn push_server(alloc: Global, text: &mut String, shown: &Shown<'_>) -> Result<(), AllocError>
     ensures { OnOk result (string_bytes text.new ≡ string_bytes text.old ++ server_metrics shown.now) }
@@ -20,7 +30,8 @@ fn push_server(alloc: Global, text: &mut String, shown: &Shown<'_>) -> Result<()
     push_plain(text, Metric::Started, shown.counts.started)?;
     push_plain(text, Metric::Edition, shown.edition)?;
     push_publishes(alloc, text, &shown.counts)?;
-    push_plain(text, Metric::Raises, shown.counts.raised)
+    push_plain(text, Metric::Raises, shown.counts.raised)?;
+    push_plain(text, Metric::Reachable, reachable_number(shown.counts.lost))
 }
 
 #[tactic(auto, unfolding(crate::specs::Metrics::spending_metrics))]

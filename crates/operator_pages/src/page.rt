@@ -5,7 +5,7 @@ ghost use Rattle.operator_pages.specs.Pages.{document_head, header, heading, mai
 
 use crate::headings::{END, HEAD};
 use crate::publishes::push_publishes;
-use crate::sections::{push_apps, push_calls, push_mirror_section};
+use crate::sections::{push_apps, push_calls, push_mirror_section, push_reach};
 use crate::shown::Shown;
 use crate::style::STYLE;
 use markup::push_escaped;
@@ -48,6 +48,7 @@ fn push_header(text: &mut String, edition: u64, version: &str) -> Result<(), All
 fn push_sections(alloc: Global, text: &mut String, shown: &Shown<'_>) -> Result<(), AllocError>
     ensures { OnOk result (string_bytes text.new ≡ string_bytes text.old ++ sections_of shown.now) }
 {
+    push_reach(text, shown.counts.lost)?;
     push_apps(alloc, text, shown.apps, shown.sights)?;
     push_mirror_section(alloc, text, shown.mirrors, shown.granted)?;
     push_publishes(text, shown.publishes)?;
@@ -64,8 +65,8 @@ fn push_main(alloc: Global, text: &mut String, shown: &Shown<'_>) -> Result<(), 
 }
 
 // rule: Page of an edition
-/// Writes the page: the edition, its apps with their cohorts and releases and what is seen of these, the mirrors' budgets,
-/// the last publishes and the operator's calls.
+/// Writes the page: the edition, since when the history is unreachable if it is, the edition's apps with their cohorts and
+/// releases and what is seen of these, the mirrors' budgets, the last publishes and the operator's calls.
 ///
 /// It is HTML without a script, and fetches nothing. Each string is escaped but the images of the apps' sights, which are
 /// markup. An app without a sight isn't there. Out of memory is the only error.

@@ -56,7 +56,7 @@ fn body_of(alloc: Global, subject: Subject, shown: &Shown<'_>) -> Result<String,
     ensures { IfOk result (λ text. string_bytes text ≡ body_of subject shown.now) }
 {
     match subject {
-        Subject::Health => health_string(alloc, shown.edition, shown.ending),
+        Subject::Health => health_string(alloc, shown.edition, shown.counts.lost, shown.ending),
         Subject::Status => status_string(alloc, shown),
         Subject::Metrics => metrics_string(alloc, shown),
         Subject::Edition => page_string(alloc, shown),

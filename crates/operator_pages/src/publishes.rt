@@ -1,7 +1,7 @@
 //! The last publishes.
 
 ghost use Rattle.std.specs.Prelude.{◌≡◌, ◌≤◌, ◌++◌, [], OnOk, length, string_bytes};
-ghost use Rattle.operator_pages.specs.Publishes.{edition_cell, publish_row, publish_rows, publish_table, publishes_section, with_publish};
+ghost use Rattle.operator_pages.specs.Publishes.{edition_cell, publish_end, publish_row, publish_rows, publish_table, publishes_section, with_publish};
 
 use crate::headings::{NO_PUBLISHES, PUBLISHES, TABLE_END};
 use crate::html::push_number_cell;
@@ -12,7 +12,7 @@ use std::marker::Model;
 /// How many publishes are kept.
 const MAX_PUBLISHES: usize = 10;
 
-/// What an operator published.
+/// A publish: of an operator of this server, or of another server's.
 #[derive(Clone, Copy, Debug, PartialEq, Eq)]
 pub struct Publish {
     /// The number of the edition.
@@ -21,6 +21,8 @@ pub struct Publish {
     pub time: u64,
     /// How many edits its script has.
     pub edits: u64,
+    /// Whether another server kept the script, and this one adopted it.
+    pub adopted: bool,
 }
 
 /// The last publishes, the newest first, which contracts see as their list.
@@ -50,6 +52,7 @@ impl Publishes {
             edition: 0,
             time: 0,
             edits: 0,
+            adopted: false,
         };
         Publishes {
             kept: [none; MAX_PUBLISHES],
@@ -84,6 +87,17 @@ fn push_edition(text: &mut String, edition: u64) -> Result<(), AllocError>
     write!(text, "<th>{edition}</th>")
 }
 
+// The end of a row, before which an adopted publish is marked.
+fn publish_end(adopted: bool) -> &'static str
+    ensures { result.now ≡ publish_end adopted }
+{
+    if adopted {
+        "<td><span class=\"tag\">adopted</span></td></tr>\n"
+    } else {
+        "</tr>\n"
+    }
+}
+
 // rule: Row of a publish
 #[tactic(auto, unfolding(crate::specs::Publishes::publish_row))]
 fn push_publish(text: &mut String, publish: &Publish) -> Result<(), AllocError>
@@ -93,7 +107,7 @@ fn push_publish(text: &mut String, publish: &Publish) -> Result<(), AllocError>
     push_edition(text, publish.edition)?;
     push_number_cell(text, publish.time)?;
     push_number_cell(text, publish.edits)?;
-    text.push_str("</tr>\n")
+    text.push_str(publish_end(publish.adopted))
 }
 
 fn push_publish_rows(text: &mut String, publishes: &[Publish]) -> Result<(), AllocError>

@@ -1,10 +1,10 @@
 //! The sections of the page.
 
 ghost use Rattle.std.specs.Prelude.{◌≡◌, ◌++◌, OnOk, string_bytes};
-ghost use Rattle.operator_pages.specs.Sections.{app_heading, app_section, app_sections, app_tables, call_row, call_rows, calls_section, cohort_table, mirror_section, release_summary, release_table, seen_releases};
+ghost use Rattle.operator_pages.specs.Sections.{app_heading, app_section, app_sections, app_tables, call_row, call_rows, calls_section, cohort_table, lost_note, mirror_section, other_rows, published_rows, reach_note, release_summary, release_table, seen_releases};
 
 use crate::counts::{Counts, Outcome, count_of, word_of};
-use crate::headings::{CALLS, COHORTS, MIRRORS, NO_RELEASES, RELEASES, TABLE_END};
+use crate::headings::{CALLS, COHORTS, LOST, LOST_END, MIRRORS, NO_RELEASES, RELEASES, TABLE_END};
 use crate::html::{push_name_cell, push_number_cell};
 use crate::sights::{AppSight, push_sight};
 use crate::spending::{Place, push_mirrors};
@@ -13,6 +13,25 @@ use markup::push_escaped;
 use records::{App, Cohort, Mirror, Release};
 use std::alloc::{AllocError, Global};
 use std::fmt::Write;
+
+#[tactic(auto, unfolding(crate::specs::Sections::lost_note))]
+fn push_lost(text: &mut String, since: u64) -> Result<(), AllocError>
+    ensures { OnOk result (string_bytes text.new ≡ string_bytes text.old ++ lost_note since) }
+{
+    text.push_str(LOST)?;
+    write!(text, "{since}")?;
+    text.push_str(LOST_END)
+}
+
+/// Adds a section that says since when the history is unreachable, if it is.
+pub(crate) fn push_reach(text: &mut String, lost: Option<u64>) -> Result<(), AllocError>
+    ensures { OnOk result (string_bytes text.new ≡ string_bytes text.old ++ reach_note lost) }
+{
+    match lost {
+        None => Ok(()),
+        Some(since) => push_lost(text, since),
+    }
+}
 
 /// Adds the section of the mirrors.
 #[tactic(auto, unfolding(crate::specs::Sections::mirror_section))]
@@ -129,15 +148,31 @@ fn push_call(text: &mut String, counts: &Counts, outcome: Outcome) -> Result<(),
     text.push_str("</tr>\n")
 }
 
+#[tactic(auto, unfolding(crate::specs::Sections::published_rows))]
+fn push_published_rows(text: &mut String, counts: &Counts) -> Result<(), AllocError>
+    ensures { OnOk result (string_bytes text.new ≡ string_bytes text.old ++ published_rows counts.now) }
+{
+    push_call(text, counts, Outcome::Published)?;
+    push_call(text, counts, Outcome::Followed)
+}
+
+#[tactic(auto, unfolding(crate::specs::Sections::other_rows))]
+fn push_other_rows(text: &mut String, counts: &Counts) -> Result<(), AllocError>
+    ensures { OnOk result (string_bytes text.new ≡ string_bytes text.old ++ other_rows counts.now) }
+{
+    push_call(text, counts, Outcome::Stale)?;
+    push_call(text, counts, Outcome::Rejected)?;
+    push_call(text, counts, Outcome::Malformed)?;
+    push_call(text, counts, Outcome::Unreachable)?;
+    push_call(text, counts, Outcome::Raised)
+}
+
 #[tactic(auto, unfolding(crate::specs::Sections::call_rows))]
 fn push_call_rows(text: &mut String, counts: &Counts) -> Result<(), AllocError>
     ensures { OnOk result (string_bytes text.new ≡ string_bytes text.old ++ call_rows counts.now) }
 {
-    push_call(text, counts, Outcome::Published)?;
-    push_call(text, counts, Outcome::Stale)?;
-    push_call(text, counts, Outcome::Rejected)?;
-    push_call(text, counts, Outcome::Malformed)?;
-    push_call(text, counts, Outcome::Raised)
+    push_published_rows(text, counts)?;
+    push_other_rows(text, counts)
 }
 
 /// Adds the section of the operator's calls.
