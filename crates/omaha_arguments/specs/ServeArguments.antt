@@ -212,10 +212,13 @@ is_operator_allowed options = flag_in (codes "operator-anywhere") options || is_
 abbrev pub is_shared : List Row → Bool
 is_shared options = option_map_or is_etcd_path (first_of (codes "history") options) false
 
--- there is an operator, and the system chooses no port of its address
+-- the system doesn't choose the port of an address
+abbrev pub has_known_port : List ℕ → Bool
+has_known_port address = not (ends_with nat_eq address (codes ":0"))
+
+-- there is an operator whose address can be asked
 abbrev pub is_operator_known : List Row → Bool
-is_operator_known options =
-    option_map_or (λ address. not (ends_with nat_eq address (codes ":0"))) (first_of (codes "operator") options) false
+is_operator_known options = option_map_or has_known_port (first_of (codes "operator") options) false
 
 -- rule: Address that is asked for records
 -- a server of a shared history has an operator's address that can be asked

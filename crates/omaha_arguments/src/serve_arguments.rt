@@ -4,7 +4,7 @@ ghost use Rattle.std.specs.Prelude.{◌≡◌, ◌<◌, ◌==◌, [], ◌∷◌,
 ghost use Rattle.std.specs.List.{after_first, before_first};
 ghost use Rattle.clap.specs.Words.{App, FailsBy, HasKind, first_of, found_of, rows_of};
 ghost use Rattle.omaha_arguments.specs.Options.{IsMade};
-ghost use Rattle.omaha_arguments.specs.ServeArguments.{are_three_octets, bounds_in, connections_in, counts_in, faults_of_serve, files_in, follow_in, has_leading_zero, is_local, is_loopback, history_fault_in, is_followed, is_loopback_host, is_named, is_octet, is_operator_allowed, is_operator_known, is_operator_local, is_path, is_shared, limit_in, limit_of, places_in, serve_app, serve_in, serve_with, with_limits, with_places};
+ghost use Rattle.omaha_arguments.specs.ServeArguments.{are_three_octets, bounds_in, connections_in, counts_in, faults_of_serve, files_in, follow_in, has_known_port, has_leading_zero, is_local, is_loopback, history_fault_in, is_followed, is_loopback_host, is_named, is_octet, is_operator_allowed, is_operator_known, is_operator_local, is_path, is_shared, limit_in, limit_of, places_in, serve_app, serve_in, serve_with, with_limits, with_places};
 ghost use Rattle.omaha_arguments.specs.WalkArguments.{IsAskable};
 
 use crate::command::{Command, Serve};
@@ -230,13 +230,20 @@ fn is_shared(matches: &ArgMatches<'_>) -> bool
     }
 }
 
-// Whether the operator's address is one that can be asked: the system chooses no port of it.
+// Whether the port of an address is known: the system doesn't choose it.
+fn has_known_port(address: &str) -> bool
+    ensures { result ≡ has_known_port address.now }
+{
+    !address.as_bytes().ends_with(b":0")
+}
+
+// Whether the operator's address is one that can be asked.
 fn is_operator_known(matches: &ArgMatches<'_>) -> bool
     ensures { result ≡ is_operator_known (rows_of (found_of matches.now)) }
 {
     match matches.get_str("operator") {
         None => false,
-        Some(address) => !address.as_bytes().ends_with(b":0"),
+        Some(address) => has_known_port(address),
     }
 }
 
