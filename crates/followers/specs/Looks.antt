@@ -19,7 +19,7 @@ found_of reply = if reply.status == 200 then found_in reply.body.items else foun
 abbrev pub IsReplied : (List ℕ → Reply → Type 0) → Found → Type 0
 IsReplied gave came = (reply : Reply) × gave (codes "follow") reply × (found_of reply ≡ came)
 
--- ruleFound at a shared history
+-- rule: Look at a shared history
 -- by the replies of the listener: a look comes to `Adopted`, or to `UpToDate`, only if a reply to `follow` says so
 abbrev pub IsLook : (List ℕ → Reply → Type 0) → Found → Type 0
 IsLook gave found.Adopted = IsReplied gave found.Adopted

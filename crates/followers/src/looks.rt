@@ -56,7 +56,7 @@ fn look_once<R: Connector>(rt: &R, alloc: Global, address: &str) -> Found
     }
 }
 
-// ruleFound at a shared history
+// rule: Look at a shared history
 /// Asks the operator's listener at an address for one record after the other, until there is none, or a post fails.
 ///
 /// The address is `HOST:PORT`, or `unix:PATH` for a socket. It returns what the last post came to; `Adopted` only after
