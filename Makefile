@@ -47,6 +47,7 @@ test:
 	tests/claims.py
 	tests/crates.py
 	tests/corpus.py
+	tests/edits.py
 	docs/pictures/draw.py --check
 	rt ci
 	tests/rows.py
