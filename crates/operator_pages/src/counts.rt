@@ -134,7 +134,7 @@ pub(crate) fn count_of(counts: &Counts, outcome: Outcome) -> u64
         Outcome::Stale => counts.stale,
         Outcome::Rejected => counts.rejected,
         Outcome::Malformed => counts.malformed,
-        Outcome::Unreachable => counts.malformed,
+        Outcome::Unreachable => counts.unreachable,
         Outcome::Raised => counts.raised,
     }
 }
