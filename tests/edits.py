@@ -1,8 +1,8 @@
 #!/usr/bin/env python3
 """Tests that each wrong body is still one: tests/edits.py
 
-An edit of `mutants/` or of a crate's `must-fail/` replaces lines of a file by others. Each text that it replaces has to be
-in its file, once, and the new one has to differ; else the edit says nothing, though nobody tries it. Prints those that
+An edit of `mutants/` or of a crate's `must-fail/` replaces lines of a file by others. Each of those lines has to be
+in its file, once, and the new ones have to differ; else the edit says nothing, though nobody tries it. Prints those that
 don't apply, and exits with 1 then. It proves nothing: the gate tries those in `must-fail/`, `tests/mutants.py` the others.
 """
 
@@ -13,9 +13,9 @@ import sys
 TOP = pathlib.Path(__file__).resolve().parent.parent
 
 
-def parts_of(text):
-    """The parts of an edit in order: a file's name, the text that is replaced in it, and the new one."""
-    found = re.findall(r"(?ms)^(file|old|new): ?(.*?)(?=^(?:file|old|new):|\Z)", text)
+def parts_of(edit):
+    """The parts of an edit in order: a file's name, the lines that are replaced in it, and the new ones."""
+    found = re.findall(r"(?ms)^(file|old|new): ?(.*?)(?=^(?:file|old|new):|\Z)", edit)
     name, old = None, None
     for key, value in found:
         if key == "file":
