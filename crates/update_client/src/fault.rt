@@ -1,3 +1,6 @@
+ghost use Rattle.std.specs.Prelude.{◌≡◌};
+ghost use Rattle.update_client.specs.Faults.{fault_string};
+
 use std::error::Error;
 use std::fmt;
 use values::ReadError;
@@ -23,6 +26,24 @@ pub enum Fault {
     Busy,
 }
 
+impl Fault {
+    // The code and the name.
+    fn code(&self) -> &'static str
+        ensures { result.now ≡ fault_string self.now }
+    {
+        match self {
+            Fault::Link => "U1 Link",
+            Fault::Reply => "U2 Reply",
+            Fault::BadLength => "U3 BadLength",
+            Fault::BadHash => "U4 BadHash",
+            Fault::Install => "U5 Install",
+            Fault::NoProgress => "U6 NoProgress",
+            Fault::TooManySteps => "U7 TooManySteps",
+            Fault::Busy => "U8 Busy",
+        }
+    }
+}
+
 // rule: Printed fault of a client
 /// Writes the fault's code and name.
 impl fmt::Display for Fault {
@@ -32,16 +53,7 @@ impl fmt::Display for Fault {
     ghost output = { λ fault. Some (fault_string fault) };
 
     fn fmt<W: fmt::Write>(&self, f: &mut fmt::Formatter<W>) -> fmt::Result {
-        match self {
-            Fault::Link => f.write_str("U1 Link"),
-            Fault::Reply => f.write_str("U2 Reply"),
-            Fault::BadLength => f.write_str("U3 BadLength"),
-            Fault::BadHash => f.write_str("U4 BadHash"),
-            Fault::Install => f.write_str("U5 Install"),
-            Fault::NoProgress => f.write_str("U6 NoProgress"),
-            Fault::TooManySteps => f.write_str("U7 TooManySteps"),
-            Fault::Busy => f.write_str("U8 Busy"),
-        }
+        f.write_str(self.code())
     }
 }
 

@@ -1,10 +1,11 @@
 ghost use Rattle.std.specs.Prelude.{◌≡◌, ◌+◌, ◌++◌, [], OnOk, is_ok, if◌then◌else◌};
 ghost use Rattle.update_client.specs.Installing.{committed, uncommitted};
 
+use std::alloc::AllocError;
 use values::{Failed, Text};
 
 /// One accepted offer.
-#[derive(Clone, Drop)]
+#[derive(Drop)]
 pub struct Step {
     /// Whether the file is a differential.
     pub diff: bool,
@@ -14,6 +15,23 @@ pub struct Step {
     pub fp: Text,
     /// The length of the file in bytes.
     pub bytes: u64,
+}
+
+impl Clone for Step {
+    ghost use Rattle.std.specs.Prelude.{◌≡◌};
+
+    ghost is_clone = { λ step copy. copy ≡ step };
+
+    fn clone(&self) -> Result<Step, AllocError> {
+        let version = self.version.clone()?;
+        let fp = self.fp.clone()?;
+        Ok(Step {
+            diff: self.diff,
+            version,
+            fp,
+            bytes: self.bytes,
+        })
+    }
 }
 
 /// Keeps the bytes of a download, and installs them.
