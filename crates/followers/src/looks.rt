@@ -6,8 +6,9 @@ ghost use Rattle.followers.specs.Looks.{IsLook, found_of};
 use std::alloc::Global;
 use update_client::{Connector, Limits, Reply};
 
-// How many seconds a post may take. A desk that asks several servers of a history in turn needs some.
-const SECONDS: u64 = 60;
+// How many seconds a post may take. A desk that asks several servers of a history in turn needs some; one that needs more
+// adopts the record all the same.
+const SECONDS: u64 = 10;
 
 // How many bytes a reply may have, which is a line.
 const MAX_LINE: u64 = 65536;

@@ -24,7 +24,7 @@ const SERVE: &str = "Serves a profile's catalogue and its packages over HTTP.";
 
 const PROFILE: &str = "The catalogue and its mirrors: a TOML file of at most 256 MiB";
 
-const HISTORY: &str = "Where to keep what is published: a file, or etcd://.. [default: none]";
+const HISTORY: &str = "Where to keep what is published: a file, etcd://.. [default: none]";
 
 const HISTORY_LIMIT: &str = "How many bytes the history may have [default: 67108864]";
 

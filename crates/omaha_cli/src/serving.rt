@@ -146,6 +146,36 @@ fn followed_at(asked: &Serve) -> Option<&str>
     }
 }
 
+// Serves to the end, and then closes the addresses: who waits for a reply at one of them waits no longer.
+fn serve_to_end<
+    P: Port + Send + Drop,
+    S: System<P> + Sync,
+    R: Clock + AllocGlobal + Threads + Sync + Wait,
+    K: Records + Drop,
+    W: WriteWhole,
+    F: WriteWhole + Send,
+>(
+    rt: &R,
+    system: &S,
+    kept: KeptService<K>,
+    place: &Place,
+    asked: &Serve,
+    writer: &mut W,
+    errors: &mut F,
+) -> Result<ServedPorts<P>, ServerError>
+    ensures serves { Serves (S.edges system.now) place.now kept.service
+        (begun kept.service.edition (K.first kept.records) (K.kept kept.records)).store (W.output writer.old) (W.output writer.new)
+        (passages_in P.terms P.slots P.accepted result) }
+    ensures logged { IsLogged (S.edges system.now) place.now.log result }
+    ensures stocked { IsStockedFor (S.edges system.now) place.now kept.service.edition
+        (W.output writer.old) (W.output writer.new) result }
+    ensures silent { IsSilent place.now → errors.new ≡ errors.old }
+{
+    let served = serve(rt, system, kept, place, &Free, writer, errors);
+    close_addresses(system, asked, served.is_ok());
+    served
+}
+
 // Serves, and meanwhile asks the server's own operator's address for the records of other servers, in another thread.
 fn serve_followed<
     P: Port + Send + Drop,
@@ -159,7 +189,7 @@ fn serve_followed<
     system: &S,
     kept: KeptService<K>,
     place: &Place,
-    follower: &Follower<'_>,
+    asked: &Serve,
     writer: &mut W,
     errors: &mut F,
 ) -> Result<ServedPorts<P>, ServerError>
@@ -171,10 +201,16 @@ fn serve_followed<
         (W.output writer.old) (W.output writer.new) result }
     ensures silent { IsSilent place.now → errors.new ≡ errors.old }
 {
+    let has_ended = AtomicBool::new(false);
+    let follower = Follower {
+        operator: followed_at(asked).unwrap_or(""),
+        pause: asked.follow,
+        has_ended: &has_ended,
+    };
     let mut kept = Some(kept);
     let ((), served) = join_mut(
         rt,
-        &mut || follow(rt, rt.alloc(), follower),
+        &mut || follow(rt, rt.alloc(), &follower),
         &mut || -> Result<ServedPorts<P>, ServerError>
             ensures serves { IfSome kept.entry (λ served. Serves (S.edges system.now) place.now served.service
                 (begun served.service.edition (K.first served.records) (K.kept served.records)).store
@@ -186,10 +222,10 @@ fn serve_followed<
             ensures silent { IsSilent place.now → errors.exit.now ≡ errors.entry.now }
         {
             let served = match kept.take() {
-                Some(kept) => serve(rt, system, kept, place, &Free, writer, errors),
+                Some(kept) => serve_to_end(rt, system, kept, place, asked, writer, errors),
                 None => Err(ServerError::Memory),
             };
-            follower.has_ended.store(true, Ordering::SeqCst);
+            has_ended.store(true, Ordering::SeqCst);
             served
         },
     );
@@ -221,16 +257,10 @@ fn serve_kept<
         (W.output writer.old) (W.output writer.new) result }
     ensures silent { IsSilent place.now → errors.new ≡ errors.old }
 {
-    let Some(operator) = followed_at(asked) else {
-        return serve(rt, system, kept, place, &Free, writer, errors);
-    };
-    let has_ended = AtomicBool::new(false);
-    let follower = Follower {
-        operator,
-        pause: asked.follow,
-        has_ended: &has_ended,
-    };
-    serve_followed(rt, system, kept, place, &follower, writer, errors)
+    match followed_at(asked) {
+        None => serve_to_end(rt, system, kept, place, asked, writer, errors),
+        Some(_) => serve_followed(rt, system, kept, place, asked, writer, errors),
+    }
 }
 
 // rule: Service over HTTP
@@ -273,6 +303,5 @@ pub(crate) fn serve_profile<
         return Err(Failure::Memory);
     };
     let ended = serve_kept(rt, system, kept, &place, asked, writer, errors);
-    close_addresses(system, asked, ended.is_ok());
     end_of(ended, asked)
 }
