@@ -84,15 +84,19 @@ pub record IsPlaceOf (serve : Serve) (verbose : Bool) (place : Place) : Type 0 w
   pub named : place.named ≡ served_name verbose serve.profile serve.history
   pub version : place.version ≡ codes "0.2.0"
 
--- what a server began with was served at that place to its end, or to an error; what is kept begins with its records
-pub record IsHostedAt (edges : Edges) (verbose : Bool) (begins : Beginning) (serve : Serve) (old new : Known) (result : Result (Unit {0}) Failure) : Type 0 where
-  pub place : Place
-  pub placed : IsPlaceOf serve verbose place
+-- what a server began with was served at a place to its end, or to an error; what is kept begins with its records
+pub record IsHostedBy (edges : Edges) (place : Place) (begins : Beginning) (serve : Serve) (old new : Known) (result : Result (Unit {0}) Failure) : Type 0 where
   pub ended : Result Passages ServerError
   pub serves : Serves edges place begins.service (store begins.first begins.records None) old new ended
   pub logged : IsLogged edges place.log ended
   pub stocked : IsStockedFor edges place begins.service.edition old new ended
   pub ends : EndsAs ended serve result
+
+-- so at the place that the arguments name
+pub record IsHostedAt (edges : Edges) (verbose : Bool) (begins : Beginning) (serve : Serve) (old new : Known) (result : Result (Unit {0}) Failure) : Type 0 where
+  pub place : Place
+  pub placed : IsPlaceOf serve verbose place
+  pub hosted : IsHostedBy edges place begins serve old new result
 
 -- the same, or memory ran out before
 abbrev pub IsHosted : Edges → Bool → Beginning → Serve → Known → Known → Result (Unit {0}) Failure → Type 0

@@ -1,10 +1,8 @@
 // The command `serve`.
 
 ghost use Rattle.std.specs.Prelude.{◌≡◌, IfOk, IfSome, option_map};
-ghost use Rattle.omaha_cli.specs.Serving.{EndsAs, IsPlaceOf, IsQuiet, IsUnbound, IsUnopened, ServesOn, followed_at, served_name};
-ghost use Rattle.omaha_server.specs.Checks.{IsStockedFor};
-ghost use Rattle.omaha_server.specs.Passages.{passages_in};
-ghost use Rattle.omaha_server.specs.Serving.{IsLogged, IsSilent, Serves, begun};
+ghost use Rattle.omaha_cli.specs.Serving.{EndsAs, IsHostedBy, IsPlaceOf, IsQuiet, IsUnbound, IsUnopened, ServesOn, followed_at, served_name};
+ghost use Rattle.omaha_server.specs.Serving.{IsSilent};
 ghost use Rattle.streams.specs.Streams.{Known};
 
 use etcd_paths::is_etcd_path;
@@ -14,7 +12,7 @@ use kept_records::{Records, Stores};
 use omaha_arguments::{Serve, VERSION};
 use omaha_commands::Failure;
 use omaha_histories::open_beginning;
-use omaha_server::{Place, ServedPorts, ServerError, serve};
+use omaha_server::{Place, ServerError, serve};
 use services::KeptService;
 use std::alloc::{AllocError, Global};
 use std::sync::Wait;
@@ -146,8 +144,8 @@ fn followed_at(asked: &Serve) -> Option<&str>
     }
 }
 
-// Serves to the end, and then closes the addresses: who waits for a reply at one of them waits no longer.
-fn serve_to_end<
+// Serves to the end, and lets the ports and the addresses go: who waits there for a reply waits no longer.
+fn host<
     P: Port + Send + Drop,
     S: System<P> + Sync,
     R: Clock + AllocGlobal + Threads + Sync + Wait,
@@ -162,18 +160,15 @@ fn serve_to_end<
     asked: &Serve,
     writer: &mut W,
     errors: &mut F,
-) -> Result<ServedPorts<P>, ServerError>
-    ensures serves { Serves (S.edges system.now) place.now kept.service
-        (begun kept.service.edition (K.first kept.records) (K.kept kept.records)).store (W.output writer.old) (W.output writer.new)
-        (passages_in P.terms P.slots P.accepted result) }
-    ensures logged { IsLogged (S.edges system.now) place.now.log result }
-    ensures stocked { IsStockedFor (S.edges system.now) place.now kept.service.edition
+) -> Result<(), Failure>
+    ensures hosted { IsHostedBy (S.edges system.now) place.now
+        (record { service = kept.service; first = K.first kept.records; records = K.kept kept.records }) asked.now
         (W.output writer.old) (W.output writer.new) result }
     ensures silent { IsSilent place.now → errors.new ≡ errors.old }
 {
-    let served = serve(rt, system, kept, place, &Free, writer, errors);
-    close_addresses(system, asked, served.is_ok());
-    served
+    let ended = serve(rt, system, kept, place, &Free, writer, errors);
+    close_addresses(system, asked, ended.is_ok());
+    end_of(ended, asked)
 }
 
 // Serves, and meanwhile asks the server's own operator's address for the records of other servers, in another thread.
@@ -192,12 +187,9 @@ fn serve_followed<
     asked: &Serve,
     writer: &mut W,
     errors: &mut F,
-) -> Result<ServedPorts<P>, ServerError>
-    ensures serves { Serves (S.edges system.now) place.now kept.service
-        (begun kept.service.edition (K.first kept.records) (K.kept kept.records)).store (W.output writer.old) (W.output writer.new)
-        (passages_in P.terms P.slots P.accepted result) }
-    ensures logged { IsLogged (S.edges system.now) place.now.log result }
-    ensures stocked { IsStockedFor (S.edges system.now) place.now kept.service.edition
+) -> Result<(), Failure>
+    ensures hosted { IsHostedBy (S.edges system.now) place.now
+        (record { service = kept.service; first = K.first kept.records; records = K.kept kept.records }) asked.now
         (W.output writer.old) (W.output writer.new) result }
     ensures silent { IsSilent place.now → errors.new ≡ errors.old }
 {
@@ -208,28 +200,24 @@ fn serve_followed<
         has_ended: &has_ended,
     };
     let mut kept = Some(kept);
-    let ((), served) = join_mut(
+    let ((), ended) = join_mut(
         rt,
         &mut || follow(rt, rt.alloc(), &follower),
-        &mut || -> Result<ServedPorts<P>, ServerError>
-            ensures serves { IfSome kept.entry (λ served. Serves (S.edges system.now) place.now served.service
-                (begun served.service.edition (K.first served.records) (K.kept served.records)).store
-                (W.output writer.entry.now) (W.output writer.exit.now)
-                (passages_in P.terms P.slots P.accepted result)) }
-            ensures logged { IfSome kept.entry (λ served. IsLogged (S.edges system.now) place.now.log result) }
-            ensures stocked { IfSome kept.entry (λ served. IsStockedFor (S.edges system.now) place.now served.service.edition
+        &mut || -> Result<(), Failure>
+            ensures hosted { IfSome kept.entry (λ served. IsHostedBy (S.edges system.now) place.now
+                (record { service = served.service; first = K.first served.records; records = K.kept served.records }) asked.now
                 (W.output writer.entry.now) (W.output writer.exit.now) result) }
             ensures silent { IsSilent place.now → errors.exit.now ≡ errors.entry.now }
         {
-            let served = match kept.take() {
-                Some(kept) => serve_to_end(rt, system, kept, place, asked, writer, errors),
-                None => Err(ServerError::Memory),
+            let ended = match kept.take() {
+                Some(kept) => host(rt, system, kept, place, asked, writer, errors),
+                None => Err(Failure::Memory),
             };
             has_ended.store(true, Ordering::SeqCst);
-            served
+            ended
         },
     );
-    served
+    ended
 }
 
 // Serves; a server that shares its history is kept up to date meanwhile.
@@ -248,17 +236,14 @@ fn serve_kept<
     asked: &Serve,
     writer: &mut W,
     errors: &mut F,
-) -> Result<ServedPorts<P>, ServerError>
-    ensures serves { Serves (S.edges system.now) place.now kept.service
-        (begun kept.service.edition (K.first kept.records) (K.kept kept.records)).store (W.output writer.old) (W.output writer.new)
-        (passages_in P.terms P.slots P.accepted result) }
-    ensures logged { IsLogged (S.edges system.now) place.now.log result }
-    ensures stocked { IsStockedFor (S.edges system.now) place.now kept.service.edition
+) -> Result<(), Failure>
+    ensures hosted { IsHostedBy (S.edges system.now) place.now
+        (record { service = kept.service; first = K.first kept.records; records = K.kept kept.records }) asked.now
         (W.output writer.old) (W.output writer.new) result }
     ensures silent { IsSilent place.now → errors.new ≡ errors.old }
 {
     match followed_at(asked) {
-        None => serve_to_end(rt, system, kept, place, asked, writer, errors),
+        None => host(rt, system, kept, place, asked, writer, errors),
         Some(_) => serve_followed(rt, system, kept, place, asked, writer, errors),
     }
 }
@@ -302,6 +287,5 @@ pub(crate) fn serve_profile<
     let Ok(place) = place_of(rt.alloc(), asked, verbose) else {
         return Err(Failure::Memory);
     };
-    let ended = serve_kept(rt, system, kept, &place, asked, writer, errors);
-    end_of(ended, asked)
+    serve_kept(rt, system, kept, &place, asked, writer, errors)
 }
