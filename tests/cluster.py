@@ -18,7 +18,7 @@ server is killed or paused, and half a second later the leader of etcd too; then
 - each script that got `edition N` is edition N there, and no script is there twice;
 - all servers have the same edition and the same catalogue, and each of their histories is the same.
 
-A script whose reply was lost, or said `in doubt`, may be there or not.
+A script without a reply, or whose reply was `history in doubt`, may be there or not.
 """
 
 import argparse
@@ -173,7 +173,7 @@ class Operator(threading.Thread):
     def __init__(self, name, ports, is_done):
         super().__init__()
         self.called, self.ports, self.is_done, self.random = name, ports, is_done, random.Random(name)
-        self.accepted, self.doubtful, self.stale, self.refused = {}, set(), 0, 0
+        self.accepted, self.lost, self.doubtful, self.stale, self.unreachable = {}, set(), set(), 0, 0
 
     def run(self):
         base, number = 2, 0
@@ -184,7 +184,7 @@ class Operator(threading.Thread):
             try:
                 status, body = exchange(port, "/operate", script_of(name, base, self.random.choice([0, 100, 1000])))
             except (OSError, http.client.HTTPException):
-                self.doubtful.add(name)
+                self.lost.add(name)
                 continue
             words = body.decode().split()
             if status == 200:
@@ -194,7 +194,7 @@ class Operator(threading.Thread):
                 base = int(words[1])
                 self.stale += 1
             elif words == ["history", "unreachable"]:
-                self.refused += 1
+                self.unreachable += 1
             else:
                 self.doubtful.add(name)
             time.sleep(self.random.uniform(0, 0.1))
@@ -229,7 +229,7 @@ def words_of(start):
     found = []
     for child in subprocess.run(["pgrep", "-P", str(start.pid)], stdout=subprocess.PIPE, text=True).stdout.split():
         words = pathlib.Path(f"/proc/{child}/cmdline").read_text().split("\0")[:-1]
-        if os.path.basename(words[0]) in ("etcd", "omaha"):
+        if os.path.basename(words[0]) == "etcd" or "serve" in words:
             found.append(words)
     return found
 
@@ -364,7 +364,7 @@ def judge(ports, how, program, operators, seen, dumps):
     for it in operators:
         for name, edition in it.accepted.items():
             expect(f"{name}, which got edition {edition}", (name, edition) in there, True)
-        unknown = {name for name in names if name.startswith(f"{it.called} ")} - set(it.accepted) - it.doubtful
+        unknown = {name for name in names if name.startswith(f"{it.called} ")} - set(it.accepted) - it.lost - it.doubtful
         expect(f"scripts of {it.called} that are there and weren't accepted", unknown, set())
     exports = {history_of(program, ports, how, "export", "--edition", str(number)) for number in range(1, last + 1)}
     kept = {dump for dump in dumps if dump is not None}
@@ -373,8 +373,10 @@ def judge(ports, how, program, operators, seen, dumps):
     expect("the last dumps", lasts, {history_of(program, ports, how, "export")})
     accepted = sum(len(it.accepted) for it in operators)
     print(f"{len(seen)} update checks, {len(kept)} different dumps of {len(dumps)}")
-    print(f"{accepted} scripts accepted, {sum(it.stale for it in operators)} stale, {sum(it.refused for it in operators)} refused, "
-          f"{sum(len(it.doubtful) for it in operators)} in doubt; edition {last}")
+    lost, doubtful = sum(len(it.lost) for it in operators), sum(len(it.doubtful) for it in operators)
+    stale, unreachable = sum(it.stale for it in operators), sum(it.unreachable for it in operators)
+    print(f"scripts: {accepted} accepted, {stale} stale, {unreachable} unreachable, {doubtful} in doubt, {lost} without a reply")
+    print(f"edition {last} at all servers")
 
 
 def main():
