@@ -5,7 +5,7 @@ use app_sights::sights_of;
 use catalogue::{Catalogue, Mirror};
 use fixtures::{STAGED, catalogue_of_profile, catalogue_of_script, keep, many, mirrors_of_profile};
 use http_desks::{Page, PageKind};
-use operator_pages::{AppSight, Counts, Outcome, Publish, Publishes, Shown, page_at};
+use operator_pages::{AppSight, Counts, Outcome, Publish, Publishes, Reach, Shown, page_at};
 use par_tables::tables;
 use std::alloc::Global;
 
@@ -30,7 +30,17 @@ fn counts() -> Counts {
         .counted(Outcome::Raised)
 }
 
-// Publishes of the editions from 2 to 12.
+// The same, and the history is unreachable since a call that no server of it replied to.
+fn lost() -> Counts {
+    counts()
+        .counted(Outcome::Followed)
+        .counted(Outcome::Unreachable)
+        .heard(Reach::Unreachable, 1_764_340_100)
+        .heard(Reach::Unasked, 1_764_340_150)
+        .heard(Reach::Unreachable, 1_764_340_200)
+}
+
+// Publishes of the editions from 2 to 12, of which another server kept the last.
 fn publishes() -> Publishes {
     let mut publishes = Publishes::new();
     for edition in 2..13u64 {
@@ -38,6 +48,7 @@ fn publishes() -> Publishes {
             edition,
             time: 1_764_340_000 + edition,
             edits: 3,
+            adopted: edition == 12,
         });
     }
     publishes
@@ -49,10 +60,11 @@ fn sights(alloc: Global, catalogue: &Catalogue) -> Option<&'static Vec<AppSight>
     keep(alloc, sights_of(alloc, catalogue, tables.as_slice()).ok()?)
 }
 
-fn page_of(
+fn page_with(
     alloc: Global,
     catalogue: &Catalogue,
     mirrors: &[Mirror],
+    counts: Counts,
     path: &str,
 ) -> Option<&'static Page> {
     let totals = totals_of_two(alloc, catalogue.apps())?;
@@ -64,7 +76,7 @@ fn page_of(
         edition: 5,
         mirrors,
         granted: &[6],
-        counts: counts(),
+        counts,
         ending: false,
         publishes: publishes.as_slice(),
         version: "1.2",
@@ -74,11 +86,15 @@ fn page_of(
     keep(alloc, page_at(alloc, path.as_bytes(), &shown).ok()??)
 }
 
-// The page of a path, of a profile.
-fn page_at_path(alloc: Global, profile: &str, path: &str) -> Option<&'static Page> {
+// The page of a path, of a profile and after calls that came to this.
+fn page_after(alloc: Global, profile: &str, counts: Counts, path: &str) -> Option<&'static Page> {
     let catalogue = catalogue_of_profile(alloc, profile)?;
     let mirrors = keep(alloc, mirrors_of_profile(alloc, profile.as_bytes())?)?;
-    page_of(alloc, catalogue, mirrors.as_slice(), path)
+    page_with(alloc, catalogue, mirrors.as_slice(), counts, path)
+}
+
+fn page_at_path(alloc: Global, profile: &str, path: &str) -> Option<&'static Page> {
+    page_after(alloc, profile, counts(), path)
 }
 
 fn string_of(page: Option<&'static Page>) -> &'static str {
@@ -116,15 +132,20 @@ process_start_time_seconds 1764340000
 # HELP omaha_edition Number of the published edition.
 # TYPE omaha_edition gauge
 omaha_edition 5
-# HELP omaha_publishes_total Scripts that operators sent, by result.
+# HELP omaha_publishes_total Scripts that operators sent and records of other servers, by result.
 # TYPE omaha_publishes_total counter
 omaha_publishes_total{result="published"} 2
+omaha_publishes_total{result="followed"} 0
 omaha_publishes_total{result="stale"} 1
 omaha_publishes_total{result="rejected"} 0
 omaha_publishes_total{result="malformed"} 1
+omaha_publishes_total{result="unreachable"} 0
 # HELP omaha_raises_total Budgets that operators raised.
 # TYPE omaha_raises_total counter
 omaha_raises_total 1
+# HELP omaha_history_reachable Whether the history replied when it was last asked.
+# TYPE omaha_history_reachable gauge
+omaha_history_reachable 1
 # HELP omaha_mirror_budget_bytes Present budget of a mirror.
 # TYPE omaha_mirror_budget_bytes gauge
 omaha_mirror_budget_bytes{mirror="m0"} 1000000
@@ -215,6 +236,55 @@ fn prints_health_status_and_metrics(rt: HostRuntime) {
     assert!(rt; body_at(alloc, STAGED, "/metrics/") == "no page");
 }
 
+const LOST_STATUS: &str = "edition 5
+started 1764340000
+address 127.0.0.1:8080
+replies 4
+history unreachable since 1764340100
+m0 6 of 1000000
+";
+
+const LOST_METRICS: &str = r#"omaha_publishes_total{result="followed"} 1
+omaha_publishes_total{result="unreachable"} 1
+omaha_history_reachable 0"#;
+
+const LOST_PARTS: &str = r#"<h2>History unreachable</h2>
+No server of the history has replied since 1764340100 (seconds since 1970).
+<th>followed</th><td class="number">1</td>
+<th>unreachable</th><td class="number">1</td>"#;
+
+fn body_after(alloc: Global, counts: Counts, path: &str) -> &'static str {
+    string_of(page_after(alloc, STAGED, counts, path))
+}
+
+// rule: Reach of a history
+// rule: Health of a server
+// rule: Status of a server
+// rule: Metrics of a server
+// rule: Counts of an operator
+#[test]
+fn says_since_when_the_history_is_unreachable(rt: HostRuntime) {
+    let alloc = rt.alloc();
+    let health = body_after(alloc, lost(), "/healthz");
+    assert!(rt; health == "edition 5\nhistory unreachable\n");
+    assert!(rt; body_after(alloc, lost(), "/status") == LOST_STATUS);
+    let metrics = body_after(alloc, lost(), "/metrics");
+    assert!(rt; first_lacking(metrics, LOST_METRICS) == "", "{metrics}");
+    let page = body_after(alloc, lost(), "/");
+    assert!(rt; first_lacking(page, LOST_PARTS) == "", "{page}");
+}
+
+// rule: Reach of a history
+#[test]
+fn says_nothing_once_the_history_replies(rt: HostRuntime) {
+    let alloc = rt.alloc();
+    let again = lost().heard(Reach::Replies, 1_764_340_300);
+    assert!(rt; body_after(alloc, again, "/healthz") == "edition 5\n");
+    assert!(rt; body_after(alloc, again, "/metrics").contains("\nomaha_history_reachable 1\n"));
+    assert!(rt; !body_after(alloc, again, "/status").contains("unreachable"));
+    assert!(rt; !body_after(alloc, again, "/").contains("History unreachable"));
+}
+
 const LABELS: &str =
     r#"omaha_update_checks_total{app="<b>\"&\"\\n</b>",cohort="all",outcome="noupdate"} 2
 omaha_releases{app="<b>\"&\"\\n</b>"} 1
@@ -298,7 +368,7 @@ fn says_who_is_stuck_and_draws_the_releases(rt: HostRuntime) {
 // The page of a catalogue of so many releases.
 fn page_of_many(alloc: Global, count: u16) -> Option<&'static Page> {
     let catalogue = catalogue_of_script(alloc, many(alloc, count)?, "")?;
-    page_of(alloc, catalogue, &[], "/")
+    page_with(alloc, catalogue, &[], counts(), "/")
 }
 
 const NOT_DRAWN: &str = "Not drawn here: <code>omaha graph</code> draws the releases.";
@@ -345,7 +415,7 @@ fn looks_at_no_large_catalogue(rt: HostRuntime) {
 }
 
 const LAST: &str =
-    r#"<tr><th>12</th><td class="number">1764340012</td><td class="number">3</td></tr>
+    r#"<tr><th>12</th><td class="number">1764340012</td><td class="number">3</td><td><span class="tag">adopted</span></td></tr>
 <tr><th>3</th><td class="number">1764340003</td><td class="number">3</td></tr>"#;
 
 // rule: Last publishes
