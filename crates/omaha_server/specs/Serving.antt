@@ -25,7 +25,7 @@ use Rattle.omaha_server.specs.Opening.{IsOperatorsPort, client_terms, clients_li
 use Rattle.omaha_server.specs.Outcomes.{status_word, stop_word}
 use Rattle.omaha_server.specs.Passages.{HaveAcceptedAll, Passages}
 use Rattle.omaha_server.specs.Showing.{ShowsPage, ShowsStatus}
-use Rattle.omaha_server.specs.Overviews.{IsUnmoved, Overview, counts_after, overview_at, publishes_after}
+use Rattle.omaha_server.specs.Overviews.{IsUnmoved, Overview, counts_after, has_published, overview_at, publishes_after}
 use Rattle.omaha_server.specs.Stopping.{IsEnding}
 use Rattle.services.specs.Totals.{names_of, totals_string}
 use Rattle.omaha_server.specs.declared.error.ServerError.{ServerError}
@@ -98,8 +98,8 @@ IsAsked before call after = IsOperatorCall before.state call after.state × (aft
 abbrev pub OperatorSteps : Edges → Place → Overview → Call → Overview → Type 0
 OperatorSteps edges place before call after =
     ChecksCall (IsPassed edges place) place.packages_must_exist (sizes_at edges place) IsAsked before call after
-    × (after.counts ≡ counts_after call before.counts)
-    × (after.publishes ≡ publishes_after call after.state before.publishes)
+    × (after.counts ≡ counts_after call (has_published before.state after.state) before.counts)
+    × (after.publishes ≡ publishes_after call (has_published before.state after.state) after.state before.publishes)
 
 -- rule: Sessions of an operator
 -- a port of these terms was served to its end by the operator's desk, from a published history and the mirrors with

@@ -16,7 +16,9 @@ ghost use Rattle.service_desks.specs.States.{GoesOn, State, earlier_in, store};
 use crate::calls::{end_server, note_answer, note_stop};
 use crate::circumstances::Circumstances;
 use crate::setup::Setup;
-use crate::showing::{count_call, note_publish, publish_of, show_page, show_status};
+use crate::showing::{
+    count_call, has_more, note_publish, publish_of, settled_count, show_page, show_status,
+};
 use http_desks::{Answer, Declared, Desk, DeskStatus, Off, Page};
 use http_ports::Port;
 use kept_records::Records;
@@ -300,12 +302,14 @@ impl<S: System<P>, R: Threads + Wait + AllocGlobal, P: Port, B: Budgets, K: Reco
         }
         let folder = SystemFolder::<S, P>::new(self.setup.system, place.packages.as_str());
         let must = place.packages_must_exist;
+        let count = settled_count(self.press, self.due);
         match stop_if(rt.alloc(), must, &folder, body) {
             Some(stopped) => {
                 note_stop(self.setup, &stopped);
+                let published = has_more(count, self.press);
                 let publish = publish_at(self.press, self.records, moment);
-                note_publish(&mut self.publishes, body, &stopped, publish);
-                self.counts = count_call(self.counts, body, &stopped);
+                note_publish(&mut self.publishes, body, &stopped, published, publish);
+                self.counts = count_call(self.counts, body, &stopped, published, moment);
                 stopped
             }
             None => {
@@ -319,9 +323,10 @@ impl<S: System<P>, R: Threads + Wait + AllocGlobal, P: Port, B: Budgets, K: Reco
                     moment,
                 );
                 note_answer::<S, R, P>(self.setup, body, &answered);
+                let published = has_more(count, self.press);
                 let publish = publish_at(self.press, self.records, moment);
-                note_publish(&mut self.publishes, body, &answered, publish);
-                self.counts = count_call(self.counts, body, &answered);
+                note_publish(&mut self.publishes, body, &answered, published, publish);
+                self.counts = count_call(self.counts, body, &answered, published, moment);
                 answered
             }
         }

@@ -5,9 +5,9 @@ ghost use Rattle.app_sights.specs.Sights.{AreSights};
 ghost use Rattle.editions.specs.Editions.{content_of};
 ghost use Rattle.http_desks.specs.Calls.{answer_in};
 ghost use Rattle.http_desks.specs.Pages.{page_in};
-ghost use Rattle.omaha_server.specs.Outcomes.{counted_by, is_word, outcome_in, outcome_of};
+ghost use Rattle.omaha_server.specs.Outcomes.{counted_by, followed_in, is_word, outcome_in, outcome_of, reach_in};
 ghost use Rattle.omaha_server.specs.Showing.{AreGranted, IsKnown, ShowsPage, ShowsStatus, IsOverview};
-ghost use Rattle.omaha_server.specs.Overviews.{Overview, last_edits, publish_of, published_by};
+ghost use Rattle.omaha_server.specs.Overviews.{Overview, counted_at, has_more, last_edits, publish_of, published_by, settled_count, with_adopted};
 ghost use Rattle.service_desks.specs.States.{State, earlier_in};
 
 use crate::circumstances::Circumstances;
@@ -18,9 +18,9 @@ use editions::Edition;
 use http_desks::{Answer, DeskStatus, Off, Page};
 use mirror_ledger::Budgets;
 use operator_pages::{
-    AppSight, Counts, Outcome, Publish, Publishes, Shown, page_at, status_string,
+    AppSight, Counts, Outcome, Publish, Publishes, Reach, Shown, page_at, status_string,
 };
-use publisher::Press;
+use publisher::{Prepared, Press};
 use records::Mirror;
 use std::alloc::{AllocError, Global};
 use std::sync::Wait;
@@ -221,22 +221,32 @@ pub(crate) fn show_status<S, R: Wait + AllocGlobal, B: Budgets>(
     }
 }
 
-// Whether a body publishes and raises nothing.
+// Whether a body publishes, adopts and raises nothing.
 fn is_word(body: &[u8]) -> bool
     ensures { result ≡ is_word body.now }
 {
-    body == b"dump".as_slice()
-        || body == b"follow".as_slice()
-        || body == b"status".as_slice()
-        || body == b"stop".as_slice()
+    body == b"dump".as_slice() || body == b"status".as_slice() || body == b"stop".as_slice()
+}
+
+// What a look for a record of another server came to, by its line.
+fn followed_in(line: &[u8]) -> Option<Outcome>
+    ensures { result ≡ followed_in line.now }
+{
+    if line.starts_with(b"followed ") {
+        Some(Outcome::Followed)
+    } else {
+        None
+    }
 }
 
 // What a call of 200 came to.
-fn outcome_of(body: &[u8]) -> Option<Outcome>
-    ensures { result ≡ outcome_of body.now }
+fn outcome_of(body: &[u8], line: &[u8]) -> Option<Outcome>
+    ensures { result ≡ outcome_of body.now line.now }
 {
     if body.starts_with(b"raise ") {
         Some(Outcome::Raised)
+    } else if body == b"follow".as_slice() {
+        followed_in(line)
     } else if is_word(body) {
         None
     } else {
@@ -250,25 +260,78 @@ fn outcome_in(body: &[u8], answered: &Result<Answer, Off>) -> Option<Outcome>
 {
     match answered {
         Ok(answer) => match answer.status {
-            DeskStatus::Success => outcome_of(body),
+            DeskStatus::Success => outcome_of(body, answer.body.as_slice()),
             DeskStatus::BadRequest => Some(Outcome::Malformed),
             DeskStatus::Conflict => Some(Outcome::Stale),
             DeskStatus::UnprocessableContent => Some(Outcome::Rejected),
-            DeskStatus::ServiceUnavailable => None,
+            DeskStatus::ServiceUnavailable => Some(Outcome::Unreachable),
         },
         Err(_) => None,
     }
 }
 
-// rule: Counts of an operator
-/// Counts a call by its body and its reply.
-pub(crate) fn count_call(counts: Counts, body: &[u8], answered: &Result<Answer, Off>) -> Counts
-    ensures { result ≡ counted_by (outcome_in body.now (answer_in answered.now)) counts }
+// rule: Reach by a call
+// What a call found of the history, by whether it published an edition.
+fn reach_in(published: bool, body: &[u8], answered: &Result<Answer, Off>) -> Reach
+    ensures { result ≡ reach_in published body.now (answer_in answered.now) }
 {
-    match outcome_in(body, answered) {
+    match answered {
+        Ok(answer) => match answer.status {
+            DeskStatus::Success if is_word(body) => Reach::Unasked,
+            DeskStatus::Success => Reach::Replies,
+            DeskStatus::BadRequest => Reach::Unasked,
+            DeskStatus::Conflict if published => Reach::Replies,
+            DeskStatus::Conflict => Reach::Unasked,
+            DeskStatus::UnprocessableContent => Reach::Unasked,
+            DeskStatus::ServiceUnavailable => Reach::Unreachable,
+        },
+        Err(_) => Reach::Unasked,
+    }
+}
+
+// Counts a call by what it came to.
+fn counted_by(outcome: Option<Outcome>, counts: Counts) -> Counts
+    ensures { result ≡ counted_by outcome counts }
+{
+    match outcome {
         None => counts,
         Some(outcome) => counts.counted(outcome),
     }
+}
+
+// rule: Counts of an operator
+/// Counts a call at a time by its body and its reply, and notes what it found of the history, by whether it published an
+/// edition.
+pub(crate) fn count_call(
+    counts: Counts,
+    body: &[u8],
+    answered: &Result<Answer, Off>,
+    published: bool,
+    moment: u64,
+) -> Counts
+    ensures { result ≡ counted_at moment (outcome_in body.now (answer_in answered.now))
+        (reach_in published body.now (answer_in answered.now)) counts }
+{
+    let counts = counted_by(outcome_in(body, answered), counts);
+    counts.heard(reach_in(published, body, answered), moment)
+}
+
+/// How many editions are published once what is due is shown.
+pub(crate) fn settled_count(press: &Press, due: &Option<Prepared>) -> u64
+    ensures { result ≡ settled_count press.now due.now }
+{
+    let count = press.edition().number();
+    match due {
+        None => count,
+        Some(_) => count + 1,
+    }
+}
+
+/// Whether more editions than so many are published.
+pub(crate) fn has_more(count: u64, press: &Press) -> bool
+    ensures { result ≡ has_more count press.now }
+{
+    count < press.edition().number()
 }
 
 // How many edits the last batch of an edition has.
@@ -282,7 +345,7 @@ fn last_edits(edition: &Edition) -> u64
     }
 }
 
-/// The publish of the edition that is published, at a time.
+/// The publish of the edition that is published, at a time, as one of this server.
 pub(crate) fn publish_of(edition: &Edition, earlier: u64, moment: u64) -> Publish
     requires { earlier ≤ 2 ^ 53 }
     ensures { (state : State) → state.history ≡ edition.now → earlier_in state.store ≡ earlier
@@ -292,19 +355,34 @@ pub(crate) fn publish_of(edition: &Edition, earlier: u64, moment: u64) -> Publis
         edition: earlier + edition.number(),
         time: moment,
         edits: last_edits(edition),
+        adopted: false,
     }
 }
 
-/// Notes a publish, if a call came to one, by its body and its reply.
+// Notes a publish of another server, if there was one.
+fn note_adopted(publishes: &mut Publishes, published: bool, publish: Publish)
+    ensures { publishes.new ≡ with_adopted published publish publishes.old }
+{
+    if published {
+        let mut adopted = publish;
+        adopted.adopted = true;
+        publishes.push(adopted);
+    }
+}
+
+// rule: Publish of another server
+/// Notes a publish, by whether a call published an edition: that of the call's own script, or of another server's.
 pub(crate) fn note_publish(
     publishes: &mut Publishes,
     body: &[u8],
     answered: &Result<Answer, Off>,
+    published: bool,
     publish: Publish,
 )
-    ensures { publishes.new ≡ published_by (outcome_in body.now (answer_in answered.now)) publish publishes.old }
+    ensures { publishes.new ≡ published_by (outcome_in body.now (answer_in answered.now)) published publish publishes.old }
 {
-    if let Some(Outcome::Published) = outcome_in(body, answered) {
-        publishes.push(publish);
+    match outcome_in(body, answered) {
+        Some(Outcome::Published) => publishes.push(publish),
+        _ => note_adopted(publishes, published, publish),
     }
 }

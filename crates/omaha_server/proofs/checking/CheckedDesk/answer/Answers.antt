@@ -1,12 +1,12 @@
-use Rattle.std.proofs.Common.{◌≡◌, ◌≢◌, ◌∙◌, ℕ, List, Option, ap, inl, inr, refl, rules, subst, sym}
+use Rattle.std.proofs.Common.{◌≡◌, ◌≢◌, ◌∙◌, ℕ, Bool, List, Option, ap, inl, inr, refl, rules, subst, sym}
 use Rattle.http_desks.specs.Calls.{answer_in}
 use Rattle.service_desks.specs.States.{State, Store, store}
 use Rattle.operator_pages.specs.declared.counts.Outcome.{Outcome}
-use Rattle.omaha_server.specs.Outcomes.{counted_by, outcome_in, status_word, stop_word}
+use Rattle.omaha_server.specs.Outcomes.{outcome_in, reach_in, status_word, stop_word}
 use Rattle.operator_pages.specs.declared.publishes.Publish.{Publish}
-use Rattle.omaha_server.specs.Overviews.{Overview, overview, publish_of, published_by}
+use Rattle.omaha_server.specs.Overviews.{Overview, counted_at, has_more, overview, published_by, settled_count}
 use Rattle.omaha_server.specs.Showing.{IsOverview, ShowsStatus}
-use Rattle.omaha_server.proofs.CountLemmas.{status-nothing}
+use Rattle.omaha_server.proofs.CountLemmas.{counts-nothing, publishes-nothing, status-nothing}
 use Rattle.omaha_server.proofs.ShowLemmas.{is_overview, state_by, unmoved}
 use Rattle.omaha_server.proofs.checking.CheckedDesk.answer.Goals as goal
 
@@ -22,7 +22,9 @@ returns-then-eq-2-clause-steps g c =
     (c.show_status.ensures.shows before
     (subst (λ (list : List Publish). IsOverview desk.press.now mirrors list known.result before) (sym c.as_slice-publishes.ensures)
     (is_overview desk.press.now kept mirrors known.result desk.counts desk.publishes desk.ending known.ensures.earlier known.ensures.counts known.ensures.ending))) in
-    let nothing = status-nothing desk.setup.now.place.now.version c.args.body.now before (answer_in c.show_status.result) word shown in (
+    let published = has_more (settled_count desk.press.now desk.due.now) desk.press.now in
+    let answer = answer_in c.show_status.result in
+    let nothing = status-nothing published desk.setup.now.place.now.version c.args.body.now before answer word shown in (
       refl,
       refl,
       refl,
@@ -30,8 +32,9 @@ returns-then-eq-2-clause-steps g c =
       refl,
       (
         inl (inl (word, shown, unmoved desk.press.now kept _ _ desk.counts desk.publishes desk.ending c.show_status.ensures.present)),
-        ap (λ (o : Option Outcome). counted_by o desk.counts) nothing,
-        ap (λ (o : Option Outcome). published_by o (publish_of (state_by desk.press.now kept (g.B.Budgets.present c.show_status.new.budgets)) c.args.moment) desk.publishes) nothing,
+        counts-nothing published c.args.body.now c.args.moment answer desk.counts nothing,
+        publishes-nothing desk.press.now desk.due.now c.args.body.now c.args.moment answer
+            (state_by desk.press.now kept (g.B.Budgets.present c.show_status.new.budgets)) desk.publishes nothing.0,
       ),
     )
 
@@ -45,8 +48,11 @@ returns-in-None-clause-steps g c =
     let kept : Store = store (g.K.Records.first asked.new.records) (g.K.Records.kept asked.new.records) asked.new.due in
     let after : State = state_by asked.new.press kept (g.B.Budgets.present asked.new.budgets) in
     let outcome : Option Outcome = outcome_in c.args.body.now (answer_in asked.result) in
-    let noted = ap (λ (publish : Publish). published_by outcome publish desk.publishes)
-    (c.publish_at-publish-in-None.ensures after refl refl) in (
+    let grown = c.has_more-published-in-None.ensures ∙ ap (λ (count : ℕ). has_more count asked.new.press) c.settled_count-count.ensures in
+    let more = has_more (settled_count desk.press.now desk.due.now) asked.new.press in
+    let found = ap (λ (published : Bool). counted_at c.args.moment outcome (reach_in published c.args.body.now (answer_in asked.result)) desk.counts) grown in
+    let noted = ap (λ (published : Bool). published_by outcome published c.publish_at-publish-in-None.result desk.publishes) grown
+    ∙ ap (λ (publish : Publish). published_by outcome more publish desk.publishes) (c.publish_at-publish-in-None.ensures after refl refl) in (
       refl,
       refl,
       refl,
@@ -54,7 +60,7 @@ returns-in-None-clause-steps g c =
       refl,
       (
         inr ((differs, unlike, looked), (asked.ensures.called, refl)),
-        c.count_call-self-in-None.ensures,
+        c.count_call-self-in-None.ensures ∙ found,
         c.note_publish-in-None.ensures ∙ noted,
       ),
     )
