@@ -2,14 +2,16 @@
 use Rattle.std.proofs.Common.{◌≡◌, ℕ, ◌+◌, List, [], ◌∷◌, ◌++◌, length, Option, Some, None, Result, Ok, Err, refl, sym, ap, subst, ◌∙◌, inl, inr, append_assoc, length-append}
 use Rattle.std.proofs.lemmas.List.{append-nil}
 use Rattle.kept_records.specs.Keeping.{Learns}
+use Rattle.kept_records.specs.declared.fault.Cause.TheVariants.{Memory}
 use Rattle.kept_records.specs.declared.fault.ReadFault.{ReadFault}
+use Rattle.kept_records.specs.declared.fault.ReadFault.TheVariants as read
 use Rattle.kept_records.specs.declared.record.Record.{Record}
 use Rattle.etcd_records.specs.declared.exchange.Exchange.{Exchange}
 use Rattle.etcd_records.specs.Appending.{NextBy, ReadsBy, ReadsFound}
 use Rattle.etcd_records.specs.Asking.{Heard, replied, unreplied, no_memory, IsHeard}
 use Rattle.etcd_records.specs.Handles.{Handle, IsSameBut}
 use Rattle.etcd_records.specs.Keys.{encoded_key}
-use Rattle.etcd_records.specs.Openings.{AreAll, FindsNone, GoesOn}
+use Rattle.etcd_records.specs.Openings.{AreAll, FindsNone, GoesOn, OpenFails, open_fault_of}
 use Rattle.etcd_records.specs.Replies.{found_in}
 use Rattle.etcd_records.specs.Requests.{range_path, range_request}
 
@@ -99,3 +101,19 @@ none_after exchanges mid new None is same learns by =
     AreAll-at mid.attempts new.attempts (exchanges new.gateway) mid.prefix new.prefix mid.kept new.kept same.attempts same.prefix learns
     (all_read mid.attempts mid.prefix mid.kept (exchanges mid.gateway) (exchanges new.gateway) by.0 by.1 by.2)
 none_after exchanges mid new (Some next) is same learns by = cc
+
+-- an open fails as a read does that keeps to what it was made with
+pub fails_by : {G : Type 0} (old now : Handle G) (why : ReadFault) (kept : List Record) (done : List Exchange) → IsSameBut old now
+    → NextBy now.attempts now.prefix kept done (Err why) → OpenFails old.attempts old.prefix (open_fault_of why)
+fails_by old now why kept done same by = (
+  why,
+  refl,
+  kept,
+  done,
+  subst (λ (n : ℕ). NextBy n old.prefix kept done (Err why)) same.attempts
+      (subst (λ (p : List ℕ). NextBy now.attempts p kept done (Err why)) same.prefix by),
+)
+
+-- an open that runs out of memory
+pub fails_full : (most : ℕ) (prefix : List ℕ) → OpenFails most prefix (open_fault_of (read.Failed Memory))
+fails_full most prefix = (read.Failed Memory, refl, [], [], inr (inl (refl, refl)))

@@ -1,8 +1,13 @@
 -- Which records an open of a history in etcd finds; this project's profile.
-use Rattle.std.specs.Prelude.{◌≡◌, ◌⊎◌, ◌+◌, ℕ, Bool, List, ◌++◌, length, None}
+use Rattle.std.specs.Prelude.{◌≡◌, ◌⊎◌, ◌+◌, ℕ, Bool, List, ◌++◌, length, Err, None}
 use Rattle.serde_json.specs.Data.{Data}
+use Rattle.kept_records.specs.declared.fault.OpenFault.{OpenFault}
+use Rattle.kept_records.specs.declared.fault.OpenFault.TheVariants as fault
+use Rattle.kept_records.specs.declared.fault.ReadFault.{ReadFault}
+use Rattle.kept_records.specs.declared.fault.ReadFault.TheVariants as read
 use Rattle.kept_records.specs.declared.record.Record.{Record}
 use Rattle.etcd_records.specs.declared.exchange.Exchange.{Exchange}
+use Rattle.etcd_records.specs.Appending.{NextBy}
 use Rattle.etcd_records.specs.Asking.{IsReplied}
 use Rattle.etcd_records.specs.Keys.{encoded_key}
 use Rattle.etcd_records.specs.Replies.{found_in}
@@ -24,3 +29,12 @@ AreAll most exchanges prefix kept =
 -- what came later is added after what came before
 abbrev pub GoesOn : List Exchange → List Exchange → Type 0
 GoesOn before later = (done : List Exchange) × (later ≡ before ++ done)
+
+-- what an open reports if a read fails so
+abbrev pub open_fault_of : ReadFault → OpenFault
+open_fault_of (read.Failed cause) = fault.Failed cause
+
+-- an open fails as the read of the record after some known ones does
+abbrev pub OpenFails : ℕ → List ℕ → OpenFault → Type 0
+OpenFails most prefix why = (read_fault : ReadFault) × (why ≡ open_fault_of read_fault)
+    × (kept : List Record) × (done : List Exchange) × NextBy most prefix kept done (Err read_fault)

@@ -45,16 +45,6 @@ impl EtcdStore {
         }
     }
 
-    /// Returns how many keys there are.
-    pub fn len(&self) -> usize {
-        self.pairs.len()
-    }
-
-    /// Returns whether there are no keys.
-    pub fn is_empty(&self) -> bool {
-        self.pairs.is_empty()
-    }
-
     fn value_at(&self, key: &str) -> Option<&str> {
         for (known, value) in &self.pairs {
             if known.as_str() == key {

@@ -1,15 +1,24 @@
 // Records of a history in etcd that are read whole.
 
-ghost use Rattle.std.specs.Prelude.{◌≡◌, [], IfOk};
+ghost use Rattle.std.specs.Prelude.{◌≡◌, [], IfErr, IfOk};
 ghost use Rattle.etcd_records.specs.Handles.{IsSameBut};
-ghost use Rattle.etcd_records.specs.Openings.{AreAll, GoesOn};
+ghost use Rattle.etcd_records.specs.Openings.{AreAll, GoesOn, OpenFails, open_fault_of};
 
 use crate::gateway::Gateway;
 use crate::handle::EtcdRecords;
-use kept_records::{MAX_RECORDS, OpenFault, ReadFault, Record, Records};
+use kept_records::{Cause, MAX_RECORDS, OpenFault, ReadFault, Record, Records};
 use std::alloc::Global;
 use traces::Trace;
 use values::Text;
+
+// What an open reports if a read fails so.
+fn open_fault_of(fault: ReadFault) -> OpenFault
+    ensures { result ≡ open_fault_of fault }
+{
+    match fault {
+        ReadFault::Failed(cause) => OpenFault::Failed(cause),
+    }
+}
 
 impl<G: Gateway> EtcdRecords<G> {
     // A handle that knows no record yet.
@@ -38,6 +47,7 @@ impl<G: Gateway> EtcdRecords<G> {
         ensures known { IfOk result (λ all. self.new.kept ≡ all.items) }
         ensures all { IfOk result (λ _.
             AreAll self.new.attempts (G.exchanges self.new.gateway) self.new.prefix self.new.kept) }
+        ensures err { IfErr result (OpenFails self.old.attempts self.old.prefix) }
         ensures same { IsSameBut self.old self.new }
         ensures goes_on { GoesOn (G.exchanges self.old.gateway) (G.exchanges self.new.gateway) }
     {
@@ -46,11 +56,11 @@ impl<G: Gateway> EtcdRecords<G> {
             match self.next(alloc) {
                 Ok(Some(next)) => {
                     if all.push(next).is_err() {
-                        return Err(OpenFault::Failed(kept_records::Cause::Memory));
+                        return Err(OpenFault::Failed(Cause::Memory));
                     }
                 }
                 Ok(None) => return Ok(all),
-                Err(ReadFault::Failed(cause)) => return Err(OpenFault::Failed(cause)),
+                Err(fault) => return Err(open_fault_of(fault)),
             }
         }
         Ok(all)
@@ -62,7 +72,8 @@ impl<G: Gateway + Drop> EtcdRecords<G> {
     /// Opens the history whose keys begin with a prefix, and returns its records in order.
     ///
     /// Each request is posted at most so many times, until a server replies. All records may have at most so many bytes
-    /// together; if there are more already, none can be appended. A value that is none of a record is `Damaged`.
+    /// together; if there are more already, none can be appended. It fails as the read of a record does: a value that is
+    /// none of a record is `Damaged`.
     pub fn open(
         alloc: Global,
         gateway: G,
@@ -76,6 +87,7 @@ impl<G: Gateway + Drop> EtcdRecords<G> {
         ensures prefix { IfOk result (λ opened. opened.0.prefix ≡ prefix) }
         ensures limit { IfOk result (λ opened. opened.0.limit ≡ limit) }
         ensures goes_on { IfOk result (λ opened. GoesOn (G.exchanges gateway) (G.exchanges opened.0.gateway)) }
+        ensures err { IfErr result (OpenFails attempts prefix) }
     {
         let mut records = EtcdRecords::fresh(gateway, attempts, prefix, limit);
         match records.read_all(alloc) {
