@@ -9,6 +9,8 @@
 #[cfg(test)]
 mod crash_tests;
 #[cfg(test)]
+mod etcd_path_tests;
+#[cfg(test)]
 mod etcd_tests;
 #[cfg(test)]
 mod file_tests;

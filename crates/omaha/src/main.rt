@@ -4,6 +4,7 @@
 
 #![tactic(auto)]
 
+use etcd_gateways::AnyStores;
 use history::HistoryFiles;
 use omaha_cli::{EndSigns, ReportingStores, Sockets, report_unreadable, run};
 use std::process::ExitCode;
@@ -27,7 +28,10 @@ fn main(rt: HostRuntime) -> ExitCode {
     };
     let stores = ReportingStores {
         rt: &rt,
-        stores: HistoryFiles { rt: &rt },
+        stores: AnyStores {
+            rt: &rt,
+            files: HistoryFiles { rt: &rt },
+        },
     };
     ExitCode::from(match arguments(&rt) {
         Ok(arguments) => run(

@@ -24,6 +24,8 @@ mod exchange_tests;
 #[cfg(test)]
 mod failing_client_tests;
 #[cfg(test)]
+mod gateway_tests;
+#[cfg(test)]
 mod lines;
 #[cfg(test)]
 mod log_tests;
