@@ -128,7 +128,6 @@ parts_after rest = parts_at rest (split_at 47 rest)
 unfoldable pub etcd_path_in : List ℕ → Option (Result Parts EtcdPathFault)
 etcd_path_in path = if is_etcd_path path then Some (parts_after (drop 7 path)) else None
 
--- rule: Path of a history in etcd
 -- the path is that of a history in etcd, at these addresses and with this prefix
 pub record IsEtcdPath (path : List ℕ) (addresses : List (List ℕ)) (prefix : List ℕ) : Type 0 where
   pub hosts : List ℕ
