@@ -419,6 +419,7 @@ const LAST: &str =
 <tr><th>3</th><td class="number">1764340003</td><td class="number">3</td></tr>"#;
 
 // rule: Last publishes
+// rule: Publish of another server
 // rule: Row of a publish
 #[test]
 fn shows_the_ten_newest_publishes(rt: HostRuntime) {
