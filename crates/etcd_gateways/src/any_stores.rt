@@ -13,8 +13,11 @@ use etcd_records::EtcdRecords;
 use kept_records::{Cause, OpenFault, Record, Stores};
 use std::alloc::{AllocError, Global};
 use std::net::{Net, TcpListener, TcpStream};
-use std::time::Clock;
+use std::time::{Clock, Duration};
 use values::{Items, Text};
+
+// How many milliseconds a post to a server may take.
+const TIME: u64 = 500;
 
 // rule: Store of a path
 // How often a request is posted until one of so many servers replies: each gets three, and one alone six.
@@ -36,6 +39,7 @@ fn owned_parts(alloc: Global, parts: &EtcdPath<'_>) -> Result<(Items<Text>, Text
 }
 
 /// Histories in etcd over TCP, and those of other stores.
+#[derive(Drop)]
 pub struct AnyStores<'a, R, F> {
     /// What has the network and the clock.
     pub rt: &'a R,
@@ -61,7 +65,7 @@ impl<'a, R: Net<Listener = TcpListener, Stream = TcpStream> + Clock + AllocGloba
             return Err(OpenFault::Failed(Cause::Memory));
         };
         let attempts = attempts_for(addresses.len());
-        let gateway = TcpGateway::new(self.rt, addresses);
+        let gateway = TcpGateway::new(self.rt, Duration::from_millis(TIME), addresses);
         match EtcdRecords::open(self.rt.alloc(), gateway, attempts, prefix, limit) {
             Ok((records, all)) => {
                 records.are_shown();

@@ -14,4 +14,4 @@ mod tcp_gateway;
 
 pub use crate::any_records::AnyRecords;
 pub use crate::any_stores::AnyStores;
-pub use crate::tcp_gateway::{MAX_REPLY, TIME, TcpGateway};
+pub use crate::tcp_gateway::{MAX_REPLY, TcpGateway};

@@ -15,9 +15,6 @@ use traces::Trace;
 use update_client::{Reply, post_to};
 use values::{Items, Text};
 
-/// How many milliseconds a post may take, but for what the system takes to look up a name.
-pub const TIME: u64 = 500;
-
 /// How many bytes the body of a reply may have: 384 MiB.
 ///
 /// It has the value of a record at most, in base64, beside less than 64 KiB. A profile is the largest record, with 256 MiB;
@@ -65,6 +62,7 @@ fn came_of(posted: Result<Reply, LinkFault>) -> Result<Response, GatewayFault>
 fn post_at<R: Net<Listener = TcpListener, Stream = TcpStream> + Clock>(
     alloc: Global,
     rt: &R,
+    time: Duration,
     address: &str,
     path: &str,
     body: &[u8],
@@ -77,15 +75,16 @@ fn post_at<R: Net<Listener = TcpListener, Stream = TcpStream> + Clock>(
         kind: "application/json",
         body,
     };
-    came_of(post_to(alloc, rt, Duration::from_millis(TIME), &post, MAX_REPLY))
+    came_of(post_to(alloc, rt, time, &post, MAX_REPLY))
 }
 
 /// A gateway to etcd's servers over TCP. Each post has a connection of its own.
 ///
 /// Contracts see the addresses, the place of the one that the next post goes to, and what was posted and what came of it.
-/// They can't express that the bytes went there, nor that it takes no more time than `TIME`.
+/// They can't express that the bytes went there, nor how much time that took.
 pub struct TcpGateway<'a, R: Net<Listener = TcpListener, Stream = TcpStream> + Clock> {
     rt: &'a R,
+    time: Duration,
     addresses: Items<Text>,
     place: usize,
     exchanges: Trace<Exchange>,
@@ -96,6 +95,7 @@ impl<'a, R: Net<Listener = TcpListener, Stream = TcpStream> + Clock> Drop for Tc
     fn drop(self) {
         let TcpGateway {
             rt: _,
+            time: _,
             addresses: _,
             place: _,
             exchanges: _,
@@ -119,7 +119,9 @@ impl<'a, R: Net<Listener = TcpListener, Stream = TcpStream> + Clock> Model for T
 impl<'a, R: Net<Listener = TcpListener, Stream = TcpStream> + Clock> TcpGateway<'a, R> {
     /// Makes the gateway to servers at these addresses, each `HOST:PORT`, of which the first is posted to first. It connects
     /// to none.
-    pub fn new(rt: &'a R, addresses: Items<Text>) -> TcpGateway<'a, R>
+    ///
+    /// A post may take so much time, but for what the system takes to look up a name.
+    pub fn new(rt: &'a R, time: Duration, addresses: Items<Text>) -> TcpGateway<'a, R>
         requires { 0 < length addresses }
         ensures addresses { result.addresses ≡ addresses }
         ensures place { result.place ≡ 0 }
@@ -127,6 +129,7 @@ impl<'a, R: Net<Listener = TcpListener, Stream = TcpStream> + Clock> TcpGateway<
     {
         TcpGateway {
             rt,
+            time,
             addresses,
             place: 0,
             exchanges: Trace::new(),
@@ -163,7 +166,7 @@ impl<'a, R: Net<Listener = TcpListener, Stream = TcpStream> + Clock> Gateway for
         ensures addresses { self.new.addresses ≡ self.old.addresses }
         ensures within { IsWithin MAX_REPLY result }
     {
-        let came = post_at(alloc, self.rt, self.address(), path, body);
+        let came = post_at(alloc, self.rt, self.time, self.address(), path, body);
         self.exchanges.push(&Exchange::of(path, body, &came));
         self.turn(&came);
         came

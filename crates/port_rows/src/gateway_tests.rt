@@ -10,7 +10,7 @@ use std::net::{Net, TcpListener, TcpStream};
 use std::str;
 use std::test::Fail;
 use std::thread::{Threads, join};
-use std::time::Clock;
+use std::time::{Clock, Duration};
 use values::{Items, Text};
 
 // What the server sends if a post comes to it, or `-` if none does, and what the post comes to.
@@ -45,10 +45,7 @@ fn printed(alloc: Global, came: &Result<Response, GatewayFault>) -> Option<Strin
 }
 
 // What the next post comes to, and the request that the server gets, if it sends anything.
-fn next_post<
-    'a,
-    R: Net<Listener = TcpListener, Stream = TcpStream> + Clock + Threads + Sync,
->(
+fn next_post<'a, R: Net<Listener = TcpListener, Stream = TcpStream> + Clock + Threads + Sync>(
     rt: &'a R,
     alloc: Global,
     listener: &TcpListener,
@@ -66,11 +63,11 @@ fn next_post<
 }
 
 // Whether the next post is what its row says, and has the path and the body.
-fn is_so<R: Net<Listener = TcpListener, Stream = TcpStream> + Clock + Threads + Sync>(
-    rt: &R,
+fn is_so<'a, R: Net<Listener = TcpListener, Stream = TcpStream> + Clock + Threads + Sync>(
+    rt: &'a R,
     alloc: Global,
     listener: &TcpListener,
-    gateway: &mut TcpGateway<'_, R>,
+    gateway: &mut TcpGateway<'a, R>,
     row: &str,
 ) -> Option<bool> {
     let (reply, wanted) = row.split_once('|')?;
@@ -98,7 +95,7 @@ fn goes_on_to_the_next_server(rt: HostRuntime) -> Result<(), Fail> {
     let (listener, live) = listen(&rt).ok_or("no listener")?;
     let dead = free_host(&rt).ok_or("no address")?;
     let addresses = addresses_of(&rt, dead, live).ok_or("no memory")?;
-    let mut gateway = TcpGateway::new(&rt, addresses);
+    let mut gateway = TcpGateway::new(&rt, Duration::from_secs(10), addresses);
     for row in POSTS.lines() {
         let is_so = is_so(&rt, rt.alloc(), listener, &mut gateway, row);
         assert!(rt; is_so == Some(true), "{row}");
