@@ -2,9 +2,11 @@
 use Rattle.std.specs.Prelude.{◌≡◌, ℕ, ◌*◌, min, max, List, length, Option, None, Some, Result, Ok, Err, true, ⊤}
 use Rattle.etcd_paths.specs.Paths.{Parts, addresses_in}
 use Rattle.etcd_paths.specs.declared.fault.EtcdPathFault.{EtcdPathFault}
+use Rattle.kept_records.specs.declared.fault.OpenFault.{OpenFault}
+use Rattle.kept_records.specs.declared.fault.OpenFault.TheVariants.{Unopened}
 use Rattle.kept_records.specs.declared.record.Record.{Record}
 use Rattle.etcd_records.specs.Handles.{AreShown, Handle}
-use Rattle.etcd_records.specs.Openings.{AreAll}
+use Rattle.etcd_records.specs.Openings.{AreAll, OpenFails}
 use Rattle.etcd_records.specs.declared.exchange.Exchange.{Exchange}
 use Rattle.etcd_gateways.specs.Gateways.{Posts}
 use Rattle.etcd_gateways.specs.declared.any_records.AnyRecords.{AnyRecords}
@@ -54,3 +56,9 @@ abbrev pub AreOpenedAt : {R K : Type 0} → Option (Result Parts EtcdPathFault) 
 AreOpenedAt None limit (InFile records) = ⊤
 AreOpenedAt (Some (Ok parts)) limit (InEtcd records) = IsHandleOf parts limit records
 AreOpenedAt path limit records = ⊥
+
+-- why a path opens nothing: one of etcd as a read there fails, or because it is invalid
+abbrev pub AreUnopened : Option (Result Parts EtcdPathFault) → OpenFault → Type 0
+AreUnopened None why = ⊤
+AreUnopened (Some (Ok parts)) why = OpenFails (attempts_for (length (addresses_in parts.hosts))) parts.prefix why
+AreUnopened (Some (Err invalid)) why = why ≡ Unopened

@@ -1,10 +1,9 @@
 // Where a path says that records are: in etcd or elsewhere.
 
-ghost use Rattle.std.specs.Prelude.{◌≡◌, ◌<◌, Err, IfOk, Ok, Some, length};
+ghost use Rattle.std.specs.Prelude.{◌≡◌, ◌<◌, IfErr, IfOk, length};
 ghost use Rattle.etcd_paths.specs.Paths.{addresses_in, etcd_path_in, parts_of};
-ghost use Rattle.etcd_paths.specs.declared.fault.EtcdPathFault.{EtcdPathFault};
-ghost use Rattle.kept_records.specs.declared.fault.OpenFault.TheVariants.{Unopened};
-ghost use Rattle.etcd_gateways.specs.Stores.{AreFoundAt, AreOpenedAt, IsHandleOf, attempts_for, first_in, known_in};
+ghost use Rattle.etcd_records.specs.Openings.{OpenFails};
+ghost use Rattle.etcd_gateways.specs.Stores.{AreFoundAt, AreOpenedAt, AreUnopened, IsHandleOf, attempts_for, first_in, known_in};
 
 use crate::any_records::AnyRecords;
 use crate::tcp_gateway::TcpGateway;
@@ -60,6 +59,7 @@ impl<'a, R: Net<Listener = TcpListener, Stream = TcpStream> + Clock + AllocGloba
     ) -> Result<(EtcdRecords<TcpGateway<'a, R>>, Vec<Record>), OpenFault>
         ensures known { IfOk result (λ opened. opened.0.kept ≡ opened.1.items) }
         ensures opened { IfOk result (λ opened. IsHandleOf (parts_of parts.now) limit opened.0) }
+        ensures err { IfErr result (OpenFails (attempts_for (length (addresses_in parts.now.hosts.now))) parts.now.prefix.now) }
     {
         let Ok((addresses, prefix)) = owned_parts(self.rt.alloc(), parts) else {
             return Err(OpenFault::Failed(Cause::Memory));
@@ -98,7 +98,7 @@ impl<'a, R: Net<Listener = TcpListener, Stream = TcpStream> + Clock + AllocGloba
         ensures found { IfOk result (λ opened. AreFoundAt (F.found self.now.files path.now) (etcd_path_in path.now)
             (first_in F.Kept.first opened.0) opened.1.items) }
         ensures opened { IfOk result (λ opened. AreOpenedAt (etcd_path_in path.now) limit opened.0) }
-        ensures invalid { (why : EtcdPathFault) → etcd_path_in path.now ≡ Some (Err why) → result ≡ Err Unopened }
+        ensures err { IfErr result (AreUnopened (etcd_path_in path.now)) }
     {
         match parse_etcd_path(path) {
             Some(Ok(parts)) => match self.open_etcd(&parts, limit) {
