@@ -8,9 +8,7 @@ ghost use Rattle.kept_records.specs.declared.record.Kind.TheVariants.{Profile};
 
 use crate::server_records::ServerRecords;
 use etcd_paths::is_etcd_path;
-use kept_records::{
-    AppendFault, Kind, OpenFault, ReadFault, Record, Records, Stores, Unkept,
-};
+use kept_records::{AppendFault, Kind, OpenFault, ReadFault, Record, Records, Stores, Unkept};
 use omaha_arguments::Serve;
 use omaha_commands::{Failure, HistoryFault, open_service, read_named, service_in};
 use restarts::{RestoreError, Restored, restore};
