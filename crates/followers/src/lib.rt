@@ -11,5 +11,5 @@
 mod following;
 mod looks;
 
-pub use crate::following::{Follower, follow};
+pub use crate::following::follow;
 pub use crate::looks::{Found, look};

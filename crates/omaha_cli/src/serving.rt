@@ -6,7 +6,7 @@ ghost use Rattle.omaha_server.specs.Serving.{IsSilent};
 ghost use Rattle.streams.specs.Streams.{Known};
 
 use etcd_paths::is_etcd_path;
-use followers::{Follower, follow};
+use followers::follow;
 use http_ports::Port;
 use kept_records::{Records, Stores};
 use omaha_arguments::{Serve, VERSION};
@@ -194,20 +194,16 @@ fn serve_followed<
     ensures silent { IsSilent place.now → errors.new ≡ errors.old }
 {
     let has_ended = AtomicBool::new(false);
-    let follower = Follower {
-        operator: followed_at(asked).unwrap_or(""),
-        pause: asked.follow,
-        has_ended: &has_ended,
-    };
+    let operator = followed_at(asked).unwrap_or("");
     let mut kept = Some(kept);
     let ((), ended) = join_mut(
         rt,
-        &mut || follow(rt, rt.alloc(), &follower),
+        &mut || follow(rt, rt.alloc(), operator, asked.follow, &has_ended),
         &mut || -> Result<(), Failure>
-            ensures hosted { IfSome kept.entry (λ served. IsHostedBy (S.edges system.now) place.now
-                (record { service = served.service; first = K.first served.records; records = K.kept served.records }) asked.now
+            ensures hosted { IfSome kept.entry (λ served. IsHostedBy (S.edges system.entry.now) place.entry.now
+                (record { service = served.service; first = K.first served.records; records = K.kept served.records }) asked.entry.now
                 (W.output writer.entry.now) (W.output writer.exit.now) result) }
-            ensures silent { IsSilent place.now → errors.exit.now ≡ errors.entry.now }
+            ensures silent { IsSilent place.entry.now → errors.exit.now ≡ errors.entry.now }
         {
             let ended = match kept.take() {
                 Some(kept) => host(rt, system, kept, place, asked, writer, errors),
