@@ -182,7 +182,7 @@ class Operator(threading.Thread):
             name = f"{self.called} {number}"
             port = self.random.choice(list(self.ports.operator.values()))
             try:
-                status, body = exchange(port, "/operate", script_of(name, base, self.random.choice([0, 100, 1000])))
+                status, body = exchange(port, "/operate", script_of(name, base, self.random.randrange(1001)))
             except (OSError, http.client.HTTPException):
                 self.lost.add(name)
                 continue
@@ -274,7 +274,7 @@ def measure(ports, count):
     for number in range(count):
         port = ports.operator[random.choice(NUMBERS)]
         begun = time.monotonic()
-        status, body = exchange(port, "/operate", script_of(f"measured {number}", base, random.choice([0, 100])))
+        status, body = exchange(port, "/operate", script_of(f"measured {number}", base, random.randrange(1001)))
         accepted.append(1000 * (time.monotonic() - begun))
         expect(f"measured {number}", (status, body), (200, f"edition {base + 1}\n".encode()))
         base += 1
