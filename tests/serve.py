@@ -815,8 +815,10 @@ def finishes_a_slow_download(program):
 
 
 def is_rejected(port):
+    """Whether nobody listens any more. A connection that is made while a listener closes is reset: that is not yet."""
     try:
-        socket.create_connection(("127.0.0.1", port), timeout=5).close()
+        with contextlib.suppress(ConnectionResetError):
+            socket.create_connection(("127.0.0.1", port), timeout=5).close()
     except ConnectionRefusedError:
         return True
     return False
