@@ -6,8 +6,9 @@ use Rattle.http_ports.specs.Loops.{IsLeft}
 use Rattle.http_ports.specs.Ports.{Closes}
 use Rattle.http_ports.specs.Speech.{Phase, Speech, speech_at}
 use Rattle.http_ports.specs.Steps.{IsEnding, IsPassed, Serves, ServesOut}
-use Rattle.http_ports.specs.Traffic.{Changes, Elsewhere, HasPassed, IsOpen, Slot, Traffic, marked}
+use Rattle.http_ports.specs.Traffic.{Changes, Elsewhere, HasPassed, IsOpen, Slot, Traffic, later, marked, telling}
 use Rattle.http_ports.specs.declared.last.Last.TheVariants.{Passed, Yields}
+use Rattle.http_ports.specs.declared.moment.Moment.{Moment}
 use Rattle.http_ports.proofs.RoundLemmas.{Leads-append}
 
 -- however it was left
@@ -36,8 +37,8 @@ module _ {C D : Type 0} (speech : Speech C) (steps : D → Call → D → Type 0
   pub changed :
       (IsSo : IsLeft) (at : ℕ) (change : Traffic → Traffic) (old new : ℕ → Slot) (conn left : C) (desk : D) →
       Changes at change old new →
-      ((traffic : Traffic) (made : List Call) → speech.so_far conn traffic.received traffic.sent made →
-      speech.so_far left (change traffic).received (change traffic).sent made
+      ((traffic : Traffic) (made : List Call) → speech.so_far traffic.moments conn traffic.received traffic.sent made →
+      speech.so_far (change traffic).moments left (change traffic).received (change traffic).sent made
       × IsSo (speech.phase left) (speech.pending left) (change traffic)) →
       Serves speech steps IsSo (old at) conn desk (new at) left desk
   changed IsSo at change old new conn left desk changes keeps = (
@@ -50,25 +51,34 @@ module _ {C D : Type 0} (speech : Speech C) (steps : D → Call → D → Type 0
           (
             change traffic,
             ap (λ (s : Slot). s.current) slot,
-            subst (speech.so_far left (change traffic).received (change traffic).sent) (sym (append-nil made)) goes_on,
+            subst (speech.so_far (change traffic).moments left (change traffic).received (change traffic).sent) (sym (append-nil made)) goes_on,
             is_left,
           ),
         ),
   )
 
-  -- the desk was called, and nothing passed
+  -- the desk was called at a moment, and nothing passed
   pub asked :
-      (IsSo : IsLeft) (slot : Slot) (conn left : C) (desk behind : D) (calls : List Call) →
-      Leads steps desk calls behind →
-      ((received sent : List ℕ) (made : List Call) →
-      speech.so_far conn received sent made → speech.so_far left received sent (made ++ calls)) →
+      (IsSo : IsLeft) (at seconds : ℕ) (old new : ℕ → Slot) (conn left : C) (desk behind : D) (calls : List Call) →
+      Changes at (telling seconds) old new → Leads steps desk calls behind →
+      ((received sent : List ℕ) (moments : List Moment) (made : List Call) →
+      speech.so_far moments conn received sent made →
+      speech.so_far (later moments seconds received sent) left received sent (made ++ calls)) →
       ((traffic : Traffic) → IsSo (speech.phase left) (speech.pending left) traffic) →
-      Serves speech steps IsSo slot conn desk slot left behind
-  asked IsSo slot conn left desk behind calls leads goes_on is_left = (
+      Serves speech steps IsSo (old at) conn desk (new at) left behind
+  asked IsSo at seconds old new conn left desk behind calls tells leads goes_on is_left = (
     calls,
     leads,
     λ made (traffic, live, so_far).
-        (refl, (traffic, live, goes_on traffic.received traffic.sent made so_far, is_left traffic)),
+        let slot = tells.0 traffic live in (
+          ap (λ (s : Slot). s.ended) slot,
+          (
+            telling seconds traffic,
+            ap (λ (s : Slot). s.current) slot,
+            goes_on traffic.received traffic.sent traffic.moments made so_far,
+            is_left (telling seconds traffic),
+          ),
+        ),
   )
 
   -- before the first step
@@ -77,7 +87,7 @@ module _ {C D : Type 0} (speech : Speech C) (steps : D → Call → D → Type 0
     [],
     refl,
     λ made (traffic, live, so_far).
-        (refl, (traffic, live, subst (speech.so_far conn traffic.received traffic.sent) (sym (append-nil made)) so_far, tt)),
+        (refl, (traffic, live, subst (speech.so_far traffic.moments conn traffic.received traffic.sent) (sym (append-nil made)) so_far, tt)),
   )
 
   -- less is said of how it was left
@@ -92,25 +102,32 @@ module _ {C D : Type 0} (speech : Speech C) (steps : D → Call → D → Type 0
         let (ended, (traffic, live, so_far, is_left)) = goes_on made has in (ended, (traffic, live, so_far, tt)),
   )
 
-  -- calls of the desk, and then another part
+  -- calls of the desk at a moment, and then another part
   pub asked_then :
-      (IsSo : IsLeft) (slot after : Slot) (conn between left : C) (desk amid behind : D) (calls : List Call) →
-      Leads steps desk calls amid →
-      ((received sent : List ℕ) (made : List Call) →
-      speech.so_far conn received sent made → speech.so_far between received sent (made ++ calls)) →
-      Serves speech steps IsSo slot between amid after left behind →
-      Serves speech steps IsSo slot conn desk after left behind
-  asked_then IsSo slot after conn between left desk amid behind calls leads goes_on (more, leads_on, serves) = (
+      (IsSo : IsLeft) (at seconds : ℕ) (old mid : ℕ → Slot) (after : Slot) (conn between left : C) (desk amid behind : D)
+      (calls : List Call) →
+      Changes at (telling seconds) old mid → Leads steps desk calls amid →
+      ((received sent : List ℕ) (moments : List Moment) (made : List Call) →
+      speech.so_far moments conn received sent made →
+      speech.so_far (later moments seconds received sent) between received sent (made ++ calls)) →
+      Serves speech steps IsSo (mid at) between amid after left behind →
+      Serves speech steps IsSo (old at) conn desk after left behind
+  asked_then IsSo at seconds old mid after conn between left desk amid behind calls tells leads goes_on (more, leads_on, serves) = (
     calls ++ more,
     Leads-append steps desk amid behind calls more leads leads_on,
     λ made (traffic, live, so_far).
+        let slot = tells.0 traffic live in
         let (ended, (next, open_on, so_far_on, is_left)) =
-        serves (made ++ calls) (traffic, live, goes_on traffic.received traffic.sent made so_far) in (
-          ended,
+        serves (made ++ calls) (
+          telling seconds traffic,
+          ap (λ (s : Slot). s.current) slot,
+          goes_on traffic.received traffic.sent traffic.moments made so_far,
+        ) in (
+          ended ∙ ap (λ (s : Slot). s.ended) slot,
           (
             next,
             open_on,
-            subst (speech.so_far left next.received next.sent) (append_assoc made calls more) so_far_on,
+            subst (speech.so_far next.moments left next.received next.sent) (append_assoc made calls more) so_far_on,
             is_left,
           ),
         ),
@@ -132,7 +149,7 @@ module _ {C D : Type 0} (speech : Speech C) (steps : D → Call → D → Type 0
           (
             next,
             open_on,
-            subst (speech.so_far left next.received next.sent) (append_assoc made calls more) so_far_on,
+            subst (speech.so_far next.moments left next.received next.sent) (append_assoc made calls more) so_far_on,
             is_left,
           ),
         ),
@@ -184,7 +201,7 @@ at_same Holds path place kind type paths types holds =
 -- so does a part of the loop
 pub Serves-at_same :
     {C D : Type 0} (pending : C → List ℕ) (phase : C → Phase) (is_lost : C → Bool)
-    (so_far : List ℕ → List ℕ → C → List ℕ → List ℕ → List Call → Type 0) (steps : D → Call → D → Type 0)
+    (so_far : List ℕ → List ℕ → List Moment → C → List ℕ → List ℕ → List Call → Type 0) (steps : D → Call → D → Type 0)
     (IsSo : IsLeft) (slot after : Slot) (conn left : C) (desk behind : D) (path place kind type : List ℕ) →
     path ≡ place → kind ≡ type →
     Serves (speech_at pending phase is_lost so_far path kind) steps IsSo slot conn desk after left behind →

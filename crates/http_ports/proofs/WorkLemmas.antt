@@ -135,7 +135,7 @@ module _ {C D : Type 0} (speech : Speech C) (steps : D → Call → D → Type 0
       (at : ℕ) (now : D) (slots after : ℕ → Slot) (conns left : ℕ → Option C) (conn : C) (capacity accepted more lost : ℕ) →
       Works speech all_rest steps start now slots conns (counts_of capacity accepted lost) → at < capacity → more ≡ accepted + 1 →
       (slots at).current ≡ None → after at ≡ with_open (slots at) no_traffic → Elsewhere at slots after →
-      left at ≡ Some conn → ((k : ℕ) → k ≢ at → left k ≡ conns k) → speech.so_far conn [] [] [] →
+      left at ≡ Some conn → ((k : ℕ) → k ≢ at → left k ≡ conns k) → speech.so_far [] conn [] [] [] →
       Works speech (rest_but at) steps start now after left (counts_of capacity more lost)
   Works-accepted at now slots after conns left conn capacity accepted more lost works within one free opened elsewhere put others so_far = record {
     rounds = works.rounds;

@@ -1,12 +1,15 @@
 -- What passes at a port: connections, each at a slot, which has one after the other; this project's profile.
-use Rattle.std.specs.Prelude.{◌≡◌, ◌≢◌, ◌+◌, ℕ, Bool, false, List, [], ◌∷◌, length, Option, None, Some}
+use Rattle.std.specs.Prelude.{◌≡◌, ◌≢◌, ◌<◌, ◌+◌, ◌^◌, ℕ, Bool, false, List, [], ◌∷◌, ◌++◌, length, Option, None, Some}
 use Rattle.http_ports.specs.declared.last.Last.{Last}
 use Rattle.http_ports.specs.declared.last.Last.TheVariants.{Passed, Reported}
+use Rattle.http_ports.specs.declared.moment.Moment.{Moment}
 
--- a connection: the bytes that came and those that were sent, what the last call came to, and whether its time is up
+-- a connection: the bytes that came and those that were sent, the moments that the port gave for it, what the last call
+-- came to, and whether its time is up
 pub record Traffic : Type 0 where
   pub received : List ℕ
   pub sent : List ℕ
+  pub moments : List Moment
   pub last : Last
   pub expired : Bool
 
@@ -17,7 +20,7 @@ pub record Slot : Type 0 where
 
 -- a connection on which nothing has passed
 abbrev pub no_traffic : Traffic
-no_traffic = record { received = []; sent = []; last = Reported; expired = false }
+no_traffic = record { received = []; sent = []; moments = []; last = Reported; expired = false }
 
 -- a slot that had no connection
 abbrev pub unused : Slot
@@ -60,3 +63,20 @@ marked last traffic = record traffic { last = last }
 -- bytes have just passed on the connection of the slot
 abbrev pub HasPassed : Slot → Type 0
 HasPassed slot = (traffic : Traffic) × (slot.current ≡ Some traffic) × (traffic.last ≡ Passed)
+
+-- a timestamp that a port gives
+abbrev pub IsTime : ℕ → Type 0
+IsTime seconds = seconds < 2 ^ 63
+
+-- a moment of a connection on which these bytes have come and been sent
+abbrev pub moment_of : ℕ → List ℕ → List ℕ → Moment
+moment_of seconds received sent = record { seconds = seconds; received = length received; sent = length sent }
+
+-- rule: Moment of a connection
+-- these moments, and then one more
+abbrev pub later : List Moment → ℕ → List ℕ → List ℕ → List Moment
+later moments seconds received sent = moments ++ moment_of seconds received sent ∷ []
+
+-- a moment was given for the connection
+abbrev pub telling : ℕ → Traffic → Traffic
+telling seconds traffic = record traffic { moments = later traffic.moments seconds traffic.received traffic.sent }

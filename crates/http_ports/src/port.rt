@@ -1,6 +1,6 @@
 ghost use Rattle.std.specs.Prelude.{◌≡◌, ◌<◌, ◌+◌, ℕ, IsTrue, length};
 ghost use Rattle.http_ports.specs.Ports.{Closes, IsDone, Reads, Reports, Rests, Writes, accepted_by};
-ghost use Rattle.http_ports.specs.Traffic.{Changes, HasPassed, IsOpen, Slot, marked};
+ghost use Rattle.http_ports.specs.Traffic.{Changes, HasPassed, IsOpen, IsTime, Slot, marked, telling};
 ghost use Rattle.http_ports.specs.declared.last.Last.TheVariants.{Yields};
 ghost use Rattle.http_ports.specs.declared.terms.Terms.{Terms};
 
@@ -43,6 +43,15 @@ pub trait Port {
         ensures reports { Reports (terms self.old).capacity result (slots self.old) (slots self.new) }
         ensures over { IsDone result → is_over self.new }
         ensures accepted { accepted self.new ≡ accepted self.old + accepted_by result }
+        ensures terms { terms self.new ≡ terms self.old };
+
+    // rule: Moment of a connection
+    /// Returns how many seconds have passed since 1970, less than 2^63, as a moment of the connection of a slot.
+    fn moment(&mut self, slot: usize) -> u64
+        requires live { IsOpen (slots self.old slot) }
+        ensures time { IsTime result }
+        ensures tells { Changes slot (telling result) (slots self.old) (slots self.new) }
+        ensures accepted { accepted self.new ≡ accepted self.old }
         ensures terms { terms self.new ≡ terms self.old };
 
     // rule: Reads of a port

@@ -4,6 +4,8 @@ ghost use Rattle.std.specs.Prelude.{◌≡◌};
 
 use crate::passing::{note_read, note_write, read_stream, write_stream};
 use crate::port::{EVENTS, LISTENER, MioPort};
+use http_desks::Clock as _;
+use http_devices::SystemClock;
 use http_ports::{Event, Last, Port, Received, Sent};
 use port_books::Change;
 use std::net::IpAddr;
@@ -117,6 +119,12 @@ impl<R: Wait + Clock> Port for MioPort<'_, R> {
             self.wait_for_sockets();
         }
         unreachable!()
+    }
+
+    fn moment(&mut self, slot: usize) -> u64 {
+        let seconds = SystemClock::new(self.rt).now();
+        self.book.tell(slot, seconds);
+        seconds
     }
 
     fn read(&mut self, slot: usize, into: &mut [u8]) -> Received {

@@ -85,14 +85,15 @@ waits-changed None (Some place) change waits so tied = cc tied
 waits-changed (Some traffic) None change waits so tied = cc tied
 waits-changed (Some traffic) (Some place) change waits so tied = ap (λ (b : Bool). Some b) (sym (so traffic))
 
--- a connection whose time is up waits if it did before
-pub waits-expired :
-    (slot : Slot) (at : ℕ) → slot_waits (moved (move.Changed at change.Expired) slot) ≡ slot_waits slot
-waits-expired slot at = of_current slot.current
+-- a connection for which no call was made waits if it did before
+pub waits-kept :
+    (slot : Slot) (at : ℕ) (change : Change) → ((traffic : Traffic) → (changed_by change traffic).last ≡ traffic.last) →
+    slot_waits (moved (move.Changed at change) slot) ≡ slot_waits slot
+waits-kept slot at change same = of_current slot.current
   where
     of_current :
         (current : Option Traffic) →
-        option_map (λ (traffic : Traffic). is_waiting traffic.last) (option_map (changed_by change.Expired) current)
+        option_map (λ (traffic : Traffic). is_waiting traffic.last) (option_map (changed_by change) current)
         ≡ option_map (λ (traffic : Traffic). is_waiting traffic.last) current
     of_current None = refl
-    of_current (Some traffic) = refl
+    of_current (Some traffic) = ap (λ last. Some (is_waiting last)) (same traffic)

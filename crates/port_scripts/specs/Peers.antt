@@ -12,10 +12,17 @@ use Rattle.port_scripts.specs.declared.peer.Finish.TheVariants as finish
 use Rattle.port_scripts.specs.declared.peer.Peer.{Peer}
 
 -- rule: Peer of a script
--- the traffic of a peer's connection: what was received is what was read of its input, and what was sent is what it got
+-- the traffic of a peer's connection: what was received is what was read of its input, and what was sent is what it got;
+-- with the moments that it was given
 abbrev pub traffic_of : Peer → Traffic
 traffic_of peer =
-    record { received = take peer.read peer.input.items; sent = peer.got.items; last = peer.last; expired = peer.expired }
+    record {
+      received = take peer.read peer.input.items;
+      sent = peer.got.items;
+      moments = peer.told;
+      last = peer.last;
+      expired = peer.expired;
+    }
 
 -- what a read comes to if there is no more input
 abbrev pub read_at_end : Finish → Received

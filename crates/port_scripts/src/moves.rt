@@ -1,14 +1,15 @@
 // What a peer sends and takes.
 
 ghost use Rattle.std.specs.Prelude.{◌≡◌, ◌<◌, ◌≤◌, ℕ, [], length, IfOk, IsTrue, vec_len, vec_capacity};
-ghost use Rattle.http_ports.specs.Traffic.{marked, no_traffic};
+ghost use Rattle.http_ports.specs.Traffic.{marked, no_traffic, telling};
 ghost use Rattle.http_ports.specs.Ports.{IsWaiting, expiring};
 ghost use Rattle.http_ports.specs.declared.last.Last.TheVariants.{Reported, Yields};
 ghost use Rattle.port_scripts.specs.Peers.{Gives, Takes, read_at_end, read_of, traffic_of, write_at_limit, write_of};
 
 use crate::peer::{Finish, Peer};
-use http_ports::{Last, Received, Sent};
+use http_ports::{Last, Moment, Received, Sent};
 use std::alloc::{AllocError, Global};
+use traces::Trace;
 
 impl Peer {
     /// Makes a peer that sends this input in pieces of this length with a pause after each, and then ends it, and takes up
@@ -28,6 +29,7 @@ impl Peer {
             when_full: Finish::Fails,
             is_slow: true,
             pauses: false,
+            told: Trace::new(),
             last: Last::Reported,
             expired: false,
         })
@@ -41,6 +43,7 @@ impl Peer {
         self.read = 0;
         self.got.clear();
         self.pauses = false;
+        self.told = Trace::new();
         self.last = Last::Reported;
         self.expired = false;
     }
@@ -162,6 +165,18 @@ impl Peer {
         ensures input { self.new.input ≡ self.old.input }
     {
         self.last = Last::Yields;
+    }
+
+    // Its connection is given a moment.
+    pub(crate) fn tell(&mut self, seconds: u64)
+        ensures told { traffic_of self.new ≡ telling seconds (traffic_of self.old) }
+        ensures input { self.new.input ≡ self.old.input }
+    {
+        self.told.push(&Moment {
+            seconds,
+            received: self.read,
+            sent: self.got.len(),
+        });
     }
 
     // Its time is up.

@@ -21,6 +21,10 @@ pub struct Script {
     pub turns: Vec<usize>,
     /// The slot that is looked at first once there are no more turns.
     pub next: usize,
+    /// The timestamp that it gives next, as long as that is below 2^63; else it gives 0.
+    pub seconds: u64,
+    /// How many seconds pass from one timestamp to the next.
+    pub step: u64,
     /// What it serves by: a place for each slot, and as many connections as there are peers.
     pub terms: Terms,
     ghost sized: { vec_len seats ≡ terms.capacity },
@@ -96,6 +100,8 @@ impl Script {
             seats,
             turns,
             next: 0,
+            seconds: 0,
+            step: 0,
             terms,
         })
     }
@@ -210,6 +216,17 @@ impl Port for Script {
             Event::Done => {}
         }
         event
+    }
+
+    fn moment(&mut self, slot: usize) -> u64 {
+        let seconds = if self.seconds < 1 << 63 {
+            self.seconds
+        } else {
+            0
+        };
+        self.seconds = seconds.saturating_add(self.step);
+        self.seats[slot].tell(seconds);
+        seconds
     }
 
     fn read(&mut self, slot: usize, into: &mut [u8]) -> Received {

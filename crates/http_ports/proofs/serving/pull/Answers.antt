@@ -13,7 +13,7 @@ returns-in-Bytes-clause-serves g c =
     changed (speech_at g.E.Protocol.pending g.E.Protocol.phase g.E.Protocol.is_lost (g.E.Protocol.so_far c.args.protocol.now) (g.D.Desk.path c.args.desk.now) (g.D.Desk.content_type c.args.desk.now)) g.D.Desk.steps
     IsPassed c.args.slot (receiving (take c.in-Bytes.count c.read.new.into)) (g.P.Port.slots c.args.port.now)
     (g.P.Port.slots c.read.new.self) c.args.conn.now c.take.new.conn c.args.desk.now c.in-Bytes.ensures.reads.2
-    (λ traffic made so_far. (c.take.ensures.so_far _ _ _ _ _ so_far, refl))
+    (λ traffic made so_far. (c.take.ensures.so_far _ _ _ _ _ _ so_far, refl))
 
 pub returns-in-Bytes-clause-live : goal.returns-in-Bytes-clause-live
 returns-in-Bytes-clause-live g c =

@@ -13,7 +13,7 @@ returns-in-Bytes-clause-serves g c =
     changed (speech_at g.E.Protocol.pending g.E.Protocol.phase g.E.Protocol.is_lost (g.E.Protocol.so_far c.args.protocol.now) (g.D.Desk.path c.args.desk.now) (g.D.Desk.content_type c.args.desk.now)) g.D.Desk.steps
     IsPassed c.args.slot (sending (take c.in-Bytes.count c.pending.result.now)) (g.P.Port.slots c.args.port.now)
     (g.P.Port.slots c.write.new.self) c.args.conn.now c.sent.new.conn c.args.desk.now c.in-Bytes.ensures.writes.2
-    (λ traffic made so_far. (rw c.pending.ensures (c.sent.ensures.so_far _ _ _ _ _ so_far), refl))
+    (λ traffic made so_far. (rw c.pending.ensures (c.sent.ensures.so_far _ _ _ _ _ _ so_far), refl))
 
 pub returns-in-Bytes-clause-live : goal.returns-in-Bytes-clause-live
 returns-in-Bytes-clause-live g c =
