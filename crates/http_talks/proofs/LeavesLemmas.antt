@@ -1,11 +1,13 @@
 -- A reply, after what was said.
-use Rattle.std.proofs.Common.{◌≡◌, ◌∙◌, ◌+◌, ◌==◌, ◌++◌, ℕ, Bool, true, List, [], ◌∷◌, append-nil, append_assoc, length, length-append, Option, Some, sym, subst, ap, arith}
+use Rattle.std.proofs.Common.{◌≡◌, ◌∙◌, ◌+◌, ◌==◌, ◌++◌, ◌≤◌, ℕ, Bool, true, List, [], ◌∷◌, append-nil, append_assoc, length, length-append, Option, Some, sym, subst, ap, arith}
 use Rattle.std.specs.Prelude.{flat_map}
 use Rattle.std.specs.List.{AllByRecursion}
 use Rattle.std.proofs.lemmas.Grind.{flat_map-append}
 use Rattle.http_desks.specs.declared.method.Method.{Method}
 use Rattle.http_desks.specs.Calls.{Call}
 use Rattle.http_desks.specs.Uses.{Use}
+use Rattle.http_ports.specs.Traffic.{later, moment_of}
+use Rattle.http_ports.specs.declared.moment.Moment.{Moment}
 use Rattle.http_sessions.specs.Messages.{Exchange, IsOpen, exchange_bytes, exchange_calls, open_reply}
 use Rattle.http_sessions.specs.Stops.{Ends, More, Stop, stop_bytes, stop_calls}
 use Rattle.http_sessions.specs.Sessions.{Serves}
@@ -17,155 +19,190 @@ use Rattle.http_talks.specs.declared.talk.Stage.{Stage}
 use Rattle.http_talks.specs.declared.talk.Stage.TheVariants as stage
 use Rattle.http_talks.specs.declared.talk.Talk.{Talk}
 use Rattle.http_talks.proofs.TalkLemmas.{all_replies}
+use Rattle.http_talks.proofs.MomentLemmas.{AreTimed-append, AreTimed-later, AreTimed-now, IsAskedAt, IsLastTimed-now, all_append}
+use Rattle.http_talks.proofs.WiderLemmas.{all_wider, stops_wider}
 
-pub all_append :
-    {A : Type 0} (Holds : A → Type 0) (first second : List A) →
-    AllByRecursion Holds first → AllByRecursion Holds second → AllByRecursion Holds (first ++ second)
-all_append Holds [] second one two = two
-all_append Holds (item ∷ first) second (here, one) two = (here, all_append Holds first second one two)
+module _
+    (IsNow IsFit : Method → List ℕ → Use → Type 0) (kind : List ℕ) (seconds : ℕ)
+    (now : (method : Method) (target : List ℕ) (used : Use) → IsNow method target used →
+    IsFit method target used × IsAskedAt seconds used)
+  where
+    -- of a busy session all replies were sent, and what is kept is what comes after its messages
+    pub record IsBusy (talk : Talk) (sent : List ℕ) (exchanges : List Exchange) (stop : Stop) (rest unread : List ℕ) : Type 0 where
+      pub stopped : stop ≡ More
+      pub count : talk.begun ≡ length exchanges
+      pub kept : talk.kept.items ≡ rest ++ unread
+      pub all_sent : sent ≡ flat_map (open_reply kind) exchanges
 
-module _ (IsFit : Method → List ℕ → Use → Type 0) (kind : List ℕ) where
-  -- of a busy session all replies were sent, and what is kept is what comes after its messages
-  pub record IsBusy (talk : Talk) (sent : List ℕ) (exchanges : List Exchange) (stop : Stop) (rest unread : List ℕ) : Type 0 where
-    pub stopped : stop ≡ More
-    pub count : talk.begun ≡ length exchanges
-    pub kept : talk.kept.items ≡ rest ++ unread
-    pub all_sent : sent ≡ flat_map (open_reply kind) exchanges
+    busy_of :
+        (moments : List Moment) (talk : Talk) (received sent : List ℕ) (calls : List Call) →
+        talk.stage ≡ stage.Busy → pending talk ≡ [] →
+        (said : Said IsFit kind moments talk received sent calls) → IsBusy talk sent said.exchanges said.stop said.rest said.unread
+    busy_of moments talk received sent calls busy none said =
+        let (stop, count, kept) =
+        subst (λ (at : Stage). IsAt at talk.begun talk.kept.items talk.need (length said.exchanges) said.stop said.rest said.unread) busy said.is_at in
+        let replies = subst (λ (at : Stage). AreReplies at sent (pending talk) (all_replies kind said.exchanges said.stop)) busy said.replies in
+        record {
+          stopped = stop;
+          count = count;
+          kept = kept;
+          all_sent = sym (append-nil sent) ∙ ap (λ (l : List ℕ). sent ++ l) (sym none) ∙ replies
+              ∙ ap (all_replies kind said.exchanges) stop
+              ∙ append-nil (flat_map (open_reply kind) said.exchanges);
+        }
 
-  busy_of :
-      (talk : Talk) (received sent : List ℕ) (calls : List Call) → talk.stage ≡ stage.Busy → pending talk ≡ [] →
-      (said : Said IsFit kind talk received sent calls) → IsBusy talk sent said.exchanges said.stop said.rest said.unread
-  busy_of talk received sent calls busy none said =
-      let (stop, count, kept) =
-      subst (λ (at : Stage). IsAt at talk.begun talk.kept.items talk.need (length said.exchanges) said.stop said.rest said.unread) busy said.is_at in
-      let replies = subst (λ (at : Stage). AreReplies at sent (pending talk) (all_replies kind said.exchanges said.stop)) busy said.replies in
-      record {
-        stopped = stop;
-        count = count;
-        kept = kept;
-        all_sent = sym (append-nil sent) ∙ ap (λ (l : List ℕ). sent ++ l) (sym none) ∙ replies
-            ∙ ap (all_replies kind said.exchanges) stop
-            ∙ append-nil (flat_map (open_reply kind) said.exchanges);
+    module _ {D : Type 0} (steps : D → Call → D → Type 0) where
+      -- what was said, and then a part of a session
+      extended :
+          (moments : List Moment) (talk next : Talk) (received sent left : List ℕ) (calls : List Call) (IsEnd : ℕ → Stop → List ℕ → Type 0) (whole : Bool)
+          (old new : Option (List ℕ)) (before behind : D) (said : Said IsFit kind moments talk received sent calls) →
+          IsBusy talk sent said.exchanges said.stop said.rest said.unread →
+          (part : Serves IsNow steps kind talk.begun IsEnd whole [] (Some talk.kept.items) (Some left) old new before behind) →
+          AreReplies next.stage sent (pending next) (all_replies kind (said.exchanges ++ part.exchanges) part.stop) →
+          IsAt next.stage next.begun next.kept.items next.need (length (said.exchanges ++ part.exchanges)) part.stop part.rest left →
+          Said IsFit kind (later moments seconds received sent) next received sent (calls ++ (flat_map exchange_calls part.exchanges ++ stop_calls part.stop))
+      extended moments talk next received sent left calls IsEnd whole old new before behind said busy part replies is_at = record {
+        exchanges = said.exchanges ++ part.exchanges;
+        stop = part.stop;
+        rest = part.rest;
+        unread = left;
+        cut = said.cut
+            ∙ ap (λ (l : List ℕ). flat_map exchange_bytes said.exchanges ++ l)
+            (sym busy.kept ∙ part.consumed ∙ ap (λ (l : List ℕ). l ++ left) part.cut
+            ∙ append_assoc (flat_map exchange_bytes part.exchanges) part.rest left)
+            ∙ sym (append_assoc (flat_map exchange_bytes said.exchanges) (flat_map exchange_bytes part.exchanges) (part.rest ++ left))
+            ∙ ap (λ (l : List ℕ). l ++ (part.rest ++ left)) (sym (flat_map-append exchange_bytes said.exchanges part.exchanges));
+        each = all_append (IsOpen IsFit) said.exchanges part.exchanges said.each (all_wider IsNow IsFit fits part.exchanges part.each);
+        few = omega (arith, length-append said.exchanges part.exchanges, busy.count, part.few);
+        stops = stops_wider IsNow IsFit fits part.stop part.rest part.stops;
+        called = ap (λ (l : List Call). l ++ (flat_map exchange_calls part.exchanges ++ stop_calls part.stop))
+            (said.called ∙ ap (λ (s : Stop). flat_map exchange_calls said.exchanges ++ stop_calls s) busy.stopped
+            ∙ append-nil (flat_map exchange_calls said.exchanges))
+            ∙ sym (append_assoc (flat_map exchange_calls said.exchanges) (flat_map exchange_calls part.exchanges) (stop_calls part.stop))
+            ∙ ap (λ (l : List Call). l ++ stop_calls part.stop) (sym (flat_map-append exchange_calls said.exchanges part.exchanges));
+        timed = AreTimed-append kind (later moments seconds received sent) said.exchanges part.exchanges 0 0
+            (AreTimed-later kind moments (moment_of seconds received sent) 0 0 said.exchanges said.timed)
+            (AreTimed-now IsNow kind seconds asked moments received sent part.exchanges _ _ part.each
+            (omega (arith, came, length-append (flat_map exchange_bytes part.exchanges) part.rest)) (omega (arith, ap length busy.all_sent)));
+        last_timed = IsLastTimed-now IsNow kind seconds asked moments received sent part.stop part.rest _ _ part.stops
+            (omega (
+              arith,
+              came,
+              length-append (flat_map exchange_bytes part.exchanges) part.rest,
+              ap length (flat_map-append exchange_bytes said.exchanges part.exchanges),
+              length-append (flat_map exchange_bytes said.exchanges) (flat_map exchange_bytes part.exchanges),
+            ))
+            (omega (
+              arith,
+              ap length busy.all_sent,
+              ap length (flat_map-append (open_reply kind) said.exchanges part.exchanges),
+              length-append (flat_map (open_reply kind) said.exchanges) (flat_map (open_reply kind) part.exchanges),
+            ));
+        replies = replies;
+        is_at = is_at;
       }
+        where
+          fits : (method : Method) (target : List ℕ) (used : Use) → IsNow method target used → IsFit method target used
+          fits method target used is = (now method target used is).0
 
-  module _ {D : Type 0} (steps : D → Call → D → Type 0) where
-    -- what was said, and then a part of a session
-    extended :
-        (talk next : Talk) (received sent left : List ℕ) (calls : List Call) (IsEnd : ℕ → Stop → List ℕ → Type 0) (whole : Bool)
-        (old new : Option (List ℕ)) (before behind : D) (said : Said IsFit kind talk received sent calls) →
-        IsBusy talk sent said.exchanges said.stop said.rest said.unread →
-        (part : Serves IsFit steps kind talk.begun IsEnd whole [] (Some talk.kept.items) (Some left) old new before behind) →
-        AreReplies next.stage sent (pending next) (all_replies kind (said.exchanges ++ part.exchanges) part.stop) →
-        IsAt next.stage next.begun next.kept.items next.need (length (said.exchanges ++ part.exchanges)) part.stop part.rest left →
-        Said IsFit kind next received sent (calls ++ (flat_map exchange_calls part.exchanges ++ stop_calls part.stop))
-    extended talk next received sent left calls IsEnd whole old new before behind said busy part replies is_at = record {
-      exchanges = said.exchanges ++ part.exchanges;
-      stop = part.stop;
-      rest = part.rest;
-      unread = left;
-      cut = said.cut
-          ∙ ap (λ (l : List ℕ). flat_map exchange_bytes said.exchanges ++ l)
-          (sym busy.kept ∙ part.consumed ∙ ap (λ (l : List ℕ). l ++ left) part.cut
-          ∙ append_assoc (flat_map exchange_bytes part.exchanges) part.rest left)
-          ∙ sym (append_assoc (flat_map exchange_bytes said.exchanges) (flat_map exchange_bytes part.exchanges) (part.rest ++ left))
-          ∙ ap (λ (l : List ℕ). l ++ (part.rest ++ left)) (sym (flat_map-append exchange_bytes said.exchanges part.exchanges));
-      each = all_append (IsOpen IsFit) said.exchanges part.exchanges said.each part.each;
-      few = omega (arith, length-append said.exchanges part.exchanges, busy.count, part.few);
-      stops = part.stops;
-      called = ap (λ (l : List Call). l ++ (flat_map exchange_calls part.exchanges ++ stop_calls part.stop))
-          (said.called ∙ ap (λ (s : Stop). flat_map exchange_calls said.exchanges ++ stop_calls s) busy.stopped
-          ∙ append-nil (flat_map exchange_calls said.exchanges))
-          ∙ sym (append_assoc (flat_map exchange_calls said.exchanges) (flat_map exchange_calls part.exchanges) (stop_calls part.stop))
-          ∙ ap (λ (l : List Call). l ++ stop_calls part.stop) (sym (flat_map-append exchange_calls said.exchanges part.exchanges));
-      replies = replies;
-      is_at = is_at;
-    }
+          asked : (method : Method) (target : List ℕ) (used : Use) → IsNow method target used → IsAskedAt seconds used
+          asked method target used is = (now method target used is).1
 
-    -- what was sent, and what a whole part made, are the replies
-    made_replies :
-        (talk : Talk) (sent left made : List ℕ) (exchanges : List Exchange) (stop : Stop) (rest unread : List ℕ)
-        (IsEnd : ℕ → Stop → List ℕ → Type 0) (before behind : D) → IsBusy talk sent exchanges stop rest unread →
-        (part : Serves IsFit steps kind talk.begun IsEnd true [] (Some talk.kept.items) (Some left) (Some []) (Some made) before behind) →
-        sent ++ made ≡ all_replies kind (exchanges ++ part.exchanges) part.stop
-    made_replies talk sent left made exchanges stop rest unread IsEnd before behind busy part =
-        let same : talk.begun + length part.exchanges ≡ length (exchanges ++ part.exchanges) =
-        omega (arith, busy.count, length-append exchanges part.exchanges) in
-        let after = stop_bytes kind (talk.begun + length part.exchanges == 999) part.stop in
-        ap (λ (l : List ℕ). l ++ made) busy.all_sent
-        ∙ ap (λ (l : List ℕ). flat_map (open_reply kind) exchanges ++ l) part.written
-        ∙ sym (append_assoc (flat_map (open_reply kind) exchanges) (flat_map (open_reply kind) part.exchanges) after)
-        ∙ ap (λ (l : List ℕ). l ++ after) (sym (flat_map-append (open_reply kind) exchanges part.exchanges))
-        ∙ ap (λ (n : ℕ). flat_map (open_reply kind) (exchanges ++ part.exchanges) ++ stop_bytes kind (n == 999) part.stop) same
+          -- all messages have come
+          came : length (flat_map exchange_bytes said.exchanges) + length (flat_map exchange_bytes part.exchanges ++ part.rest) ≤ length received
+          came = omega (
+            arith,
+            ap length said.cut,
+            length-append (flat_map exchange_bytes said.exchanges) (said.rest ++ said.unread),
+            ap length (sym busy.kept ∙ part.consumed ∙ ap (λ (l : List ℕ). l ++ left) part.cut),
+            length-append (flat_map exchange_bytes part.exchanges ++ part.rest) left,
+          )
 
-    -- the connection after what was left
-    pub left_on :
-        (talk next : Talk) (before behind : D) (left : After) → talk.stage ≡ stage.Busy → pending talk ≡ [] →
-        Leaves IsFit steps kind talk.begun talk.kept.items before behind left → IsApplied talk left next →
-        GoesOn IsFit steps kind talk before next behind
-    left_on talk next before behind (after.Open opened) busy none (left, part) (stage_is, begun_is, kept_is, waits) =
-        let (one, more, kept_new, begun_new) = part.ends in (
-          flat_map exchange_calls part.exchanges ++ stop_calls part.stop,
-          part.calls,
-          λ received sent calls said.
-              let is_busy = busy_of talk received sent calls busy none said in
-              extended talk next received sent left calls _ true (Some []) (Some opened.made.items) before behind said is_busy part
-              (subst (λ (at : Stage). AreReplies at sent (pending next) (all_replies kind (said.exchanges ++ part.exchanges) part.stop)) (sym stage_is)
-              (ap (λ (l : List ℕ). sent ++ l) waits
-              ∙ made_replies talk sent left opened.made.items said.exchanges said.stop said.rest said.unread _ before behind is_busy part))
-              (subst (λ (at : Stage). IsAt at next.begun next.kept.items next.need (length (said.exchanges ++ part.exchanges)) part.stop part.rest left) (sym stage_is) (
-                more,
-                omega (arith, begun_is, begun_new, one, is_busy.count, length-append said.exchanges part.exchanges),
-                kept_is ∙ kept_new,
-              )),
-        )
-    left_on talk next before behind (after.Sends started) busy none part (stage_is, begun_is, kept_is, waits) =
-        let (zero_count, counts, sends) = part.ends in (
-          flat_map exchange_calls part.exchanges ++ stop_calls part.stop,
-          part.calls,
-          λ received sent calls said.
-              let is_busy = busy_of talk received sent calls busy none said in
-              let same : talk.begun ≡ length (said.exchanges ++ part.exchanges) =
-              omega (arith, is_busy.count, zero_count, length-append said.exchanges part.exchanges) in
-              extended talk next received sent started.kept.items calls _ true (Some []) (Some started.made.items) before behind said is_busy part
-              (subst (λ (at : Stage). AreReplies at sent (pending next) (all_replies kind (said.exchanges ++ part.exchanges) part.stop)) (sym stage_is)
-              (ap (λ (l : List ℕ). sent ++ l) waits
-              ∙ made_replies talk sent started.kept.items started.made.items said.exchanges said.stop said.rest said.unread _ before behind is_busy part))
-              (subst (λ (at : Stage). IsAt at next.begun next.kept.items next.need (length (said.exchanges ++ part.exchanges)) part.stop part.rest started.kept.items) (sym stage_is) (
-                (λ stays. begun_is ∙ counts stays ∙ ap (λ (n : ℕ). n + 1) same),
-                kept_is,
-                subst (λ (n : ℕ). SendsFor (n == 999) started.sending part.stop part.rest) same sends,
-              )),
-        )
-    left_on talk next before behind (after.Over made) busy none (left, part) (stage_is, waits) =
-        let (zero_count, (how, ends), one) = part.ends in (
-          flat_map exchange_calls part.exchanges ++ stop_calls part.stop,
-          part.calls,
-          λ received sent calls said.
-              let is_busy = busy_of talk received sent calls busy none said in
-              let same : talk.begun ≡ length (said.exchanges ++ part.exchanges) =
-              omega (arith, is_busy.count, zero_count, length-append said.exchanges part.exchanges) in
-              extended talk next received sent left calls _ true (Some []) (Some made.items) before behind said is_busy part
-              (subst (λ (at : Stage). AreReplies at sent (pending next) (all_replies kind (said.exchanges ++ part.exchanges) part.stop)) (sym stage_is)
-              (ap (λ (l : List ℕ). sent ++ l) waits
-              ∙ made_replies talk sent left made.items said.exchanges said.stop said.rest said.unread _ before behind is_busy part))
-              (subst (λ (at : Stage). IsAt at next.begun next.kept.items next.need (length (said.exchanges ++ part.exchanges)) part.stop part.rest left) (sym stage_is)
-              (how, subst (λ (n : ℕ). Ends (n == 999) (Some left) part.stop part.rest how) same ends, one)),
-        )
-    left_on talk next before behind after.Lost busy none (left, made, whole, part) (stage_is, waits) = (
-      flat_map exchange_calls part.exchanges ++ stop_calls part.stop,
-      part.calls,
-      λ received sent calls said.
-          let is_busy = busy_of talk received sent calls busy none said in
-          let after = stop_bytes kind (length (said.exchanges ++ part.exchanges) == 999) part.stop in
-          extended talk next received sent left calls _ _ (Some []) (Some made) before behind said is_busy part
-          (subst (λ (at : Stage). AreReplies at sent (pending next) (all_replies kind (said.exchanges ++ part.exchanges) part.stop)) (sym stage_is) (
-            waits ∙ none,
-            (
-              flat_map (open_reply kind) part.exchanges ++ after,
-              ap (λ (l : List ℕ). l ++ after) (flat_map-append (open_reply kind) said.exchanges part.exchanges)
-                  ∙ append_assoc (flat_map (open_reply kind) said.exchanges) (flat_map (open_reply kind) part.exchanges) after
-                  ∙ ap (λ (l : List ℕ). l ++ (flat_map (open_reply kind) part.exchanges ++ after)) (sym is_busy.all_sent),
-            ),
-          ))
-          (subst (λ (at : Stage). IsAt at next.begun next.kept.items next.need (length (said.exchanges ++ part.exchanges)) part.stop part.rest left) (sym stage_is) tt),
-    )
+      -- what was sent, and what a whole part made, are the replies
+      made_replies :
+          (talk : Talk) (sent left made : List ℕ) (exchanges : List Exchange) (stop : Stop) (rest unread : List ℕ)
+          (IsEnd : ℕ → Stop → List ℕ → Type 0) (before behind : D) → IsBusy talk sent exchanges stop rest unread →
+          (part : Serves IsNow steps kind talk.begun IsEnd true [] (Some talk.kept.items) (Some left) (Some []) (Some made) before behind) →
+          sent ++ made ≡ all_replies kind (exchanges ++ part.exchanges) part.stop
+      made_replies talk sent left made exchanges stop rest unread IsEnd before behind busy part =
+          let same : talk.begun + length part.exchanges ≡ length (exchanges ++ part.exchanges) =
+          omega (arith, busy.count, length-append exchanges part.exchanges) in
+          let after = stop_bytes kind (talk.begun + length part.exchanges == 999) part.stop in
+          ap (λ (l : List ℕ). l ++ made) busy.all_sent
+          ∙ ap (λ (l : List ℕ). flat_map (open_reply kind) exchanges ++ l) part.written
+          ∙ sym (append_assoc (flat_map (open_reply kind) exchanges) (flat_map (open_reply kind) part.exchanges) after)
+          ∙ ap (λ (l : List ℕ). l ++ after) (sym (flat_map-append (open_reply kind) exchanges part.exchanges))
+          ∙ ap (λ (n : ℕ). flat_map (open_reply kind) (exchanges ++ part.exchanges) ++ stop_bytes kind (n == 999) part.stop) same
+
+      -- the connection after what was left
+      pub left_on :
+          (talk next : Talk) (before behind : D) (left : After) → talk.stage ≡ stage.Busy → pending talk ≡ [] →
+          Leaves IsNow steps kind talk.begun talk.kept.items before behind left → IsApplied talk left next →
+          GoesOn IsFit steps kind seconds talk before next behind
+      left_on talk next before behind (after.Open opened) busy none (left, part) (stage_is, begun_is, kept_is, waits) =
+          let (one, more, kept_new, begun_new) = part.ends in (
+            flat_map exchange_calls part.exchanges ++ stop_calls part.stop,
+            part.calls,
+            λ received sent moments calls said.
+                let is_busy = busy_of moments talk received sent calls busy none said in
+                extended moments talk next received sent left calls _ true (Some []) (Some opened.made.items) before behind said is_busy part
+                (subst (λ (at : Stage). AreReplies at sent (pending next) (all_replies kind (said.exchanges ++ part.exchanges) part.stop)) (sym stage_is)
+                (ap (λ (l : List ℕ). sent ++ l) waits
+                ∙ made_replies talk sent left opened.made.items said.exchanges said.stop said.rest said.unread _ before behind is_busy part))
+                (subst (λ (at : Stage). IsAt at next.begun next.kept.items next.need (length (said.exchanges ++ part.exchanges)) part.stop part.rest left) (sym stage_is) (
+                  more,
+                  omega (arith, begun_is, begun_new, one, is_busy.count, length-append said.exchanges part.exchanges),
+                  kept_is ∙ kept_new,
+                )),
+          )
+      left_on talk next before behind (after.Sends started) busy none part (stage_is, begun_is, kept_is, waits) =
+          let (zero_count, counts, sends) = part.ends in (
+            flat_map exchange_calls part.exchanges ++ stop_calls part.stop,
+            part.calls,
+            λ received sent moments calls said.
+                let is_busy = busy_of moments talk received sent calls busy none said in
+                let same : talk.begun ≡ length (said.exchanges ++ part.exchanges) =
+                omega (arith, is_busy.count, zero_count, length-append said.exchanges part.exchanges) in
+                extended moments talk next received sent started.kept.items calls _ true (Some []) (Some started.made.items) before behind said is_busy part
+                (subst (λ (at : Stage). AreReplies at sent (pending next) (all_replies kind (said.exchanges ++ part.exchanges) part.stop)) (sym stage_is)
+                (ap (λ (l : List ℕ). sent ++ l) waits
+                ∙ made_replies talk sent started.kept.items started.made.items said.exchanges said.stop said.rest said.unread _ before behind is_busy part))
+                (subst (λ (at : Stage). IsAt at next.begun next.kept.items next.need (length (said.exchanges ++ part.exchanges)) part.stop part.rest started.kept.items) (sym stage_is) (
+                  (λ stays. begun_is ∙ counts stays ∙ ap (λ (n : ℕ). n + 1) same),
+                  kept_is,
+                  subst (λ (n : ℕ). SendsFor (n == 999) started.sending part.stop part.rest) same sends,
+                )),
+          )
+      left_on talk next before behind (after.Over made) busy none (left, part) (stage_is, waits) =
+          let (zero_count, (how, ends), one) = part.ends in (
+            flat_map exchange_calls part.exchanges ++ stop_calls part.stop,
+            part.calls,
+            λ received sent moments calls said.
+                let is_busy = busy_of moments talk received sent calls busy none said in
+                let same : talk.begun ≡ length (said.exchanges ++ part.exchanges) =
+                omega (arith, is_busy.count, zero_count, length-append said.exchanges part.exchanges) in
+                extended moments talk next received sent left calls _ true (Some []) (Some made.items) before behind said is_busy part
+                (subst (λ (at : Stage). AreReplies at sent (pending next) (all_replies kind (said.exchanges ++ part.exchanges) part.stop)) (sym stage_is)
+                (ap (λ (l : List ℕ). sent ++ l) waits
+                ∙ made_replies talk sent left made.items said.exchanges said.stop said.rest said.unread _ before behind is_busy part))
+                (subst (λ (at : Stage). IsAt at next.begun next.kept.items next.need (length (said.exchanges ++ part.exchanges)) part.stop part.rest left) (sym stage_is)
+                (how, subst (λ (n : ℕ). Ends (n == 999) (Some left) part.stop part.rest how) same ends, one)),
+          )
+      left_on talk next before behind after.Lost busy none (left, made, whole, part) (stage_is, waits) = (
+        flat_map exchange_calls part.exchanges ++ stop_calls part.stop,
+        part.calls,
+        λ received sent moments calls said.
+            let is_busy = busy_of moments talk received sent calls busy none said in
+            let after = stop_bytes kind (length (said.exchanges ++ part.exchanges) == 999) part.stop in
+            extended moments talk next received sent left calls _ _ (Some []) (Some made) before behind said is_busy part
+            (subst (λ (at : Stage). AreReplies at sent (pending next) (all_replies kind (said.exchanges ++ part.exchanges) part.stop)) (sym stage_is) (
+              waits ∙ none,
+              (
+                flat_map (open_reply kind) part.exchanges ++ after,
+                ap (λ (l : List ℕ). l ++ after) (flat_map-append (open_reply kind) said.exchanges part.exchanges)
+                    ∙ append_assoc (flat_map (open_reply kind) said.exchanges) (flat_map (open_reply kind) part.exchanges) after
+                    ∙ ap (λ (l : List ℕ). l ++ (flat_map (open_reply kind) part.exchanges ++ after)) (sym is_busy.all_sent),
+              ),
+            ))
+            (subst (λ (at : Stage). IsAt at next.begun next.kept.items next.need (length (said.exchanges ++ part.exchanges)) part.stop part.rest left) (sym stage_is) tt),
+      )

@@ -1,7 +1,8 @@
 mod PartLemmas
 mod TalkLemmas
+mod MomentLemmas
+mod WiderLemmas
 mod LeavesLemmas
 mod FoundLemmas
 mod RejectLemmas
-mod WiderLemmas
 mod SendLemmas

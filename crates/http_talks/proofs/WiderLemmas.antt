@@ -14,52 +14,30 @@ use Rattle.http_talks.specs.declared.outcome.After.TheVariants as after
 use Rattle.http_talks.specs.declared.talk.Stage.TheVariants as stage
 use Rattle.http_talks.specs.declared.talk.Talk.{Talk}
 
+-- uses that fit, of which each fits otherwise, too
+module _
+    (IsNow IsFit : Method → List ℕ → Use → Type 0)
+    (wider : (method : Method) (target : List ℕ) (used : Use) → IsNow method target used → IsFit method target used)
+  where
+    exchange_wider : (e : Exchange) → IsExchange IsNow e → IsExchange IsFit e
+    exchange_wider e is =
+        record { head = is.head; short = is.short; framed = is.framed; fits = wider _ _ e.used is.fits }
+
+    pub all_wider : (exchanges : List Exchange) → AllByRecursion (IsOpen IsNow) exchanges → AllByRecursion (IsOpen IsFit) exchanges
+    all_wider [] all = tt
+    all_wider (e ∷ exchanges) (here, all) =
+        (record { exchange = exchange_wider e here.exchange; stays = here.stays; whole = here.whole }, all_wider exchanges all)
+
+    pub stops_wider : (stop : Stop) (rest : List ℕ) → StopsAt IsNow stop rest → StopsAt IsFit stop rest
+    stops_wider More rest stops = tt
+    stops_wider Waits rest stops = stops
+    stops_wider Bad rest stops = stops
+    stops_wider Long rest stops = stops
+    stops_wider (Refuses head status) rest stops = stops
+    stops_wider (Last e) rest (others, cut, exchange) = (others, cut, exchange_wider e exchange)
+
 module _ (IsFit : Method → List ℕ → Use → Type 0) where
-  exchange_wider : (e : Exchange) → IsExchange (AtOnce IsFit) e → IsExchange IsFit e
-  exchange_wider e is = record { head = is.head; short = is.short; framed = is.framed; fits = is.fits.0 }
-
-  all_wider : (exchanges : List Exchange) → AllByRecursion (IsOpen (AtOnce IsFit)) exchanges → AllByRecursion (IsOpen IsFit) exchanges
-  all_wider [] all = tt
-  all_wider (e ∷ exchanges) (here, all) =
-      (record { exchange = exchange_wider e here.exchange; stays = here.stays; whole = here.whole }, all_wider exchanges all)
-
-  stops_wider : (stop : Stop) (rest : List ℕ) → StopsAt (AtOnce IsFit) stop rest → StopsAt IsFit stop rest
-  stops_wider More rest stops = tt
-  stops_wider Waits rest stops = stops
-  stops_wider Bad rest stops = stops
-  stops_wider Long rest stops = stops
-  stops_wider (Refuses head status) rest stops = stops
-  stops_wider (Last e) rest (others, cut, exchange) = (others, cut, exchange_wider e exchange)
-
   module _ {D : Type 0} (steps : D → Call → D → Type 0) (kind : List ℕ) (start : ℕ) (kept : List ℕ) (before behind : D) where
-    makes_wider :
-        (IsEnd : ℕ → Stop → List ℕ → Type 0) (whole : Bool) (left made : List ℕ) →
-        Makes (AtOnce IsFit) steps kind start IsEnd whole kept left made before behind →
-        Makes IsFit steps kind start IsEnd whole kept left made before behind
-    makes_wider IsEnd whole left made part = record {
-      given = part.given;
-      exchanges = part.exchanges;
-      stop = part.stop;
-      rest = part.rest;
-      consumed = part.consumed;
-      cut = part.cut;
-      each = all_wider part.exchanges part.each;
-      few = part.few;
-      stops = stops_wider part.stop part.rest part.stops;
-      written = part.written;
-      calls = part.calls;
-      ends = part.ends;
-    }
-
-    -- what is left, of any uses that fit
-    pub leaves_wider :
-        (left : After) → Leaves (AtOnce IsFit) steps kind start kept before behind left →
-        Leaves IsFit steps kind start kept before behind left
-    leaves_wider (after.Open opened) (left, part) = (left, makes_wider _ true left opened.made.items part)
-    leaves_wider (after.Sends started) part = makes_wider _ true started.kept.items started.made.items part
-    leaves_wider (after.Over made) (left, part) = (left, makes_wider _ true left made.items part)
-    leaves_wider after.Lost (left, made, whole, part) = (left, made, whole, makes_wider EndsAnyhow whole left made part)
-
     -- the same part, whatever its end
     anyhow :
         (IsFits : Method → List ℕ → Use → Type 0) (IsEnd : ℕ → Stop → List ℕ → Type 0) (left made : List ℕ) →

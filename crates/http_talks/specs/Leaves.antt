@@ -14,6 +14,8 @@ use Rattle.values.specs.declared.declared.Declared.{Declared}
 use Rattle.http_sessions.specs.declared.ends.End.{End}
 use Rattle.http_sessions.specs.Stops.{Ends, More, Stop, begun, end_after}
 use Rattle.http_sessions.specs.Sessions.{Serves}
+use Rattle.http_ports.specs.Traffic.{later}
+use Rattle.http_ports.specs.declared.moment.Moment.{Moment}
 use Rattle.http_talks.specs.Talks.{Said, SendsFor, is_lost, pending}
 use Rattle.http_talks.specs.declared.outcome.After.{After}
 use Rattle.http_talks.specs.declared.outcome.After.TheVariants as after
@@ -111,13 +113,14 @@ IsApplied old (after.Sends started) new =
 IsApplied old (after.Over made) new = (new.stage ≡ stage.Over) × (pending new ≡ made.items)
 IsApplied old after.Lost new = (new.stage ≡ stage.Lost) × (pending new ≡ pending old)
 
--- the desk was called, and what is said then is what was said before, and for these calls
+-- the desk was called at this timestamp, and what is said then is what was said before, and for these calls
 abbrev pub GoesOn :
-    {D : Type 0} → (Method → List ℕ → Use → Type 0) → (D → Call → D → Type 0) → List ℕ → Talk → D → Talk → D → Type 0
-GoesOn IsFit steps kind old before new behind =
+    {D : Type 0} → (Method → List ℕ → Use → Type 0) → (D → Call → D → Type 0) → List ℕ → ℕ → Talk → D → Talk → D → Type 0
+GoesOn IsFit steps kind seconds old before new behind =
     (calls : List Call) × Leads steps before calls behind
-    × ((received sent : List ℕ) (made : List Call) →
-    Said IsFit kind old received sent made → Said IsFit kind new received sent (made ++ calls))
+    × ((received sent : List ℕ) (moments : List Moment) (made : List Call) →
+    Said IsFit kind moments old received sent made →
+    Said IsFit kind (later moments seconds received sent) new received sent (made ++ calls))
 
 -- what a step of a busy connection made, unless memory ran out: a part of the session, without a block of a package
 abbrev pub MakesAtOnce :

@@ -1,4 +1,5 @@
 pub mod Leaves
+pub mod Moments
 pub mod Ports
 pub mod Sends
 pub mod Talks

@@ -3,12 +3,12 @@
 ghost use Rattle.std.specs.Prelude.{◌≡◌, ◌<◌, ℕ, None, length, vec_len, IfOk};
 ghost use Rattle.http_desks.specs.Uses.{IsUse};
 ghost use Rattle.http_ports.specs.Loops.{kept_at};
-ghost use Rattle.http_ports.specs.Traffic.{unused};
+ghost use Rattle.http_ports.specs.Traffic.{IsTime, unused};
 ghost use Rattle.http_talks.specs.Ports.{HasTalked};
 
 use crate::talks::Talks;
 use crate::watched::{Watched, WatchedTalks};
-use http_desks::{Clock, Desk, Packages};
+use http_desks::{Desk, Packages};
 use http_ports::{Port, WatchEach, run};
 use http_sessions::Buffers;
 use std::alloc::{AllocError, Global};
@@ -67,7 +67,7 @@ impl<S: Drop> Connections<S> {
 ///
 /// The port is a new one, and there is room for as many connections as it may hold. Serving takes memory for what a
 /// connection waits to have whole and for its replies, and for nothing else.
-pub fn serve_port<P: Port, Z: Packages + Clock, V: WatchEach, D: Desk, R: Wait + AllocGlobal>(
+pub fn serve_port<P: Port, Z: Packages, V: WatchEach, D: Desk, R: Wait + AllocGlobal>(
     rt: &R,
     port: &mut P,
     site: &Z,
@@ -78,8 +78,7 @@ pub fn serve_port<P: Port, Z: Packages + Clock, V: WatchEach, D: Desk, R: Wait +
     requires fresh { (k : ℕ) → P.slots port.old k ≡ unused }
     requires none { P.accepted port.old ≡ 0 }
     requires many { connections ≡ (P.terms port.old).capacity }
-    ensures served { HasTalked (IsUse (D.path desk.old) (Z.tells site.now) (Z.sizes site.now)
-        (Z.reads site.now)) (D.content_type desk.old) D.steps desk.old desk.new
+    ensures served { HasTalked (IsUse (D.path desk.old) IsTime (Z.sizes site.now) (Z.reads site.now)) (D.content_type desk.old) D.steps desk.old desk.new
         (record { terms = P.terms port.new; slots = P.slots port.new; accepted = P.accepted port.new; lost = result }) }
     ensures over { P.is_over port.new }
     ensures terms { P.terms port.new ≡ P.terms port.old }

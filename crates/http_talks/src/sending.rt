@@ -6,7 +6,7 @@ ghost use Rattle.http_talks.specs.Talks.{pending};
 ghost use Rattle.http_talks.specs.declared.talk.Stage.TheVariants as stage;
 
 use crate::talk::{Sending, Stage, Talk};
-use http_desks::{BLOCK, Clock, NextBlock, Packages};
+use http_desks::{BLOCK, NextBlock, Packages};
 use std::alloc::Global;
 use std::mem;
 
@@ -40,9 +40,9 @@ fn stage_after(closes: bool) -> Stage
 // rule: Block of a package
 // Makes the next block of the package that is sent, once the one before is sent; after the last one the session goes on
 // or ends. A package that is not whole ends it.
-pub(crate) fn send_on<Z: Packages + Clock>(alloc: Global, site: &Z, talk: &mut Talk)
+pub(crate) fn send_on<Z: Packages>(alloc: Global, site: &Z, talk: &mut Talk)
     requires { pending talk.old ≡ [] }
-    ensures sends { Sends (Z.tells site.now) (Z.sizes site.now) (Z.reads site.now) talk.old talk.new }
+    ensures sends { Sends (Z.sizes site.now) (Z.reads site.now) talk.old talk.new }
     ensures block { length (pending talk.new) ≤ 65536 }
 {
     let old = mem::replace(&mut talk.stage, Stage::Lost);

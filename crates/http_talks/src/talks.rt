@@ -2,15 +2,18 @@ ghost use Rattle.std.specs.Prelude.{◌≡◌, ◌⊎◌, ◌++◌, ◌<◌, ◌
 ghost use Rattle.http_desks.specs.Calls.{Call, Leads};
 ghost use Rattle.http_desks.specs.Uses.{IsUse};
 ghost use Rattle.http_ports.specs.Speech.{IsNext, Waiting};
+ghost use Rattle.http_ports.specs.Traffic.{IsTime};
+ghost use Rattle.http_ports.specs.declared.moment.Moment.{Moment};
 ghost use Rattle.http_talks.specs.Leaves.{GoesOn, IsApplied, MakesAtOnce};
 ghost use Rattle.http_talks.specs.Talks.{IsSending, Said, is_lost, pending, phase_of};
 ghost use Rattle.http_talks.specs.declared.talk.Stage.TheVariants as stage;
 
+use crate::at::At;
 use crate::outcome::After;
 use crate::replying::{reject, reply};
 use crate::sending::send_on;
 use crate::talk::{Stage, Talk};
-use http_desks::{Clock, Desk, Packages};
+use http_desks::{Desk, Packages};
 use http_ports::{Next, Protocol};
 use http_sessions::{Buffers, Foreseen};
 use std::alloc::Global;
@@ -21,7 +24,7 @@ use std::net::IpAddr;
 pub struct Talks<'a, Z> {
     /// The memory of connections.
     pub alloc: Global,
-    /// The packages and the clock.
+    /// The packages.
     pub site: &'a Z,
 }
 
@@ -83,8 +86,9 @@ fn apply(alloc: Global, talk: &mut Talk, after: After)
     }
 }
 
-impl<Z: Packages + Clock> Protocol for Talks<'_, Z> {
+impl<Z: Packages> Protocol for Talks<'_, Z> {
     ghost use Rattle.http_desks.specs.Uses.{IsUse};
+    ghost use Rattle.http_ports.specs.Traffic.{IsTime};
     ghost use Rattle.http_talks.specs.Talks.{Said, is_lost, pending, phase_of};
 
     type Conn = Talk;
@@ -98,7 +102,7 @@ impl<Z: Packages + Clock> Protocol for Talks<'_, Z> {
     ghost is_lost = { λ talk. is_lost talk.stage };
 
     ghost so_far = { λ talks path kind.
-        Said (IsUse path (Z.tells talks.site.now) (Z.sizes talks.site.now) (Z.reads talks.site.now)) kind };
+        Said (IsUse path IsTime (Z.sizes talks.site.now) (Z.reads talks.site.now)) kind };
 
     fn open(&self, _peer: Option<IpAddr>) -> Talk {
         Talk {
@@ -138,12 +142,13 @@ impl<Z: Packages + Clock> Protocol for Talks<'_, Z> {
         }
     }
 
-    fn go_on<D: Desk>(&self, room: &mut Buffers, talk: &mut Talk, desk: &mut D) -> Next
-        requires { pending talk.old ≡ [] }
+    fn go_on<D: Desk>(&self, room: &mut Buffers, talk: &mut Talk, desk: &mut D, moment: u64) -> Next
+        requires sent { pending talk.old ≡ [] }
+        requires time { IsTime moment }
         ensures next { IsNext result (pending talk.new) (phase_of talk.new.stage) }
-        ensures calls { GoesOn (IsUse (D.path desk.old) (Z.tells self.now.site.now) (Z.sizes self.now.site.now) (Z.reads self.now.site.now))
-            D.steps (D.content_type desk.old) talk.old desk.old talk.new desk.new }
-        ensures at_once { MakesAtOnce (IsUse (D.path desk.old) (Z.tells self.now.site.now) (Z.sizes self.now.site.now) (Z.reads self.now.site.now))
+        ensures calls { GoesOn (IsUse (D.path desk.old) IsTime (Z.sizes self.now.site.now) (Z.reads self.now.site.now))
+            D.steps (D.content_type desk.old) moment talk.old desk.old talk.new desk.new }
+        ensures at_once { MakesAtOnce (IsUse (D.path desk.old) (λ seconds. seconds ≡ moment) (Z.sizes self.now.site.now) (Z.reads self.now.site.now))
             D.steps (D.content_type desk.old) talk.old desk.old talk.new desk.new }
         ensures block { IsSending talk.old.stage → length (pending talk.new) ≤ 65536 }
         ensures path { D.path desk.new ≡ D.path desk.old }
@@ -166,8 +171,12 @@ impl<Z: Packages + Clock> Protocol for Talks<'_, Z> {
                     Next::Waits
                 }
                 Foreseen::Whole(found) => {
+                    let site = At {
+                        site: self.site,
+                        moment,
+                    };
                     let after = reply(
-                        self.alloc, room, self.site, talk.begun, &talk.kept, &found, desk,
+                        self.alloc, room, &site, talk.begun, &talk.kept, &found, desk,
                     );
                     apply(self.alloc, talk, after);
                     next_of(talk)

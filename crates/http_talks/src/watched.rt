@@ -2,7 +2,7 @@ ghost use Rattle.std.specs.Prelude.{◌≡◌, ◌++◌, ◌≤◌, ℕ, List, [
 
 use crate::talk::{Stage, Talk};
 use crate::talks::Talks;
-use http_desks::{Clock, Desk, Packages};
+use http_desks::{Desk, Packages};
 use http_ports::{Next, Protocol, WatchEach};
 use http_sessions::Buffers;
 use std::net::IpAddr;
@@ -28,8 +28,9 @@ pub struct WatchedTalks<'a, 'w, Z, V> {
     pub watch: &'w V,
 }
 
-impl<Z: Packages + Clock, V: WatchEach> Protocol for WatchedTalks<'_, '_, Z, V> {
+impl<Z: Packages, V: WatchEach> Protocol for WatchedTalks<'_, '_, Z, V> {
     ghost use Rattle.http_desks.specs.Uses.{IsUse};
+    ghost use Rattle.http_ports.specs.Traffic.{IsTime};
     ghost use Rattle.http_talks.specs.Talks.{Said, is_lost, pending, phase_of};
 
     type Conn = Watched<V::Seen>;
@@ -42,8 +43,8 @@ impl<Z: Packages + Clock, V: WatchEach> Protocol for WatchedTalks<'_, '_, Z, V> 
 
     ghost is_lost = { λ conn. is_lost conn.talk.stage };
 
-    ghost so_far = { λ watched path kind conn.
-        Said (IsUse path (Z.tells watched.talks.site.now) (Z.sizes watched.talks.site.now) (Z.reads watched.talks.site.now)) kind conn.talk };
+    ghost so_far = { λ watched path kind moments conn.
+        Said (IsUse path IsTime (Z.sizes watched.talks.site.now) (Z.reads watched.talks.site.now)) kind moments conn.talk };
 
     fn open(&self, peer: Option<IpAddr>) -> Watched<V::Seen> {
         Watched {
@@ -81,10 +82,11 @@ impl<Z: Packages + Clock, V: WatchEach> Protocol for WatchedTalks<'_, '_, Z, V> 
         room: &mut Buffers,
         conn: &mut Watched<V::Seen>,
         desk: &mut D,
+        moment: u64,
     ) -> Next {
         if matches!(conn.talk.stage, Stage::Busy) {
             self.watch.begins(&mut conn.seen, &conn.talk.kept);
         }
-        self.talks.go_on(room, &mut conn.talk, desk)
+        self.talks.go_on(room, &mut conn.talk, desk, moment)
     }
 }

@@ -6,6 +6,7 @@ use Rattle.catalogue_laws.specs.Histories.{History}
 use Rattle.http_desks.specs.Calls.{Call, Asks, Looks, Shows}
 use Rattle.http_desks.specs.Uses.{IsUse}
 use Rattle.http_ports.specs.Rounds.{all_calls}
+use Rattle.http_ports.specs.Traffic.{IsTime}
 use Rattle.http_ports.specs.declared.terms.Terms.{Terms}
 use Rattle.http_talks.specs.Ports.{HasTalked, Passage}
 use Rattle.kept_records.specs.declared.record.Record.{Record}
@@ -19,7 +20,7 @@ use Rattle.service_desks.specs.Workers.{IsCall, Progress}
 use Rattle.streams.specs.Streams.{Known}
 use Rattle.streams.specs.Writing.{Breaks}
 use Rattle.service_desks.specs.Asking.{GrantsFirst}
-use Rattle.systems.specs.Edges.{Edges, IsTime}
+use Rattle.systems.specs.Edges.{Edges}
 use Rattle.omaha_server.specs.Checks.{ChecksCall, IsStopped, LeadsPast, sizes_at}
 use Rattle.omaha_server.specs.Opening.{IsOperatorsPort, client_terms, clients_listener, operator_listener, ready_line}
 use Rattle.omaha_server.specs.Outcomes.{status_word, stop_word}

@@ -5,7 +5,7 @@ ghost use Rattle.http_desks.specs.Calls.{Call};
 
 use http_desks::{Answer, Declared, Desk, DeskStatus, Off, Page};
 use http_memory::{Content, File, FixedClock, Shelf};
-use std::alloc::Global;
+use std::alloc::{AllocError, Global};
 
 // The SHA-256 of `abc`, as FIPS 180 has it.
 const ABC: [u8; 32] = [
@@ -95,7 +95,15 @@ pub(crate) const FILES: Shelf<'static> = Shelf {
     ],
 };
 
-/// Replies to each message to `/echo` with its body.
+// The body of a reply: that of the message, or the moment, if the message asks for it.
+fn echoed(alloc: Global, body: &[u8], moment: u64) -> Result<Vec<u8>, AllocError> {
+    if body == b"moment".as_slice() {
+        return Ok(format!(in alloc; "{moment}")?.into_bytes());
+    }
+    Vec::from_slice(alloc, body)
+}
+
+/// Replies to each message to `/echo` with its body, and to `moment` with the seconds at which it was asked.
 #[derive(Drop)]
 pub(crate) struct Echo {
     pub(crate) alloc: Global,
@@ -116,8 +124,8 @@ impl Desk for Echo {
         "text/plain"
     }
 
-    fn answer(&mut self, body: &[u8], _moment: u64) -> Result<Answer, Off> {
-        match Vec::from_slice(self.alloc, body) {
+    fn answer(&mut self, body: &[u8], moment: u64) -> Result<Answer, Off> {
+        match echoed(self.alloc, body, moment) {
             Ok(body) => Ok(Answer {
                 status: DeskStatus::Success,
                 body,

@@ -7,11 +7,9 @@ ghost use Rattle.port_scripts.specs.Seats.{accepted_in, slots_of};
 use crate::desk::{CLOCK, Echo, FILES};
 use crate::peers::script_of;
 use access_logs::{ReplyLog, Seen};
-use http_desks::Site;
 use http_ports::{Port, run};
 use http_sessions::Buffers;
 use http_talks::{Talks, Watched, WatchedTalks};
-use http_wire::Unwatched;
 use port_scripts::Script;
 use std::alloc::Global;
 use std::sync::Wait;
@@ -40,14 +38,13 @@ fn serve_logged<R: Wait + AllocGlobal>(
     requires two { vec_len script.old.seats ≡ 2 }
 {
     let alloc = rt.alloc();
-    let site = Site {
-        packages: &FILES,
-        clock: &CLOCK,
-        watch: &Unwatched,
-    };
+    let files = FILES;
     let log = ReplyLog::new(alloc, &CLOCK, lines);
     let talks = WatchedTalks {
-        talks: Talks { alloc, site: &site },
+        talks: Talks {
+            alloc,
+            site: &files,
+        },
         watch: &log,
     };
     let mut desk = Echo { alloc };

@@ -94,14 +94,17 @@ fn turns_of(alloc: Global, order: u32) -> Option<Vec<usize>> {
     Some(turns)
 }
 
-/// The script of a row, whose peers send pieces of this length, and have their first turns in this order.
+/// The script of a row, whose peers send pieces of this length, and have their first turns in this order. Its clock begins
+/// at 0, and goes on by a second each time that it is asked.
 pub(crate) fn script_of(alloc: Global, row: &str, piece: usize, order: u32) -> Option<Script>
     ensures fresh { IfSome result (λ script. (k : ℕ) → slots_of script.seats.items k ≡ unused) }
     ensures none { IfSome result (λ script. accepted_in script.seats.items ≡ 0) }
 {
     let seats = seats_of(alloc, row, piece)?;
     let turns = turns_of(alloc, order)?;
-    Script::new(seats, turns)
+    let mut script = Script::new(seats, turns)?;
+    script.step = 1;
+    Some(script)
 }
 
 // How the connection of a peer has ended.

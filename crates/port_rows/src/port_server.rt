@@ -1,8 +1,7 @@
 // A server of so many connections, one after the other, over a port with one slot.
 
 use crate::counter::Counter;
-use http_desks::Site;
-use http_memory::{FixedClock, Shelf};
+use http_memory::Shelf;
 use http_ports::Terms;
 use http_talks::{Connections, serve_port};
 use http_wire::Unwatched;
@@ -12,10 +11,8 @@ use std::net::{Net, TcpListener};
 use std::sync::{Arc, Wait};
 use std::time::Clock;
 
-// No package, and a clock that has stopped.
+// No package.
 const EMPTY: Shelf<'static> = Shelf { files: &[] };
-
-const STOPPED: FixedClock = FixedClock { seconds: 0 };
 
 /// A listener on the loopback for ports.
 pub(crate) fn listen_for_ports(rt: &HostRuntime) -> Option<TcpListener> {
@@ -41,12 +38,7 @@ fn serve_limited<R: Wait + Net + Clock + AllocGlobal>(
     let sign = EndSign::new(false);
     let mut port = MioPort::new(rt, listener, &sign, terms)?;
     let room = Connections::new(rt.alloc(), 1).ok()?;
-    let site = Site {
-        packages: &EMPTY,
-        clock: &STOPPED,
-        watch: &Unwatched,
-    };
-    Some(serve_port(rt, &mut port, &site, &Unwatched, room, desk))
+    Some(serve_port(rt, &mut port, &EMPTY, &Unwatched, room, desk))
 }
 
 /// Serves so many connections of a listener, each of which may be silent for a second, and returns how often the desk was

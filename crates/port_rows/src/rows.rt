@@ -4,13 +4,11 @@ ghost use Rattle.std.specs.Prelude.{◌≡◌, ℕ, vec_len};
 ghost use Rattle.http_ports.specs.Traffic.{unused};
 ghost use Rattle.port_scripts.specs.Seats.{accepted_in, slots_of};
 
-use crate::desk::{CLOCK, Echo, FILES};
+use crate::desk::{Echo, FILES};
 use crate::peers::{are_as_said, script_of};
-use http_desks::Site;
 use http_ports::{Port, run};
 use http_sessions::Buffers;
 use http_talks::{Talk, Talks};
-use http_wire::Unwatched;
 use port_scripts::Script;
 use std::sync::Wait;
 
@@ -21,12 +19,11 @@ fn serve<R: Wait + AllocGlobal>(rt: &R, room: &mut Buffers, script: &mut Script)
     requires two { vec_len script.old.seats ≡ 2 }
 {
     let alloc = rt.alloc();
-    let site = Site {
-        packages: &FILES,
-        clock: &CLOCK,
-        watch: &Unwatched,
+    let files = FILES;
+    let talks = Talks {
+        alloc,
+        site: &files,
     };
-    let talks = Talks { alloc, site: &site };
     let mut desk = Echo { alloc };
     let mut conns: [Option<Talk>; 2] = [None, None];
     run(

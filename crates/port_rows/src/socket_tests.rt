@@ -6,11 +6,9 @@ ghost use Rattle.std.specs.Prelude.{◌≡◌};
 use crate::desk::{CLOCK, Echo, FILES};
 use crate::lines::expand;
 use access_logs::{ReplyLog, Seen};
-use http_desks::Site;
 use http_ports::{Terms, run};
 use http_sessions::Buffers;
 use http_talks::{Talk, Talks, Watched, WatchedTalks};
-use http_wire::Unwatched;
 use mio_ports::{EndSign, Listener, MioPort};
 use std::alloc::Global;
 use std::io::{Read, Write};
@@ -76,12 +74,11 @@ fn serve<R: Wait + Net + Clock + AllocGlobal>(
     sign: &EndSign,
 ) -> Option<u64> {
     let alloc = rt.alloc();
-    let site = Site {
-        packages: &FILES,
-        clock: &CLOCK,
-        watch: &Unwatched,
+    let files = FILES;
+    let talks = Talks {
+        alloc,
+        site: &files,
     };
-    let talks = Talks { alloc, site: &site };
     let mut desk = Echo { alloc };
     let mut room = Buffers::new(alloc).ok()?;
     let mut conns: [Option<Talk>; 2] = [None, None];
@@ -151,14 +148,13 @@ fn serve_logged<R: Wait + Net + Clock + AllocGlobal>(
     lines: &mut Vec<u8>,
 ) -> Option<u64> {
     let alloc = rt.alloc();
-    let site = Site {
-        packages: &FILES,
-        clock: &CLOCK,
-        watch: &Unwatched,
-    };
+    let files = FILES;
     let log = ReplyLog::new(alloc, &CLOCK, lines);
     let talks = WatchedTalks {
-        talks: Talks { alloc, site: &site },
+        talks: Talks {
+            alloc,
+            site: &files,
+        },
         watch: &log,
     };
     let mut desk = Echo { alloc };

@@ -21,7 +21,7 @@ pub struct Script {
     pub turns: Vec<usize>,
     /// The slot that is looked at first once there are no more turns.
     pub next: usize,
-    /// The timestamp that it gives next, as long as that is below 2^63; else it gives 0.
+    /// The timestamp that it gives next, modulo 2^63.
     pub seconds: u64,
     /// How many seconds pass from one timestamp to the next.
     pub step: u64,
@@ -219,11 +219,7 @@ impl Port for Script {
     }
 
     fn moment(&mut self, slot: usize) -> u64 {
-        let seconds = if self.seconds < 1 << 63 {
-            self.seconds
-        } else {
-            0
-        };
+        let seconds = self.seconds % (1 << 63);
         self.seconds = seconds.saturating_add(self.step);
         self.seats[slot].tell(seconds);
         seconds

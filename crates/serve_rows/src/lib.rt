@@ -5,8 +5,8 @@
 #![tactic(auto)]
 
 #[cfg(test)]
-mod clock;
-#[cfg(test)]
 mod rooms;
 #[cfg(test)]
 mod served_tests;
+#[cfg(test)]
+mod turns;

@@ -3,18 +3,18 @@
 ghost use Rattle.std.specs.Prelude.{◌≡◌, All, IfOk, IfSome, map};
 ghost use Rattle.serve_rows.specs.NewScripts.{IsNewScript};
 
-use crate::clock::{Part, Turns};
-use http_desks::{Desk, Packages, Site};
+use crate::turns::{Part, Turns};
+use http_desks::{Desk, Packages};
 use http_ports::{Terms, WatchEach};
 use http_talks::{Connections, serve_port};
-use http_wire::{Failed, Unwatched};
+use http_wire::Failed;
 use port_scripts::{Peer, Script, Seat};
 use std::alloc::{AllocError, Global};
 use std::fs::File;
 use std::io;
 use std::io::ErrorKind;
 use std::sync::Wait;
-use std::sync::atomic::AtomicU64;
+use std::sync::atomic::{AtomicBool, AtomicU64};
 use std::time::Clock;
 use systems::{OpenError, System};
 
@@ -89,7 +89,9 @@ fn open_one(alloc: Global, terms: Terms) -> Option<Script>
     for sent in sent_at(&terms).split('|') {
         first.peers.push(peer_of(alloc, sent)?).ok()?;
     }
-    Script::with_terms(seats, Vec::new(alloc), terms)
+    let mut script = Script::with_terms(seats, Vec::new(alloc), terms)?;
+    script.seconds = 1767229261;
+    Some(script)
 }
 
 // A port of each of these terms.
@@ -157,17 +159,13 @@ impl<R: Clock + Wait + AllocGlobal> System<Script> for Rooms<'_, R> {
         desk: &mut D,
         watch: &V,
     ) -> u64 {
-        let clock = Turns {
+        let turns = Turns {
             clock: self.rt,
             stage: &self.stage,
             part: part_of(&port.terms),
-            messages: AtomicU64::new(0),
+            has_sent: AtomicBool::new(false),
+            watch,
         };
-        let site = Site {
-            packages: &NoFiles,
-            clock: &clock,
-            watch: &Unwatched,
-        };
-        serve_port(self.rt, port, &site, watch, room, desk)
+        serve_port(self.rt, port, &NoFiles, &turns, room, desk)
     }
 }

@@ -1,10 +1,6 @@
 -- What is known of the edges of a server; this project's profile.
-use Rattle.std.specs.Prelude.{◌<◌, ◌^◌, ℕ, List, Option}
+use Rattle.std.specs.Prelude.{ℕ, List, Option}
 use Rattle.http_desks.specs.Downloads.{Reads}
-
--- a time that the system's clock gives
-abbrev pub IsTime : ℕ → Type 0
-IsTime moment = moment < 2 ^ 63
 
 -- rule: Edges of a server
 -- which listener, by its number, is bound to an address; at which paths there is a folder; the size of a file, and what

@@ -4,11 +4,10 @@ ghost use Rattle.std.specs.Prelude.{◌≡◌, All, IfOk, map};
 ghost use Rattle.systems.specs.Sockets.{IsNewSocketPort};
 
 use crate::system::{OpenError, System};
-use http_desks::{Desk, Packages, Site};
-use http_devices::{Folder, SystemClock};
+use http_desks::{Desk, Packages};
+use http_devices::Folder;
 use http_ports::{Terms, WatchEach};
 use http_talks::{Connections, serve_port};
-use http_wire::Unwatched;
 use mio_ports::{EndSign, Listener, MioPort};
 use std::alloc::{AllocError, Global};
 use std::fs::{File, OpenOptions, Permissions};
@@ -272,11 +271,6 @@ where
     ) -> u64 {
         let rt: &'f R = self.rt;
         let packages = Folder::new(rt.alloc(), rt, folder);
-        let site = Site {
-            packages: &packages,
-            clock: &SystemClock::new(rt),
-            watch: &Unwatched,
-        };
-        serve_port(rt, port, &site, watch, room, desk)
+        serve_port(rt, port, &packages, watch, room, desk)
     }
 }

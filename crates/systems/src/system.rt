@@ -2,9 +2,8 @@
 
 ghost use Rattle.std.specs.Prelude.{◌≡◌, All, IfOk, IsTrue, ℕ, map};
 ghost use Rattle.http_desks.specs.Uses.{IsUse};
-ghost use Rattle.http_ports.specs.Traffic.{unused};
+ghost use Rattle.http_ports.specs.Traffic.{IsTime, unused};
 ghost use Rattle.http_talks.specs.Ports.{HasTalked};
-ghost use Rattle.systems.specs.Edges.{IsTime};
 ghost use Rattle.systems.specs.NewPorts.{IsNew};
 
 use http_desks::Desk;

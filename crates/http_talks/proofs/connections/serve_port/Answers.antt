@@ -1,5 +1,6 @@
 use Rattle.http_ports.specs.Loops.{counts_of}
 use Rattle.http_desks.specs.Uses.{IsUse}
+use Rattle.http_ports.specs.Traffic.{IsTime}
 use Rattle.http_talks.specs.Ports.{talk_speech}
 use Rattle.http_talks.proofs.PartLemmas.{HasServed-part}
 use Rattle.http_talks.proofs.connections.serve_port.Goals as goal
@@ -9,7 +10,7 @@ returns-clause-served g c =
     let (lost, is, served) = c.run.ensures.served in (
       lost,
       is,
-      HasServed-part (λ conn. conn.talk) (talk_speech (IsUse (g.D.Desk.path c.args.desk.now) (g.Z.Clock.tells c.args.site.now)
+      HasServed-part (λ conn. conn.talk) (talk_speech (IsUse (g.D.Desk.path c.args.desk.now) IsTime
           (g.Z.Packages.sizes c.args.site.now) (g.Z.Packages.reads c.args.site.now))
           (g.D.Desk.content_type c.args.desk.now)) g.D.Desk.steps c.args.desk.now c.run.new.desk
           (g.P.Port.slots c.run.new.port) (counts_of (g.P.Port.terms c.run.new.port).capacity (g.P.Port.accepted c.run.new.port) lost) served,

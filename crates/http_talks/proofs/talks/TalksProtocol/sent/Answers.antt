@@ -1,14 +1,15 @@
 use Rattle.std.proofs.Common.{refl, take}
 use Rattle.http_desks.specs.Uses.{IsUse}
+use Rattle.http_ports.specs.Traffic.{IsTime}
 use Rattle.http_talks.specs.Talks.{pending}
 use Rattle.http_talks.proofs.TalkLemmas.{Said-sent, drop-cut}
 use Rattle.http_talks.proofs.talks.TalksProtocol.sent.Goals as goal
 
 pub returns : goal.returns
 returns g c = record {
-  so_far = λ path kind received sent calls said.
-      Said-sent (IsUse path (g.Z.Clock.tells c.args.self.now.site.now) (g.Z.Packages.sizes c.args.self.now.site.now)
-      (g.Z.Packages.reads c.args.self.now.site.now)) kind c.args.talk.now _ received sent
+  so_far = λ path kind received sent moments calls said.
+      Said-sent (IsUse path IsTime (g.Z.Packages.sizes c.args.self.now.site.now)
+      (g.Z.Packages.reads c.args.self.now.site.now)) kind moments c.args.talk.now _ received sent
       (take c.args.count (pending c.args.talk.now)) calls refl refl refl refl
       (drop-cut c.args.talk.now.made.items c.args.talk.now.sent c.args.count) said;
 }

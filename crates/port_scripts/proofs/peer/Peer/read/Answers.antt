@@ -23,6 +23,13 @@ returns-clause-gives c =
         grind (arith, common_steps, c.min-count.ensures, c.min.ensures, c.max.ensures, c.if-self-len.false, c.len.ensures, peer.within, peer.input.ok),
         omega (arith, length-append c.copy_from_slice.new.self rest, long),
       );
-      traffic = ap (λ (bytes : List ℕ). record { received = bytes; sent = peer.got.items; last = Passed; expired = peer.expired }) came;
+      traffic = ap
+          (λ (bytes : List ℕ). record {
+            received = bytes;
+            sent = peer.got.items;
+            moments = peer.told;
+            last = Passed;
+            expired = peer.expired;
+          }) came;
       input = refl;
     }
