@@ -1,7 +1,6 @@
 -- A reply, after what was said.
-use Rattle.std.proofs.Common.{◌≡◌, ◌∙◌, ◌+◌, ◌==◌, ◌++◌, ◌≤◌, ℕ, Bool, true, List, [], ◌∷◌, append-nil, append_assoc, length, length-append, Option, Some, sym, subst, ap, arith}
+use Rattle.std.proofs.Common.{◌≡◌, ◌∙◌, ◌+◌, ◌==◌, ◌++◌, ◌≤◌, ℕ, Bool, true, List, [], append-nil, append_assoc, length, length-append, Option, Some, sym, subst, ap, arith}
 use Rattle.std.specs.Prelude.{flat_map}
-use Rattle.std.specs.List.{AllByRecursion}
 use Rattle.std.proofs.lemmas.Grind.{flat_map-append}
 use Rattle.http_desks.specs.declared.method.Method.{Method}
 use Rattle.http_desks.specs.Calls.{Call}

@@ -10,7 +10,7 @@ use Rattle.http_ports.specs.Traffic.{IsTime, later, moment_of}
 use Rattle.http_ports.specs.declared.moment.Moment.{Moment}
 use Rattle.http_sessions.specs.Messages.{Exchange, IsOpen, exchange_bytes, open_reply}
 use Rattle.http_sessions.specs.Stops.{Bad, Last, Long, More, Refuses, Stop, StopsAt, Waits}
-use Rattle.http_talks.specs.Moments.{AreTimed, HasMoment, IsLastTimed, IsTimed}
+use Rattle.http_talks.specs.Moments.{AreTimed, IsLastTimed, IsTimed}
 use Rattle.http_talks.specs.Talks.{Said}
 use Rattle.http_talks.specs.declared.talk.Talk.{Talk}
 

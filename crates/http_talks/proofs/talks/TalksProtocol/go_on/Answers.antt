@@ -1,5 +1,4 @@
 use Rattle.std.proofs.Common.{◌≡◌, ◌++◌, ◌∙◌, ℕ, List, [], refl, sym, subst, ap, drop, inl, inr}
-use Rattle.http_desks.specs.Calls.{Call}
 use Rattle.http_desks.specs.Uses.{IsUse}
 use Rattle.http_ports.specs.Traffic.{IsTime, later}
 use Rattle.http_talks.specs.Leaves.{AtOnce}
