@@ -1,5 +1,5 @@
 -- The path of a history in etcd, `etcd://HOST:PORT,HOST:PORT/PREFIX`; this project's profile.
-use Rattle.std.specs.Prelude.{◌≡◌, ℕ, ◌+◌, Bool, false, ◌&&◌, ◌||◌, ◌==◌, nat_lt, List, [], ◌∷◌, length, take, drop, Option, None, Some, Result, Ok, Err, if◌then◌else◌, bytes_eq, codes}
+use Rattle.std.specs.Prelude.{ℕ, ◌+◌, Bool, false, ◌&&◌, ◌||◌, ◌==◌, nat_lt, List, [], ◌∷◌, length, take, drop, Option, None, Some, Result, Ok, Err, if◌then◌else◌, bytes_eq, codes}
 use Rattle.std.specs.List.{list_all, position_or_len, before_first, after_first}
 use Rattle.std.specs.Char.{is_ascii_alphanumeric, is_ascii_digit, is_ascii_hexdigit}
 use Rattle.std.specs.Str.Parse.{digits_value}
@@ -127,9 +127,3 @@ parts_after rest = parts_at rest (split_at 47 rest)
 -- the parts of a path that begins with `etcd://`, or why it is invalid; another path has none
 unfoldable pub etcd_path_in : List ℕ → Option (Result Parts EtcdPathFault)
 etcd_path_in path = if is_etcd_path path then Some (parts_after (drop 7 path)) else None
-
--- the path is that of a history in etcd, at these addresses and with this prefix
-pub record IsEtcdPath (path : List ℕ) (addresses : List (List ℕ)) (prefix : List ℕ) : Type 0 where
-  pub hosts : List ℕ
-  pub parts : etcd_path_in path ≡ Some (Ok (record { hosts = hosts; prefix = prefix }))
-  pub addresses_are : addresses ≡ addresses_in hosts

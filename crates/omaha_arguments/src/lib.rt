@@ -13,6 +13,7 @@
 
 #![tactic(auto)]
 
+mod addresses;
 mod command;
 mod command_line;
 mod error;

@@ -1,12 +1,12 @@
 // The options of the command `serve`.
 
-ghost use Rattle.std.specs.Prelude.{◌≡◌, ◌<◌, ◌==◌, [], ◌∷◌, codes, IfOk, is_some};
-ghost use Rattle.std.specs.List.{after_first, before_first};
+ghost use Rattle.std.specs.Prelude.{◌≡◌, [], ◌∷◌, codes, IfOk, is_some};
 ghost use Rattle.clap.specs.Words.{App, FailsBy, HasKind, first_of, found_of, rows_of};
 ghost use Rattle.omaha_arguments.specs.Options.{IsMade};
-ghost use Rattle.omaha_arguments.specs.ServeArguments.{are_three_octets, bounds_in, connections_in, counts_in, faults_of_serve, files_in, follow_in, has_known_port, has_leading_zero, is_local, is_loopback, history_fault_in, is_followed, is_loopback_host, is_named, is_octet, is_operator_allowed, is_operator_known, is_operator_local, is_path, is_shared, limit_in, limit_of, places_in, serve_app, serve_in, serve_with, with_limits, with_places};
+ghost use Rattle.omaha_arguments.specs.ServeArguments.{bounds_in, connections_in, counts_in, faults_of_serve, files_in, follow_in, history_fault_in, is_followed, is_named, is_operator_allowed, is_operator_known, is_operator_local, is_shared, limit_in, limit_of, places_in, serve_app, serve_in, serve_with, with_limits, with_places};
 ghost use Rattle.omaha_arguments.specs.WalkArguments.{IsAskable};
 
+use crate::addresses::{has_known_port, is_local};
 use crate::command::{Command, Serve};
 use crate::history_paths::{history_fault, invalid_history};
 use crate::options::{
@@ -230,13 +230,6 @@ fn is_shared(matches: &ArgMatches<'_>) -> bool
     }
 }
 
-// Whether the port of an address is known: the system doesn't choose it.
-fn has_known_port(address: &str) -> bool
-    ensures { result ≡ has_known_port address.now }
-{
-    !address.as_bytes().ends_with(b":0")
-}
-
 // Whether the operator's address is one that can be asked.
 fn is_operator_known(matches: &ArgMatches<'_>) -> bool
     ensures { result ≡ is_operator_known (rows_of (found_of matches.now)) }
@@ -273,80 +266,6 @@ fn rejected_option(alloc: Global, kind: ErrorKind, message: &str) -> Error
     ensures { HasKind (kind ∷ []) result }
 {
     rejection(alloc, serve_command(alloc), "omaha serve", kind, message)
-}
-
-// The strings before and after the first such character, or all and nothing.
-fn split_at(text: &str, mark: char) -> (&str, &str)
-    requires { mark < 128 }
-    ensures before { result.0.now ≡ before_first (λ byte. byte == mark) text.now }
-    ensures after { result.1.now ≡ after_first (λ byte. byte == mark) text.now }
-{
-    match text.split_once(mark) {
-        Some(parts) => parts,
-        None => (text, ""),
-    }
-}
-
-// Whether a string of digits has a zero before them.
-fn has_leading_zero(text: &str) -> bool
-    ensures { result ≡ has_leading_zero text.now }
-{
-    text.len() > 1 && text.as_bytes()[0] == b'0'
-}
-
-// Whether a string is a decimal number below 256 without leading zeros.
-#[tactic(auto, unfolding(crate::specs::ServeArguments::is_octet))]
-fn is_octet(text: &str) -> bool
-    ensures { result ≡ is_octet text.now }
-{
-    match number_of(text) {
-        Some(number) => number < 256 && !has_leading_zero(text),
-        None => false,
-    }
-}
-
-// Whether a string is three such numbers, with dots between them.
-#[tactic(auto, unfolding(crate::specs::ServeArguments::are_three_octets))]
-fn are_three_octets(text: &str) -> bool
-    ensures { result ≡ are_three_octets text.now }
-{
-    let (first, rest) = split_at(text, '.');
-    let (second, third) = split_at(rest, '.');
-    is_octet(first) && is_octet(second) && is_octet(third)
-}
-
-// Whether a host is of 127.0.0.0/8.
-#[tactic(auto, unfolding(crate::specs::ServeArguments::is_loopback_host))]
-fn is_loopback_host(host: &str) -> bool
-    ensures { result ≡ is_loopback_host host.now }
-{
-    let (network, rest) = split_at(host, '.');
-    network == "127" && are_three_octets(rest)
-}
-
-// Whether an address is of the loopback, by its digits: no name is looked up.
-fn is_loopback(address: &str) -> bool
-    ensures { result ≡ is_loopback address.now }
-{
-    if address.as_bytes().starts_with(b"[::1]:") {
-        return true;
-    }
-    let (host, _) = split_at(address, ':');
-    is_loopback_host(host)
-}
-
-// Whether an address is a path in the file system.
-fn is_path(address: &str) -> bool
-    ensures { result ≡ is_path address.now }
-{
-    address.as_bytes().starts_with(b"unix:")
-}
-
-// Whether only this machine reaches an address.
-fn is_local(address: &str) -> bool
-    ensures { result ≡ is_local address.now }
-{
-    is_path(address) || is_loopback(address)
 }
 
 // Whether the operator's address, if there is one, is reached by this machine alone.

@@ -1,6 +1,6 @@
 use Rattle.std.proofs.Common.{arith, sym}
 use Rattle.std.proofs.lemmas.List.{drop_all, take_all}
-use Rattle.omaha_arguments.proofs.serve_arguments.split_at.Goals as goal
+use Rattle.omaha_arguments.proofs.addresses.split_at.Goals as goal
 
 pub returns-in-Some-clause-before : goal.returns-in-Some-clause-before
 returns-in-Some-clause-before c = (c.in-Some.ensures.byte c.requires (λ w o found. found)).0
