@@ -52,7 +52,7 @@ module _ {C : Type 0} (speech : Speech C) where
     where
       of_current :
           (live : Option Traffic) → IsGoing speech IsSo live (Some conn) own →
-          (traffic : Traffic) × (live ≡ Some traffic) × speech.so_far traffic.moments conn traffic.received traffic.sent own
+          (traffic : Traffic) × (live ≡ Some traffic) × speech.so_far traffic.timestamps conn traffic.received traffic.sent own
       of_current None going = absurd going
       of_current (Some traffic) (so_far, is_so) = (traffic, refl, so_far)
 

@@ -6,9 +6,9 @@ use Rattle.http_ports.specs.Loops.{IsLeft}
 use Rattle.http_ports.specs.Ports.{Closes}
 use Rattle.http_ports.specs.Speech.{Phase, Speech, speech_at}
 use Rattle.http_ports.specs.Steps.{IsEnding, IsPassed, Serves, ServesOut}
-use Rattle.http_ports.specs.Traffic.{Changes, Elsewhere, HasPassed, IsOpen, Slot, Traffic, later, marked, telling}
+use Rattle.http_ports.specs.Traffic.{Changes, Elsewhere, HasPassed, IsOpen, Slot, Traffic, later, marked, timing}
 use Rattle.http_ports.specs.declared.last.Last.TheVariants.{Passed, Yields}
-use Rattle.http_ports.specs.declared.moment.Moment.{Moment}
+use Rattle.http_ports.specs.declared.timestamp.Timestamp.{Timestamp}
 use Rattle.http_ports.proofs.RoundLemmas.{Leads-append}
 
 -- however it was left
@@ -37,8 +37,8 @@ module _ {C D : Type 0} (speech : Speech C) (steps : D → Call → D → Type 0
   pub changed :
       (IsSo : IsLeft) (at : ℕ) (change : Traffic → Traffic) (old new : ℕ → Slot) (conn left : C) (desk : D) →
       Changes at change old new →
-      ((traffic : Traffic) (made : List Call) → speech.so_far traffic.moments conn traffic.received traffic.sent made →
-      speech.so_far (change traffic).moments left (change traffic).received (change traffic).sent made
+      ((traffic : Traffic) (made : List Call) → speech.so_far traffic.timestamps conn traffic.received traffic.sent made →
+      speech.so_far (change traffic).timestamps left (change traffic).received (change traffic).sent made
       × IsSo (speech.phase left) (speech.pending left) (change traffic)) →
       Serves speech steps IsSo (old at) conn desk (new at) left desk
   changed IsSo at change old new conn left desk changes keeps = (
@@ -51,19 +51,19 @@ module _ {C D : Type 0} (speech : Speech C) (steps : D → Call → D → Type 0
           (
             change traffic,
             ap (λ (s : Slot). s.current) slot,
-            subst (speech.so_far (change traffic).moments left (change traffic).received (change traffic).sent) (sym (append-nil made)) goes_on,
+            subst (speech.so_far (change traffic).timestamps left (change traffic).received (change traffic).sent) (sym (append-nil made)) goes_on,
             is_left,
           ),
         ),
   )
 
-  -- the desk was called at a moment, and nothing passed
+  -- the desk was called at a time, and nothing passed
   pub asked :
       (IsSo : IsLeft) (at seconds : ℕ) (old new : ℕ → Slot) (conn left : C) (desk behind : D) (calls : List Call) →
-      Changes at (telling seconds) old new → Leads steps desk calls behind →
-      ((received sent : List ℕ) (moments : List Moment) (made : List Call) →
-      speech.so_far moments conn received sent made →
-      speech.so_far (later moments seconds received sent) left received sent (made ++ calls)) →
+      Changes at (timing seconds) old new → Leads steps desk calls behind →
+      ((received sent : List ℕ) (timestamps : List Timestamp) (made : List Call) →
+      speech.so_far timestamps conn received sent made →
+      speech.so_far (later timestamps seconds received sent) left received sent (made ++ calls)) →
       ((traffic : Traffic) → IsSo (speech.phase left) (speech.pending left) traffic) →
       Serves speech steps IsSo (old at) conn desk (new at) left behind
   asked IsSo at seconds old new conn left desk behind calls tells leads goes_on is_left = (
@@ -73,10 +73,10 @@ module _ {C D : Type 0} (speech : Speech C) (steps : D → Call → D → Type 0
         let slot = tells.0 traffic live in (
           ap (λ (s : Slot). s.ended) slot,
           (
-            telling seconds traffic,
+            timing seconds traffic,
             ap (λ (s : Slot). s.current) slot,
-            goes_on traffic.received traffic.sent traffic.moments made so_far,
-            is_left (telling seconds traffic),
+            goes_on traffic.received traffic.sent traffic.timestamps made so_far,
+            is_left (timing seconds traffic),
           ),
         ),
   )
@@ -87,7 +87,7 @@ module _ {C D : Type 0} (speech : Speech C) (steps : D → Call → D → Type 0
     [],
     refl,
     λ made (traffic, live, so_far).
-        (refl, (traffic, live, subst (speech.so_far traffic.moments conn traffic.received traffic.sent) (sym (append-nil made)) so_far, tt)),
+        (refl, (traffic, live, subst (speech.so_far traffic.timestamps conn traffic.received traffic.sent) (sym (append-nil made)) so_far, tt)),
   )
 
   -- less is said of how it was left
@@ -102,14 +102,14 @@ module _ {C D : Type 0} (speech : Speech C) (steps : D → Call → D → Type 0
         let (ended, (traffic, live, so_far, is_left)) = goes_on made has in (ended, (traffic, live, so_far, tt)),
   )
 
-  -- calls of the desk at a moment, and then another part
+  -- calls of the desk at a time, and then another part
   pub asked_then :
       (IsSo : IsLeft) (at seconds : ℕ) (old mid : ℕ → Slot) (after : Slot) (conn between left : C) (desk amid behind : D)
       (calls : List Call) →
-      Changes at (telling seconds) old mid → Leads steps desk calls amid →
-      ((received sent : List ℕ) (moments : List Moment) (made : List Call) →
-      speech.so_far moments conn received sent made →
-      speech.so_far (later moments seconds received sent) between received sent (made ++ calls)) →
+      Changes at (timing seconds) old mid → Leads steps desk calls amid →
+      ((received sent : List ℕ) (timestamps : List Timestamp) (made : List Call) →
+      speech.so_far timestamps conn received sent made →
+      speech.so_far (later timestamps seconds received sent) between received sent (made ++ calls)) →
       Serves speech steps IsSo (mid at) between amid after left behind →
       Serves speech steps IsSo (old at) conn desk after left behind
   asked_then IsSo at seconds old mid after conn between left desk amid behind calls tells leads goes_on (more, leads_on, serves) = (
@@ -119,15 +119,15 @@ module _ {C D : Type 0} (speech : Speech C) (steps : D → Call → D → Type 0
         let slot = tells.0 traffic live in
         let (ended, (next, open_on, so_far_on, is_left)) =
         serves (made ++ calls) (
-          telling seconds traffic,
+          timing seconds traffic,
           ap (λ (s : Slot). s.current) slot,
-          goes_on traffic.received traffic.sent traffic.moments made so_far,
+          goes_on traffic.received traffic.sent traffic.timestamps made so_far,
         ) in (
           ended ∙ ap (λ (s : Slot). s.ended) slot,
           (
             next,
             open_on,
-            subst (speech.so_far next.moments left next.received next.sent) (append_assoc made calls more) so_far_on,
+            subst (speech.so_far next.timestamps left next.received next.sent) (append_assoc made calls more) so_far_on,
             is_left,
           ),
         ),
@@ -149,7 +149,7 @@ module _ {C D : Type 0} (speech : Speech C) (steps : D → Call → D → Type 0
           (
             next,
             open_on,
-            subst (speech.so_far next.moments left next.received next.sent) (append_assoc made calls more) so_far_on,
+            subst (speech.so_far next.timestamps left next.received next.sent) (append_assoc made calls more) so_far_on,
             is_left,
           ),
         ),
@@ -201,7 +201,7 @@ at_same Holds path place kind type paths types holds =
 -- so does a part of the loop
 pub Serves-at_same :
     {C D : Type 0} (pending : C → List ℕ) (phase : C → Phase) (is_lost : C → Bool)
-    (so_far : List ℕ → List ℕ → List Moment → C → List ℕ → List ℕ → List Call → Type 0) (steps : D → Call → D → Type 0)
+    (so_far : List ℕ → List ℕ → List Timestamp → C → List ℕ → List ℕ → List Call → Type 0) (steps : D → Call → D → Type 0)
     (IsSo : IsLeft) (slot after : Slot) (conn left : C) (desk behind : D) (path place kind type : List ℕ) →
     path ≡ place → kind ≡ type →
     Serves (speech_at pending phase is_lost so_far path kind) steps IsSo slot conn desk after left behind →

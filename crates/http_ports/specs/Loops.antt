@@ -38,7 +38,7 @@ IsGoing speech IsSo None None calls = calls ≡ []
 IsGoing speech IsSo None (Some conn) calls = ⊥
 IsGoing speech IsSo (Some traffic) None calls = ⊥
 IsGoing speech IsSo (Some traffic) (Some conn) calls =
-    speech.so_far traffic.moments conn traffic.received traffic.sent calls × IsSo (speech.phase conn) (speech.pending conn) traffic
+    speech.so_far traffic.timestamps conn traffic.received traffic.sent calls × IsSo (speech.phase conn) (speech.pending conn) traffic
 
 -- a slot: its ended connections are whole, and its open one is going
 pub record IsServed {C : Type 0} (speech : Speech C) (IsSo : IsLeft) (slot : Slot) (ends : List C) (conn : Option C)

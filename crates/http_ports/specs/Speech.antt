@@ -4,7 +4,7 @@ use Rattle.http_desks.specs.Calls.{Call}
 use Rattle.http_ports.specs.Traffic.{Traffic}
 use Rattle.http_ports.specs.declared.last.Last.{Last}
 use Rattle.http_ports.specs.declared.last.Last.TheVariants.{InputEnded, ReadFailed, WaitsToRead, WaitsToWrite, WriteFailed}
-use Rattle.http_ports.specs.declared.moment.Moment.{Moment}
+use Rattle.http_ports.specs.declared.timestamp.Timestamp.{Timestamp}
 use Rattle.http_ports.specs.declared.protocol.Next.{Next}
 use Rattle.http_ports.specs.declared.protocol.Next.TheVariants as next
 
@@ -21,17 +21,17 @@ IsNext next.Waits pending phase = (pending ≡ []) × (phase ≡ Waiting)
 IsNext next.Over pending phase = (pending ≡ []) × (phase ≡ Over)
 
 -- what is said on a connection: by what is kept of it, which bytes are pending, its phase, whether memory ran out for
--- it, and what was received, sent and asked of the desk so far, at which moments
+-- it, and what was received, sent and asked of the desk so far, at which timestamps
 pub record Speech (C : Type 0) : Type 1 where
   pub pending : C → List ℕ
   pub phase : C → Phase
   pub is_lost : C → Bool
-  pub so_far : List Moment → C → List ℕ → List ℕ → List Call → Type 0
+  pub so_far : List Timestamp → C → List ℕ → List ℕ → List Call → Type 0
 
 -- the same, of a protocol with a desk of this path and type
 abbrev pub speech_at :
     {C : Type 0} → (C → List ℕ) → (C → Phase) → (C → Bool) →
-    (List ℕ → List ℕ → List Moment → C → List ℕ → List ℕ → List Call → Type 0) → List ℕ → List ℕ → Speech C
+    (List ℕ → List ℕ → List Timestamp → C → List ℕ → List ℕ → List Call → Type 0) → List ℕ → List ℕ → Speech C
 speech_at pending phase is_lost so_far path kind =
     record { pending = pending; phase = phase; is_lost = is_lost; so_far = so_far path kind }
 
@@ -49,7 +49,7 @@ IsEnd phase pending last expired =
 -- a connection that has ended, by what was kept of it at its end: the desk's calls are just those for what was
 -- received, and what was sent is just what they made, or a first part of it if the peer took no more
 pub record IsWhole {C : Type 0} (speech : Speech C) (traffic : Traffic) (conn : C) (calls : List Call) : Type 0 where
-  pub came : speech.so_far traffic.moments conn traffic.received traffic.sent calls
+  pub came : speech.so_far traffic.timestamps conn traffic.received traffic.sent calls
   pub ended : IsEnd (speech.phase conn) (speech.pending conn) traffic.last traffic.expired
 
 -- the connections of a slot, the latest first, one after the other, by what was kept of each at its end

@@ -31,12 +31,12 @@ IsPassing step.Over slot = ⊤
 -- the slot has this connection, for which these calls were made
 abbrev pub Has : {C : Type 0} → Speech C → Slot → C → List Call → Type 0
 Has speech slot conn calls =
-    (traffic : Traffic) × (slot.current ≡ Some traffic) × speech.so_far traffic.moments conn traffic.received traffic.sent calls
+    (traffic : Traffic) × (slot.current ≡ Some traffic) × speech.so_far traffic.timestamps conn traffic.received traffic.sent calls
 
 -- the same, and it was left so
 abbrev pub HasLeft : {C : Type 0} → Speech C → Slot → C → List Call → IsLeft → Type 0
 HasLeft speech slot conn calls IsSo =
-    (traffic : Traffic) × (slot.current ≡ Some traffic) × speech.so_far traffic.moments conn traffic.received traffic.sent calls
+    (traffic : Traffic) × (slot.current ≡ Some traffic) × speech.so_far traffic.timestamps conn traffic.received traffic.sent calls
     × IsSo (speech.phase conn) (speech.pending conn) traffic
 
 -- a part of the loop for one slot: the desk's calls are for what passed there

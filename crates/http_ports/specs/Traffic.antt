@@ -2,14 +2,14 @@
 use Rattle.std.specs.Prelude.{◌≡◌, ◌≢◌, ◌<◌, ◌+◌, ◌^◌, ℕ, Bool, false, List, [], ◌∷◌, ◌++◌, length, Option, None, Some}
 use Rattle.http_ports.specs.declared.last.Last.{Last}
 use Rattle.http_ports.specs.declared.last.Last.TheVariants.{Passed, Reported}
-use Rattle.http_ports.specs.declared.moment.Moment.{Moment}
+use Rattle.http_ports.specs.declared.timestamp.Timestamp.{Timestamp}
 
--- a connection: the bytes that came and those that were sent, the moments that the port gave for it, what the last call
+-- a connection: the bytes that came and those that were sent, the timestamps that the port gave for it, what the last call
 -- came to, and whether its time is up
 pub record Traffic : Type 0 where
   pub received : List ℕ
   pub sent : List ℕ
-  pub moments : List Moment
+  pub timestamps : List Timestamp
   pub last : Last
   pub expired : Bool
 
@@ -20,7 +20,7 @@ pub record Slot : Type 0 where
 
 -- a connection on which nothing has passed
 abbrev pub no_traffic : Traffic
-no_traffic = record { received = []; sent = []; moments = []; last = Reported; expired = false }
+no_traffic = record { received = []; sent = []; timestamps = []; last = Reported; expired = false }
 
 -- a slot that had no connection
 abbrev pub unused : Slot
@@ -68,15 +68,15 @@ HasPassed slot = (traffic : Traffic) × (slot.current ≡ Some traffic) × (traf
 abbrev pub IsTime : ℕ → Type 0
 IsTime seconds = seconds < 2 ^ 63
 
--- a moment of a connection on which these bytes have come and been sent
-abbrev pub moment_of : ℕ → List ℕ → List ℕ → Moment
-moment_of seconds received sent = record { seconds = seconds; received = length received; sent = length sent }
+-- a timestamp of a connection on which these bytes have come and been sent
+abbrev pub timestamp_of : ℕ → List ℕ → List ℕ → Timestamp
+timestamp_of seconds received sent = record { seconds = seconds; received = length received; sent = length sent }
 
--- rule: Moment of a connection
--- these moments, and then one more
-abbrev pub later : List Moment → ℕ → List ℕ → List ℕ → List Moment
-later moments seconds received sent = moments ++ moment_of seconds received sent ∷ []
+-- rule: Timestamp of a connection
+-- these timestamps, and then one more
+abbrev pub later : List Timestamp → ℕ → List ℕ → List ℕ → List Timestamp
+later timestamps seconds received sent = timestamps ++ timestamp_of seconds received sent ∷ []
 
--- a moment was given for the connection
-abbrev pub telling : ℕ → Traffic → Traffic
-telling seconds traffic = record traffic { moments = later traffic.moments seconds traffic.received traffic.sent }
+-- a timestamp was given for the connection
+abbrev pub timing : ℕ → Traffic → Traffic
+timing seconds traffic = record traffic { timestamps = later traffic.timestamps seconds traffic.received traffic.sent }

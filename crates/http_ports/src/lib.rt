@@ -5,7 +5,7 @@
 //! `http_desks`, each as far as its bytes have come and its peer takes the replies: read `specs/Ports.antt`,
 //! `specs/Speech.antt` and `specs/Loops.antt`. A `WatchEach` is shown what passes on each, by a protocol that says so.
 //!
-//! It knows no socket, no HTTP and no clock: a port says which connections are late, and at which moment a protocol goes
+//! It knows no socket, no HTTP and no clock: a port says which connections are late, and at which time a protocol goes
 //! on, and a protocol what bytes mean.
 
 #![tactic(auto)]
@@ -13,19 +13,19 @@
 mod event;
 mod last;
 mod looping;
-mod moment;
 mod port;
 mod protocol;
 mod serving;
 mod table;
 mod terms;
+mod timestamp;
 mod watch;
 
 pub use crate::event::{Event, Received, Sent};
 pub use crate::last::Last;
 pub use crate::looping::run;
-pub use crate::moment::Moment;
 pub use crate::port::Port;
 pub use crate::protocol::{Next, Protocol};
 pub use crate::terms::Terms;
+pub use crate::timestamp::Timestamp;
 pub use crate::watch::WatchEach;

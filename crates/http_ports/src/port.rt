@@ -1,6 +1,6 @@
 ghost use Rattle.std.specs.Prelude.{◌≡◌, ◌<◌, ◌+◌, ℕ, IsTrue, length};
 ghost use Rattle.http_ports.specs.Ports.{Closes, IsDone, Reads, Reports, Rests, Writes, accepted_by};
-ghost use Rattle.http_ports.specs.Traffic.{Changes, HasPassed, IsOpen, IsTime, Slot, marked, telling};
+ghost use Rattle.http_ports.specs.Traffic.{Changes, HasPassed, IsOpen, IsTime, Slot, marked, timing};
 ghost use Rattle.http_ports.specs.declared.last.Last.TheVariants.{Yields};
 ghost use Rattle.http_ports.specs.declared.terms.Terms.{Terms};
 
@@ -45,12 +45,12 @@ pub trait Port {
         ensures accepted { accepted self.new ≡ accepted self.old + accepted_by result }
         ensures terms { terms self.new ≡ terms self.old };
 
-    // rule: Moment of a connection
-    /// Returns how many seconds have passed since 1970, less than 2^63, as a moment of the connection of a slot.
-    fn moment(&mut self, slot: usize) -> u64
+    // rule: Timestamp of a connection
+    /// Returns how many seconds have passed since 1970, less than 2^63, as a timestamp of the connection of a slot.
+    fn timestamp(&mut self, slot: usize) -> u64
         requires live { IsOpen (slots self.old slot) }
         ensures time { IsTime result }
-        ensures tells { Changes slot (telling result) (slots self.old) (slots self.new) }
+        ensures noted { Changes slot (timing result) (slots self.old) (slots self.new) }
         ensures accepted { accepted self.new ≡ accepted self.old }
         ensures terms { terms self.new ≡ terms self.old };
 

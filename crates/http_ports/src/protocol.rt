@@ -2,7 +2,7 @@ ghost use Rattle.std.specs.Prelude.{◌≡◌, ◌++◌, ◌≤◌, ℕ, Bool, L
 ghost use Rattle.http_desks.specs.Calls.{Call, Leads};
 ghost use Rattle.http_ports.specs.Speech.{IsNext, Phase, Waiting};
 ghost use Rattle.http_ports.specs.Traffic.{IsTime, later};
-ghost use Rattle.http_ports.specs.declared.moment.Moment.{Moment};
+ghost use Rattle.http_ports.specs.declared.timestamp.Timestamp.{Timestamp};
 
 use http_desks::Desk;
 use std::net::IpAddr;
@@ -35,9 +35,9 @@ pub trait Protocol {
     // memory ran out for the connection
     ghost is_lost: { Self.Conn → Bool };
 
-    // with a desk of this path and type, at these moments: these bytes were received and sent, and these calls of the desk
+    // with a desk of this path and type, with these timestamps: these bytes were received and sent, and these calls of the desk
     // are for them
-    ghost so_far: { Self → List ℕ → List ℕ → List Moment → Self.Conn → List ℕ → List ℕ → List Call → Type 0 };
+    ghost so_far: { Self → List ℕ → List ℕ → List Timestamp → Self.Conn → List ℕ → List ℕ → List Call → Type 0 };
 
     /// Begins with a connection that was accepted, from this address if it is known.
     fn open(&self, peer: Option<IpAddr>) -> Self::Conn
@@ -55,33 +55,33 @@ pub trait Protocol {
     /// Notes that so many of the pending bytes were sent.
     fn sent(&self, conn: &mut Self::Conn, count: usize)
         requires { count ≤ length (pending conn.old) }
-        ensures so_far { (path kind received sent : List ℕ) (moments : List Moment) (calls : List Call)
-            → so_far self.now path kind moments conn.old received sent calls
-            → so_far self.now path kind moments conn.new received (sent ++ take count (pending conn.old)) calls };
+        ensures so_far { (path kind received sent : List ℕ) (timestamps : List Timestamp) (calls : List Call)
+            → so_far self.now path kind timestamps conn.old received sent calls
+            → so_far self.now path kind timestamps conn.new received (sent ++ take count (pending conn.old)) calls };
 
     /// Takes bytes that came, for which the connection waits.
     fn take(&self, conn: &mut Self::Conn, bytes: &[u8])
         requires { phase conn.old ≡ Waiting }
-        ensures so_far { (path kind received sent : List ℕ) (moments : List Moment) (calls : List Call)
-            → so_far self.now path kind moments conn.old received sent calls
-            → so_far self.now path kind moments conn.new (received ++ bytes.now) sent calls };
+        ensures so_far { (path kind received sent : List ℕ) (timestamps : List Timestamp) (calls : List Call)
+            → so_far self.now path kind timestamps conn.old received sent calls
+            → so_far self.now path kind timestamps conn.new (received ++ bytes.now) sent calls };
 
-    /// Goes on, by the desk, once all that was made is sent, at a moment that was given for it: so many seconds after the
+    /// Goes on, by the desk, once all that was made is sent, at a time that was given for it: so many seconds after the
     /// start of 1970.
     fn go_on<D: Desk>(
         &self,
         room: &mut Self::Room,
         conn: &mut Self::Conn,
         desk: &mut D,
-        moment: u64,
+        seconds: u64,
     ) -> Next
         requires sent { pending conn.old ≡ [] }
-        requires time { IsTime moment }
+        requires time { IsTime seconds }
         ensures next { IsNext result (pending conn.new) (phase conn.new) }
         ensures calls { (calls : List Call) × Leads D.steps desk.old calls desk.new
-            × ((received sent : List ℕ) (moments : List Moment) (made : List Call)
-            → so_far self.now (D.path desk.old) (D.content_type desk.old) moments conn.old received sent made
-            → so_far self.now (D.path desk.old) (D.content_type desk.old) (later moments moment received sent) conn.new received sent (made ++ calls)) }
+            × ((received sent : List ℕ) (timestamps : List Timestamp) (made : List Call)
+            → so_far self.now (D.path desk.old) (D.content_type desk.old) timestamps conn.old received sent made
+            → so_far self.now (D.path desk.old) (D.content_type desk.old) (later timestamps seconds received sent) conn.new received sent (made ++ calls)) }
         ensures path { D.path desk.new ≡ D.path desk.old }
         ensures content_type { D.content_type desk.new ≡ D.content_type desk.old };
 }

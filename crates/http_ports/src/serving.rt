@@ -85,7 +85,7 @@ fn pull<P: Port, E: Protocol, D: Desk>(
 }
 
 // rule: Close of a connection
-// Makes one step of a connection: it sends if bytes are pending, else it goes on by the desk, at a moment
+// Makes one step of a connection: it sends if bytes are pending, else it goes on by the desk, at a time
 // that the port gives for it, else it reads.
 fn advance<P: Port, E: Protocol, D: Desk>(
     port: &mut P,
@@ -111,8 +111,8 @@ fn advance<P: Port, E: Protocol, D: Desk>(
     if !protocol.pending(conn).is_empty() {
         return push(port, slot, protocol, conn, desk);
     }
-    let moment = port.moment(slot);
-    match protocol.go_on(room, conn, desk, moment) {
+    let seconds = port.timestamp(slot);
+    match protocol.go_on(room, conn, desk, seconds) {
         Next::Made => push(port, slot, protocol, conn, desk),
         Next::Waits => pull(port, slot, protocol, into, conn, desk),
         Next::Over => Step::Over,

@@ -5,8 +5,8 @@ use Rattle.std.proofs.lemmas.Grind.{flat_map-append}
 use Rattle.http_desks.specs.declared.method.Method.{Method}
 use Rattle.http_desks.specs.Calls.{Call}
 use Rattle.http_desks.specs.Uses.{Use}
-use Rattle.http_ports.specs.Traffic.{later, moment_of}
-use Rattle.http_ports.specs.declared.moment.Moment.{Moment}
+use Rattle.http_ports.specs.Traffic.{later, timestamp_of}
+use Rattle.http_ports.specs.declared.timestamp.Timestamp.{Timestamp}
 use Rattle.http_sessions.specs.Messages.{Exchange, IsOpen, exchange_bytes, exchange_calls, open_reply}
 use Rattle.http_sessions.specs.Stops.{Ends, More, Stop, stop_bytes, stop_calls}
 use Rattle.http_sessions.specs.Sessions.{Serves}
@@ -18,7 +18,7 @@ use Rattle.http_talks.specs.declared.talk.Stage.{Stage}
 use Rattle.http_talks.specs.declared.talk.Stage.TheVariants as stage
 use Rattle.http_talks.specs.declared.talk.Talk.{Talk}
 use Rattle.http_talks.proofs.TalkLemmas.{all_replies}
-use Rattle.http_talks.proofs.MomentLemmas.{AreTimed-append, AreTimed-later, AreTimed-now, IsAskedAt, IsLastTimed-now, all_append}
+use Rattle.http_talks.proofs.TimestampLemmas.{AreTimed-append, AreTimed-later, AreTimed-now, IsAskedAt, IsLastTimed-now, all_append}
 use Rattle.http_talks.proofs.WiderLemmas.{all_wider, stops_wider}
 
 module _
@@ -34,10 +34,10 @@ module _
       pub all_sent : sent ≡ flat_map (open_reply kind) exchanges
 
     busy_of :
-        (moments : List Moment) (talk : Talk) (received sent : List ℕ) (calls : List Call) →
+        (timestamps : List Timestamp) (talk : Talk) (received sent : List ℕ) (calls : List Call) →
         talk.stage ≡ stage.Busy → pending talk ≡ [] →
-        (said : Said IsFit kind moments talk received sent calls) → IsBusy talk sent said.exchanges said.stop said.rest said.unread
-    busy_of moments talk received sent calls busy none said =
+        (said : Said IsFit kind timestamps talk received sent calls) → IsBusy talk sent said.exchanges said.stop said.rest said.unread
+    busy_of timestamps talk received sent calls busy none said =
         let (stop, count, kept) =
         subst (λ (at : Stage). IsAt at talk.begun talk.kept.items talk.need (length said.exchanges) said.stop said.rest said.unread) busy said.is_at in
         let replies = subst (λ (at : Stage). AreReplies at sent (pending talk) (all_replies kind said.exchanges said.stop)) busy said.replies in
@@ -53,14 +53,14 @@ module _
     module _ {D : Type 0} (steps : D → Call → D → Type 0) where
       -- what was said, and then a part of a session
       extended :
-          (moments : List Moment) (talk next : Talk) (received sent left : List ℕ) (calls : List Call) (IsEnd : ℕ → Stop → List ℕ → Type 0) (whole : Bool)
-          (old new : Option (List ℕ)) (before behind : D) (said : Said IsFit kind moments talk received sent calls) →
+          (timestamps : List Timestamp) (talk next : Talk) (received sent left : List ℕ) (calls : List Call) (IsEnd : ℕ → Stop → List ℕ → Type 0) (whole : Bool)
+          (old new : Option (List ℕ)) (before behind : D) (said : Said IsFit kind timestamps talk received sent calls) →
           IsBusy talk sent said.exchanges said.stop said.rest said.unread →
           (part : Serves IsNow steps kind talk.begun IsEnd whole [] (Some talk.kept.items) (Some left) old new before behind) →
           AreReplies next.stage sent (pending next) (all_replies kind (said.exchanges ++ part.exchanges) part.stop) →
           IsAt next.stage next.begun next.kept.items next.need (length (said.exchanges ++ part.exchanges)) part.stop part.rest left →
-          Said IsFit kind (later moments seconds received sent) next received sent (calls ++ (flat_map exchange_calls part.exchanges ++ stop_calls part.stop))
-      extended moments talk next received sent left calls IsEnd whole old new before behind said busy part replies is_at = record {
+          Said IsFit kind (later timestamps seconds received sent) next received sent (calls ++ (flat_map exchange_calls part.exchanges ++ stop_calls part.stop))
+      extended timestamps talk next received sent left calls IsEnd whole old new before behind said busy part replies is_at = record {
         exchanges = said.exchanges ++ part.exchanges;
         stop = part.stop;
         rest = part.rest;
@@ -79,11 +79,11 @@ module _
             ∙ append-nil (flat_map exchange_calls said.exchanges))
             ∙ sym (append_assoc (flat_map exchange_calls said.exchanges) (flat_map exchange_calls part.exchanges) (stop_calls part.stop))
             ∙ ap (λ (l : List Call). l ++ stop_calls part.stop) (sym (flat_map-append exchange_calls said.exchanges part.exchanges));
-        timed = AreTimed-append kind (later moments seconds received sent) said.exchanges part.exchanges 0 0
-            (AreTimed-later kind moments (moment_of seconds received sent) 0 0 said.exchanges said.timed)
-            (AreTimed-now IsNow kind seconds asked moments received sent part.exchanges _ _ part.each
+        timed = AreTimed-append kind (later timestamps seconds received sent) said.exchanges part.exchanges 0 0
+            (AreTimed-later kind timestamps (timestamp_of seconds received sent) 0 0 said.exchanges said.timed)
+            (AreTimed-now IsNow kind seconds asked timestamps received sent part.exchanges _ _ part.each
             (omega (arith, came, length-append (flat_map exchange_bytes part.exchanges) part.rest)) (omega (arith, ap length busy.all_sent)));
-        last_timed = IsLastTimed-now IsNow kind seconds asked moments received sent part.stop part.rest _ _ part.stops
+        last_timed = IsLastTimed-now IsNow kind seconds asked timestamps received sent part.stop part.rest _ _ part.stops
             (omega (
               arith,
               came,
@@ -142,9 +142,9 @@ module _
           let (one, more, kept_new, begun_new) = part.ends in (
             flat_map exchange_calls part.exchanges ++ stop_calls part.stop,
             part.calls,
-            λ received sent moments calls said.
-                let is_busy = busy_of moments talk received sent calls busy none said in
-                extended moments talk next received sent left calls _ true (Some []) (Some opened.made.items) before behind said is_busy part
+            λ received sent timestamps calls said.
+                let is_busy = busy_of timestamps talk received sent calls busy none said in
+                extended timestamps talk next received sent left calls _ true (Some []) (Some opened.made.items) before behind said is_busy part
                 (subst (λ (at : Stage). AreReplies at sent (pending next) (all_replies kind (said.exchanges ++ part.exchanges) part.stop)) (sym stage_is)
                 (ap (λ (l : List ℕ). sent ++ l) waits
                 ∙ made_replies talk sent left opened.made.items said.exchanges said.stop said.rest said.unread _ before behind is_busy part))
@@ -158,11 +158,11 @@ module _
           let (zero_count, counts, sends) = part.ends in (
             flat_map exchange_calls part.exchanges ++ stop_calls part.stop,
             part.calls,
-            λ received sent moments calls said.
-                let is_busy = busy_of moments talk received sent calls busy none said in
+            λ received sent timestamps calls said.
+                let is_busy = busy_of timestamps talk received sent calls busy none said in
                 let same : talk.begun ≡ length (said.exchanges ++ part.exchanges) =
                 omega (arith, is_busy.count, zero_count, length-append said.exchanges part.exchanges) in
-                extended moments talk next received sent started.kept.items calls _ true (Some []) (Some started.made.items) before behind said is_busy part
+                extended timestamps talk next received sent started.kept.items calls _ true (Some []) (Some started.made.items) before behind said is_busy part
                 (subst (λ (at : Stage). AreReplies at sent (pending next) (all_replies kind (said.exchanges ++ part.exchanges) part.stop)) (sym stage_is)
                 (ap (λ (l : List ℕ). sent ++ l) waits
                 ∙ made_replies talk sent started.kept.items started.made.items said.exchanges said.stop said.rest said.unread _ before behind is_busy part))
@@ -176,11 +176,11 @@ module _
           let (zero_count, (how, ends), one) = part.ends in (
             flat_map exchange_calls part.exchanges ++ stop_calls part.stop,
             part.calls,
-            λ received sent moments calls said.
-                let is_busy = busy_of moments talk received sent calls busy none said in
+            λ received sent timestamps calls said.
+                let is_busy = busy_of timestamps talk received sent calls busy none said in
                 let same : talk.begun ≡ length (said.exchanges ++ part.exchanges) =
                 omega (arith, is_busy.count, zero_count, length-append said.exchanges part.exchanges) in
-                extended moments talk next received sent left calls _ true (Some []) (Some made.items) before behind said is_busy part
+                extended timestamps talk next received sent left calls _ true (Some []) (Some made.items) before behind said is_busy part
                 (subst (λ (at : Stage). AreReplies at sent (pending next) (all_replies kind (said.exchanges ++ part.exchanges) part.stop)) (sym stage_is)
                 (ap (λ (l : List ℕ). sent ++ l) waits
                 ∙ made_replies talk sent left made.items said.exchanges said.stop said.rest said.unread _ before behind is_busy part))
@@ -190,10 +190,10 @@ module _
       left_on talk next before behind after.Lost busy none (left, made, whole, part) (stage_is, waits) = (
         flat_map exchange_calls part.exchanges ++ stop_calls part.stop,
         part.calls,
-        λ received sent moments calls said.
-            let is_busy = busy_of moments talk received sent calls busy none said in
+        λ received sent timestamps calls said.
+            let is_busy = busy_of timestamps talk received sent calls busy none said in
             let after = stop_bytes kind (length (said.exchanges ++ part.exchanges) == 999) part.stop in
-            extended moments talk next received sent left calls _ _ (Some []) (Some made) before behind said is_busy part
+            extended timestamps talk next received sent left calls _ _ (Some []) (Some made) before behind said is_busy part
             (subst (λ (at : Stage). AreReplies at sent (pending next) (all_replies kind (said.exchanges ++ part.exchanges) part.stop)) (sym stage_is) (
               waits ∙ none,
               (

@@ -1,6 +1,6 @@
 mod PartLemmas
 mod TalkLemmas
-mod MomentLemmas
+mod TimestampLemmas
 mod WiderLemmas
 mod LeavesLemmas
 mod FoundLemmas

@@ -13,7 +13,7 @@ speech_by part speech = record {
   pending = λ conn. speech.pending (part conn);
   phase = λ conn. speech.phase (part conn);
   is_lost = λ conn. speech.is_lost (part conn);
-  so_far = λ moments conn. speech.so_far moments (part conn);
+  so_far = λ timestamps conn. speech.so_far timestamps (part conn);
 }
 
 module _ {C E : Type 0} (part : C → E) (speech : Speech E) where

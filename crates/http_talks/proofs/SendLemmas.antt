@@ -11,7 +11,7 @@ use Rattle.http_desks.specs.declared.answering.Handled.TheVariants.{Answered, Cu
 use Rattle.http_desks.specs.declared.method.Method.{Method}
 use Rattle.http_desks.specs.declared.transfer.NextBlock.TheVariants as next
 use Rattle.http_desks.specs.declared.transfer.Transfer.{Transfer}
-use Rattle.http_ports.specs.declared.moment.Moment.{Moment}
+use Rattle.http_ports.specs.declared.timestamp.Timestamp.{Timestamp}
 use Rattle.http_sessions.specs.declared.ends.End.{End}
 use Rattle.http_sessions.specs.declared.ends.End.TheVariants.{Cut, Finished}
 use Rattle.http_sessions.specs.Messages.{Exchange, IsExchange, IsOpen, asks_close, closing, exchange_bytes, exchange_calls, open_reply}
@@ -22,7 +22,7 @@ use Rattle.http_talks.specs.declared.talk.Stage.{Stage}
 use Rattle.http_talks.specs.declared.talk.Stage.TheVariants as stage
 use Rattle.http_talks.specs.declared.talk.Talk.{Talk}
 use Rattle.http_talks.proofs.TalkLemmas.{all_replies}
-use Rattle.http_talks.proofs.MomentLemmas.{AreTimed-append, all_append}
+use Rattle.http_talks.proofs.TimestampLemmas.{AreTimed-append, all_append}
 use Rattle.values.specs.declared.declared.Declared.{Declared}
 
 joined_more : (blocks : List (List ℕ)) (block : List ℕ) → joined_blocks (blocks ++ block ∷ []) ≡ joined_blocks blocks ++ block
@@ -70,9 +70,9 @@ open_left true b e = cc
 open_left false b e = refl
 
 module _
-    (path kind : List ℕ) (moments : List Moment) (tells : ℕ → Type 0) (sizes : List ℕ → Option ℕ → Type 0) (reads : List ℕ → Reads)
+    (path kind : List ℕ) (timestamps : List Timestamp) (tells : ℕ → Type 0) (sizes : List ℕ → Option ℕ → Type 0) (reads : List ℕ → Reads)
     (talk : Talk) (sending : Sending) (received sent : List ℕ) (calls : List Call) (is : talk.stage ≡ stage.Sends sending)
-    (waits : pending talk ≡ []) (said : Said (IsUse path tells sizes reads) kind moments talk received sent calls)
+    (waits : pending talk ≡ []) (said : Said (IsUse path tells sizes reads) kind timestamps talk received sent calls)
   where
     abbrev last : Bool
     last = length said.exchanges == 999
@@ -147,7 +147,7 @@ module _
         Makes (reads name) (package_size sending.transfer) declared.hash blocks cells (next.Full more)) →
         package_size more ≡ package_size sending.transfer →
         new.stage ≡ stage.Sends (record sending { transfer = more }) → new.begun ≡ talk.begun →
-        new.kept.items ≡ talk.kept.items → pending new ≡ cells → Said Fits kind moments new received sent calls
+        new.kept.items ≡ talk.kept.items → pending new ≡ cells → Said Fits kind timestamps new received sent calls
     Said-full new more cells makes same_size on begun kept makes_cells =
         let (e, blocks, mid) = mid_of in
         let (made, few, read) = makes blocks mid.is_sent.blocks_made mid.read in
@@ -190,7 +190,7 @@ module _
         IsMid e blocks → IsFetch (sizes name) (reads name) declared.size (Read blocks end) →
         fetch_reply declared sending.closes (Read blocks end) ≡ fetch_reply declared sending.closes (Broken blocks) ++ made →
         end_after (closing last e.head) (handled_of (Fetched name declared (Read blocks end))) ≡ Some how →
-        new.stage ≡ stage.Over → pending new ≡ made → Said Fits kind moments new received sent calls
+        new.stage ≡ stage.Over → pending new ≡ made → Said Fits kind timestamps new received sent calls
     over_with new how made e blocks end mid fetch text ends over makes_cells = record {
       exchanges = said.exchanges;
       stop = Last (used_so e (Read blocks end));
@@ -217,7 +217,7 @@ module _
         (new : Talk) (cells : List ℕ) →
         ((blocks : List (List ℕ)) → HasMade blocks sending.transfer → ReadsFrom (reads name) 0 blocks →
         Makes (reads name) (package_size sending.transfer) declared.hash blocks cells next.Cut) →
-        new.stage ≡ stage.Over → pending new ≡ [] → Said Fits kind moments new received sent calls
+        new.stage ≡ stage.Over → pending new ≡ [] → Said Fits kind timestamps new received sent calls
     Said-cut new cells makes over none =
         let (e, blocks, mid) = mid_of in
         let (end, read, differs) = makes blocks mid.is_sent.blocks_made mid.read in
@@ -232,7 +232,7 @@ module _
         ((blocks : List (List ℕ)) → HasMade blocks sending.transfer → ReadsFrom (reads name) 0 blocks →
         Makes (reads name) (package_size sending.transfer) declared.hash blocks cells (next.Last count)) →
         new.stage ≡ cond closes stage.Over stage.Busy → new.begun ≡ talk.begun → new.kept.items ≡ talk.kept.items →
-        pending new ≡ take count cells → Said Fits kind moments new received sent calls
+        pending new ≡ take count cells → Said Fits kind timestamps new received sent calls
     Said-last new cells count true ends makes over begun kept makes_cells =
         let (e, blocks, mid) = mid_of in
         let (read, agreed) = makes blocks mid.is_sent.blocks_made mid.read in
@@ -274,7 +274,7 @@ module _
           called = mid.called ∙ ap (λ (l : List Call). flat_map exchange_calls said.exchanges ++ l) (sym asked)
               ∙ sym (flat_map-append exchange_calls said.exchanges (whole ∷ []))
               ∙ sym (append-nil (flat_map exchange_calls (said.exchanges ++ whole ∷ [])));
-          timed = AreTimed-append kind moments said.exchanges (whole ∷ []) 0 0 said.timed (tt, tt);
+          timed = AreTimed-append kind timestamps said.exchanges (whole ∷ []) 0 0 said.timed (tt, tt);
           last_timed = tt;
           replies = subst (λ (at : Stage). AreReplies at sent (pending new) (all_replies kind (said.exchanges ++ whole ∷ []) More)) (sym busy)
               (ap (λ (l : List ℕ). sent ++ l) makes_cells ∙ ap (λ (l : List ℕ). l ++ end) mid.text

@@ -11,7 +11,7 @@ use Rattle.http_sessions.specs.Messages.{Exchange, exchange_bytes, exchange_call
 use Rattle.http_sessions.specs.Readings.{IsPart}
 use Rattle.http_sessions.specs.Stops.{More, Stop, Waits, stop_bytes, stop_calls}
 use Rattle.http_ports.specs.Speech.{Waiting}
-use Rattle.http_ports.specs.declared.moment.Moment.{Moment}
+use Rattle.http_ports.specs.declared.timestamp.Timestamp.{Timestamp}
 use Rattle.http_talks.specs.Talks.{AreReplies, IsAt, Said, StaysPart, pending, phase_of}
 use Rattle.http_talks.specs.declared.talk.Stage.{Stage}
 use Rattle.http_talks.specs.declared.talk.Stage.TheVariants as stage
@@ -65,11 +65,11 @@ written_over len block items long = subst (λ (n : ℕ). take n (block ++ items)
 pub rest_from : (at : ℕ) (bytes : List ℕ) → take (length bytes - at) (drop at bytes) ≡ drop at bytes
 rest_from at bytes = take_all (length bytes - at) (drop at bytes) (omega (arith, length-drop at bytes))
 
-module _ (IsFit : Method → List ℕ → Use → Type 0) (kind : List ℕ) (moments : List Moment) where
+module _ (IsFit : Method → List ℕ → Use → Type 0) (kind : List ℕ) (timestamps : List Timestamp) where
   -- a connection that was accepted
   pub Said-nothing :
       (talk : Talk) → talk.stage ≡ stage.Busy → talk.begun ≡ 0 → talk.kept.items ≡ [] → pending talk ≡ [] →
-      Said IsFit kind moments talk [] [] []
+      Said IsFit kind timestamps talk [] [] []
   Said-nothing talk busy none empty waits = record {
     exchanges = [];
     stop = More;
@@ -91,7 +91,7 @@ module _ (IsFit : Method → List ℕ → Use → Type 0) (kind : List ℕ) (mom
       (talk next : Talk) (received sent first : List ℕ) (calls : List Call) →
       next.stage ≡ talk.stage → next.begun ≡ talk.begun → next.kept.items ≡ talk.kept.items → next.need ≡ talk.need →
       pending talk ≡ first ++ pending next →
-      Said IsFit kind moments talk received sent calls → Said IsFit kind moments next received (sent ++ first) calls
+      Said IsFit kind timestamps talk received sent calls → Said IsFit kind timestamps next received (sent ++ first) calls
   Said-sent talk next received sent first calls same begun kept needs cut said = record {
     exchanges = said.exchanges;
     stop = said.stop;
@@ -115,7 +115,7 @@ module _ (IsFit : Method → List ℕ → Use → Type 0) (kind : List ℕ) (mom
   -- memory ran out, and nothing passed
   pub Said-lost :
       (talk next : Talk) (received sent : List ℕ) (calls : List Call) → next.stage ≡ stage.Lost → pending next ≡ [] →
-      Said IsFit kind moments talk received sent calls → Said IsFit kind moments next received sent calls
+      Said IsFit kind timestamps talk received sent calls → Said IsFit kind timestamps next received sent calls
   Said-lost talk next received sent calls is none said = record {
     exchanges = said.exchanges;
     stop = said.stop;
@@ -138,7 +138,7 @@ module _ (IsFit : Method → List ℕ → Use → Type 0) (kind : List ℕ) (mom
       (talk next : Talk) (received sent bytes : List ℕ) (calls : List Call) →
       talk.stage ≡ stage.Part → next.stage ≡ stage.Busy → next.begun ≡ talk.begun →
       next.kept.items ≡ talk.kept.items ++ bytes → pending next ≡ pending talk →
-      Said IsFit kind moments talk received sent calls → Said IsFit kind moments next (received ++ bytes) sent calls
+      Said IsFit kind timestamps talk received sent calls → Said IsFit kind timestamps next (received ++ bytes) sent calls
   Said-came talk next received sent bytes calls part busy begun kept waits said =
       let (stop, count, rest, none, stays) =
       subst (λ (at : Stage). IsAt at talk.begun talk.kept.items talk.need (length said.exchanges) said.stop said.rest said.unread) part said.is_at in
@@ -171,7 +171,7 @@ module _ (IsFit : Method → List ℕ → Use → Type 0) (kind : List ℕ) (mom
       talk.stage ≡ stage.Part → next.stage ≡ stage.Part → next.begun ≡ talk.begun →
       next.kept.items ≡ talk.kept.items ++ bytes → next.need ≡ talk.need → pending next ≡ pending talk →
       length (talk.kept.items ++ bytes) < talk.need →
-      Said IsFit kind moments talk received sent calls → Said IsFit kind moments next (received ++ bytes) sent calls
+      Said IsFit kind timestamps talk received sent calls → Said IsFit kind timestamps next (received ++ bytes) sent calls
   Said-came_part talk next received sent bytes calls part still begun kept needs waits less said =
       let (stop, count, rest, none, stays) =
       subst (λ (at : Stage). IsAt at talk.begun talk.kept.items talk.need (length said.exchanges) said.stop said.rest said.unread) part said.is_at in
@@ -211,7 +211,7 @@ module _ (IsFit : Method → List ℕ → Use → Type 0) (kind : List ℕ) (mom
       (talk next : Talk) (received sent : List ℕ) (calls : List Call) →
       talk.stage ≡ stage.Busy → next.stage ≡ stage.Part → next.begun ≡ talk.begun → next.kept.items ≡ talk.kept.items →
       pending next ≡ pending talk → IsPart talk.kept.items → StaysPart next.kept.items next.need →
-      Said IsFit kind moments talk received sent calls → Said IsFit kind moments next received sent calls
+      Said IsFit kind timestamps talk received sent calls → Said IsFit kind timestamps next received sent calls
   Said-part talk next received sent calls busy part begun kept waits is_part stays said =
       let (stop, count, all) =
       subst (λ (at : Stage). IsAt at talk.begun talk.kept.items talk.need (length said.exchanges) said.stop said.rest said.unread) busy said.is_at in
@@ -238,7 +238,7 @@ module _ (IsFit : Method → List ℕ → Use → Type 0) (kind : List ℕ) (mom
   pub Said-came_lost :
       (talk next : Talk) (received sent bytes : List ℕ) (calls : List Call) →
       talk.stage ≡ stage.Part → next.stage ≡ stage.Lost → pending next ≡ [] →
-      Said IsFit kind moments talk received sent calls → Said IsFit kind moments next (received ++ bytes) sent calls
+      Said IsFit kind timestamps talk received sent calls → Said IsFit kind timestamps next (received ++ bytes) sent calls
   Said-came_lost talk next received sent bytes calls part is none said = record {
     exchanges = said.exchanges;
     stop = said.stop;

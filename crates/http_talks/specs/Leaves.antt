@@ -15,7 +15,7 @@ use Rattle.http_sessions.specs.declared.ends.End.{End}
 use Rattle.http_sessions.specs.Stops.{Ends, More, Stop, begun, end_after}
 use Rattle.http_sessions.specs.Sessions.{Serves}
 use Rattle.http_ports.specs.Traffic.{later}
-use Rattle.http_ports.specs.declared.moment.Moment.{Moment}
+use Rattle.http_ports.specs.declared.timestamp.Timestamp.{Timestamp}
 use Rattle.http_talks.specs.Talks.{Said, SendsFor, is_lost, pending}
 use Rattle.http_talks.specs.declared.outcome.After.{After}
 use Rattle.http_talks.specs.declared.outcome.After.TheVariants as after
@@ -118,9 +118,9 @@ abbrev pub GoesOn :
     {D : Type 0} → (Method → List ℕ → Use → Type 0) → (D → Call → D → Type 0) → List ℕ → ℕ → Talk → D → Talk → D → Type 0
 GoesOn IsFit steps kind seconds old before new behind =
     (calls : List Call) × Leads steps before calls behind
-    × ((received sent : List ℕ) (moments : List Moment) (made : List Call) →
-    Said IsFit kind moments old received sent made →
-    Said IsFit kind (later moments seconds received sent) new received sent (made ++ calls))
+    × ((received sent : List ℕ) (timestamps : List Timestamp) (made : List Call) →
+    Said IsFit kind timestamps old received sent made →
+    Said IsFit kind (later timestamps seconds received sent) new received sent (made ++ calls))
 
 -- what a step of a busy connection made, unless memory ran out: a part of the session, without a block of a package
 abbrev pub MakesAtOnce :

@@ -1,5 +1,5 @@
 pub mod Leaves
-pub mod Moments
+pub mod Timestamps
 pub mod Ports
 pub mod Sends
 pub mod Talks

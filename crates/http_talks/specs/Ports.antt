@@ -16,7 +16,7 @@ talk_speech IsFit kind = record {
   pending = pending;
   phase = λ talk. phase_of talk.stage;
   is_lost = λ talk. is_lost talk.stage;
-  so_far = λ moments talk. Said IsFit kind moments talk;
+  so_far = λ timestamps talk. Said IsFit kind timestamps talk;
 }
 
 -- what passed at a port: by which terms, at each of its slots, of so many connections that were accepted; and for how

@@ -4,13 +4,13 @@ use Rattle.http_desks.specs.Calls.{Call}
 use Rattle.http_desks.specs.Downloads.{Reads}
 use Rattle.http_desks.specs.Uses.{IsUse}
 use Rattle.http_ports.specs.Traffic.{IsTime}
-use Rattle.http_ports.specs.declared.moment.Moment.{Moment}
+use Rattle.http_ports.specs.declared.timestamp.Timestamp.{Timestamp}
 use Rattle.http_talks.specs.Talks.{Said}
 use Rattle.http_talks.specs.declared.talk.Talk.{Talk}
 
 -- what is said then is what was said before, with any desk: no bytes passed, and the desk was not called
 abbrev pub Sends : (List ℕ → Option ℕ → Type 0) → (List ℕ → Reads) → Talk → Talk → Type 0
 Sends sizes reads old new =
-    (path kind : List ℕ) (moments : List Moment) (received sent : List ℕ) (calls : List Call)
-    → Said (IsUse path IsTime sizes reads) kind moments old received sent calls
-    → Said (IsUse path IsTime sizes reads) kind moments new received sent calls
+    (path kind : List ℕ) (timestamps : List Timestamp) (received sent : List ℕ) (calls : List Call)
+    → Said (IsUse path IsTime sizes reads) kind timestamps old received sent calls
+    → Said (IsUse path IsTime sizes reads) kind timestamps new received sent calls

@@ -11,8 +11,8 @@ use Rattle.http_sessions.specs.Messages.{Exchange, IsOpen, closing, exchange_byt
 use Rattle.http_sessions.specs.Readings.{IsPart}
 use Rattle.http_sessions.specs.Stops.{Ends, Last, More, Stop, StopsAt, Waits, begun, stop_bytes, stop_calls}
 use Rattle.http_ports.specs.Speech.{Busy, Over, Phase, Waiting}
-use Rattle.http_ports.specs.declared.moment.Moment.{Moment}
-use Rattle.http_talks.specs.Moments.{AreTimed, IsLastTimed}
+use Rattle.http_ports.specs.declared.timestamp.Timestamp.{Timestamp}
+use Rattle.http_talks.specs.Timestamps.{AreTimed, IsLastTimed}
 use Rattle.http_talks.specs.declared.talk.Sending.{Sending}
 use Rattle.http_talks.specs.declared.talk.Stage.{Stage}
 use Rattle.http_talks.specs.declared.talk.Stage.TheVariants as stage
@@ -83,8 +83,8 @@ AreReplies stage.Lost sent pending replies = (pending ≡ []) × ((left : List �
 
 -- rule: Session over a port
 -- the bytes that were received are messages, each after the one before, that kept the connection open, and a rest; the
--- desk was called for each, at one of these moments, and each was replied to, in order
-pub record Said (IsFit : Method → List ℕ → Use → Type 0) (kind : List ℕ) (moments : List Moment) (talk : Talk)
+-- desk was called for each, at one of these timestamps, and each was replied to, in order
+pub record Said (IsFit : Method → List ℕ → Use → Type 0) (kind : List ℕ) (timestamps : List Timestamp) (talk : Talk)
     (received sent : List ℕ) (calls : List Call) : Type 0 where
   pub exchanges : List Exchange
   pub stop : Stop
@@ -95,8 +95,8 @@ pub record Said (IsFit : Method → List ℕ → Use → Type 0) (kind : List �
   pub few : length exchanges < 1000
   pub stops : StopsAt IsFit stop rest
   pub called : calls ≡ flat_map exchange_calls exchanges ++ stop_calls stop
-  pub timed : AreTimed kind moments 0 0 exchanges
-  pub last_timed : IsLastTimed moments (length (flat_map exchange_bytes exchanges))
+  pub timed : AreTimed kind timestamps 0 0 exchanges
+  pub last_timed : IsLastTimed timestamps (length (flat_map exchange_bytes exchanges))
       (length (flat_map (open_reply kind) exchanges)) stop
   pub replies : AreReplies talk.stage sent (pending talk)
       (flat_map (open_reply kind) exchanges ++ stop_bytes kind (length exchanges == 999) stop)

@@ -1,13 +1,13 @@
-// The packages of a site, at one moment.
+// The packages of a site, at one time.
 
 use http_desks::{Clock, Packages};
 use http_wire::Failed;
 
-// A site, and a moment that was given for a connection.
+// A site, and a timestamp that was given for a connection.
 #[derive(Drop)]
 pub(crate) struct At<'a, Z> {
     pub(crate) site: &'a Z,
-    pub(crate) moment: u64,
+    pub(crate) seconds: u64,
 }
 
 impl<Z: Packages> Packages for At<'_, Z> {
@@ -27,9 +27,9 @@ impl<Z: Packages> Packages for At<'_, Z> {
 impl<Z> Clock for At<'_, Z> {
     ghost use Rattle.std.specs.Prelude.{◌≡◌};
 
-    ghost tells = { λ at moment. moment ≡ at.moment };
+    ghost tells = { λ at seconds. seconds ≡ at.seconds };
 
     fn now(&self) -> u64 {
-        self.moment
+        self.seconds
     }
 }

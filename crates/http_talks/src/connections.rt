@@ -61,10 +61,10 @@ impl<S: Drop> Connections<S> {
     }
 }
 
-// rule: Moment of a reply
+// rule: Timestamp of a reply
 // rule: Sessions of a port
 /// Serves the connections of a port by a site's sessions, each as it becomes ready, until none will be accepted any more,
-/// and returns for how many memory ran out, up to 2^64 - 1. The watch is shown each. The desk is asked at moments that the
+/// and returns for how many memory ran out, up to 2^64 - 1. The watch is shown each. The desk is asked at timestamps that the
 /// port gives: for each message once it has come whole, and before the first byte of its reply is sent.
 ///
 /// The port is a new one, and there is room for as many connections as it may hold. Serving takes memory for what a

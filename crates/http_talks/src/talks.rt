@@ -3,7 +3,7 @@ ghost use Rattle.http_desks.specs.Calls.{Call, Leads};
 ghost use Rattle.http_desks.specs.Uses.{IsUse};
 ghost use Rattle.http_ports.specs.Speech.{IsNext, Waiting};
 ghost use Rattle.http_ports.specs.Traffic.{IsTime};
-ghost use Rattle.http_ports.specs.declared.moment.Moment.{Moment};
+ghost use Rattle.http_ports.specs.declared.timestamp.Timestamp.{Timestamp};
 ghost use Rattle.http_talks.specs.Leaves.{GoesOn, IsApplied, MakesAtOnce};
 ghost use Rattle.http_talks.specs.Talks.{IsSending, Said, is_lost, pending, phase_of};
 ghost use Rattle.http_talks.specs.declared.talk.Stage.TheVariants as stage;
@@ -142,13 +142,19 @@ impl<Z: Packages> Protocol for Talks<'_, Z> {
         }
     }
 
-    fn go_on<D: Desk>(&self, room: &mut Buffers, talk: &mut Talk, desk: &mut D, moment: u64) -> Next
+    fn go_on<D: Desk>(
+        &self,
+        room: &mut Buffers,
+        talk: &mut Talk,
+        desk: &mut D,
+        seconds: u64,
+    ) -> Next
         requires sent { pending talk.old ≡ [] }
-        requires time { IsTime moment }
+        requires time { IsTime seconds }
         ensures next { IsNext result (pending talk.new) (phase_of talk.new.stage) }
         ensures calls { GoesOn (IsUse (D.path desk.old) IsTime (Z.sizes self.now.site.now) (Z.reads self.now.site.now))
-            D.steps (D.content_type desk.old) moment talk.old desk.old talk.new desk.new }
-        ensures at_once { MakesAtOnce (IsUse (D.path desk.old) (λ seconds. seconds ≡ moment) (Z.sizes self.now.site.now) (Z.reads self.now.site.now))
+            D.steps (D.content_type desk.old) seconds talk.old desk.old talk.new desk.new }
+        ensures at_once { MakesAtOnce (IsUse (D.path desk.old) (λ time. time ≡ seconds) (Z.sizes self.now.site.now) (Z.reads self.now.site.now))
             D.steps (D.content_type desk.old) talk.old desk.old talk.new desk.new }
         ensures block { IsSending talk.old.stage → length (pending talk.new) ≤ 65536 }
         ensures path { D.path desk.new ≡ D.path desk.old }
@@ -173,7 +179,7 @@ impl<Z: Packages> Protocol for Talks<'_, Z> {
                 Foreseen::Whole(found) => {
                     let site = At {
                         site: self.site,
-                        moment,
+                        seconds,
                     };
                     let after = reply(
                         self.alloc, room, &site, talk.begun, &talk.kept, &found, desk,

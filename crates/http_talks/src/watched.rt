@@ -43,8 +43,8 @@ impl<Z: Packages, V: WatchEach> Protocol for WatchedTalks<'_, '_, Z, V> {
 
     ghost is_lost = { λ conn. is_lost conn.talk.stage };
 
-    ghost so_far = { λ watched path kind moments conn.
-        Said (IsUse path IsTime (Z.sizes watched.talks.site.now) (Z.reads watched.talks.site.now)) kind moments conn.talk };
+    ghost so_far = { λ watched path kind timestamps conn.
+        Said (IsUse path IsTime (Z.sizes watched.talks.site.now) (Z.reads watched.talks.site.now)) kind timestamps conn.talk };
 
     fn open(&self, peer: Option<IpAddr>) -> Watched<V::Seen> {
         Watched {
@@ -82,11 +82,11 @@ impl<Z: Packages, V: WatchEach> Protocol for WatchedTalks<'_, '_, Z, V> {
         room: &mut Buffers,
         conn: &mut Watched<V::Seen>,
         desk: &mut D,
-        moment: u64,
+        seconds: u64,
     ) -> Next {
         if matches!(conn.talk.stage, Stage::Busy) {
             self.watch.begins(&mut conn.seen, &conn.talk.kept);
         }
-        self.talks.go_on(room, &mut conn.talk, desk, moment)
+        self.talks.go_on(room, &mut conn.talk, desk, seconds)
     }
 }

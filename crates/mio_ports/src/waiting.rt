@@ -121,9 +121,9 @@ impl<R: Wait + Clock> Port for MioPort<'_, R> {
         unreachable!()
     }
 
-    fn moment(&mut self, slot: usize) -> u64 {
+    fn timestamp(&mut self, slot: usize) -> u64 {
         let seconds = SystemClock::new(self.rt).now();
-        self.book.tell(slot, seconds);
+        self.book.note_time(slot, seconds);
         seconds
     }
 

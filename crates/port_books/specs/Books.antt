@@ -1,7 +1,7 @@
 -- The traffic of a port, by what has happened there; this project's profile.
 use Rattle.std.specs.Prelude.{◌+◌, ◌==◌, ℕ, Bool, true, false, List, [], ◌∷◌, ◌++◌, if◌then◌else◌, Option, None, option_map, option_to_list}
 use Rattle.http_ports.specs.Ports.{expiring, receiving, sending}
-use Rattle.http_ports.specs.Traffic.{Slot, Traffic, marked, no_traffic, telling, unused, with_open}
+use Rattle.http_ports.specs.Traffic.{Slot, Traffic, marked, no_traffic, timing, unused, with_open}
 use Rattle.http_ports.specs.declared.last.Last.{Last}
 use Rattle.http_ports.specs.declared.last.Last.TheVariants as last
 use Rattle.port_books.specs.declared.moves.Change.{Change}
@@ -14,7 +14,7 @@ use Rattle.port_books.specs.declared.place.Place.{Place}
 abbrev pub changed_by : Change → Traffic → Traffic
 changed_by (change.Marked last) = marked last
 changed_by change.Expired = expiring
-changed_by (change.Told seconds) = telling seconds
+changed_by (change.Timed seconds) = timing seconds
 changed_by (change.Received bytes) = receiving bytes
 changed_by (change.Sent bytes) = sending bytes
 

@@ -1,7 +1,7 @@
 ghost use Rattle.std.specs.Prelude.{◌≡◌, ◌≢◌, ◌<◌, ◌+◌, ℕ, None, [], IfOk, option_map, vec_len};
 ghost use Rattle.http_ports.specs.Loops.{kept_at};
 ghost use Rattle.http_ports.specs.Ports.{Closes, expiring};
-ghost use Rattle.http_ports.specs.Traffic.{Changes, Elsewhere, IsOpen, Traffic, no_traffic, telling, with_open};
+ghost use Rattle.http_ports.specs.Traffic.{Changes, Elsewhere, IsOpen, Traffic, no_traffic, timing, with_open};
 ghost use Rattle.port_books.specs.Books.{accepted_in, changed_by, is_waiting, kept_waits, slot_waits, slots_after};
 
 use crate::moves::{Change, Move};
@@ -147,13 +147,14 @@ impl<S: Drop> Book<S> {
         self.moves.push(&Move::Changed(slot, Change::Expired));
     }
 
-    /// Records that a slot's connection was given a moment; it waits then if it did before.
-    pub fn tell(&mut self, slot: usize, seconds: u64)
-        ensures changes { Changes slot (telling seconds) (slots_after self.old.moves) (slots_after self.new.moves) }
+    /// Records that a slot's connection was given a timestamp; it waits then if it did before.
+    pub fn note_time(&mut self, slot: usize, seconds: u64)
+        ensures changes { Changes slot (timing seconds) (slots_after self.old.moves) (slots_after self.new.moves) }
         ensures accepted { accepted_in self.new.moves ≡ accepted_in self.old.moves }
         ensures capacity { vec_len self.new.places ≡ vec_len self.old.places }
     {
-        self.moves.push(&Move::Changed(slot, Change::Told(seconds)));
+        self.moves
+            .push(&Move::Changed(slot, Change::Timed(seconds)));
     }
 
     // rule: Traffic of a book

@@ -8,8 +8,8 @@ pub enum Change {
     Marked(Last),
     /// Its time is up.
     Expired,
-    /// It was given a moment: so many seconds after the start of 1970.
-    Told(u64),
+    /// It was given a timestamp: so many seconds after the start of 1970.
+    Timed(u64),
     /// These bytes were received.
     Received(Trace<u8>),
     /// These bytes were sent.

@@ -95,15 +95,15 @@ pub(crate) const FILES: Shelf<'static> = Shelf {
     ],
 };
 
-// The body of a reply: that of the message, or the moment, if the message asks for it.
-fn echoed(alloc: Global, body: &[u8], moment: u64) -> Result<Vec<u8>, AllocError> {
-    if body == b"moment".as_slice() {
-        return Ok(format!(in alloc; "{moment}")?.into_bytes());
+// The body of a reply: that of the message, or the timestamp, if the message asks for it.
+fn echoed(alloc: Global, body: &[u8], seconds: u64) -> Result<Vec<u8>, AllocError> {
+    if body == b"second".as_slice() {
+        return Ok(format!(in alloc; "{seconds}")?.into_bytes());
     }
     Vec::from_slice(alloc, body)
 }
 
-/// Replies to each message to `/echo` with its body, and to `moment` with the seconds at which it was asked.
+/// Replies to each message to `/echo` with its body, and to `second` with the timestamp at which it was asked.
 #[derive(Drop)]
 pub(crate) struct Echo {
     pub(crate) alloc: Global,
@@ -124,8 +124,8 @@ impl Desk for Echo {
         "text/plain"
     }
 
-    fn answer(&mut self, body: &[u8], moment: u64) -> Result<Answer, Off> {
-        match echoed(self.alloc, body, moment) {
+    fn answer(&mut self, body: &[u8], seconds: u64) -> Result<Answer, Off> {
+        match echoed(self.alloc, body, seconds) {
             Ok(body) => Ok(Answer {
                 status: DeskStatus::Success,
                 body,

@@ -9,15 +9,15 @@ const PAIR: &str =
     ";POST /echo HTTP/1.1~Content-Length: 3~~onePOST /echo HTTP/1.1~Content-Length: 4~~four;ended;HTTP/1.1 200 OK~Content-Type: text/plain~Content-Length: 3~~oneHTTP/1.1 200 OK~Content-Type: text/plain~Content-Length: 4~~four";
 
 // Two messages, the first of which has come whole when the connection goes on for the second time.
-const MOMENTS: &str =
-    "quick;POST /echo HTTP/1.1~Content-Length: 6~~momentPOST /echo HTTP/1.1~Content-Length: 6~~moment;ended;HTTP/1.1 200 OK~Content-Type: text/plain~Content-Length: 1~~1HTTP/1.1 200 OK~Content-Type: text/plain~Content-Length: 1~~2";
+const TIMES: &str =
+    "quick;POST /echo HTTP/1.1~Content-Length: 6~~secondPOST /echo HTTP/1.1~Content-Length: 6~~second;ended;HTTP/1.1 200 OK~Content-Type: text/plain~Content-Length: 1~~1HTTP/1.1 200 OK~Content-Type: text/plain~Content-Length: 1~~2";
 
-// rule: Moment of a connection
-// rule: Moment of a reply
+// rule: Timestamp of a connection
+// rule: Timestamp of a reply
 #[test]
-fn asks_the_desk_at_the_moment_of_each_message(rt: HostRuntime) -> Result<(), AllocError> {
+fn asks_the_desk_at_the_timestamp_of_each_message(rt: HostRuntime) -> Result<(), AllocError> {
     let mut room = Buffers::new(rt.alloc())?;
-    let wrong = wrong_row(&rt, &mut room, 1000, 0, MOMENTS);
+    let wrong = wrong_row(&rt, &mut room, 1000, 0, TIMES);
     assert!(rt; wrong.is_empty(), "{wrong}");
     Ok(())
 }

@@ -13,13 +13,13 @@ use Rattle.port_scripts.specs.declared.peer.Peer.{Peer}
 
 -- rule: Peer of a script
 -- the traffic of a peer's connection: what was received is what was read of its input, and what was sent is what it got;
--- with the moments that it was given
+-- with the timestamps that it was given
 abbrev pub traffic_of : Peer → Traffic
 traffic_of peer =
     record {
       received = take peer.read peer.input.items;
       sent = peer.got.items;
-      moments = peer.told;
+      timestamps = peer.timestamps;
       last = peer.last;
       expired = peer.expired;
     }

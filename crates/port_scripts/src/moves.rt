@@ -1,13 +1,13 @@
 // What a peer sends and takes.
 
 ghost use Rattle.std.specs.Prelude.{◌≡◌, ◌<◌, ◌≤◌, ℕ, [], length, IfOk, IsTrue, vec_len, vec_capacity};
-ghost use Rattle.http_ports.specs.Traffic.{marked, no_traffic, telling};
+ghost use Rattle.http_ports.specs.Traffic.{marked, no_traffic, timing};
 ghost use Rattle.http_ports.specs.Ports.{IsWaiting, expiring};
 ghost use Rattle.http_ports.specs.declared.last.Last.TheVariants.{Reported, Yields};
 ghost use Rattle.port_scripts.specs.Peers.{Gives, Takes, read_at_end, read_of, traffic_of, write_at_limit, write_of};
 
 use crate::peer::{Finish, Peer};
-use http_ports::{Last, Moment, Received, Sent};
+use http_ports::{Last, Received, Sent, Timestamp};
 use std::alloc::{AllocError, Global};
 use traces::Trace;
 
@@ -29,7 +29,7 @@ impl Peer {
             when_full: Finish::Fails,
             is_slow: true,
             pauses: false,
-            told: Trace::new(),
+            timestamps: Trace::new(),
             last: Last::Reported,
             expired: false,
         })
@@ -43,7 +43,7 @@ impl Peer {
         self.read = 0;
         self.got.clear();
         self.pauses = false;
-        self.told = Trace::new();
+        self.timestamps = Trace::new();
         self.last = Last::Reported;
         self.expired = false;
     }
@@ -167,12 +167,12 @@ impl Peer {
         self.last = Last::Yields;
     }
 
-    // Its connection is given a moment.
-    pub(crate) fn tell(&mut self, seconds: u64)
-        ensures told { traffic_of self.new ≡ telling seconds (traffic_of self.old) }
+    // Its connection is given a timestamp.
+    pub(crate) fn note_time(&mut self, seconds: u64)
+        ensures noted { traffic_of self.new ≡ timing seconds (traffic_of self.old) }
         ensures input { self.new.input ≡ self.old.input }
     {
-        self.told.push(&Moment {
+        self.timestamps.push(&Timestamp {
             seconds,
             received: self.read,
             sent: self.got.len(),

@@ -3,7 +3,7 @@
 ghost use Rattle.std.specs.Prelude.{◌≡◌, ◌≤◌, vec_len};
 ghost use Rattle.http_ports.specs.declared.last.Last.TheVariants.{InputEnded};
 
-use http_ports::{Last, Moment};
+use http_ports::{Last, Timestamp};
 use traces::Trace;
 
 /// What a peer does once it has sent its input, or got as much as it takes.
@@ -36,8 +36,8 @@ pub struct Peer {
     pub is_slow: bool,
     /// Whether it pauses now.
     pub pauses: bool,
-    /// The moments that its connection was given; for contracts alone.
-    pub told: Trace<Moment>,
+    /// The timestamps that its connection was given; for contracts alone.
+    pub timestamps: Trace<Timestamp>,
     /// What the last call for the connection came to.
     pub last: Last,
     /// Whether its time is up.

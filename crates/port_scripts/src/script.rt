@@ -218,10 +218,10 @@ impl Port for Script {
         event
     }
 
-    fn moment(&mut self, slot: usize) -> u64 {
+    fn timestamp(&mut self, slot: usize) -> u64 {
         let seconds = self.seconds % (1 << 63);
         self.seconds = seconds.saturating_add(self.step);
-        self.seats[slot].tell(seconds);
+        self.seats[slot].note_time(seconds);
         seconds
     }
 

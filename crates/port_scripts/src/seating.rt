@@ -2,7 +2,7 @@
 
 ghost use Rattle.std.specs.Prelude.{◌≡◌, ◌<◌, ◌≤◌, ℕ, None, Some, false, length, IfNone, IfSome, vec_len};
 ghost use Rattle.http_ports.specs.Ports.{accepted_by, expiring};
-ghost use Rattle.http_ports.specs.Traffic.{IsOpen, Traffic, marked, no_traffic, telling, unused, with_ended, with_open};
+ghost use Rattle.http_ports.specs.Traffic.{IsOpen, Traffic, marked, no_traffic, timing, unused, with_ended, with_open};
 ghost use Rattle.http_ports.specs.declared.last.Last.TheVariants.{Reported, Yields};
 ghost use Rattle.port_scripts.specs.Peers.{FitsRead, FitsWrite, after_read, after_write};
 ghost use Rattle.port_scripts.specs.Seats.{ChangesSeat, HasConnected, IsQuiet, ReportsSeat, connected_at, slot_of};
@@ -56,13 +56,13 @@ impl Seat {
         self.peers[self.ended].write(bytes)
     }
 
-    // The connection is given a moment.
-    pub(crate) fn tell(&mut self, seconds: u64)
+    // The connection is given a timestamp.
+    pub(crate) fn note_time(&mut self, seconds: u64)
         requires live { IsOpen (slot_of self.old) }
-        ensures changes { ChangesSeat (telling seconds) self.old self.new }
+        ensures changes { ChangesSeat (timing seconds) self.old self.new }
         ensures counts { HasConnected 0 self.old self.new }
     {
-        self.peers[self.ended].tell(seconds);
+        self.peers[self.ended].note_time(seconds);
     }
 
     // The connection is to be reported again.

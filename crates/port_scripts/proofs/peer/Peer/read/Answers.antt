@@ -27,7 +27,7 @@ returns-clause-gives c =
           (λ (bytes : List ℕ). record {
             received = bytes;
             sent = peer.got.items;
-            moments = peer.told;
+            timestamps = peer.timestamps;
             last = Passed;
             expired = peer.expired;
           }) came;

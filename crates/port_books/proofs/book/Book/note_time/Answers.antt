@@ -3,19 +3,19 @@ use Rattle.port_books.specs.Books.{slots_after}
 use Rattle.port_books.specs.declared.moves.Change.TheVariants as change
 use Rattle.port_books.specs.declared.moves.Move.TheVariants as move
 use Rattle.port_books.proofs.BookLemmas.{accepted_in-push, changes, tied-push, waits-kept}
-use Rattle.port_books.proofs.book.Book.tell.Goals as goal
+use Rattle.port_books.proofs.book.Book.note_time.Goals as goal
 
 pub invariant_of-self : goal.invariant_of-self
 invariant_of-self g c = record {
   tied = rw c.push.ensures
       (tied-push c.args.self.now.places.items c.args.self.now.places.items c.args.self.now.moves
-      (move.Changed c.args.slot (change.Told c.args.seconds)) c.args.self.now.tied (λ k other. refl)
-      (c.args.self.now.tied c.args.slot ∙ sym (waits-kept (slots_after c.args.self.now.moves c.args.slot) c.args.slot (change.Told c.args.seconds) (λ traffic. refl))));
+      (move.Changed c.args.slot (change.Timed c.args.seconds)) c.args.self.now.tied (λ k other. refl)
+      (c.args.self.now.tied c.args.slot ∙ sym (waits-kept (slots_after c.args.self.now.moves c.args.slot) c.args.slot (change.Timed c.args.seconds) (λ traffic. refl))));
 }
 
 pub returns-clause-changes : goal.returns-clause-changes
-returns-clause-changes g c = rw c.push.ensures (changes c.args.self.now.moves c.args.slot (change.Told c.args.seconds))
+returns-clause-changes g c = rw c.push.ensures (changes c.args.self.now.moves c.args.slot (change.Timed c.args.seconds))
 
 pub returns-clause-accepted : goal.returns-clause-accepted
 returns-clause-accepted g c =
-    rw c.push.ensures (accepted_in-push c.args.self.now.moves (move.Changed c.args.slot (change.Told c.args.seconds)) ∙ omega arith)
+    rw c.push.ensures (accepted_in-push c.args.self.now.moves (move.Changed c.args.slot (change.Timed c.args.seconds)) ∙ omega arith)

@@ -1,6 +1,6 @@
-/// A moment that a port gave for a connection, which contracts see.
+/// A timestamp that a port gave for a connection, for contracts alone.
 #[derive(Clone, Copy, Drop)]
-pub struct Moment {
+pub struct Timestamp {
     /// How many seconds had passed since 1970.
     pub seconds: u64,
     /// How many bytes had come on the connection.
