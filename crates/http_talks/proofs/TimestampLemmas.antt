@@ -128,7 +128,7 @@ pub fits_at :
     (path : List ℕ) (seconds : ℕ) (sizes : List ℕ → Option ℕ → Type 0) (reads : List ℕ → Reads) → IsTime seconds →
     (method : Method) (target : List ℕ) (used : Use) → IsUse path (λ time. time ≡ seconds) sizes reads method target used →
     IsUse path IsTime sizes reads method target used × IsAskedAt seconds used
-fits_at path seconds sizes reads time method target (Asked time answer) (routed, asked, is) =
+fits_at path seconds sizes reads time method target (Asked at answer) (routed, asked, is) =
     ((routed, asked, subst IsTime (sym is) time), is)
 fits_at path seconds sizes reads time method target (Paged other by page) fits = (fits, tt)
 fits_at path seconds sizes reads time method target Misused fits = (fits, tt)
