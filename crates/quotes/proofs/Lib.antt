@@ -8,5 +8,6 @@ mod OutsideAmongLemmas
 mod OutsideLemmas
 mod PayloadLemmas
 mod QuoteLemmas
+mod SameVersionLemmas
 mod TrackLemmas
 mod VisitorLemmas

@@ -37,7 +37,7 @@ or-true : (b : Bool) → (b || true) ≡ true
 or-true true = refl
 or-true false = refl
 
-never : {A : Type 0} (o : Option A) → option_map_or (λ (_ : A). false) o false ≡ true → ⊥
+pub never : {A : Type 0} (o : Option A) → option_map_or (λ (_ : A). false) o false ≡ true → ⊥
 never None is = false≢true is
 never (Some a) is = false≢true is
 

@@ -7,14 +7,14 @@ use Rattle.version.specs.Versions.{is_below}
 use Rattle.records.specs.declared.content.Cohort.{Cohort}
 use Rattle.records.specs.declared.content.Release.{Release}
 use Rattle.payload_graph.specs.Permitted.{is_offered_at, leads_down, permits_full, rolls_back}
-use Rattle.payload_graph.specs.declared.payload.Payload.TheVariants.{Full}
+use Rattle.payload_graph.specs.declared.payload.Payload.TheVariants.{Differ, Full}
 use Rattle.payload_graph.specs.declared.payload.TrackKey.{TrackKey}
 use Rattle.price_cert.specs.Laws.{IsSmall}
 use Rattle.price_cert.specs.Rows.{price_at}
 use Rattle.price_cert.specs.declared.row.Row.{Row}
 use Rattle.quotes.specs.declared.outside.Best.{Best}
 use Rattle.quotes.specs.declared.quote.Quote.{Quote}
-use Rattle.quotes.specs.declared.quote.Quote.TheVariants.{Next, NoChain}
+use Rattle.quotes.specs.declared.quote.Quote.TheVariants.{Here, Next, NoChain}
 
 -- a stone above a version
 abbrev pub is_stone_above : List ℕ → Release → Bool
@@ -70,3 +70,11 @@ AreSmall rows = (from : ℕ) → from < length rows → IfSome (price_at rows fr
 -- what the best way says
 abbrev pub best_quote : Option Best → Quote
 best_quote best = option_map_or (λ way. Next (Full way.to) way.sum) best NoChain
+
+-- a quote at a release as one from outside at its version, unless a differential is offered: the same full packages are
+-- permitted, and no place outside is the target
+abbrev pub without_differentials : Quote → Option Quote
+without_differentials Here = Some NoChain
+without_differentials NoChain = Some NoChain
+without_differentials (Next (Full to) sum) = Some (Next (Full to) sum)
+without_differentials (Next (Differ index) sum) = None
