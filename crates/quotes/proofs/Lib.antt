@@ -11,3 +11,4 @@ mod QuoteLemmas
 mod SameVersionLemmas
 mod TrackLemmas
 mod VisitorLemmas
+mod WindowLemmas

@@ -1,5 +1,5 @@
 -- What is offered at a release and from outside at its version: the same full packages.
-use Rattle.std.proofs.Common.{◌≡◌, ℕ, ◌+◌, ◌<◌, ◌&&◌, ◌||◌, not, Bool, true, false, List, [], ◌∷◌, length, get_or, Option, None, Some, refl, sym, ap, ◌∙◌, subst, arith}
+use Rattle.std.proofs.Common.{◌≡◌, ℕ, ◌+◌, ◌<◌, ◌&&◌, ◌||◌, not, Bool, true, false, List, [], ◌∷◌, length, get_or, Option, None, Some, refl, sym, ap, ◌∙◌, subst}
 use Rattle.std.specs.List.{position, slice_get}
 use Rattle.std.specs.Option.{option_and_then, option_map, option_map_or, IfSome}
 use Rattle.std.proofs.lemmas.Bool.{false≢true}
@@ -14,7 +14,7 @@ use Rattle.records.specs.Validity.{IsValid}
 use Rattle.records.specs.declared.content.App.{App}
 use Rattle.records.specs.declared.content.Cohort.{Cohort}
 use Rattle.records.specs.declared.content.Release.{Release}
-use Rattle.payload_graph.specs.Chains.{IsAtTarget, IsChain, bytes_of, cohort_target, sum_of, target_index}
+use Rattle.payload_graph.specs.Chains.{IsAtTarget, IsChain, bytes_of, cohort_target, target_index}
 use Rattle.payload_graph.specs.Laws.{IsTrack}
 use Rattle.payload_graph.specs.Net.{Net, net_among}
 use Rattle.payload_graph.specs.Permitted.{is_offered_at, jumps_stone, permits, permits_full, rolls_back}
@@ -24,7 +24,7 @@ use Rattle.payload_graph.specs.declared.payload.Payload.TheVariants.{Full, Diffe
 use Rattle.payload_graph.specs.declared.payload.TrackKey.{TrackKey}
 use Rattle.payload_graph.specs.declared.place.Place.{Place}
 use Rattle.payload_graph.specs.declared.place.Place.TheVariants.{At, Outside}
-use Rattle.quotes.proofs.AmongLemmas.{HasApp, HasApp-net_among}
+use Rattle.quotes.proofs.AmongLemmas.{HasApp-net_among}
 use Rattle.quotes.proofs.PayloadLemmas.{permits-track}
 use Rattle.quotes.proofs.TrackLemmas.{HasIsTrack-track, HasTrack-net_in}
 use Rattle.quotes.proofs.VisitorLemmas.{never, not_at_target}
@@ -145,7 +145,7 @@ module _ (irreflexive : BelowIsIrreflexive) (app : App) (key : TrackKey) (cohort
           sym own.is ∙ ap (λ k. version_at app.releases (At k)) same ∙ has.is in
           cc
 
-  -- no full package leads on from the target's version
+  -- no full package leads away from the target's version
   no_full : release.version ≡ version → (to : ℕ) → permits app key outside (Full to) ≡ true → ⊥
   no_full same to permitted =
       none_passes (permits_full app.releases cohort key release.version version) (slice_get app.releases to) nowhere

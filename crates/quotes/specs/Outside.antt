@@ -1,7 +1,7 @@
 -- What a table says of clients that are at no release but at a version: the least sum among the full
 -- packages that are permitted. Releases are given by index, by ascending version.
-use Rattle.std.specs.Prelude.{◌≡◌, ℕ, ◌+◌, ◌<◌, ◌≤◌, ◌&&◌, ◌||◌, ◌⊎◌, not, Bool, if◌then◌else◌, List, length, slice_get, IfSome, Option, None, Some, option_and_then, option_map}
-use Rattle.std.specs.List.{list_any}
+use Rattle.std.specs.Prelude.{◌≡◌, ℕ, ◌+◌, ◌<◌, ◌≤◌, ◌&&◌, ◌||◌, ◌⊎◌, not, Bool, false, if◌then◌else◌, List, length, slice_get, IfSome, Option, None, Some, option_and_then, option_map}
+use Rattle.std.specs.List.{list_any, AllWithin}
 use Rattle.std.specs.Option.{option_map_or}
 use Rattle.version.specs.Versions.{is_below}
 use Rattle.records.specs.declared.content.Cohort.{Cohort}
@@ -27,6 +27,18 @@ is_blocked version releases = list_any (is_stone_above version) releases
 -- a version is above another one, and not above the target
 abbrev pub rises_to : List ℕ → List ℕ → List ℕ → Bool
 rises_to target version to = is_below version to && not (is_below target to)
+
+-- a client of a version may be downgraded: it is above the target, and the track rolls back
+abbrev pub may_fall : Cohort → TrackKey → List ℕ → List ℕ → Bool
+may_fall cohort key target version = rolls_back cohort key && is_below target version
+
+-- releases that a client of a version may be led to are within a range: above the version unless it may be downgraded
+pub record IsWindow (releases : List Release) (cohort : Cohort) (key : TrackKey) (target version : List ℕ) (start end : ℕ) : Type 0 where
+  pub begins : start ≤ length releases
+  pub ends : end ≤ length releases
+  pub low : AllWithin (λ release. is_below version release.version ≡ false) releases 0 start
+  pub before : AllWithin (λ release. permits_full releases cohort key target version release ≡ false) releases 0 start
+  pub behind : AllWithin (λ release. permits_full releases cohort key target version release ≡ false) releases end (length releases)
 
 -- a full package is permitted from a version, given whether a stone is between
 abbrev pub leads_to : Cohort → TrackKey → List ℕ → List ℕ → Bool → Release → Bool

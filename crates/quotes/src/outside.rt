@@ -1,6 +1,7 @@
 //! What a table says of clients that are at no release.
 
-ghost use Rattle.std.specs.Prelude.{◌≡◌, ℕ, ◌+◌, ◌||◌, All, true, if◌then◌else◌, IfSome, Option, None, length, option_map};
+ghost use Rattle.std.specs.Prelude.{◌≡◌, ℕ, ◌+◌, ◌≤◌, ◌||◌, All, true, false, if◌then◌else◌, IfSome, Option, None, length, option_map};
+ghost use Rattle.std.specs.List.{AllWithin};
 ghost use Rattle.values.specs.Ordered.{ascend};
 ghost use Rattle.version.specs.Versions.{is_below};
 ghost use Rattle.records.specs.Forms.{is_size};
@@ -8,7 +9,7 @@ ghost use Rattle.records.specs.Validity.{is_release_below};
 ghost use Rattle.payload_graph.specs.Permitted.{leads_down};
 ghost use Rattle.price_cert.specs.Laws.{IsSmall};
 ghost use Rattle.price_cert.specs.Rows.{price_of};
-ghost use Rattle.quotes.specs.Outside.{is_stone_above, leads_to, rises_to, sum_into, AreSmall, IsBest};
+ghost use Rattle.quotes.specs.Outside.{is_stone_above, leads_to, may_fall, rises_to, sum_into, AreSmall, IsBest, IsWindow};
 
 use catalogue::{Cohort, Release};
 use payload_graph::{TrackKey, is_offered_at, rolls_back};
@@ -54,6 +55,13 @@ impl Visitor<'_> {
         ensures { result ≡ leads_down self.now.target self.now.version release.now.version }
     {
         self.target.is_below(&self.version) && release.version.is_below(&self.version)
+    }
+
+    // Whether a client may be downgraded: it is above the target, and the track rolls back.
+    fn may_fall(&self) -> bool
+        ensures { result ≡ may_fall self.now.cohort.now self.now.key.now self.now.target self.now.version }
+    {
+        rolls_back(self.cohort, self.key) && self.target.is_below(&self.version)
     }
 
     // Whether the full package of a release is permitted, given whether a stone is between.
@@ -107,9 +115,47 @@ impl Visitor<'_> {
     }
 }
 
+/// A range of releases, by index.
+#[derive(Clone, Copy)]
+struct Window {
+    /// The first one.
+    start: usize,
+    /// The one after the last.
+    end: usize,
+}
+
+// How many releases aren't above a version, found by halves.
+fn count_up_to(releases: &[Release], version: &Version) -> usize
+    requires { ascend is_release_below releases.now ≡ true }
+    ensures bound { result ≤ length releases.now }
+    ensures before { AllWithin (λ release. is_below version.now release.version ≡ false) releases.now 0 result }
+    ensures behind { AllWithin (λ release. is_below version.now release.version ≡ true) releases.now result (length releases.now) }
+{
+    version::laws::order();
+    releases.partition_point(|release| !version.is_below(&release.version))
+}
+
+// The releases that a client may be led to: those above its version up to the target, or all if it may be downgraded.
+fn find_window(releases: &[Release], visitor: &Visitor<'_>, falls: bool) -> Window
+    requires ascending { ascend is_release_below releases.now ≡ true }
+    requires falls { falls ≡ may_fall visitor.now.cohort.now visitor.now.key.now visitor.now.target visitor.now.version }
+    ensures { IsWindow releases.now visitor.now.cohort.now visitor.now.key.now visitor.now.target visitor.now.version result.start result.end }
+{
+    if falls {
+        return Window {
+            start: 0,
+            end: releases.len(),
+        };
+    }
+    let start = count_up_to(releases, &visitor.version);
+    let end = count_up_to(releases, &visitor.target);
+    Window { start, end }
+}
+
 /// Finds the best release that a client may be led to by its full package.
 ///
-/// There is a row for each release. It goes through all releases once.
+/// There is a row for each release. It goes through the releases above the client's version, up to the first stone
+/// and not above the target; through all if the client may be downgraded.
 #[inline(never)]
 pub(crate) fn find_best(releases: &[Release], rows: &[Row], visitor: &Visitor<'_>) -> Option<Best>
     requires sized { length rows.now ≡ length releases.now }
@@ -120,9 +166,15 @@ pub(crate) fn find_best(releases: &[Release], rows: &[Row], visitor: &Visitor<'_
         (length releases.now) result }
 {
     version::laws::order();
+    let falls = visitor.may_fall();
+    let Window { start, end } = find_window(releases, visitor, falls);
     let mut best = None;
     let mut blocked = false;
-    for (to, release) in releases.iter().enumerate() {
+    for to in start..end {
+        if blocked && !falls {
+            return best;
+        }
+        let release = &releases[to];
         best = visitor.next_best(best, to, release, &rows[to], blocked);
         blocked = visitor.is_blocked_by(release, blocked);
     }

@@ -192,7 +192,9 @@ fn quote_outside(
 /// `table` is a certified table of the track's graph, and the place is within the track's app. The
 /// quote is `Here` exactly at the target and `NoChain` exactly if no chain leads there. Otherwise it is
 /// the first payload of a chain of the least sum: of all such payloads the one that leads highest, and of
-/// two of these the differential. From a release it looks at one row, from outside at each row once.
+/// two of these the differential. From a release it looks at one row. From outside it looks at the row of the release of
+/// that version, unless there is none or it names a differential. Then it looks once at the row of each release that the
+/// version may be led to.
 pub fn quote_from(catalogue: &Catalogue, key: &TrackKey, place: &Place, table: &Certified) -> Quote
     requires app { key.now.app < length catalogue.now }
     requires table { net_among catalogue.now key.now ≡ Some table.now.net }

@@ -1,7 +1,29 @@
-use Rattle.std.proofs.Common.{◌+◌, sym, subst}
+use Rattle.std.proofs.Common.{◌+◌, ◌∙◌, sym, subst, arith}
 use Rattle.quotes.proofs.OutsideLemmas.{HasLooked, HasLooked-next}
+use Rattle.quotes.proofs.WindowLemmas.{HasLooked-start, IsBest-blocked, IsBest-end}
 use Rattle.quotes.specs.Outside.{sum_into}
 use Rattle.quotes.proofs.outside.find_best.Goals as goal
+
+pub loop-to-init : goal.loop-to-init
+loop-to-init c =
+    let visitor = c.args.visitor.now in
+    let window = c.find_window-start.ensures in (
+      HasLooked-start c.args.releases.now visitor.cohort.now visitor.key.now visitor.target visitor.version c.args.rows.now
+          c.find_window-start.result.start c.find_window-start.result.end window,
+      window.begins,
+    )
+
+pub returns-then-not-falls : goal.returns-then-not-falls
+returns-then-not-falls c =
+    let releases = c.args.releases.now in
+    let visitor = c.args.visitor.now in
+    let rows = c.args.rows.now in
+    let looked =
+    subst (λ blocked. HasLooked releases visitor.cohort.now visitor.key.now visitor.target visitor.version rows c.loop-to.to c.loop-to.best blocked)
+    c.if-blocked.true c.loop-to.invariant.0 in
+    IsBest-blocked releases visitor.cohort.now visitor.key.now visitor.target visitor.version rows
+    c.order.ensures.irreflexive c.order.ensures.transitive c.requires.ascending c.loop-to.to c.loop-to.best
+    c.loop-to.invariant.1 (sym c.may_fall-falls.ensures ∙ c.if-not-falls.true) looked
 
 pub loop-to-preserved : goal.loop-to-preserved
 loop-to-preserved c =
@@ -9,11 +31,23 @@ loop-to-preserved c =
     let visitor = c.args.visitor.now in
     let rows = c.args.rows.now in
     let sums = sum_into releases visitor.cohort.now visitor.key.now visitor.target visitor.version rows in
+    let ends = c.find_window-start.ensures.ends in
+    let inside = c.loop-to-test.true in
     let looked =
     HasLooked-next c.order.ensures.irreflexive c.order.ensures.transitive releases c.requires.ascending
     visitor.cohort.now visitor.key.now visitor.target visitor.version rows
     c.loop-to.to c.index-releases-to.result c.loop-to.best c.next_best-best.result c.loop-to.blocked
-    c.loop-to-test.true c.index-releases-to.is c.loop-to.invariant
-    (c.next_best-best.ensures sums) in
-    subst (λ blocked. HasLooked releases visitor.cohort.now visitor.key.now visitor.target visitor.version rows (c.loop-to.to + 1) c.next_best-best.result blocked)
-    (sym c.is_blocked_by-blocked.ensures) looked
+    (omega arith) c.index-releases-to.is c.loop-to.invariant.0
+    (c.next_best-best.ensures sums) in (
+      subst (λ blocked. HasLooked releases visitor.cohort.now visitor.key.now visitor.target visitor.version rows (c.loop-to.to + 1) c.next_best-best.result blocked)
+          (sym c.is_blocked_by-blocked.ensures) looked,
+      omega arith,
+    )
+
+pub returns : goal.returns
+returns c =
+    let visitor = c.args.visitor.now in
+    let over = c.loop-to-test.false in
+    IsBest-end c.args.releases.now visitor.cohort.now visitor.key.now visitor.target visitor.version c.args.rows.now
+    c.find_window-start.result.start c.find_window-start.result.end c.loop-to.to c.loop-to.best c.loop-to.blocked
+    c.find_window-start.ensures (omega arith) c.loop-to.invariant.1 c.loop-to.invariant.0

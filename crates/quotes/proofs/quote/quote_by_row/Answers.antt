@@ -1,9 +1,6 @@
-use Rattle.std.proofs.Common.{sym, subst, ◌∙◌}
-use Rattle.std.specs.Option.{IfSome}
+use Rattle.std.proofs.Common.{sym, ◌∙◌}
 use Rattle.records.specs.Lookups.{releases_at}
-use Rattle.payload_graph.specs.declared.place.Place.TheVariants.{Outside}
 use Rattle.quotes.proofs.SameVersionLemmas.{HasVersion-position, quote-outside_among}
-use Rattle.quotes.specs.Quotes.{IsQuoteAmong}
 use Rattle.quotes.proofs.quote.quote_by_row.Goals as goal
 
 pub returns : goal.returns
