@@ -53,6 +53,12 @@ too_high true true jumps back from_above down none = not_up true true jumps back
 stopped : (offered rises back from_above down : Bool) → (back && from_above) ≡ false → (offered && ((not true && rises) || (back && (from_above && down)))) ≡ false
 stopped offered rises back from_above down none = not_up offered rises true back from_above down none
 
+-- a release that is no stone blocks nothing more
+pub no_stone_more : (blocked stone above : Bool) → stone ≡ false → (blocked || (stone && above)) ≡ blocked
+no_stone_more true stone above none = refl
+no_stone_more false true above none = absurd (false≢true (sym none))
+no_stone_more false false above none = refl
+
 -- an item that passes among the first is among more
 any-on :
     {A : Type 0} (p : A → Bool) (xs : List A) (n m : ℕ) →

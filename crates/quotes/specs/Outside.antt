@@ -75,6 +75,11 @@ abbrev pub IsBest : (ℕ → Option ℕ) → ℕ → Option Best → Type 0
 IsBest sums count None = (to : ℕ) → to < count → sums to ≡ None
 IsBest sums count (Some best) = IsBestOf sums count best
 
+-- the best one, beside a sum by one more release that is no worse
+abbrev pub best_with : Option Best → ℕ → Option ℕ → Option Best
+best_with best to None = best
+best_with best to (Some sum) = Some (record { to = to; sum = sum })
+
 -- the prices of a table are small
 abbrev pub AreSmall : List Row → Type 0
 AreSmall rows = (from : ℕ) → from < length rows → IfSome (price_at rows from) IsSmall

@@ -9,7 +9,7 @@ ghost use Rattle.records.specs.Validity.{is_release_below};
 ghost use Rattle.payload_graph.specs.Permitted.{leads_down};
 ghost use Rattle.price_cert.specs.Laws.{IsSmall};
 ghost use Rattle.price_cert.specs.Rows.{price_of};
-ghost use Rattle.quotes.specs.Outside.{is_stone_above, leads_to, may_fall, rises_to, sum_into, AreSmall, IsBest, IsWindow};
+ghost use Rattle.quotes.specs.Outside.{best_with, is_stone_above, leads_to, may_fall, rises_to, sum_into, AreSmall, IsBest, IsWindow};
 
 use catalogue::{Cohort, Release};
 use payload_graph::{TrackKey, is_offered_at, rolls_back};
@@ -82,8 +82,37 @@ impl Visitor<'_> {
         blocked || (release.stone && self.is_below(release))
     }
 
+    // The sum by the full package of the next release, if it makes a way that is no worse than the best one before. A
+    // package is only asked for permission if its sum is no larger.
+    fn next_sum(
+        &self,
+        best: Option<Best>,
+        release: &Release,
+        row: &Row,
+        blocked: bool,
+    ) -> Option<u64>
+        requires size { is_size release.now.size ≡ true }
+        requires price { IfSome (price_of row.now) IsSmall }
+        ensures { (sums : ℕ → Option ℕ) → (to : ℕ) →
+            sums to ≡ (if leads_to self.now.cohort.now self.now.key.now self.now.target self.now.version blocked release.now
+            then option_map (λ rest. release.now.size + rest) (price_of row.now) else None) →
+            IsBest sums to best → IsBest sums (to + 1) (best_with best to result) }
+    {
+        let rest = row.price()?;
+        let sum = release.size + rest;
+        if let Some(known) = best {
+            if known.sum < sum {
+                return None;
+            }
+        }
+        if !self.is_led_to(release, blocked) {
+            return None;
+        }
+        Some(sum)
+    }
+
     // The better way of the best one before and the full package of the next release: that of the smaller sum, and
-    // of equal ones the later. A package is only asked for permission if its sum is no larger.
+    // of equal ones the later.
     fn next_best(
         &self,
         best: Option<Best>,
@@ -99,19 +128,10 @@ impl Visitor<'_> {
             then option_map (λ rest. release.now.size + rest) (price_of row.now) else None) →
             IsBest sums to best → IsBest sums (to + 1) result }
     {
-        let Some(rest) = row.price() else {
-            return best;
-        };
-        let sum = release.size + rest;
-        if let Some(known) = best {
-            if known.sum < sum {
-                return best;
-            }
+        match self.next_sum(best, release, row, blocked) {
+            Some(sum) => Some(Best { to, sum }),
+            None => best,
         }
-        if !self.is_led_to(release, blocked) {
-            return best;
-        }
-        Some(Best { to, sum })
     }
 }
 
@@ -171,12 +191,14 @@ pub(crate) fn find_best(releases: &[Release], rows: &[Row], visitor: &Visitor<'_
     let mut best = None;
     let mut blocked = false;
     for to in start..end {
-        if blocked && !falls {
-            return best;
-        }
         let release = &releases[to];
         best = visitor.next_best(best, to, release, &rows[to], blocked);
-        blocked = visitor.is_blocked_by(release, blocked);
+        if release.stone {
+            blocked = visitor.is_blocked_by(release, blocked);
+            if blocked && !falls {
+                return best;
+            }
+        }
     }
     best
 }

@@ -1,7 +1,9 @@
-use Rattle.std.proofs.Common.{◌+◌, ◌∙◌, sym, subst, arith}
+use Rattle.std.proofs.Common.{◌≡◌, ◌+◌, ◌||◌, ◌∙◌, sym, subst, arith}
 use Rattle.quotes.proofs.OutsideLemmas.{HasLooked, HasLooked-next}
-use Rattle.quotes.proofs.WindowLemmas.{HasLooked-start, IsBest-blocked, IsBest-end}
-use Rattle.quotes.specs.Outside.{sum_into}
+use Rattle.quotes.proofs.WindowLemmas.{HasLooked-start, IsBest-blocked, IsBest-end, no_stone_more}
+use Rattle.quotes.specs.Outside.{is_stone_above, sum_into}
+use Rattle.version.specs.Versions.{is_below}
+use Rattle.quotes.proofs.outside.find_best.Goals.{then-release+else-blocked, else-release}
 use Rattle.quotes.proofs.outside.find_best.Goals as goal
 
 pub loop-to-init : goal.loop-to-init
@@ -18,18 +20,6 @@ returns-then-not-falls c =
     let releases = c.args.releases.now in
     let visitor = c.args.visitor.now in
     let rows = c.args.rows.now in
-    let looked =
-    subst (λ blocked. HasLooked releases visitor.cohort.now visitor.key.now visitor.target visitor.version rows c.loop-to.to c.loop-to.best blocked)
-    c.if-blocked.true c.loop-to.invariant.0 in
-    IsBest-blocked releases visitor.cohort.now visitor.key.now visitor.target visitor.version rows
-    c.order.ensures.irreflexive c.order.ensures.transitive c.requires.ascending c.loop-to.to c.loop-to.best
-    c.loop-to.invariant.1 (sym c.may_fall-falls.ensures ∙ c.if-not-falls.true) looked
-
-pub loop-to-preserved : goal.loop-to-preserved
-loop-to-preserved c =
-    let releases = c.args.releases.now in
-    let visitor = c.args.visitor.now in
-    let rows = c.args.rows.now in
     let sums = sum_into releases visitor.cohort.now visitor.key.now visitor.target visitor.version rows in
     let ends = c.find_window-start.ensures.ends in
     let inside = c.loop-to-test.true in
@@ -38,9 +28,38 @@ loop-to-preserved c =
     visitor.cohort.now visitor.key.now visitor.target visitor.version rows
     c.loop-to.to c.index-releases-to.result c.loop-to.best c.next_best-best.result c.loop-to.blocked
     (omega arith) c.index-releases-to.is c.loop-to.invariant.0
-    (c.next_best-best.ensures sums) in (
+    (c.next_best-best.ensures sums) in
+    let passed =
+    subst (λ blocked. HasLooked releases visitor.cohort.now visitor.key.now visitor.target visitor.version rows (c.loop-to.to + 1) c.next_best-best.result blocked)
+    (sym c.is_blocked_by-blocked.ensures ∙ c.if-blocked.true) looked in
+    IsBest-blocked releases visitor.cohort.now visitor.key.now visitor.target visitor.version rows
+    c.order.ensures.irreflexive c.order.ensures.transitive c.requires.ascending (c.loop-to.to + 1) c.next_best-best.result
+    (omega arith) (sym c.may_fall-falls.ensures ∙ c.if-not-falls.true) passed
+
+pub loop-to-preserved : goal.loop-to-preserved
+loop-to-preserved c =
+    let releases = c.args.releases.now in
+    let visitor = c.args.visitor.now in
+    let rows = c.args.rows.now in
+    let release = c.index-releases-to.result in
+    let sums = sum_into releases visitor.cohort.now visitor.key.now visitor.target visitor.version rows in
+    let ends = c.find_window-start.ensures.ends in
+    let inside = c.loop-to-test.true in
+    let looked =
+    HasLooked-next c.order.ensures.irreflexive c.order.ensures.transitive releases c.requires.ascending
+    visitor.cohort.now visitor.key.now visitor.target visitor.version rows
+    c.loop-to.to release c.loop-to.best c.next_best-best.result c.loop-to.blocked
+    (omega arith) c.index-releases-to.is c.loop-to.invariant.0
+    (c.next_best-best.ensures sums) in
+    let same : (c.loop-to.blocked || is_stone_above visitor.version release) ≡ c.if-release.blocked =
+    elim c.if-release.branch [
+      | then-release+else-blocked w ↦ sym w.is_blocked_by-blocked.ensures ∙ sym w.blocked-is
+      | else-release w ↦
+          no_stone_more c.loop-to.blocked release.stone (is_below visitor.version release.version) w.if-release.false
+          ∙ sym w.blocked-is
+    ] in (
       subst (λ blocked. HasLooked releases visitor.cohort.now visitor.key.now visitor.target visitor.version rows (c.loop-to.to + 1) c.next_best-best.result blocked)
-          (sym c.is_blocked_by-blocked.ensures) looked,
+          same looked,
       omega arith,
     )
 
