@@ -110,29 +110,6 @@ impl Visitor<'_> {
         }
         Some(sum)
     }
-
-    // The better way of the best one before and the full package of the next release: that of the smaller sum, and
-    // of equal ones the later.
-    fn next_best(
-        &self,
-        best: Option<Best>,
-        to: usize,
-        release: &Release,
-        row: &Row,
-        blocked: bool,
-    ) -> Option<Best>
-        requires size { is_size release.now.size ≡ true }
-        requires price { IfSome (price_of row.now) IsSmall }
-        ensures { (sums : ℕ → Option ℕ) →
-            sums to ≡ (if leads_to self.now.cohort.now self.now.key.now self.now.target self.now.version blocked release.now
-            then option_map (λ rest. release.now.size + rest) (price_of row.now) else None) →
-            IsBest sums to best → IsBest sums (to + 1) result }
-    {
-        match self.next_sum(best, release, row, blocked) {
-            Some(sum) => Some(Best { to, sum }),
-            None => best,
-        }
-    }
 }
 
 /// A range of releases, by index.
@@ -192,7 +169,9 @@ pub(crate) fn find_best(releases: &[Release], rows: &[Row], visitor: &Visitor<'_
     let mut blocked = false;
     for to in start..end {
         let release = &releases[to];
-        best = visitor.next_best(best, to, release, &rows[to], blocked);
+        if let Some(sum) = visitor.next_sum(best, release, &rows[to], blocked) {
+            best = Some(Best { to, sum });
+        }
         if release.stone {
             blocked = visitor.is_blocked_by(release, blocked);
             if blocked && !falls {
