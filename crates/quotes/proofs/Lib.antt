@@ -8,5 +8,7 @@ mod OutsideAmongLemmas
 mod OutsideLemmas
 mod PayloadLemmas
 mod QuoteLemmas
+mod SameVersionLemmas
 mod TrackLemmas
 mod VisitorLemmas
+mod WindowLemmas

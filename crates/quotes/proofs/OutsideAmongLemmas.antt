@@ -1,7 +1,7 @@
 -- The quotes from outside, of an app of a content.
-use Rattle.std.proofs.Common.{◌≡◌, ℕ, ◌<◌, ◌&&◌, Bool, true, List, [], length, get_or, Option, None, Some, refl, sym, ap, ◌∙◌, subst, arith}
+use Rattle.std.proofs.Common.{◌≡◌, ℕ, ◌<◌, ◌&&◌, true, List, [], length, get_or, Option, None, Some, sym, ap, ◌∙◌, subst}
 use Rattle.std.specs.List.{All, slice_get}
-use Rattle.std.specs.Option.{option_and_then, option_map, option_map_or, IfSome}
+use Rattle.std.specs.Option.{option_and_then, option_map_or, IfSome}
 use Rattle.std.proofs.lemmas.Bool.{and_parts}
 use Rattle.std.proofs.lemmas.List.Sums.{AllPass-from_list_all}
 use Rattle.version.specs.Laws.{BelowIsIrreflexive}

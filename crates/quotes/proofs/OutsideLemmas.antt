@@ -67,7 +67,7 @@ and-false true false = refl
 and-false false b = refl
 
 -- of two releases the one of the lower index is below the other
-rising :
+pub rising :
     (releases : List Release) (i j : ℕ) (d : Release) →
     ascend is_release_below releases ≡ true → i < j → j < length releases →
     is_below (get_or releases i d).version (get_or releases j d).version ≡ true
@@ -124,7 +124,7 @@ module _ (irreflexive : BelowIsIrreflexive) (transitive : BelowIsTransitive) (re
           ∙ and-false there_k.stone (is_below version there_k.version)
 
   -- the rule by the stones before
-  permits_full-before :
+  pub permits_full-before :
       (cohort : Cohort) (key : TrackKey) (target version : List ℕ) (to : ℕ) (release : Release) →
       to < length releases → release ≡ get_or releases to release →
       permits_full releases cohort key target version release
@@ -137,7 +137,7 @@ module _ (irreflexive : BelowIsIrreflexive) (transitive : BelowIsTransitive) (re
       ap (λ b. is_offered_at cohort key.pin version release && ((up && (low && not b)) || down)) (jumps_stone-before version to release within item)
       ∙ ap (λ b. is_offered_at cohort key.pin version release && (b || down)) (turn up low (not blocked))
 
-any-more :
+pub any-more :
     {A : Type 0} (p : A → Bool) (xs : List A) (n : ℕ) (d : A) → n < length xs →
     list_any p (take (n + 1) xs) ≡ (list_any p (take n xs) || p (get_or xs n d))
 any-more p [] n d within = absurd (omega arith)

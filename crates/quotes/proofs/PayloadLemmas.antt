@@ -13,7 +13,7 @@ use Rattle.records.specs.declared.content.Cohort.{Cohort}
 use Rattle.records.specs.declared.content.Diff.{Diff}
 use Rattle.records.specs.declared.content.Release.{Release}
 use Rattle.payload_graph.specs.Chains.{bytes_of, destination_of, index_of}
-use Rattle.payload_graph.specs.Permitted.{end_of, is_offered_at, leads_up, permits, permits_differ, permits_from, permits_full, permits_in, rolls_back, starts_at}
+use Rattle.payload_graph.specs.Permitted.{end_of, is_offered_at, leads_up, permits, permits_differ, permits_from, permits_full, permits_in, starts_at}
 use Rattle.payload_graph.specs.Places.{version_at}
 use Rattle.payload_graph.specs.declared.payload.Payload.{Payload}
 use Rattle.payload_graph.specs.declared.payload.Payload.TheVariants.{Full, Differ}

@@ -1,5 +1,5 @@
 -- The best full package from outside is the first payload of a chain of the least sum.
-use Rattle.std.proofs.Common.{◌≡◌, ℕ, ◌+◌, ◌<◌, ◌≤◌, ◌⊎◌, inl, inr, ◌&&◌, ◌||◌, Bool, true, false, cond, eqb, ltb, List, [], ◌∷◌, length, Option, None, Some, refl, sym, ap, ◌∙◌, subst, arith}
+use Rattle.std.proofs.Common.{◌≡◌, ℕ, ◌+◌, ◌<◌, ◌≤◌, inl, inr, ◌&&◌, ◌||◌, Bool, true, false, cond, eqb, ltb, List, [], ◌∷◌, length, Option, None, Some, refl, sym, ap, ◌∙◌, subst, arith}
 use Rattle.std.specs.List.{slice_get}
 use Rattle.std.specs.Option.{option_and_then, option_map, option_map_or}
 use Rattle.std.proofs.lemmas.Bool.{cases_lt, eq-eqb, false≢true, lt-ltb}
@@ -7,10 +7,9 @@ use Rattle.std.proofs.lemmas.List.Sums.{sum_by-cons}
 use Rattle.std.proofs.lemmas.Option.{slice_get_within}
 use Rattle.records.specs.declared.content.App.{App}
 use Rattle.records.specs.declared.content.Cohort.{Cohort}
-use Rattle.records.specs.declared.content.Diff.{Diff}
 use Rattle.records.specs.declared.content.Release.{Release}
-use Rattle.payload_graph.specs.Chains.{IsAtTarget, IsChain, bytes_of, destination_of, sum_of, target_index}
-use Rattle.payload_graph.specs.Permitted.{permits, permits_differ, permits_from, permits_full, rolls_back}
+use Rattle.payload_graph.specs.Chains.{IsAtTarget, IsChain, bytes_of, sum_of, target_index}
+use Rattle.payload_graph.specs.Permitted.{permits, permits_full}
 use Rattle.payload_graph.specs.declared.payload.Payload.{Payload}
 use Rattle.payload_graph.specs.declared.payload.Payload.TheVariants.{Full, Differ}
 use Rattle.payload_graph.specs.declared.payload.TrackKey.{TrackKey}
@@ -37,7 +36,7 @@ or-true : (b : Bool) → (b || true) ≡ true
 or-true true = refl
 or-true false = refl
 
-never : {A : Type 0} (o : Option A) → option_map_or (λ (_ : A). false) o false ≡ true → ⊥
+pub never : {A : Type 0} (o : Option A) → option_map_or (λ (_ : A). false) o false ≡ true → ⊥
 never None is = false≢true is
 never (Some a) is = false≢true is
 

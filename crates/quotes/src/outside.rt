@@ -1,6 +1,7 @@
 //! What a table says of clients that are at no release.
 
-ghost use Rattle.std.specs.Prelude.{◌≡◌, ℕ, ◌+◌, ◌||◌, All, true, if◌then◌else◌, IfSome, Option, None, length, option_map};
+ghost use Rattle.std.specs.Prelude.{◌≡◌, ℕ, ◌+◌, ◌≤◌, ◌||◌, All, true, false, if◌then◌else◌, IfSome, Option, None, length, option_map};
+ghost use Rattle.std.specs.List.{AllWithin};
 ghost use Rattle.values.specs.Ordered.{ascend};
 ghost use Rattle.version.specs.Versions.{is_below};
 ghost use Rattle.records.specs.Forms.{is_size};
@@ -8,7 +9,7 @@ ghost use Rattle.records.specs.Validity.{is_release_below};
 ghost use Rattle.payload_graph.specs.Permitted.{leads_down};
 ghost use Rattle.price_cert.specs.Laws.{IsSmall};
 ghost use Rattle.price_cert.specs.Rows.{price_of};
-ghost use Rattle.quotes.specs.Outside.{is_stone_above, leads_to, rises_to, sum_into, AreSmall, IsBest};
+ghost use Rattle.quotes.specs.Outside.{best_with, is_stone_above, leads_to, may_fall, rises_to, sum_into, AreSmall, IsBest, IsWindow};
 
 use catalogue::{Cohort, Release};
 use payload_graph::{TrackKey, is_offered_at, rolls_back};
@@ -56,6 +57,13 @@ impl Visitor<'_> {
         self.target.is_below(&self.version) && release.version.is_below(&self.version)
     }
 
+    // Whether a client may be downgraded: it is above the target, and the track rolls back.
+    fn may_fall(&self) -> bool
+        ensures { result ≡ may_fall self.now.cohort.now self.now.key.now self.now.target self.now.version }
+    {
+        rolls_back(self.cohort, self.key) && self.target.is_below(&self.version)
+    }
+
     // Whether the full package of a release is permitted, given whether a stone is between.
     // Seldom asked: out of line, it leaves the pass over all releases small.
     #[inline(never)]
@@ -74,42 +82,77 @@ impl Visitor<'_> {
         blocked || (release.stone && self.is_below(release))
     }
 
-    // The better way of the best one before and the full package of the next release: that of the smaller sum, and
-    // of equal ones the later. A package is only asked for permission if its sum is no larger.
-    fn next_best(
+    // The sum by the full package of the next release, if it makes a way that is no worse than the best one before. A
+    // package is only asked for permission if its sum is no larger.
+    fn next_sum(
         &self,
         best: Option<Best>,
-        to: usize,
         release: &Release,
         row: &Row,
         blocked: bool,
-    ) -> Option<Best>
+    ) -> Option<u64>
         requires size { is_size release.now.size ≡ true }
         requires price { IfSome (price_of row.now) IsSmall }
-        ensures { (sums : ℕ → Option ℕ) →
+        ensures { (sums : ℕ → Option ℕ) → (to : ℕ) →
             sums to ≡ (if leads_to self.now.cohort.now self.now.key.now self.now.target self.now.version blocked release.now
             then option_map (λ rest. release.now.size + rest) (price_of row.now) else None) →
-            IsBest sums to best → IsBest sums (to + 1) result }
+            IsBest sums to best → IsBest sums (to + 1) (best_with best to result) }
     {
-        let Some(rest) = row.price() else {
-            return best;
-        };
+        let rest = row.price()?;
         let sum = release.size + rest;
         if let Some(known) = best {
             if known.sum < sum {
-                return best;
+                return None;
             }
         }
         if !self.is_led_to(release, blocked) {
-            return best;
+            return None;
         }
-        Some(Best { to, sum })
+        Some(sum)
     }
+}
+
+/// A range of releases, by index.
+#[derive(Clone, Copy)]
+struct Window {
+    /// The first one.
+    start: usize,
+    /// The one after the last.
+    end: usize,
+}
+
+// How many releases aren't above a version, found by halves.
+fn count_up_to(releases: &[Release], version: &Version) -> usize
+    requires { ascend is_release_below releases.now ≡ true }
+    ensures bound { result ≤ length releases.now }
+    ensures before { AllWithin (λ release. is_below version.now release.version ≡ false) releases.now 0 result }
+    ensures behind { AllWithin (λ release. is_below version.now release.version ≡ true) releases.now result (length releases.now) }
+{
+    version::laws::order();
+    releases.partition_point(|release| !version.is_below(&release.version))
+}
+
+// The releases that a client may be led to: those above its version up to the target, or all if it may be downgraded.
+fn find_window(releases: &[Release], visitor: &Visitor<'_>, falls: bool) -> Window
+    requires ascending { ascend is_release_below releases.now ≡ true }
+    requires falls { falls ≡ may_fall visitor.now.cohort.now visitor.now.key.now visitor.now.target visitor.now.version }
+    ensures { IsWindow releases.now visitor.now.cohort.now visitor.now.key.now visitor.now.target visitor.now.version result.start result.end }
+{
+    if falls {
+        return Window {
+            start: 0,
+            end: releases.len(),
+        };
+    }
+    let start = count_up_to(releases, &visitor.version);
+    let end = count_up_to(releases, &visitor.target);
+    Window { start, end }
 }
 
 /// Finds the best release that a client may be led to by its full package.
 ///
-/// There is a row for each release. It goes through all releases once.
+/// There is a row for each release. It goes through the releases above the client's version, up to the first stone
+/// and not above the target; through all if the client may be downgraded.
 #[inline(never)]
 pub(crate) fn find_best(releases: &[Release], rows: &[Row], visitor: &Visitor<'_>) -> Option<Best>
     requires sized { length rows.now ≡ length releases.now }
@@ -120,11 +163,21 @@ pub(crate) fn find_best(releases: &[Release], rows: &[Row], visitor: &Visitor<'_
         (length releases.now) result }
 {
     version::laws::order();
+    let falls = visitor.may_fall();
+    let Window { start, end } = find_window(releases, visitor, falls);
     let mut best = None;
     let mut blocked = false;
-    for (to, release) in releases.iter().enumerate() {
-        best = visitor.next_best(best, to, release, &rows[to], blocked);
-        blocked = visitor.is_blocked_by(release, blocked);
+    for to in start..end {
+        let release = &releases[to];
+        if let Some(sum) = visitor.next_sum(best, release, &rows[to], blocked) {
+            best = Some(Best { to, sum });
+        }
+        if release.stone {
+            blocked = visitor.is_blocked_by(release, blocked);
+            if blocked && !falls {
+                return best;
+            }
+        }
     }
     best
 }

@@ -6,7 +6,7 @@ ghost use Rattle.cohorts.specs.Offers.{track_target};
 ghost use Rattle.payload_graph.specs.Places.{IsWithin};
 ghost use Rattle.payload_graph.specs.declared.place.Place.TheVariants.{At, Outside};
 ghost use Rattle.payload_graph.specs.Net.{net_among};
-ghost use Rattle.quotes.specs.Outside.{best_quote};
+ghost use Rattle.quotes.specs.Outside.{best_quote, without_differentials};
 ghost use Rattle.quotes.specs.Quotes.{payload_named, row_quote, IsQuoteAmong};
 
 use crate::outside::{Best, Visitor, find_best};
@@ -126,6 +126,42 @@ fn find_visitor<'a>(
     })
 }
 
+// A quote at a release as one from outside at its version, unless a differential is offered.
+fn without_differentials(quote: Quote) -> Option<Quote>
+    ensures { result ≡ without_differentials quote }
+{
+    match quote {
+        Quote::Here => Some(Quote::NoChain),
+        Quote::NoChain => Some(Quote::NoChain),
+        Quote::Next { payload, sum } => match payload {
+            Payload::Full(to) => Some(Quote::Next {
+                payload: Payload::Full(to),
+                sum,
+            }),
+            Payload::Differ(_) => None,
+        },
+    }
+}
+
+// What the clients outside at a release's version are offered, if the release's row says it: there is such a release, and
+// no differential is offered at it.
+fn quote_by_row(
+    catalogue: &Catalogue,
+    key: &TrackKey,
+    version: &Version,
+    table: &Certified,
+) -> Option<Quote>
+    requires app { key.now.app < length catalogue.now }
+    requires table { net_among catalogue.now key.now ≡ Some table.now.net }
+    ensures { IfSome result (λ quote. IsQuoteAmong catalogue.now key.now (Outside version.now) quote) }
+{
+    version::laws::order();
+    catalogue.validity();
+    let release = catalogue.find_release(key.app, version)?;
+    let quote = quote_at(catalogue, key, release, table);
+    without_differentials(quote)
+}
+
 fn quote_outside(
     catalogue: &Catalogue,
     key: &TrackKey,
@@ -140,6 +176,9 @@ fn quote_outside(
     payload_graph::laws::fulls();
     payload_graph::laws::differs();
     catalogue.validity();
+    if let Some(quote) = quote_by_row(catalogue, key, &version, table) {
+        return quote;
+    }
     let releases = catalogue.releases(key.app);
     let Some(visitor) = find_visitor(catalogue, key, version) else {
         return Quote::NoChain;
@@ -153,7 +192,9 @@ fn quote_outside(
 /// `table` is a certified table of the track's graph, and the place is within the track's app. The
 /// quote is `Here` exactly at the target and `NoChain` exactly if no chain leads there. Otherwise it is
 /// the first payload of a chain of the least sum: of all such payloads the one that leads highest, and of
-/// two of these the differential. From a release it looks at one row, from outside at each row once.
+/// two of these the differential. From a release it looks at one row. From outside it looks at the row of the release of
+/// that version, unless there is none or it names a differential. Then it looks once at the row of each release that the
+/// version may be led to.
 pub fn quote_from(catalogue: &Catalogue, key: &TrackKey, place: &Place, table: &Certified) -> Quote
     requires app { key.now.app < length catalogue.now }
     requires table { net_among catalogue.now key.now ≡ Some table.now.net }

@@ -26,9 +26,9 @@ find_best-requires-clause-prices c =
 
 pub returns : goal.returns
 returns c =
-    let best = rw (c.releases-releases.ensures, c.rows.ensures.rows, c.in-Some.ensures.version) at c.find_best.ensures in
+    let best = rw (c.releases-releases.ensures, c.rows.ensures.rows, c.in-Some-find_visitor.ensures.version) at c.find_best.ensures in
     rw c.best_quote.ensures
     (quote-outside c.order.ensures.irreflexive c.fulls.ensures c.differs.ensures c.args.catalogue.now c.args.key.now
     c.args.table.now.net c.validity.ensures c.requires.table c.args.table.now.rows c.rows.ensures.least c.args.version
-    c.in-Some.visitor.cohort.now c.in-Some.visitor.key.now c.in-Some.visitor.target c.find_best.result
-    c.in-Some.ensures.cohort c.in-Some.ensures.key c.in-Some.ensures.target best)
+    c.in-Some-find_visitor.visitor.cohort.now c.in-Some-find_visitor.visitor.key.now c.in-Some-find_visitor.visitor.target c.find_best.result
+    c.in-Some-find_visitor.ensures.cohort c.in-Some-find_visitor.ensures.key c.in-Some-find_visitor.ensures.target best)
