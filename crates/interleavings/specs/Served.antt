@@ -26,8 +26,8 @@ pub record IsDone (mirrors : List Mirror) (proceedings : Proceedings) (left : St
   pub totals : (mirror : ℕ) → mirror < length mirrors →
       (service.books mirror).total ≡ slice_index proceedings.totals mirror
 
--- an event by which the last mirror rejects an ask is of bytes for which no mirror has room, by the first budgets and these
--- totals
+-- an event by which the last mirror rejects an ask is of bytes for which no mirror has room, by the first budgets and
+-- these totals
 abbrev pub IsOfFull : List Mirror → List ℕ → Event → Type 0
 IsOfFull mirrors totals (Reject worker mirror bytes) = mirror + 1 ≡ length mirrors → AreFull mirrors totals bytes
 IsOfFull mirrors totals event = Unit {0}
