@@ -1,6 +1,6 @@
 // What there is to say of other words.
 
-pub(crate) const WORDS: [(&str, &str); 12] = [
+pub(crate) const WORDS: [(&str, &str); 13] = [
     (
         "edit",
         "edit N: CODE
@@ -56,6 +56,15 @@ Found in: the start of `serve`.
 A thread of a worker or of the log could not be started; no connection was accepted.
 Usual cause: A limit of threads or of memory, as `ulimit -u`, or `TasksMax=` of a unit.
 Remedy: Raise the limit, or serve with fewer workers.
+",
+    ),
+    (
+        "room",
+        "room left
+Found in: the end of `serve`.
+Bytes were rejected for which a mirror has room, by its total and the budget it began with. No total is printed.
+Usual cause: An error in omaha. A reply may have had `error-internal` in vain.
+Remedy: Report it, and start it again. What the mirrors were granted is in no line then.
 ",
     ),
     (

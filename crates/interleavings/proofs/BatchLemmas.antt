@@ -2,21 +2,26 @@
 use Rattle.std.proofs.Common.{◌≡◌, ℕ, zero, suc, ◌+◌, ◌<◌, ◌≤◌, inl, inr, List, [], ◌∷◌, ◌++◌, length, map, None, refl, sym, ap, ap₂, ◌∙◌, append_assoc, subst, arith}
 use Rattle.std.specs.List.{AllByRecursion, AllZip, sum_by}
 use Rattle.std.proofs.lemmas.List.{append-nil}
+use Rattle.std.proofs.lemmas.List.Elements.{recursion_from_All}
 use Rattle.catalogue.specs.declared.edit.Edit.{Edit}
 use Rattle.catalogue_laws.specs.Histories.{History}
-use Rattle.mirror_ledger.specs.Asks.{granted_at}
+use Rattle.mirror_ledger.specs.Asks.{Ask, granted_at}
+use Rattle.mirror_ledger.specs.Tills.{AreFull}
 use Rattle.publisher.specs.Beginnings.{StartsWith}
 use Rattle.publisher.specs.Sights.{Sight}
 use Rattle.records.specs.declared.mirror.Mirror.{Mirror}
 use Rattle.service_desks.specs.Workers.{Progress}
-use Rattle.interleavings.specs.Calls.{EntersPublished, HaveRoom, IsBetween, IsWork, Sent, WorkerCallsAreEvents, events_of, sent_by, sent_in}
+use Rattle.interleavings.specs.Calls.{EntersPublished, HaveRoom, IsBetween, IsWork, Sent, WorkerCallsAreEvents, asks_in, events_of, sent_by, sent_in}
 use Rattle.interleavings.specs.Events.{Event, Publish, happens, run}
 use Rattle.interleavings.specs.Jobs.{Worker}
+use Rattle.interleavings.specs.Served.{IsOfFull}
 use Rattle.interleavings.specs.Services.{Service, changed_at, published}
-use Rattle.interleavings.proofs.ListLemmas.{all-at, all-changed, all-weaker}
+use Rattle.interleavings.proofs.KeptLemmas.{IsNamed}
+use Rattle.interleavings.proofs.ListLemmas.{all-append, all-at, all-changed, all-parts, all-weaker}
 use Rattle.interleavings.proofs.ProgressLemmas.{LeadsOn, entered-begins, leads-on, same-beginning, seen-within}
+use Rattle.interleavings.proofs.RejectionLemmas.{work-full}
 use Rattle.interleavings.proofs.RunLemmas.{run-append}
-use Rattle.interleavings.proofs.TaskLemmas.{Chain, Given, HasDone, IsFrom, IsLater, IsServing, IsTask, IsTask-longer, Partner, Ready, Round, Task, allowed-now, from-now, granted-now, granted_in_all, granted_so_far, length-published, look, map-changed, partner, sent_by_all, shorter-published, shown, starts-shown, sum-balance, sum-less, sum-same, zip-both}
+use Rattle.interleavings.proofs.TaskLemmas.{Chain, Given, HadNone, HasDone, IsFrom, IsLater, IsServing, IsTask, IsTask-longer, Partner, Ready, Round, Task, allowed-now, asks-now, from-now, granted-now, granted_in_all, granted_so_far, length-published, look, map-changed, partner, sent_by_all, shorter-published, shown, starts-shown, sum-balance, sum-less, sum-same, zip-both}
 
 -- the worker is where its task is
 abbrev pub IsAtTask : Task → Worker → Type 0
@@ -26,15 +31,17 @@ IsAtTask task worker = IsBetween task.now task.sent worker
 abbrev pub left_of : List Task → Given → ℕ
 left_of tasks given = sum_by (λ (task : Task). length task.rounds) tasks + length given
 
-module _ (mirrors : List Mirror) (all : History) where
+module _ (mirrors : List Mirror) (totals_left : List ℕ) (all : History) where
   -- some events first
   then-done :
       (service next : Service) (first : List Event) (tasks new : List Task) → run happens mirrors service first ≡ next →
       map (λ (task : Task). task.whole) new ≡ map (λ (task : Task). task.whole) tasks →
       ((mirror : ℕ) → sum_by (granted_in_all mirror) new ≡ sum_by (granted_in_all mirror) tasks) →
       ((mirror : ℕ) → (next.books mirror).budget ≡ (service.books mirror).budget) →
-      HasDone mirrors all new next → HasDone mirrors all tasks service
-  then-done service next first tasks new leads wholes sums budgets done = record {
+      (AllByRecursion (HadNone mirrors totals_left) tasks →
+      AllByRecursion (HadNone mirrors totals_left) new × AllByRecursion (IsOfFull mirrors totals_left) first) →
+      HasDone mirrors totals_left all new next → HasDone mirrors totals_left all tasks service
+  then-done service next first tasks new leads wholes sums budgets rejected done = record {
     events = first ++ done.events;
     last = done.last;
     leads =
@@ -45,6 +52,9 @@ module _ (mirrors : List Mirror) (all : History) where
     sent = done.sent ∙ wholes;
     idle = done.idle;
     totals = λ mirror. done.totals mirror ∙ sums mirror;
+    rejected = λ had.
+        let (others, own) = rejected had in
+        all-append (IsOfFull mirrors totals_left) first done.events own (done.rejected others);
   }
 
   -- a task that is done
@@ -91,7 +101,7 @@ module _ (mirrors : List Mirror) (all : History) where
 
   -- nothing is left to do
   finished : (service : Service) (tasks : List Task) → IsServing mirrors all tasks [] service →
-      AllByRecursion (IsLater (length service.history)) tasks → HasDone mirrors all tasks service
+      AllByRecursion (IsLater (length service.history)) tasks → HasDone mirrors totals_left all tasks service
   finished service tasks serving later =
       let whole = ap (λ (h : History). length h) serving.shows in
       let ends = all-ended (length service.history) whole tasks serving.each later in
@@ -108,6 +118,7 @@ module _ (mirrors : List Mirror) (all : History) where
             ∙ sum-same (granted_so_far mirror) (granted_in_all mirror) tasks
             (all-weaker IsEnded (λ (task : Task). granted_so_far mirror task ≡ granted_in_all mirror task) tasks
             (λ task is. ap (λ (p : Progress). granted_at mirror p.asks) (sym is.left)) ends);
+        rejected = λ had. tt;
       }
 
   module _ (some : 1 ≤ length mirrors) (calls : WorkerCallsAreEvents) (service : Service) (tasks : List Task)
@@ -236,11 +247,25 @@ module _ (mirrors : List Mirror) (all : History) where
           let long = ap (λ (rs : List Round). length rs) ready.is in
           omega arith
 
-      done-round : HasDone mirrors all new_tasks next → HasDone mirrors all tasks service
+      -- what it asks for is of all that its worker asks for
+      rejected-own : AllByRecursion (HadNone mirrors totals_left) tasks →
+          AllByRecursion (HadNone mirrors totals_left) new_tasks × AllByRecursion (IsOfFull mirrors totals_left) events
+      rejected-own had =
+          let Had : Ask → Type 0 = λ ask. ask.1 ≡ None → AreFull mirrors totals_left ask.0 in
+          let here = all-at (HadNone mirrors totals_left) tasks ready.index ready.task ready.there had in
+          let (more, is) = asks-now mirrors ready.round.after ready.rest ready.task.left chain.1 in
+          let so_far = (all-parts Had ready.round.after.asks more (subst (AllByRecursion Had) is here)).0 in
+          let own = (all-parts Had ready.task.now.asks (asks_in work.work) (subst (AllByRecursion Had) work.asked so_far)).1 in (
+            all-changed (HadNone mirrors totals_left) (λ (task : Task). new) ready.index tasks (λ task there was. here) had,
+            work-full mirrors totals_left ready.index work.work
+                (recursion_from_All (λ (ask : Ask). IsNamed mirrors ask.1) (asks_in work.work) work.named) own,
+          )
+
+      done-round : HasDone mirrors totals_left all new_tasks next → HasDone mirrors totals_left all tasks service
       done-round done =
           then-done service next events tasks new_tasks refl
           (map-changed (λ (task : Task). task.whole) new ready.task ready.index tasks ready.there refl) sums-all
-          work.leads.budgets done
+          work.leads.budgets rejected-own done
 
   -- a batch is given
   module _ (service : Service) (tasks : List Task) (batch : ℕ × List Edit) (more : Given)
@@ -269,14 +294,14 @@ module _ (mirrors : List Mirror) (all : History) where
           each-longer items each.1 after.1,
         )
 
-    done-batch : HasDone mirrors all tasks longer → HasDone mirrors all tasks service
+    done-batch : HasDone mirrors totals_left all tasks longer → HasDone mirrors totals_left all tasks service
     done-batch done =
         then-done service longer (Publish batch.0 batch.1 ∷ []) tasks tasks refl refl (λ mirror. refl)
-        (λ mirror. refl) done
+        (λ mirror. refl) (λ had. (had, (tt, tt))) done
 
   pub serves : 1 ≤ length mirrors → WorkerCallsAreEvents → (fuel : ℕ) (service : Service) (tasks : List Task)
       (given : Given) →
-      left_of tasks given < fuel → IsServing mirrors all tasks given service → HasDone mirrors all tasks service
+      left_of tasks given < fuel → IsServing mirrors all tasks given service → HasDone mirrors totals_left all tasks service
   serves some calls zero service tasks given short serving = absurd (omega arith)
   serves some calls (suc fuel) service tasks [] short serving = elim (look (length service.history) tasks) [
     | inl ready ↦

@@ -17,6 +17,14 @@ pub all-append :
 all-append P [] second all others = others
 all-append P (item ∷ first) second all others = (all.0, all-append P first second all.1 others)
 
+pub all-parts :
+    {A : Type 0} (P : A → Type 0) (first second : List A) →
+    AllByRecursion P (first ++ second) → AllByRecursion P first × AllByRecursion P second
+all-parts P [] second all = (tt, all)
+all-parts P (item ∷ first) second all =
+    let (own, others) = all-parts P first second all.1 in
+    ((all.0, own), others)
+
 -- what holds of each item holds of each one after one is changed
 pub all-changed :
     {A : Type 0} (P : A → Type 0) (change : A → A) (index : ℕ) (items : List A) →

@@ -8,7 +8,7 @@ use Rattle.cohorts.specs.CohortTexts.{parsed}
 use Rattle.editions.specs.Editions.{content_of}
 use Rattle.mirror_ledger.specs.Asks.{Ask}
 use Rattle.mirror_ledger.specs.Named.{budget_at}
-use Rattle.mirror_ledger.specs.Tills.{granted_by}
+use Rattle.mirror_ledger.specs.Tills.{HadNoRoom, granted_by}
 use Rattle.publisher.specs.Sights.{Allows, fresh}
 use Rattle.records.specs.Forms.{hash_of}
 use Rattle.records.specs.Lookups.{declared_of}
@@ -32,6 +32,10 @@ unknown-name = refl
 none-within : (index : ℕ) → index < 1 → slice_index (0 ∷ []) index ≤ budget_at small_mirrors index
 none-within zero below = omega arith
 none-within (suc index) below = absurd (omega arith)
+
+nothing-asked : HadNoRoom small_mirrors ([] ∷ []) (0 ∷ [])
+nothing-asked zero asks below = λ k ask low. absurd (omega (arith, low))
+nothing-asked (suc worker) asks below = absurd (omega arith)
 
 pub looked_up : LookedUp
 looked_up first records =
@@ -63,6 +67,7 @@ looked_up first records =
         tt,
       );
       summed = record { sums = refl; within = none-within };
+      rejected = nothing-asked;
     }
 
 -- who is called for nothing asks for nothing

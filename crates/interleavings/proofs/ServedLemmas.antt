@@ -1,6 +1,6 @@
 -- Each run of a service is a run of the machine: all raises first, then batch by batch the calls of each worker.
 use Rattle.std.proofs.Common.{◌≡◌, ℕ, zero, suc, ◌+◌, ◌<◌, ◌≤◌, true, List, [], ◌∷◌, ◌++◌, length, map, replicate, take, Option, None, refl, sym, ap, ap₂, ◌∙◌, subst, arith}
-use Rattle.std.specs.List.{AllByRecursion, AllZip, flat_map, sum_by}
+use Rattle.std.specs.List.{All, AllByRecursion, AllZip, flat_map, sum_by}
 use Rattle.std.specs.Prelude.{slice_index}
 use Rattle.std.proofs.lemmas.Bool.{false≢true}
 use Rattle.std.proofs.lemmas.List.Elements.{All-from_recursion, recursion_from_All}
@@ -10,7 +10,7 @@ use Rattle.http_desks.specs.Calls.{Call, Leads}
 use Rattle.mirror_ledger.specs.Asks.{Ask, granted_at}
 use Rattle.mirror_ledger.specs.Budgets.{Account}
 use Rattle.mirror_ledger.specs.Named.{budget_at}
-use Rattle.mirror_ledger.specs.Tills.{granted_by}
+use Rattle.mirror_ledger.specs.Tills.{AreFull, granted_by}
 use Rattle.publisher.specs.Sights.{fresh}
 use Rattle.records.specs.declared.mirror.Mirror.{Mirror}
 use Rattle.service_desks.specs.Operators.{IsCall as IsOperatorCall}
@@ -20,7 +20,7 @@ use Rattle.service_desks.specs.Workers.{IsCall, Progress}
 use Rattle.interleavings.specs.Calls.{Sent, WorkerCallsAreEvents, sent_by}
 use Rattle.interleavings.specs.Events.{Drop, Enter, Event, Grant, Learn, Plan, Publish, Raise, Reject, Render, happens, run, service_after}
 use Rattle.interleavings.specs.Jobs.{Worker, new_worker}
-use Rattle.interleavings.specs.Served.{IsInterleaved, IsDone, RunsAreInterleavings}
+use Rattle.interleavings.specs.Served.{IsInterleaved, IsDone, IsOfFull, RunsAreInterleavings}
 use Rattle.interleavings.specs.Services.{Service, opened, opened_book, present, with_budget, with_budgets_of}
 use Rattle.interleavings.specs.Ties.{IsDueAfter, is_of_operator, state_of}
 use Rattle.interleavings.proofs.BatchLemmas.{IsAtTask, left_of, serves}
@@ -28,7 +28,7 @@ use Rattle.interleavings.proofs.ListLemmas.{all-append}
 use Rattle.interleavings.proofs.OperatorLemmas.{length-present, operator_calls_are_events}
 use Rattle.interleavings.proofs.PresentLemmas.{budget_at-present, present-opened, with_budgets_of-same}
 use Rattle.interleavings.proofs.RunLemmas.{run-append}
-use Rattle.interleavings.proofs.TaskLemmas.{Chain, Given, HasDone, IsServing, IsTask, Round, Task, from-now, granted_in_all, granted_so_far, sent_by_all, shown}
+use Rattle.interleavings.proofs.TaskLemmas.{Chain, Given, HadNone, HasDone, IsServing, IsTask, Round, Task, from-now, granted_in_all, granted_so_far, sent_by_all, shown}
 
 -- an event of an operator
 abbrev IsOwn : Event → Type 0
@@ -86,6 +86,20 @@ raises_in events = flat_map raises_of events
 
 abbrev given_in : List Event → Given
 given_in events = flat_map given_of events
+
+-- none of these is a rejection
+raises-full : (mirrors : List Mirror) (totals : List ℕ) (events : List Event) →
+    AllByRecursion (IsOfFull mirrors totals) (raises_in events)
+raises-full mirrors totals [] = tt
+raises-full mirrors totals (Raise mirror bytes ∷ events) = (tt, raises-full mirrors totals events)
+raises-full mirrors totals (Publish known batch ∷ events) = raises-full mirrors totals events
+raises-full mirrors totals (Enter worker ∷ events) = raises-full mirrors totals events
+raises-full mirrors totals (Learn worker number ∷ events) = raises-full mirrors totals events
+raises-full mirrors totals (Plan worker request tables ∷ events) = raises-full mirrors totals events
+raises-full mirrors totals (Grant worker mirror bytes ∷ events) = raises-full mirrors totals events
+raises-full mirrors totals (Reject worker mirror bytes ∷ events) = raises-full mirrors totals events
+raises-full mirrors totals (Render worker moment ∷ events) = raises-full mirrors totals events
+raises-full mirrors totals (Drop worker ∷ events) = raises-full mirrors totals events
 
 -- with the raises alone the books are those
 raised : (mirrors : List Mirror) (events : List Event) (service : Service) → AllByRecursion IsOwn events →
@@ -164,11 +178,12 @@ record HasTasks (mirrors : List Mirror) (start left : History) (workers : List (
   at : AllZip IsAtTask tasks (replicate (length workers) (new_worker (length start)))
   none : (mirror : ℕ) → sum_by (granted_so_far mirror) tasks ≡ 0
   granted : (mirror : ℕ) → sum_by (granted_in_all mirror) tasks ≡ granted_by asks mirror
+  asked : map (λ (task : Task). task.left.asks) tasks ≡ asks
 
 tasks-of : (mirrors : List Mirror) (start left : History) (workers : List (List Call)) (asks : List (List Ask)) →
     AllZip (IsWorked mirrors start left) workers asks → HasTasks mirrors start left workers asks
 tasks-of mirrors start left [] [] worked =
-    record { tasks = []; each = tt; wholes = refl; at = tt; none = λ mirror. refl; granted = λ mirror. refl }
+    record { tasks = []; each = tt; wholes = refl; at = tt; none = λ mirror. refl; granted = λ mirror. refl; asked = refl }
 tasks-of mirrors start left [] (own ∷ asks) worked = absurd worked
 tasks-of mirrors start left (calls ∷ workers) [] worked = absurd worked
 tasks-of mirrors start left (calls ∷ workers) (own ∷ asks) worked =
@@ -209,6 +224,7 @@ tasks-of mirrors start left (calls ∷ workers) (own ∷ asks) worked =
           let whole = sum_by-cons (granted_in_all mirror) task rest.tasks in
           let sums = sum_by-cons (λ (a : List Ask). granted_at mirror a) own asks in
           omega arith;
+      asked = ap (λ (others : List (List Ask)). own ∷ others) rest.asked;
     }
 
 -- the total at an index, of at most four
@@ -300,8 +316,8 @@ module _ (calls : WorkerCallsAreEvents) (mirrors : List Mirror) (start : History
     shows = shows;
   }
 
-  done : HasDone mirrors left.history has.tasks raised_first
-  done = serves mirrors left.history served.some calls (left_of has.tasks given + 1) raised_first has.tasks given
+  done : HasDone mirrors proceedings.totals left.history has.tasks raised_first
+  done = serves mirrors proceedings.totals left.history served.some calls (left_of has.tasks given + 1) raised_first has.tasks given
       (omega arith) serving
 
   after : service_after happens mirrors start (length proceedings.workers)
@@ -310,6 +326,20 @@ module _ (calls : WorkerCallsAreEvents) (mirrors : List Mirror) (start : History
       run-append happens mirrors (raises_in own.events) done.events opening
       ∙ ap (λ (s : Service). run happens mirrors s done.events) (raised mirrors own.events opening own.own)
       ∙ done.leads
+
+  -- what was rejected of each task's asks had no room
+  had : AllByRecursion (HadNone mirrors proceedings.totals) has.tasks
+  had = of-tasks has.tasks served.asks has.asked (recursion_from_All (All Had) served.asks served.rejected)
+    where
+      Had : Ask → Type 0
+      Had ask = ask.1 ≡ None → AreFull mirrors proceedings.totals ask.0
+
+      of-tasks : (tasks : List Task) (asks : List (List Ask)) → map (λ (task : Task). task.left.asks) tasks ≡ asks →
+          AllByRecursion (All Had) asks → AllByRecursion (HadNone mirrors proceedings.totals) tasks
+      of-tasks [] asks same all = tt
+      of-tasks (task ∷ tasks) asks same all =
+          let both = subst (AllByRecursion (All Had)) (sym same) all in
+          (recursion_from_All Had task.left.asks both.0, of-tasks tasks _ refl both.1)
 
   interleaved : IsInterleaved mirrors start proceedings left
   interleaved = record {
@@ -324,6 +354,10 @@ module _ (calls : WorkerCallsAreEvents) (mirrors : List Mirror) (start : History
           idle = All-from_recursion (λ (worker : Worker). worker.job ≡ None) done.last.workers done.idle;
           totals = λ mirror below. done.totals mirror ∙ has.granted mirror ∙ total mirror below;
         });
+    rejected =
+        All-from_recursion (IsOfFull mirrors proceedings.totals) (raises_in own.events ++ done.events)
+        (all-append (IsOfFull mirrors proceedings.totals) (raises_in own.events) done.events
+        (raises-full mirrors proceedings.totals own.events) (done.rejected had));
   }
 
 pub runs_are_interleavings : WorkerCallsAreEvents → RunsAreInterleavings

@@ -8,7 +8,8 @@ use Rattle.std.proofs.lemmas.Option.{none-some, same_Some}
 use Rattle.catalogue.specs.declared.edit.Edit.{Edit}
 use Rattle.catalogue_laws.specs.Histories.{History}
 use Rattle.http_desks.specs.Calls.{Call}
-use Rattle.mirror_ledger.specs.Asks.{granted_at}
+use Rattle.mirror_ledger.specs.Asks.{Ask, granted_at}
+use Rattle.mirror_ledger.specs.Tills.{AreFull}
 use Rattle.publisher.specs.Beginnings.{StartsWith}
 use Rattle.publisher.specs.Sights.{Allows}
 use Rattle.records.specs.declared.mirror.Mirror.{Mirror}
@@ -16,6 +17,7 @@ use Rattle.service_desks.specs.Workers.{IsCall, Progress}
 use Rattle.interleavings.specs.Calls.{IsBetween, Sent, sent_by, sent_in}
 use Rattle.interleavings.specs.Events.{Event, happens, run}
 use Rattle.interleavings.specs.Jobs.{Worker}
+use Rattle.interleavings.specs.Served.{IsOfFull}
 use Rattle.interleavings.specs.Services.{Service, changed_at, is_published, published}
 use Rattle.interleavings.proofs.ProgressLemmas.{allowed-before, granted-more, leads-on, seen-more, shorter}
 
@@ -74,6 +76,17 @@ granted-now mirrors mirror now (round ∷ rounds) left chain =
     let first = granted-more now round.after (leads-on mirrors now round.after round.call chain.0) mirror in
     let rest = granted-now mirrors mirror round.after rounds left chain.1 in
     omega arith
+
+-- what is asked for joins what was asked for before
+pub asks-now : (mirrors : List Mirror) (now : Progress) (rounds : List Round) (left : Progress) →
+    Chain mirrors now rounds left → (more : List Ask) × (left.asks ≡ now.asks ++ more)
+asks-now mirrors now [] left chain = ([], ap (λ (p : Progress). p.asks) chain ∙ sym (append-nil now.asks))
+asks-now mirrors now (round ∷ rounds) left chain =
+    let on = leads-on mirrors now round.after round.call chain.0 in
+    let (more, is) = asks-now mirrors round.after rounds left chain.1 in (
+      on.asks ++ more,
+      is ∙ ap (λ (asks : List Ask). asks ++ more) on.asked ∙ append_assoc now.asks on.asks more,
+    )
 
 pub from-now : (mirrors : List Mirror) (number : ℕ) (now : Progress) (rounds : List Round) (left : Progress) →
     Chain mirrors now rounds left → number ≤ now.sight.seen → IsFrom number rounds
@@ -270,8 +283,14 @@ pub record IsServing (mirrors : List Mirror) (all : History) (tasks : List Task)
   pub each : AllByRecursion (IsTask mirrors all (length service.history)) tasks
   pub shows : shown service.history given ≡ all
 
--- a service whose workers have done their tasks, after some events
-pub record HasDone (mirrors : List Mirror) (all : History) (tasks : List Task) (service : Service) : Type 0 where
+-- what was rejected of a task's asks had no room
+abbrev pub HadNone : List Mirror → List ℕ → Task → Type 0
+HadNone mirrors totals task = AllByRecursion (λ (ask : Ask). ask.1 ≡ None → AreFull mirrors totals ask.0) task.left.asks
+
+-- a service whose workers have done their tasks, after some events; if what was rejected had no room, these are of full
+-- mirrors
+pub record HasDone (mirrors : List Mirror) (totals_left : List ℕ) (all : History) (tasks : List Task)
+    (service : Service) : Type 0 where
   pub events : List Event
   pub last : Service
   pub leads : run happens mirrors service events ≡ last
@@ -280,3 +299,4 @@ pub record HasDone (mirrors : List Mirror) (all : History) (tasks : List Task) (
   pub sent : map sent_in last.workers ≡ map (λ (task : Task). task.whole) tasks
   pub idle : AllByRecursion (λ (worker : Worker). worker.job ≡ None) last.workers
   pub totals : (mirror : ℕ) → (last.books mirror).total ≡ sum_by (granted_in_all mirror) tasks
+  pub rejected : AllByRecursion (HadNone mirrors totals_left) tasks → AllByRecursion (IsOfFull mirrors totals_left) events

@@ -4,7 +4,7 @@ use Rattle.std.specs.List.{AllByRecursion, flat_map}
 use Rattle.std.proofs.Math.Seq.{take-append_seam}
 use Rattle.std.proofs.lemmas.Bool.{eq-eqb}
 use Rattle.std.proofs.lemmas.List.{append-nil, append_cancel_left, length-map}
-use Rattle.std.proofs.lemmas.List.Elements.{filter_map-append}
+use Rattle.std.proofs.lemmas.List.Elements.{All-from_recursion, All-nil, filter_map-append}
 use Rattle.std.proofs.lemmas.List.Sums.{sum_by-cons}
 use Rattle.catalogue_laws.specs.Histories.{History}
 use Rattle.editions.specs.Editions.{content_of}
@@ -130,6 +130,8 @@ module _ (mirrors : List Mirror) (service : Service) (index : ℕ) (worker : Wor
       leads =
           left-by resting [] [] service begins refl (between.seen ∙ sym seen) (λ mirror. refl)
           (between.sent ∙ sym (append-nil sent)) (asked ∙ sym (append-nil before.asks));
+      asked = asked ∙ sym (append-nil before.asks);
+      named = All-nil (λ (ask : Ask). IsNamed mirrors ask.1);
     },
     λ full. tt,
   )
@@ -161,6 +163,8 @@ module _ (mirrors : List Mirror) (service : Service) (index : ℕ) (worker : Wor
               service.books)
               refl seen-now (λ mirror. refl)
               (sent-none (record { number = count; pending = None })) (asked ∙ sym (append-nil before.asks));
+          asked = asked ∙ sym (append-nil before.asks);
+          named = All-nil (λ (ask : Ask). IsNamed mirrors ask.1);
         },
         λ full. (tt, (tt, tt)),
       )
@@ -208,6 +212,8 @@ module _ (mirrors : List Mirror) (service : Service) (index : ℕ) (worker : Wor
                         });
                       }))
                       asked;
+                  asked = asked;
+                  named = All-from_recursion (λ (ask : Ask). IsNamed mirrors ask.1) asks named;
                 },
                 λ full. subst (λ (s : Service). AreForRoom mirrors s events) (sym begins)
                     (breaks-for-room mirrors service.history service.workers index worker there worker.seen worker.ended
@@ -259,6 +265,8 @@ module _ (mirrors : List Mirror) (service : Service) (index : ℕ) (worker : Wor
                       ∙ ap (λ (old : List Sent). old ++ sent_for job) between.sent
                       ∙ ap (λ (t : List ℕ). sent ++ record { request = request; moment = moment; text = t } ∷ []) bytes)
                       asked;
+                  asked = asked;
+                  named = All-from_recursion (λ (ask : Ask). IsNamed mirrors ask.1) asks named;
                 },
                 λ full. subst (λ (s : Service). AreForRoom mirrors s events) (sym begins)
                     (replies-for-room mirrors service.history service.workers index worker there worker.seen

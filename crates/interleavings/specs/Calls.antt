@@ -1,6 +1,6 @@
 -- The calls of a worker's desk as lists of events: what leads from one state of a worker to the next, with what it
 -- sent.
-use Rattle.std.specs.Prelude.{◌≡◌, ℕ, zero, suc, ◌+◌, ◌≤◌, ◌<◌, false, List, [], ◌∷◌, ◌++◌, flat_map, length, Option, None, Some, Result, Ok, Err}
+use Rattle.std.specs.Prelude.{◌≡◌, ℕ, zero, suc, ◌+◌, ◌≤◌, ◌<◌, false, List, [], ◌∷◌, ◌++◌, All, IfSome, flat_map, length, Option, None, Some, Result, Ok, Err}
 use Rattle.std.specs.Option.{option_map_or}
 use Rattle.catalogue_laws.specs.Histories.{History}
 use Rattle.http_desks.specs.Calls.{Asks, Call, Looks, Shows}
@@ -55,6 +55,17 @@ events_of mirrors worker (Break request tables asks) =
     Enter worker ∷ Plan worker request tables ∷ (asks_events mirrors worker asks ++ Drop worker ∷ [])
 events_of mirrors worker (Reply request tables asks moment) =
     Enter worker ∷ Plan worker request tables ∷ (asks_events mirrors worker asks ++ Render worker moment ∷ [])
+
+-- what it asks for
+abbrev pub asks_in : Work → List Ask
+asks_in Nothing = []
+asks_in Look = []
+asks_in (Break request tables asks) = asks
+asks_in (Reply request tables asks moment) = asks
+
+-- each ask was granted by one of the mirrors, or by none
+abbrev pub AreOfMirrors : List Mirror → List Ask → Type 0
+AreOfMirrors mirrors asks = All (λ (ask : Ask). IfSome ask.1 (λ mirror. mirror < length mirrors)) asks
 
 -- a reply that was sent: to which request, at which time, and its bytes
 pub record Sent : Type 0 where
@@ -134,11 +145,13 @@ pub record IsAfterCall (service : Service) (index : ℕ) (before after : Progres
       (left.books mirror).total + granted_at mirror before.asks
       ≡ (service.books mirror).total + granted_at mirror after.asks
 
--- the call is the events of some work
+-- the call is the events of some work, which asks for what the call asked for
 pub record IsWork (mirrors : List Mirror) (service : Service) (index : ℕ) (before after : Progress)
     (sent : List Sent) : Type 0 where
   pub work : Work
   pub leads : IsAfterCall service index before after sent (run happens mirrors service (events_of mirrors index work))
+  pub asked : after.asks ≡ before.asks ++ asks_in work
+  pub named : AreOfMirrors mirrors (asks_in work)
 
 -- each call of a worker's desk is
 abbrev pub WorkerCallsAreEvents : Type 0

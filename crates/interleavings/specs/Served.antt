@@ -1,7 +1,8 @@
 -- That what a server's workers and its operator did, each by itself, is a run of the machine.
-use Rattle.std.specs.Prelude.{◌≡◌, ℕ, ◌≤◌, ◌<◌, All, List, flat_map, length, map, take, Option, None, slice_index}
+use Rattle.std.specs.Prelude.{◌≡◌, ℕ, ◌+◌, ◌≤◌, ◌<◌, All, List, flat_map, length, map, take, Option, None, slice_index}
 use Rattle.catalogue_laws.specs.Histories.{History, LeadsTo}
 use Rattle.http_desks.specs.Calls.{Call}
+use Rattle.mirror_ledger.specs.Tills.{AreFull}
 use Rattle.omaha_json.specs.ReplyWriting.{reply_bytes}
 use Rattle.omaha_json.specs.declared.reply.Reply.{Reply}
 use Rattle.records.specs.declared.mirror.Mirror.{Mirror}
@@ -9,7 +10,7 @@ use Rattle.replies.specs.declared.choices.Choice.{Choice}
 use Rattle.service_desks.specs.Served.{IsServed, Proceedings}
 use Rattle.service_desks.specs.States.{State, Store}
 use Rattle.interleavings.specs.Calls.{Sent, sent_by, sent_in}
-use Rattle.interleavings.specs.Events.{Event, happens, service_after}
+use Rattle.interleavings.specs.Events.{Event, Reject, happens, service_after}
 use Rattle.interleavings.specs.Jobs.{Worker}
 use Rattle.interleavings.specs.Laws.{IsAcceptedHistory, IsReplyOf}
 use Rattle.interleavings.specs.Services.{Service, content_at, present}
@@ -25,11 +26,18 @@ pub record IsDone (mirrors : List Mirror) (proceedings : Proceedings) (left : St
   pub totals : (mirror : ℕ) → mirror < length mirrors →
       (service.books mirror).total ≡ slice_index proceedings.totals mirror
 
--- a run of the machine since it opened comes to that
+-- an event by which the last mirror rejects an ask is of bytes for which no mirror has room, by the first budgets and
+-- these totals
+abbrev pub IsOfFull : List Mirror → List ℕ → Event → Type 0
+IsOfFull mirrors totals (Reject worker mirror bytes) = mirror + 1 ≡ length mirrors → AreFull mirrors totals bytes
+IsOfFull mirrors totals event = Unit {0}
+
+-- a run of the machine since it opened comes to that, and each ask that all mirrors reject is of such bytes
 pub record IsInterleaved (mirrors : List Mirror) (start : History) (proceedings : Proceedings)
     (left : State) : Type 0 where
   pub events : List Event
   pub done : IsDone mirrors proceedings left (service_after happens mirrors start (length proceedings.workers) events)
+  pub rejected : All (IsOfFull mirrors proceedings.totals) events
 
 -- each run of a service is a run of the machine
 abbrev pub RunsAreInterleavings : Type 0

@@ -196,7 +196,7 @@ pub fn lone_calls()
 // rule: Run of a service
 /// States that each run of a service is a run of the machine: there is a list of events after which what the operator
 /// left is published, each worker sent the replies of its calls, in order, and no others, and each mirror's total is
-/// the one given.
+/// the one given. If the last mirror rejects bytes, none has room for them, by its first budget and its total.
 ///
 /// The run is given by the calls of each worker's desk and of the operator's desk, each by itself, and by the totals;
 /// each worker's view may in the end enter what the operator left. No clause says more of the list. That of the proof

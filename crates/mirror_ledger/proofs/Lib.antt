@@ -1,4 +1,5 @@
 mod NamedLemmas
 mod PairLemmas
 mod RaisingLemmas
+mod RejectedLemmas
 mod TillLemmas

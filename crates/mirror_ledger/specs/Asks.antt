@@ -1,5 +1,5 @@
 -- The asks of a worker, and what its shares are of them; this project's profile.
-use Rattle.std.specs.Prelude.{◌≡◌, ℕ, ◌==◌, if◌then◌else◌, ◌++◌, ◌∷◌, [], List, sum_by, Option, None, Some}
+use Rattle.std.specs.Prelude.{◌≡◌, ℕ, ◌==◌, ◌≤◌, if◌then◌else◌, ◌++◌, ◌∷◌, [], All, List, sum_by, Option, None, Some}
 use Rattle.mirror_ledger.specs.declared.asks.Asks.{Asks, Empty, Asked'}
 
 -- an ask: its bytes, and the index of the mirror that granted them, if one did
@@ -37,3 +37,7 @@ pub record AreUnused (first second third fourth : ℕ) (asks : List Ask) : Type 
   pub at_third : third ≡ 0
   pub at_fourth : fourth ≡ 0
   pub none_asked : asks ≡ []
+
+-- each ask for fewer bytes than this was granted
+abbrev pub AreGrantedBelow : ℕ → List Ask → Type 0
+AreGrantedBelow bound asks = All (λ (ask : Ask). ask.1 ≡ None → bound ≤ ask.0) asks

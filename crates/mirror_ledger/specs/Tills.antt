@@ -1,5 +1,5 @@
 -- Tills that are opened for work and closed after it; this project's profile.
-use Rattle.std.specs.Prelude.{◌≡◌, ℕ, ◌<◌, ◌≤◌, All, Bool, true, List, [], length, map, slice_index, sum_by, Option, None, Some, Result, Ok, Err}
+use Rattle.std.specs.Prelude.{◌≡◌, ℕ, ◌+◌, ◌<◌, ◌≤◌, All, Bool, true, List, [], length, map, slice_index, sum_by, Option, None, Some, Result, Ok, Err}
 use Rattle.std.specs.List.{AllZip}
 use Rattle.records.specs.declared.mirror.Mirror.{Mirror}
 use Rattle.mirror_ledger.specs.Asks.{Ask, granted_at}
@@ -23,6 +23,15 @@ granted_by workers index = sum_by (λ (asks : List Ask). granted_at index asks) 
 pub record AreTotalsOf (mirrors : List Mirror) (workers : List (List Ask)) (totals : List ℕ) : Type 0 where
   pub sums : totals ≡ totals_of mirrors (granted_by workers 0) (granted_by workers 1) (granted_by workers 2) (granted_by workers 3)
   pub within : (index : ℕ) → index < length mirrors → slice_index totals index ≤ budget_at mirrors index
+
+-- no mirror has room for the bytes beside its total: its first budget is below both together
+abbrev pub AreFull : List Mirror → List ℕ → ℕ → Type 0
+AreFull mirrors totals bytes = (index : ℕ) → index < length mirrors → budget_at mirrors index < slice_index totals index + bytes
+
+-- rule: Rejected asks
+-- each ask of a worker that was rejected found no room, by the first budgets of the mirrors and their totals at the end
+abbrev pub HadNoRoom : List Mirror → List (List Ask) → List ℕ → Type 0
+HadNoRoom mirrors workers totals = All (All (λ (ask : Ask). ask.1 ≡ None → AreFull mirrors totals ask.0)) workers
 
 -- a till of these mirrors that has asked for nothing yet, and has no other beside it and no budget that may be raised,
 -- if it is single

@@ -95,7 +95,7 @@ pub(crate) fn gather_tills<A: BudgetName, B: BudgetName, C: BudgetName, D: Budge
 pub(crate) fn close_parts<A: BudgetName, B: BudgetName, C: BudgetName, D: BudgetName, R: Wait>(
     rt: &R,
     alloc: Global,
-    books: Books<A, B, C, D>,
+    books: &Books<A, B, C, D>,
     parts: Parts<A, B, C, D>,
     raisers: Raisers<A, B, C, D>,
 ) -> Result<(Vec<u64>, Vec<Mirror>), AllocError>
@@ -153,5 +153,5 @@ pub fn close<A: BudgetName, B: BudgetName, C: BudgetName, D: BudgetName, R: Wait
     ensures within { IfOk result (λ closed.
         (index : ℕ) → index < length closed.1.items → slice_index closed.0.items index ≤ budget_at closed.1.items index) }
 {
-    close_parts(rt, alloc, books, gathered(shares), raisers)
+    close_parts(rt, alloc, &books, gathered(shares), raisers)
 }

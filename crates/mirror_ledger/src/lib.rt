@@ -6,9 +6,9 @@
 //! the end. A book keeps its total within its budget. A `Hand` is a `Till` over the books: what serves update checks knows
 //! its till alone. A `Treasurer` is the `Budgets` of the books: it alone has the raisers, so it knows the present budgets,
 //! and raises them. `work_with_tills` does all this for a `Work`, and hides the names of the ledgers; `run_with_tills`
-//! does it for jobs in threads, beside a job that may raise budgets. Read `specs/Budgets.antt` for what a grant and a
-//! raise do, `specs/Raising.antt` for what a raise comes to, `specs/Asks.antt` for how shares follow from the asks of a
-//! worker, and `specs/Tills.antt` for what work comes to.
+//! does it for jobs in threads, beside a job that may raise budgets, and compares what was rejected with the totals.
+//! Read `specs/Budgets.antt` for what a grant and a raise do, `specs/Raising.antt` for what a raise comes to,
+//! `specs/Asks.antt` for how shares follow from the asks of a worker, and `specs/Tills.antt` for what work comes to.
 //!
 //! It does not measure downloads: a mirror's total counts what clients were offered.
 
@@ -23,6 +23,8 @@ mod job;
 mod opening;
 mod raise_error;
 mod raisers;
+mod rejected;
+mod run_error;
 mod running;
 mod till;
 mod working;
@@ -36,6 +38,7 @@ pub use crate::job::{BudgetJob, TillJob};
 pub use crate::opening::{Blanks, Opened, open_books};
 pub use crate::raise_error::RaiseError;
 pub use crate::raisers::Raisers;
+pub use crate::run_error::RunError;
 pub use crate::running::{Ran, run_with_tills};
 pub use crate::till::{Hand, Till};
 pub use crate::working::{Work, work_with_tills};

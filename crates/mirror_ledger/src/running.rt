@@ -8,7 +8,7 @@ ghost use Rattle.mirror_ledger.specs.Asks.{Ask};
 ghost use Rattle.mirror_ledger.specs.Named.{AreTops, IsNamed, are_bounded};
 ghost use Rattle.mirror_ledger.specs.Raising.{AreNamed};
 ghost use Rattle.mirror_ledger.specs.Running.{end_of, till_of};
-ghost use Rattle.mirror_ledger.specs.Tills.{AreTotalsOf, HasEnded, HaveWorked, IsFresh};
+ghost use Rattle.mirror_ledger.specs.Tills.{AreTotalsOf, HadNoRoom, HasEnded, HaveWorked, IsFresh};
 
 use crate::book::BudgetName;
 use crate::budgets::Treasurer;
@@ -16,6 +16,8 @@ use crate::closing::{close_parts, gather_tills};
 use crate::job::{BudgetJob, TillJob, WithBudgets, WithTill};
 use crate::opening::{Blanks, Opened, open_books};
 use crate::raisers::Raisers;
+use crate::rejected::{all_granted_below, are_full};
+use crate::run_error::RunError;
 use crate::till::Till;
 use crate::working::tills_of;
 use records::Mirror;
@@ -164,7 +166,7 @@ fn run_over<
     gate: &G,
     jobs: Vec<J>,
     own: &mut O,
-) -> Result<Ran<J, O>, AllocError>
+) -> Result<Ran<J, O>, RunError>
     requires some_mirror { 0 < vec_len mirrors }
     requires few_mirrors { vec_len mirrors ≤ 4 }
     requires bounded { are_bounded mirrors.items ≡ true }
@@ -178,7 +180,8 @@ fn run_over<
     requires tops { AreTops (O.raises own.old) mirrors.items A.most B.most C.most D.most }
     ensures works { IfOk result (λ ran. (asks : List (List Ask))
         × HaveWorked (J.comes_to (not (O.raises own.old) && nat_eq (vec_len jobs) 1) mirrors.items) jobs.items asks ran.ends.items
-        × AreTotalsOf ran.mirrors.items asks ran.totals.items) }
+        × AreTotalsOf ran.mirrors.items asks ran.totals.items
+        × HadNoRoom mirrors.items asks ran.totals.items) }
     ensures own { IfOk result (λ ran. HasEnded (λ before after. O.comes_to before after own.old) mirrors.items ran.mirrors.items ran.own) }
 {
     let Opened {
@@ -196,8 +199,13 @@ fn run_over<
     };
     let (tills, ends, own) = work_together(rt, alloc, gate, jobs, tills, beside)?;
     let (raisers, own) = own_parted(own);
+    let bound = all_granted_below(&tills);
     let parts = gather_tills(tills);
-    let (totals, mirrors) = close_parts(rt, alloc, books, parts, raisers)?;
+    let (totals, mirrors) = close_parts(rt, alloc, &books, parts, raisers)?;
+    let given = books.given();
+    if !are_full(given, &totals, bound) {
+        return Err(RunError::RoomLeft);
+    }
     Ok(Ran {
         ends,
         own,
@@ -212,9 +220,13 @@ fn run_over<
 /// mirrors with their budgets at the end.
 ///
 /// Opens the mirrors' books for it and closes them after it. Only the own job raises budgets, so they are at the end what
-/// it left them at. A total is what the mirror granted to all workers, and within its budget at the end. `gate` is called once in each thread
-/// before its job begins. If a thread can't be started, no job begins, the own one neither, and each other is given
-/// back. Out of memory is the only error, before the jobs or after them.
+/// it left them at. A total is what the mirror granted to all workers, and within its budget at the end. An ask was
+/// rejected only if no mirror's first budget has room for it beside its total. `gate` is called once in each thread before
+/// its job begins. If a thread can't be started, no job begins, the own one neither, and each other is given back.
+///
+/// Fails with `Memory`, before the jobs or after them, and with `RoomLeft` if an ask was rejected for which a mirror has
+/// room by its total and its first budget. No run comes to that: a book rejects only what its budget has no room for, which
+/// is no less than the first one, and its total never falls.
 pub fn run_with_tills<
     J: TillJob + Send + Drop,
     O: BudgetJob,
@@ -227,7 +239,7 @@ pub fn run_with_tills<
     gate: &G,
     jobs: Vec<J>,
     own: &mut O,
-) -> Result<Ran<J, O>, AllocError>
+) -> Result<Ran<J, O>, RunError>
     requires some_mirror { 0 < vec_len mirrors }
     requires few_mirrors { vec_len mirrors ≤ 4 }
     requires bounded { are_bounded mirrors.items ≡ true }
@@ -236,7 +248,8 @@ pub fn run_with_tills<
     requires few_workers { vec_len jobs ≤ 8 }
     ensures works { IfOk result (λ ran. (asks : List (List Ask))
         × HaveWorked (J.comes_to (not (O.raises own.old) && nat_eq (vec_len jobs) 1) mirrors.items) jobs.items asks ran.ends.items
-        × AreTotalsOf ran.mirrors.items asks ran.totals.items) }
+        × AreTotalsOf ran.mirrors.items asks ran.totals.items
+        × HadNoRoom mirrors.items asks ran.totals.items) }
     ensures own { IfOk result (λ ran. HasEnded (λ before after. O.comes_to before after own.old) mirrors.items ran.mirrors.items ran.own) }
 {
     let blanks = Blanks::new(jobs.len() as u64);

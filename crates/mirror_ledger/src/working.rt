@@ -96,7 +96,7 @@ fn work_over<
     let mut tills = tills_of(alloc, &books, shares)?;
     let end = job.work(rt, &mut tills);
     let parts = gather_tills(tills);
-    let (totals, _mirrors) = close_parts(rt, alloc, books, parts, raisers)?;
+    let (totals, _mirrors) = close_parts(rt, alloc, &books, parts, raisers)?;
     Ok((end, totals))
 }
 

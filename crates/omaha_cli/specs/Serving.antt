@@ -36,6 +36,7 @@ EndsBy (server.Package name what) serve result = result ≡ Err (failure.Package
 EndsBy server.OperatorNet serve result = (named : Failure) × IsUnbound serve.operator named × (result ≡ Err named)
 EndsBy server.NoPlace serve result = result ≡ Err failure.NoPlace
 EndsBy server.Thread serve result = result ≡ Err failure.Thread
+EndsBy server.RoomLeft serve result = result ≡ Err failure.RoomLeft
 EndsBy server.Unpublished serve result = result ≡ Err failure.Unpublished
 EndsBy server.EndedEarly serve result = result ≡ Err failure.EndedEarly
 EndsBy server.Write serve result = result ≡ Err failure.Write

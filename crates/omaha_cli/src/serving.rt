@@ -64,6 +64,7 @@ fn end_of<A: Drop>(ended: Result<A, ServerError>, asked: &Serve) -> Result<(), F
         Err(ServerError::Package(name, lack)) => Err(Failure::Package(name, lack)),
         Err(ServerError::NoPlace) => Err(Failure::NoPlace),
         Err(ServerError::Thread) => Err(Failure::Thread),
+        Err(ServerError::RoomLeft) => Err(Failure::RoomLeft),
         Err(ServerError::Unpublished) => Err(Failure::Unpublished),
         Err(ServerError::EndedEarly) => Err(Failure::EndedEarly),
         Err(ServerError::Write) => Err(Failure::Write),

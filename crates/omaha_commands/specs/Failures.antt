@@ -39,6 +39,7 @@ failure_string (failure.Stopping address) = codes "stopping " ++ shown_string ad
 failure_string failure.NoPlace = codes "no place"
 failure_string failure.Closed = codes "closed"
 failure_string failure.Thread = codes "thread"
+failure_string failure.RoomLeft = codes "room left"
 failure_string failure.Unpublished = codes "unpublished"
 failure_string failure.EndedEarly = codes "ended early"
 failure_string (failure.Walk fault) = walk_fault_text fault

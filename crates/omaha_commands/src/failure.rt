@@ -63,6 +63,8 @@ pub enum Failure {
     Closed,
     /// A thread could not be started.
     Thread,
+    /// An ask was rejected for which a mirror has room, by its total at the end and its first budget.
+    RoomLeft,
     /// A worker's view is not of what the operator published.
     Unpublished,
     /// A port ended before its last connection, though nobody stopped the server.
@@ -141,6 +143,7 @@ impl fmt::Display for Failure {
             Failure::NoPlace => write!(f, "no place"),
             Failure::Closed => write!(f, "closed"),
             Failure::Thread => write!(f, "thread"),
+            Failure::RoomLeft => write!(f, "room left"),
             Failure::Unpublished => write!(f, "unpublished"),
             Failure::EndedEarly => write!(f, "ended early"),
             Failure::Walk(fault) => write!(f, "{fault}"),

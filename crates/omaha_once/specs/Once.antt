@@ -49,6 +49,7 @@ Replies service moment old new (Err failure.NoPlace) = new.output ≡ old.output
 Replies service moment old new (Err failure.Closed) = new.output ≡ old.output
 Replies service moment old new (Err failure.Memory) = new.output ≡ old.output
 Replies service moment old new (Err failure.Thread) = ⊥
+Replies service moment old new (Err failure.RoomLeft) = ⊥
 Replies service moment old new (Err failure.Unpublished) = ⊥
 Replies service moment old new (Err failure.EndedEarly) = ⊥
 Replies service moment old new (Err (failure.File path)) = ⊥

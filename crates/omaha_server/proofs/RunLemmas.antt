@@ -12,7 +12,7 @@ use Rattle.http_ports.specs.Traffic.{Slot}
 use Rattle.http_ports.specs.declared.terms.Terms.{Terms}
 use Rattle.http_talks.specs.Ports.{Passage}
 use Rattle.mirror_ledger.specs.Asks.{Ask}
-use Rattle.mirror_ledger.specs.Tills.{AreTotalsOf, HasEnded, HaveWorked, WorksAs}
+use Rattle.mirror_ledger.specs.Tills.{AreTotalsOf, HadNoRoom, HasEnded, HaveWorked, WorksAs}
 use Rattle.mirror_ledger.specs.declared.running.Ran.{Ran}
 use Rattle.profile_toml.specs.Laws.{AreMirrors}
 use Rattle.publisher.specs.Sights.{Allows, Sight, fresh}
@@ -193,7 +193,8 @@ module _ {S R P K : Type 0} (edges_of : S → Edges) (terms_of : P → Terms) (s
       (ran : Result (Ran (Clients S R P) (Operating S R P K) (Visited P) (Operated P)) X) (ended : Ended (Visited P) (Operated P)) (run : Run P) →
       AreMirrors mirrors →
       IsManned terms_of setup jobs own → is_single (is_some setup.place.now.operator) setup.place.now.workers ≡ single →
-      IfOk ran (λ done. (asks : List (List Ask)) × HaveWorked (comes single) jobs asks done.ends.items × AreTotalsOf done.mirrors.items asks done.totals.items) →
+      IfOk ran (λ done. (asks : List (List Ask)) × HaveWorked (comes single) jobs asks done.ends.items × AreTotalsOf done.mirrors.items asks done.totals.items
+      × HadNoRoom mirrors asks done.totals.items) →
       IfOk ran (λ done. HasEnded (λ before after. led own before after) mirrors done.mirrors.items done.own) →
       HaveRun ran ended → IsPublished terms_of slots_of accepted_of ended run →
       AreTotals (edges_of setup.system.now) setup.place.now (record { edition = own.press; mirrors = mirrors })
@@ -206,7 +207,7 @@ module _ {S R P K : Type 0} (edges_of : S → Edges) (terms_of : P → Terms) (s
       let passage = passage_of terms_of slots_of accepted_of in
       let ports = map (λ (end : Visited P). end.served) ended.clients.items in
       let first = begun own.press (first_of own.records) (kept_of own.records) in
-      let (asks, worked, sums) = works in
+      let (asks, worked, sums, rejected) = works in
       let same : map (λ (its : List Ask × Result (Visited P) (Clients S R P)). its.1) worked.worked ≡ map Ok ended.clients.items = sym worked.ended ∙ ends in
       let long : length worked.worked ≡ length jobs = AllZip-long (λ job its. WorksAs (comes single) job its.0 its.1) jobs worked.worked worked.each in
       let ended_all : length ended.clients.items ≡ length jobs = as_many worked.worked ended.clients.items same ∙ long in
@@ -238,6 +239,7 @@ module _ {S R P K : Type 0} (edges_of : S → Edges) (terms_of : P → Terms) (s
           worked = AllZip-by (IsWorked mirrors own.press left.history) all.0 asks (all.1 ∙ sym asked)
               (λ worker c a below. (all.2 worker c (omega (arith, below, all.1))).0 a);
           summed = subst (AreTotalsOf done.mirrors.items asks) totals sums;
+          rejected = subst (HadNoRoom mirrors asks) totals rejected;
         };
         many = all.1;
         ports = length-map ports passage ∙ length-map ended.clients.items (λ (end : Visited P). end.served) ∙ ended_all ∙ manned.many;
@@ -317,5 +319,6 @@ module _ (edges : Edges) (place : Place) (service : Service) (kept : Store) (old
   Serves-unprinted names new (server.Package name what) named never = absurd never
   Serves-unprinted names new server.NoPlace named never = absurd never
   Serves-unprinted names new server.Thread named never = absurd never
+  Serves-unprinted names new server.RoomLeft named never = absurd never
   Serves-unprinted names new server.Unpublished named never = absurd never
   Serves-unprinted names new server.EndedEarly named never = absurd never

@@ -1,5 +1,7 @@
 -- What a server's workers came to, up to its totals.
 use Rattle.std.specs.Prelude.{◌≡◌, ◌⊎◌, ℕ, true, All, List, Some, Result, Ok, Err, map}
+use Rattle.mirror_ledger.specs.declared.run_error.RunError.{RunError}
+use Rattle.mirror_ledger.specs.declared.run_error.RunError.TheVariants as run
 use Rattle.mirror_ledger.specs.declared.running.Ran.{Ran}
 use Rattle.std.specs.Io.KnownBytes.{Appends}
 use Rattle.catalogue_laws.specs.Histories.{History}
@@ -21,6 +23,11 @@ use Rattle.omaha_server.specs.declared.operating.Operated.{Operated}
 use Rattle.omaha_server.specs.declared.running.Ended.{Ended}
 use Rattle.omaha_server.specs.declared.running.Run.{Run}
 use Rattle.services.specs.declared.service.Service.{Service}
+
+-- how a server ends whose jobs came to nothing
+abbrev pub run_failure : RunError → ServerError
+run_failure run.RoomLeft = server.RoomLeft
+run_failure run.Memory = server.Memory
 
 -- all jobs began and came to these ends, and these are the totals
 abbrev pub HaveRun : {J O E F X : Type 0} → Result (Ran J O E F) X → Ended E F → Type 0

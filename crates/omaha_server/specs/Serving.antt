@@ -136,8 +136,8 @@ state_of service kept = record { mirrors = service.mirrors; history = service.ed
 -- what was done at the ports is a run of the service, from its edition and from what was kept: each worker served a port
 -- with its portion of the sessions, with a view that had seen that edition; the operator's port was served, if there is an
 -- operator; each worker's view may enter what is left; the totals are the sums of what the workers asked for, each
--- within the budget that its mirror has after the operator's last connection; and each port accepted all its connections,
--- unless the operator asked the server to end
+-- within the budget that its mirror has after the operator's last connection; what was rejected had no room; and each port
+-- accepted all its connections, unless the operator asked the server to end
 pub record AreTotals (edges : Edges) (place : Place) (service : Service) (kept : Store) (passages : Passages) (totals : List ℕ) : Type 0 where
   pub calls : List (List Call)
   pub operator_calls : List Call
@@ -181,6 +181,7 @@ Stops edges place old new server.Folder = new ≡ old
 Stops edges place old new (server.Package name what) = new ≡ old
 Stops edges place old new server.NoPlace = new ≡ old
 Stops edges place old new server.Thread = IsOpen edges place × IsReady old new
+Stops edges place old new server.RoomLeft = IsOpen edges place × IsReady old new
 Stops edges place old new server.Unpublished = IsOpen edges place × IsReady old new
 Stops edges place old new server.EndedEarly = IsOpen edges place × IsReady old new
 Stops edges place old new server.Write = IsOpen edges place × Breaks old new ready_line
@@ -195,6 +196,7 @@ IsUnlogged server.Folder = ⊤
 IsUnlogged (server.Package name what) = ⊤
 IsUnlogged server.NoPlace = ⊤
 IsUnlogged server.Thread = ⊤
+IsUnlogged server.RoomLeft = ⊤
 IsUnlogged server.Unpublished = ⊤
 IsUnlogged server.EndedEarly = ⊤
 IsUnlogged server.Write = ⊤
@@ -209,6 +211,7 @@ IsLater server.Folder = ⊥
 IsLater (server.Package name what) = ⊥
 IsLater server.NoPlace = ⊤
 IsLater server.Thread = ⊤
+IsLater server.RoomLeft = ⊤
 IsLater server.Unpublished = ⊤
 IsLater server.EndedEarly = ⊤
 IsLater server.Write = ⊤

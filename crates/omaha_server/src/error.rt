@@ -1,5 +1,6 @@
 // Why a server ends early.
 
+use mirror_ledger::RunError;
 use package_files::Lack;
 use std::alloc::AllocError;
 use values::Text;
@@ -21,6 +22,8 @@ pub enum ServerError {
     NoPlace,
     /// A thread could not be started.
     Thread,
+    /// An ask was rejected for which a mirror has room, by its total at the end and its first budget.
+    RoomLeft,
     /// A worker's view is not of what the operator published.
     Unpublished,
     /// A port ended before its last connection, though nobody asked the server to end.
@@ -39,5 +42,19 @@ impl From<AllocError> for ServerError {
 
     fn from(_refused: AllocError) -> ServerError {
         ServerError::Memory
+    }
+}
+
+impl From<RunError> for ServerError {
+    ghost use Rattle.omaha_server.specs.Runs.{run_failure};
+    ghost use Rattle.std.specs.Prelude.{◌≡◌};
+
+    ghost from_gives = { λ run error. error ≡ run_failure run };
+
+    fn from(error: RunError) -> ServerError {
+        match error {
+            RunError::RoomLeft => ServerError::RoomLeft,
+            RunError::Memory => ServerError::Memory,
+        }
     }
 }

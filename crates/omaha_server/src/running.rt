@@ -4,16 +4,16 @@ ghost use Rattle.std.specs.Prelude.{◌≡◌, ◌⊎◌, All, IfErr, IfOk, IfSo
 ghost use Rattle.publisher.specs.Sights.{Allows};
 ghost use Rattle.omaha_server.specs.Passages.{HasAcceptedAll, HaveAcceptedAll, passage_of, passages_of};
 ghost use Rattle.omaha_server.specs.Runs.{HaveRun, IsPublished};
-ghost use Rattle.omaha_server.specs.declared.error.ServerError.TheVariants.{Memory, Thread, Unpublished, EndedEarly};
+ghost use Rattle.omaha_server.specs.declared.error.ServerError.TheVariants.{Memory, RoomLeft, Thread, Unpublished, EndedEarly};
 
 use crate::clients::Visited;
 use crate::error::ServerError;
 use crate::operating::Operated;
 use crate::ports::{ServedPort, ServedPorts};
 use http_ports::Port;
-use mirror_ledger::{BudgetJob, Ran, TillJob};
+use mirror_ledger::{BudgetJob, Ran, RunError, TillJob};
 use publisher::{Receipt, may_enter};
-use std::alloc::{AllocError, Global};
+use std::alloc::Global;
 
 /// What jobs that all began came to.
 #[derive(Drop)]
@@ -46,10 +46,10 @@ fn all_ends<E: Drop, J: Drop>(alloc: Global, ends: Vec<Result<E, J>>) -> Result<
 /// What jobs came to that all began, as the own job did.
 pub(crate) fn ends_of<J: TillJob + Drop, O: BudgetJob>(
     alloc: Global,
-    ran: Result<Ran<J, O>, AllocError>,
+    ran: Result<Ran<J, O>, RunError>,
 ) -> Result<Ended<J::End, O::End>, ServerError>
     ensures ok { IfOk result (HaveRun ran) }
-    ensures err { IfErr result (λ error. (error ≡ Thread) ⊎ (error ≡ Memory)) }
+    ensures err { IfErr result (λ error. (error ≡ Thread) ⊎ (error ≡ RoomLeft) ⊎ (error ≡ Memory)) }
 {
     let Ran {
         ends,

@@ -9,7 +9,7 @@ ghost use Rattle.omaha_server.specs.Jobs.{IsManned};
 ghost use Rattle.omaha_server.specs.Passages.{passages_in, passages_of};
 ghost use Rattle.omaha_server.specs.Runs.{HasServed, PrintsLines};
 ghost use Rattle.omaha_server.specs.Serving.{AreTotals, IsLogged, IsSilent, IsLater, IsUnlogged, Serves, Stops, begun};
-ghost use Rattle.omaha_server.specs.declared.error.ServerError.TheVariants.{Memory, NoPlace, Thread, Unpublished, EndedEarly};
+ghost use Rattle.omaha_server.specs.declared.error.ServerError.TheVariants.{Memory, NoPlace, RoomLeft, Thread, Unpublished, EndedEarly};
 
 use crate::checking::SystemFolder;
 use crate::clients::Clients;
@@ -87,7 +87,7 @@ fn run_jobs<
         (record { edition = own.old.press; mirrors = mirrors })
         (begun own.old.press (K.first own.old.records) (K.kept own.old.records)).store
         (passages_of P.terms P.slots P.accepted run.ports) run.totals.items) }
-    ensures err { IfErr result (λ error. (error ≡ Thread) ⊎ (error ≡ Unpublished) ⊎ (error ≡ EndedEarly) ⊎ (error ≡ Memory)) }
+    ensures err { IfErr result (λ error. (error ≡ Thread) ⊎ (error ≡ RoomLeft) ⊎ (error ≡ Unpublished) ⊎ (error ≡ EndedEarly) ⊎ (error ≡ Memory)) }
 {
     thread::scope(
         thread::scope_env(),
@@ -98,7 +98,7 @@ fn run_jobs<
                 (record { edition = own.entry.now.press; mirrors = mirrors })
                 (begun own.entry.now.press (K.first own.entry.now.records) (K.kept own.entry.now.records)).store
                 (passages_of P.terms P.slots P.accepted run.ports) run.totals.items) }
-            ensures err { IfErr result (λ error. (error ≡ Thread) ⊎ (error ≡ Unpublished) ⊎ (error ≡ EndedEarly) ⊎ (error ≡ Memory)) }
+            ensures err { IfErr result (λ error. (error ≡ Thread) ⊎ (error ≡ RoomLeft) ⊎ (error ≡ Unpublished) ⊎ (error ≡ EndedEarly) ⊎ (error ≡ Memory)) }
         {
             let rt = setup.runtime();
             let Writings { errors, file } = writings;
@@ -365,9 +365,9 @@ fn traffic_of(alloc: Global, workers: usize, service: &Service) -> Traffic {
 ///
 /// Fails, in this order, with the log, the folder, the first package that isn't there, memory, no place for a view, the
 /// address, the operator's address, the output, and a thread that can't be started; in that case no connection was
-/// accepted. Memory may also run out after `ready`; then no total is printed. Nor is one if a worker's view at its end
-/// is not of what the operator published, or if a port ended early though nobody asked the server to end, neither of
-/// which a test has seen.
+/// accepted. Memory may also run out after `ready`; then no total is printed. Nor is one if bytes were rejected for which a
+/// mirror has room, by its total and its first budget, if a worker's view at its end is not of what the operator
+/// published, or if a port ended early though nobody asked the server to end. No test has seen one of the three.
 ///
 /// The operator may ask the server to end: then the workers' ports accept no more connections, end those on which no
 /// message has begun, and reply to the messages that have; and then the operator's port ends.

@@ -4,7 +4,7 @@ use Rattle.std.specs.List.{AllZip}
 use Rattle.catalogue_laws.specs.Histories.{History}
 use Rattle.http_desks.specs.Calls.{Call, Leads}
 use Rattle.mirror_ledger.specs.Asks.{Ask}
-use Rattle.mirror_ledger.specs.Tills.{AreTotalsOf}
+use Rattle.mirror_ledger.specs.Tills.{AreTotalsOf, HadNoRoom}
 use Rattle.publisher.specs.Sights.{Allows, Sight, fresh}
 use Rattle.records.specs.declared.mirror.Mirror.{Mirror}
 use Rattle.service_desks.specs.Operators.{IsCall as IsOperatorCall}
@@ -27,7 +27,8 @@ pub record IsWorked (mirrors : List Mirror) (start left : History) (calls : List
 
 -- rule: Run of a service
 -- one to four mirrors; an operator's calls led from a history, of which nothing was due, to what is left; each worker
--- worked; and the totals are the sums of what the workers asked for, within the budgets that are left
+-- worked; the totals are the sums of what the workers asked for, within the budgets that are left; and what was
+-- rejected had no room, by the first budgets and the totals
 pub record IsServed (mirrors : List Mirror) (start : History) (kept : Store) (proceedings : Proceedings)
     (left : State) : Type 0 where
   pub some : 1 ≤ length mirrors
@@ -38,3 +39,4 @@ pub record IsServed (mirrors : List Mirror) (start : History) (kept : Store) (pr
   pub asks : List (List Ask)
   pub worked : AllZip (IsWorked mirrors start left.history) proceedings.workers asks
   pub summed : AreTotalsOf left.mirrors asks proceedings.totals
+  pub rejected : HadNoRoom mirrors asks proceedings.totals

@@ -10,10 +10,11 @@ use std::sync::Wait;
 use std::sync::atomic::{AtomicU64, Ordering};
 use std::thread::Threads;
 
-// Asks for a byte so many times, and counts how often it was granted.
+// Asks for so many bytes so many times, and counts how often they were granted.
 #[derive(Drop)]
 struct Asking<'a, R> {
     rt: &'a R,
+    bytes: u64,
     times: u32,
 }
 
@@ -26,7 +27,7 @@ impl<R: Wait> TillJob for Asking<'_, R> {
         let mut till = till;
         let mut granted: u64 = 0;
         for _ask in 0..self.times {
-            if till.grant_first(self.rt, 1).is_some() {
+            if till.grant_first(self.rt, self.bytes).is_some() {
                 granted = granted.saturating_add(1);
             }
         }
@@ -59,12 +60,17 @@ impl<R: Wait> BudgetJob for Raising<'_, R> {
     }
 }
 
-fn two_jobs<'a, R>(rt: &'a R, alloc: Global, times: u32) -> Result<Vec<Asking<'a, R>>, AllocError>
+fn two_jobs<'a, R>(
+    rt: &'a R,
+    alloc: Global,
+    bytes: u64,
+    times: u32,
+) -> Result<Vec<Asking<'a, R>>, AllocError>
     ensures { IfOk result (λ jobs. vec_len jobs ≡ 2) }
 {
     let mut jobs = Vec::new(alloc);
-    jobs.push(Asking { rt, times })?;
-    jobs.push(Asking { rt, times })?;
+    jobs.push(Asking { rt, bytes, times })?;
+    jobs.push(Asking { rt, bytes, times })?;
     Ok(jobs)
 }
 
@@ -123,19 +129,20 @@ fn outcome_of<'a, R: Wait>(ran: Ran<Asking<'a, R>, Raising<'a, R>>) -> Outcome {
     }
 }
 
-// Two workers ask so often each over mirrors of these budgets, while the first one's is raised to so much.
+// Two workers ask for so many bytes, so often each, over mirrors of these budgets, while the first one's is raised to so
+// much.
 fn run<R: Threads + Wait + Sync + AllocGlobal>(
     rt: &R,
     gate: &Counter,
     budgets: &str,
-    times: u32,
+    (bytes, times): (u64, u32),
     to: u64,
 ) -> Option<Outcome> {
     let mirrors = named_mirrors(rt.alloc(), budgets)?;
     if !has_bounds(&mirrors) {
         return None;
     }
-    let jobs = two_jobs(rt, rt.alloc(), times).ok()?;
+    let jobs = two_jobs(rt, rt.alloc(), bytes, times).ok()?;
     match run_with_tills(rt, rt.alloc(), mirrors, gate, jobs, &mut Raising { rt, to }) {
         Ok(ran) => Some(outcome_of(ran)),
         Err(_) => None,
@@ -149,7 +156,7 @@ fn is_within<R: Threads + Wait + Sync + AllocGlobal>(
     times: u32,
     to: u64,
 ) -> Option<bool> {
-    let outcome = run(rt, gate, "0", times, to)?;
+    let outcome = run(rt, gate, "0", (1, times), to)?;
     let is_whole = outcome.totals.as_slice() == [outcome.granted].as_slice();
     Some(is_whole && outcome.raised == Some(to) && outcome.granted <= to)
 }
@@ -171,17 +178,27 @@ fn calls_the_gate_once_in_each_thread(rt: HostRuntime) {
     assert!(rt; gate.tables.load(Ordering::SeqCst) == 0);
 }
 
-// A row is the budgets, how often each of two workers asks, and how many asks are granted, then the totals.
-const ROWS: &str = "1000|600|1000 1000
-30000 0 60000 10000|55000|100000 30000 0 60000 10000";
+// A row is the budgets, how often each of two workers asks for how many bytes, and how many asks are granted, then the
+// totals.
+const ROWS: &str = "1000|600 of 1|1000 1000
+30000 0 60000 10000|55000 of 1|100000 30000 0 60000 10000";
+
+// Rows in which both ask for more than is left.
+const REJECTED: &str = "1000|2 of 600|1 600
+1000 599|2 of 600|1 600 0
+599 598 0 1|9 of 600|0 0 0 0 0
+1200 600|2 of 600|3 1200 600
+0|1 of 0|2 0";
 
 // How many asks are granted, and the totals.
 fn print_outcome<R: Threads + Wait + Sync + AllocGlobal>(
     rt: &R,
     budgets: &str,
-    times: &str,
+    asks: &str,
 ) -> Option<String> {
-    let outcome = run(rt, &Counter::new(), budgets, times.parse().unwrap_or(0), 0)?;
+    let (times, bytes) = asks.split_once(" of ")?;
+    let asks = (bytes.parse().ok()?, times.parse().ok()?);
+    let outcome = run(rt, &Counter::new(), budgets, asks, 0)?;
     let mut line = format!(in rt.alloc(); "{}", outcome.granted).ok()?;
     push_numbers(&mut line, &outcome.totals).ok()?;
     Some(line)
@@ -189,8 +206,8 @@ fn print_outcome<R: Threads + Wait + Sync + AllocGlobal>(
 
 // Whether the asks of a row are granted so.
 fn is_granted<R: Threads + Wait + Sync + AllocGlobal>(rt: &R, row: &str) -> bool {
-    let (budgets, times, wanted) = three_parts(row, "|");
-    is_line(print_outcome(rt, budgets, times), wanted)
+    let (budgets, asks, wanted) = three_parts(row, "|");
+    is_line(print_outcome(rt, budgets, asks), wanted)
 }
 
 // rule: Budget of a mirror
@@ -199,6 +216,14 @@ fn is_granted<R: Threads + Wait + Sync + AllocGlobal>(rt: &R, row: &str) -> bool
 #[test]
 fn totals_agree_with_a_hundred_thousand_grants(rt: HostRuntime) {
     for row in ROWS.lines() {
+        assert!(rt; is_granted(&rt, row), "{row}");
+    }
+}
+
+// rule: Rejected asks
+#[test]
+fn rejects_what_no_mirror_has_room_for(rt: HostRuntime) {
+    for row in REJECTED.lines() {
         assert!(rt; is_granted(&rt, row), "{row}");
     }
 }
