@@ -172,52 +172,8 @@ fn host<
     end_of(ended, asked)
 }
 
-// Serves, and meanwhile asks the server's own operator's address for the records of other servers, in another thread.
-fn serve_followed<
-    P: Port + Send + Drop,
-    S: System<P> + Sync,
-    R: Clock + Connector + AllocGlobal + Threads + Sync + Wait,
-    K: Records + Drop,
-    W: WriteWhole,
-    F: WriteWhole + Send,
->(
-    rt: &R,
-    system: &S,
-    kept: KeptService<K>,
-    place: &Place,
-    asked: &Serve,
-    writer: &mut W,
-    errors: &mut F,
-) -> Result<(), Failure>
-    ensures hosted { IsHostedBy (S.edges system.now) place.now
-        (record { service = kept.service; first = K.first kept.records; records = K.kept kept.records }) asked.now
-        (W.output writer.old) (W.output writer.new) result }
-    ensures silent { IsSilent place.now → errors.new ≡ errors.old }
-{
-    let has_ended = AtomicBool::new(false);
-    let operator = followed_at(asked).unwrap_or("");
-    let mut kept = Some(kept);
-    let ((), ended) = join_mut(
-        rt,
-        &mut || follow(rt, rt.alloc(), operator, asked.follow, &has_ended),
-        &mut || -> Result<(), Failure>
-            ensures hosted { IfSome kept.entry (λ served. IsHostedBy (S.edges system.entry.now) place.entry.now
-                (record { service = served.service; first = K.first served.records; records = K.kept served.records }) asked.entry.now
-                (W.output writer.entry.now) (W.output writer.exit.now) result) }
-            ensures silent { IsSilent place.entry.now → errors.exit.now ≡ errors.entry.now }
-        {
-            let ended = match kept.take() {
-                Some(kept) => host(rt, system, kept, place, asked, writer, errors),
-                None => Err(Failure::Memory),
-            };
-            has_ended.store(true, Ordering::SeqCst);
-            ended
-        },
-    );
-    ended
-}
-
-// Serves; a server that shares its history is kept up to date meanwhile.
+// Serves. If other servers share the history, the server's own operator's address is meanwhile asked for their records, in
+// another thread.
 fn serve_kept<
     P: Port + Send + Drop,
     S: System<P> + Sync,
@@ -239,10 +195,29 @@ fn serve_kept<
         (W.output writer.old) (W.output writer.new) result }
     ensures silent { IsSilent place.now → errors.new ≡ errors.old }
 {
-    match followed_at(asked) {
-        None => host(rt, system, kept, place, asked, writer, errors),
-        Some(_) => serve_followed(rt, system, kept, place, asked, writer, errors),
-    }
+    let Some(operator) = followed_at(asked) else {
+        return host(rt, system, kept, place, asked, writer, errors);
+    };
+    let has_ended = AtomicBool::new(false);
+    let mut kept = Some(kept);
+    let ((), ended) = join_mut(
+        rt,
+        &mut || follow(rt, rt.alloc(), operator, asked.follow, &has_ended),
+        &mut || -> Result<(), Failure>
+            ensures hosted { IfSome kept.entry (λ served. IsHostedBy (S.edges system.entry.now) place.entry.now
+                (record { service = served.service; first = K.first served.records; records = K.kept served.records }) asked.entry.now
+                (W.output writer.entry.now) (W.output writer.exit.now) result) }
+            ensures silent { IsSilent place.entry.now → errors.exit.now ≡ errors.entry.now }
+        {
+            let ended = match kept.take() {
+                Some(kept) => host(rt, system, kept, place, asked, writer, errors),
+                None => Err(Failure::Memory),
+            };
+            has_ended.store(true, Ordering::SeqCst);
+            ended
+        },
+    );
+    ended
 }
 
 // rule: Service over HTTP

@@ -43,10 +43,10 @@ pub(crate) fn restore_failure(path: &Text, first: u64, error: RestoreError) -> F
 }
 
 // Whether a record is a profile with these bytes.
-fn is_profile(record: &Record, bytes: &[u8]) -> bool
-    ensures { IsTrue result → record.now ≡ record_of Profile bytes.now }
+fn is_profile(first: &Record, bytes: &[u8]) -> bool
+    ensures { IsTrue result → first.now ≡ record_of Profile bytes.now }
 {
-    record.kind == Kind::Profile && record.bytes.as_slice() == bytes
+    first.kind == Kind::Profile && first.bytes.as_slice() == bytes
 }
 
 // Reads the first record, which another server kept meanwhile: it has to be the same profile.
