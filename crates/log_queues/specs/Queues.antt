@@ -49,8 +49,17 @@ abbrev pub IsAppended : List ℕ → Known → Known → Bool → Bool → Type 
 IsAppended [] old new was_cut is_cut = (new ≡ old) × (is_cut ≡ was_cut)
 IsAppended (byte ∷ bytes) old new was_cut is_cut = IsPut (end_of was_cut ++ byte ∷ bytes) old new is_cut
 
--- rule: Written log
 -- what was received in the meantime was written, and nothing else
 abbrev pub HasWritten : List ℕ → List ℕ → Known → Known → Bool → Bool → Type 0
 HasWritten before after old new was_cut is_cut =
     (bytes : List ℕ) × (after ≡ before ++ bytes) × IsAppended bytes old new was_cut is_cut
+
+-- rule: Written log
+-- what was received from each sender in the meantime was written, one sender after the other, and nothing else
+abbrev pub HaveWritten : List (List ℕ) → List (List ℕ) → Known → Known → Bool → Bool → Type 0
+HaveWritten [] [] old new was_cut is_cut = (new ≡ old) × (is_cut ≡ was_cut)
+HaveWritten [] (after ∷ afters) old new was_cut is_cut = ⊥
+HaveWritten (before ∷ befores) [] old new was_cut is_cut = ⊥
+HaveWritten (before ∷ befores) (after ∷ afters) old new was_cut is_cut =
+    (between : Known) × (was_between : Bool) × HasWritten before after old between was_cut was_between
+    × HaveWritten befores afters between new was_between is_cut

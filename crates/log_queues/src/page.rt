@@ -1,4 +1,4 @@
-ghost use Rattle.std.specs.Prelude.{◌≡◌, ◌++◌, OnErr, OnOk};
+ghost use Rattle.std.specs.Prelude.{◌≡◌, ◌++◌, IsFalse, OnErr, OnOk};
 ghost use Rattle.std.specs.Io.KnownBytes.{Appends};
 ghost use Rattle.streams.specs.Writing.{Breaks};
 ghost use Rattle.log_queues.specs.Queues.{IsPut, end_of};
@@ -15,7 +15,10 @@ pub struct Page<'a, W: WriteWhole> {
 
 impl<'a, W: WriteWhole> Page<'a, W> {
     /// Makes the page of a writer that ends in a whole line, or has none.
-    pub fn new(out: &'a mut W) -> Page<'a, W> {
+    pub fn new(out: &'a mut W) -> Page<'a, W>
+        ensures same { W.output result.out.now ≡ W.output out.old }
+        ensures whole { IsFalse result.is_cut }
+    {
         Page { out, is_cut: false }
     }
 }

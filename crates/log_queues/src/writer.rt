@@ -1,8 +1,8 @@
 // The one thread that writes a log.
 
-ghost use Rattle.std.specs.Prelude.{◌≡◌, ◌+◌, All, IfOk, length};
+ghost use Rattle.std.specs.Prelude.{◌≡◌, ◌+◌, [], All, IfOk, IsFalse, IsTrue, length, map};
 ghost use Rattle.rtrb.specs.Ring.{received};
-ghost use Rattle.log_queues.specs.Queues.{HasWritten, opened};
+ghost use Rattle.log_queues.specs.Queues.{HasWritten, HaveWritten, opened};
 
 use crate::notes::MAX_NOTE;
 use crate::page::Page;
@@ -10,6 +10,7 @@ use crate::sender::LineSender;
 use crate::signal::Signal;
 use rtrb::{Consumer, RingBuffer};
 use std::alloc::{AllocError, Global};
+use std::marker::Model;
 use std::sync::{Arc, Mutex, Wait};
 use std::thread;
 use std::thread::{Scope, Threads};
@@ -23,6 +24,18 @@ pub struct LogWriter {
     signal: Arc<Signal, Global>,
 }
 
+impl Model for LogWriter {
+    ghost use Rattle.std.specs.Prelude.{ℕ, List, map};
+    ghost use Rattle.rtrb.specs.Ring.{received};
+
+    // what has been received so far, for each sender
+    ghost Value = { List (List ℕ) };
+
+    ghost view = { λ writer. map received writer.rings.items };
+
+    ghost invariant = { λ _. Unit {0} };
+}
+
 /// A log: the senders, what writes their lines, and what ends it.
 #[derive(Drop)]
 pub struct Log {
@@ -34,15 +47,16 @@ pub struct Log {
     pub signal: Arc<Signal, Global>,
 }
 
-// rule: Written log
 // Writes what has come through a ring; whether it was anything.
 fn write_ring<W: WriteWhole>(
     ring: &mut Consumer<u8>,
     room: &mut [u8],
     page: &mut Page<'_, W>,
 ) -> bool
-    ensures { HasWritten (received ring.old) (received ring.new) (W.output page.old.out.now) (W.output page.new.out.now)
-        page.old.is_cut page.new.is_cut }
+    ensures written { HasWritten (received ring.old) (received ring.new) (W.output page.old.out.now)
+        (W.output page.new.out.now) page.old.is_cut page.new.is_cut }
+    ensures none { IsFalse result → received ring.new ≡ received ring.old }
+    ensures some { IsTrue result → received ring.new ≡ received ring.old → ⊥ }
 {
     let count = ring.pop_partial_slice(room);
     if count == 0 {
@@ -52,18 +66,38 @@ fn write_ring<W: WriteWhole>(
     true
 }
 
+// Writes what has come through each ring; whether it was anything.
+fn write_rings<W: WriteWhole>(
+    rings: &mut [Consumer<u8>],
+    room: &mut [u8],
+    page: &mut Page<'_, W>,
+) -> bool
+    ensures written { HaveWritten (map received rings.old) (map received rings.new) (W.output page.old.out.now)
+        (W.output page.new.out.now) page.old.is_cut page.new.is_cut }
+    ensures none { IsFalse result → map received rings.new ≡ map received rings.old }
+    ensures some { IsTrue result → map received rings.new ≡ map received rings.old → ⊥ }
+{
+    let mut found = false;
+    for ring in rings.iter_mut() {
+        if write_ring(ring, room, page) {
+            found = true;
+        }
+    }
+    found
+}
+
 impl LogWriter {
+    // rule: Written log
     /// Writes what has come from each sender, without waiting for more, and returns whether it was anything.
     ///
     /// A line that can't be written is lost. If a part of one was written, the next one is preceded by a line feed.
-    pub fn write_now<W: WriteWhole>(&mut self, page: &mut Page<'_, W>) -> bool {
-        let mut found = false;
-        for ring in self.rings.iter_mut() {
-            if write_ring(ring, &mut self.room, page) {
-                found = true;
-            }
-        }
-        found
+    pub fn write_now<W: WriteWhole>(&mut self, page: &mut Page<'_, W>) -> bool
+        ensures written { HaveWritten self.old self.new (W.output page.old.out.now) (W.output page.new.out.now)
+            page.old.is_cut page.new.is_cut }
+        ensures none { IsFalse result → self.new ≡ self.old }
+        ensures some { IsTrue result → self.new ≡ self.old → ⊥ }
+    {
+        write_rings(&mut self.rings, &mut self.room, page)
     }
 
     /// Writes what the senders send as it comes, until the signal's end, and all that was sent before it. No one else has
@@ -122,7 +156,8 @@ fn open_ring(
     bytes: usize,
     signal: &Arc<Signal, Global>,
 ) -> Result<(LineSender, Consumer<u8>), AllocError>
-    ensures { IfOk result (λ made. made.0 ≡ opened bytes) }
+    ensures sender { IfOk result (λ made. made.0 ≡ opened bytes) }
+    ensures end { IfOk result (λ made. received made.1 ≡ []) }
 {
     let (ring, end) = RingBuffer::new(alloc, with_note(bytes)?)?;
     let signal = Arc::try_clone(signal)?;
@@ -135,7 +170,7 @@ fn open_ring(
     Ok((sender, end))
 }
 
-// So many senders, and their ends of the rings.
+// So many senders, and their ends of the rings, through which nothing has come.
 fn open_rings(
     alloc: Global,
     count: usize,
@@ -144,6 +179,8 @@ fn open_rings(
 ) -> Result<(Vec<LineSender>, Vec<Consumer<u8>>), AllocError>
     ensures many { IfOk result (λ made. length made.0.items ≡ count) }
     ensures fresh { IfOk result (λ made. All (λ sender. sender ≡ opened bytes) made.0.items) }
+    ensures ends { IfOk result (λ made. length made.1.items ≡ count) }
+    ensures unread { IfOk result (λ made. All (λ end. received end ≡ []) made.1.items) }
 {
     let mut senders = Vec::new(alloc);
     let mut rings = Vec::new(alloc);
@@ -159,6 +196,8 @@ fn open_rings(
 pub fn open_log(alloc: Global, count: usize, bytes: usize) -> Result<Log, AllocError>
     ensures many { IfOk result (λ log. length log.senders.items ≡ count) }
     ensures fresh { IfOk result (λ log. All (λ sender. sender ≡ opened bytes) log.senders.items) }
+    ensures ends { IfOk result (λ log. length log.writer ≡ count) }
+    ensures unread { IfOk result (λ log. All (λ received. received ≡ []) log.writer) }
 {
     let signal = Arc::new(alloc, Signal::new())?;
     let (senders, rings) = open_rings(alloc, count, bytes, &signal)?;

@@ -1,0 +1,16 @@
+use Rattle.std.proofs.Common.{◌≡◌, map, IsFalse, IsTrue}
+use Rattle.rtrb.specs.Ring.{received}
+use Rattle.log_queues.proofs.WrittenLemmas.{WrittenTo}
+use Rattle.log_queues.proofs.writer.write_rings.Given as goal
+
+-- the rings before the index are done
+abbrev pub invariant-loop-ring : goal.invariant-loop-ring
+invariant-loop-ring g l =
+    let output = g.W.WriteWhole.output in
+    record {
+      written :
+          WrittenTo received l.ring-index l.fn.rings l.rings (output l.fn.page.out.now) (output l.page.out.now)
+          l.fn.page.is_cut l.page.is_cut;
+      none : IsFalse l.found → map received l.rings ≡ map received l.fn.rings;
+      some : IsTrue l.found → map received l.rings ≡ map received l.fn.rings → ⊥;
+    }
