@@ -1,11 +1,11 @@
 -- The rejections of a work's events, by what it asks for.
-use Rattle.std.proofs.Common.{◌≡◌, ℕ, zero, suc, ◌+◌, ◌≤◌, List, [], ◌∷◌, ◌++◌, length, Option, None, Some, refl, arith}
+use Rattle.std.proofs.Common.{◌≡◌, ℕ, zero, suc, ◌+◌, ◌≤◌, List, [], ◌∷◌, length, Option, None, Some, refl, arith}
 use Rattle.std.specs.List.{AllByRecursion}
 use Rattle.mirror_ledger.specs.Asks.{Ask}
 use Rattle.mirror_ledger.specs.Tills.{AreFull}
 use Rattle.records.specs.declared.mirror.Mirror.{Mirror}
 use Rattle.interleavings.specs.Calls.{Break, Look, Nothing, Reply, Work, ask_events, asks_events, asks_in, events_of, rejections}
-use Rattle.interleavings.specs.Events.{Drop, Event, Grant, Render}
+use Rattle.interleavings.specs.Events.{Drop, Grant, Render}
 use Rattle.interleavings.specs.Served.{IsOfFull}
 use Rattle.interleavings.proofs.KeptLemmas.{IsNamed}
 use Rattle.interleavings.proofs.ListLemmas.{all-append}
