@@ -1,6 +1,5 @@
 // Why a server ends early.
 
-use mirror_ledger::RunError;
 use package_files::Lack;
 use std::alloc::AllocError;
 use values::Text;
@@ -42,19 +41,5 @@ impl From<AllocError> for ServerError {
 
     fn from(_refused: AllocError) -> ServerError {
         ServerError::Memory
-    }
-}
-
-impl From<RunError> for ServerError {
-    ghost use Rattle.omaha_server.specs.Runs.{run_failure};
-    ghost use Rattle.std.specs.Prelude.{◌≡◌};
-
-    ghost from_gives = { λ run error. error ≡ run_failure run };
-
-    fn from(error: RunError) -> ServerError {
-        match error {
-            RunError::RoomLeft => ServerError::RoomLeft,
-            RunError::Memory => ServerError::Memory,
-        }
     }
 }

@@ -1,9 +1,9 @@
 // What the jobs of a server came to.
 
-ghost use Rattle.std.specs.Prelude.{◌≡◌, ◌⊎◌, All, IfErr, IfOk, IfSome, IsTrue, Ok, map, option_map};
+ghost use Rattle.std.specs.Prelude.{◌≡◌, ◌⊎◌, All, Err, IfErr, IfOk, IfSome, IsTrue, Ok, map, option_map};
 ghost use Rattle.publisher.specs.Sights.{Allows};
 ghost use Rattle.omaha_server.specs.Passages.{HasAcceptedAll, HaveAcceptedAll, passage_of, passages_of};
-ghost use Rattle.omaha_server.specs.Runs.{HaveRun, IsPublished};
+ghost use Rattle.omaha_server.specs.Runs.{HaveRun, IsPublished, run_failure};
 ghost use Rattle.omaha_server.specs.declared.error.ServerError.TheVariants.{Memory, RoomLeft, Thread, Unpublished, EndedEarly};
 
 use crate::clients::Visited;
@@ -43,12 +43,14 @@ fn all_ends<E: Drop, J: Drop>(alloc: Global, ends: Vec<Result<E, J>>) -> Result<
     Ok(all)
 }
 
+// rule: Rejected asks
 /// What jobs came to that all began, as the own job did.
 pub(crate) fn ends_of<J: TillJob + Drop, O: BudgetJob>(
     alloc: Global,
     ran: Result<Ran<J, O>, RunError>,
 ) -> Result<Ended<J::End, O::End>, ServerError>
     ensures ok { IfOk result (HaveRun ran) }
+    ensures failed { IfErr ran (λ error. result ≡ Err (run_failure error)) }
     ensures err { IfErr result (λ error. (error ≡ Thread) ⊎ (error ≡ RoomLeft) ⊎ (error ≡ Memory)) }
 {
     let Ran {
@@ -56,7 +58,11 @@ pub(crate) fn ends_of<J: TillJob + Drop, O: BudgetJob>(
         own,
         totals,
         ..
-    } = ran?;
+    } = match ran {
+        Ok(ran) => ran,
+        Err(RunError::RoomLeft) => return Err(ServerError::RoomLeft),
+        Err(RunError::Memory) => return Err(ServerError::Memory),
+    };
     let Some(own) = own else {
         return Err(ServerError::Thread);
     };
