@@ -6,7 +6,8 @@
 It runs the program on an empty input (start-up: the catalogue is made and the input read), and on
 requests of 1 and of 255 known apps: on the built-in catalogue, and on a profile of 64 apps of 512
 releases. Each app sends a cohort text, a ping, an update check and the fingerprint of its first,
-middle or last release, or none. A client at the last release is at its target: it gets no update.
+middle or last release, or none: at the first release's version, or between it and the second's. A
+client at the last release is at its target: it gets no update.
 
 `one app` is what a request of one app takes beyond start-up, and `each further` what the other 254
 take, each. `more` compares a catalogue with the built-in one for the same kind of client.
@@ -27,9 +28,12 @@ import generate
 APPS = 64
 MANY = 255
 AIMS = {"one app": 75_000, "each further": 45_000, "more": 12_000}
+# a version above that of each first release and below that of the second
+BETWEEN = "1.0.1"
 BUILTIN = {
     "first": ("1.0", "ba7816bf8f01cfea414140de5dae2223b00361a396177a9cb410ff61f20015ad"),
     "last": ("2.0", "248d6a61d20638b8e5c026930c3e6039a33ce45964ff2167f6ecedd419db06c1"),
+    "between": (BETWEEN, None),
 }
 
 
@@ -67,6 +71,7 @@ def large_app(releases):
     def app(number, place):
         version, _ = generate.release(number % APPS, places.get(place, 0))
         digest = generate.digest_of(number % APPS, version) if place in places else None
+        version = BETWEEN if place == "between" else version
         return asked(f"org.example.app-{number % APPS}", "cohort-0:7", version, digest)
 
     return app
@@ -102,14 +107,14 @@ def main():
     if not os.path.isfile(chosen.omaha):
         sys.exit(f"{chosen.omaha} isn't built: make install builds it")
     print(f"{'catalogue':10}  {'fingerprint':11}  {'start-up':>13}  {'one app':>9}  {'each further':>12}  {'more: one':>9}  {'further':>9}")
-    start, builtin = measure(chosen.omaha, ["once"], builtin_app, ["first", "last", "none"])
+    start, builtin = measure(chosen.omaha, ["once"], builtin_app, ["first", "last", "none", "between"])
     print_rows("built-in", start, builtin, {})
     with tempfile.TemporaryDirectory() as folder:
         path = os.path.join(folder, "large.toml")
         with open(path, "w") as out:
             generate.write_profile(out, APPS, chosen.releases, 4)
         arguments = ["once", "--profile", path]
-        start, large = measure(chosen.omaha, arguments, large_app(chosen.releases), ["first", "middle", "last", "none"])
+        start, large = measure(chosen.omaha, arguments, large_app(chosen.releases), ["first", "middle", "last", "none", "between"])
     print_rows(f"64 x {chosen.releases}", start, large, builtin)
     print("aims: " + ", ".join(f"{name} {aim:,}" for name, aim in AIMS.items()))
 
