@@ -99,10 +99,17 @@ pub record IsHostedAt (edges : Edges) (verbose : Bool) (begins : Beginning) (ser
   pub placed : IsPlaceOf serve verbose place
   pub hosted : IsHostedBy edges place begins serve old new result
 
--- the same, or memory ran out before
+-- a server that shares its history had no thread that looks for records of others: nothing was served
+abbrev pub IsAlone : Serve → Known → Known → Result (Unit {0}) Failure → Type 0
+IsAlone serve old new result =
+    ((address : List ℕ) × (followed_at serve.history serve.operator ≡ Some address))
+    × (result ≡ Err failure.Thread) × (new ≡ old)
+
+-- the same, or there was no such thread, or memory ran out before
 abbrev pub IsHosted : Edges → Bool → Beginning → Serve → Known → Known → Result (Unit {0}) Failure → Type 0
 IsHosted edges verbose begins serve old new result =
     IsHostedAt edges verbose begins serve old new result
+    ⊎ IsAlone serve old new result
     ⊎ ((result ≡ Err failure.Memory) × (new ≡ old))
 
 -- what follows from what the server begins with

@@ -1,7 +1,8 @@
 // The command `serve`.
 
-ghost use Rattle.std.specs.Prelude.{◌≡◌, IfOk, IfSome, option_map};
-ghost use Rattle.omaha_cli.specs.Serving.{EndsAs, IsHostedBy, IsPlaceOf, IsQuiet, IsUnbound, IsUnopened, ServesOn, followed_at, served_name};
+ghost use Rattle.std.specs.Prelude.{◌≡◌, ◌⊎◌, Err, IfOk, IfSome, option_map};
+ghost use Rattle.omaha_commands.specs.declared.failure.Failure.TheVariants.{Thread};
+ghost use Rattle.omaha_cli.specs.Serving.{EndsAs, IsAlone, IsHostedBy, IsPlaceOf, IsQuiet, IsUnbound, IsUnopened, ServesOn, followed_at, served_name};
 ghost use Rattle.omaha_server.specs.Serving.{IsSilent};
 ghost use Rattle.streams.specs.Streams.{Known};
 
@@ -17,8 +18,9 @@ use services::KeptService;
 use std::alloc::{AllocError, Global};
 use std::sync::Wait;
 use std::sync::atomic::{AtomicBool, Ordering};
+use std::thread;
 use std::thread::{Threads, join_mut};
-use std::time::Clock;
+use std::time::{Clock, Duration};
 use streams::{Disk, WriteWhole};
 use systems::System;
 use update_client::Connector;
@@ -172,8 +174,19 @@ fn host<
     end_of(ended, asked)
 }
 
+// Waits until another thread has begun, for five seconds at most; whether it has.
+fn has_soon<R: Clock>(rt: &R, has_begun: &AtomicBool) -> bool {
+    for _step in 0..250u32 {
+        if has_begun.load(Ordering::SeqCst) {
+            return true;
+        }
+        thread::sleep(rt, Duration::from_millis(20));
+    }
+    has_begun.load(Ordering::SeqCst)
+}
+
 // Serves. If other servers share the history, the server's own operator's address is meanwhile asked for their records, in
-// another thread.
+// another thread; without such a thread nothing is served.
 fn serve_kept<
     P: Port + Send + Drop,
     S: System<P> + Sync,
@@ -192,25 +205,37 @@ fn serve_kept<
 ) -> Result<(), Failure>
     ensures hosted { IsHostedBy (S.edges system.now) place.now
         (record { service = kept.service; first = K.first kept.records; records = K.kept kept.records }) asked.now
-        (W.output writer.old) (W.output writer.new) result }
+        (W.output writer.old) (W.output writer.new) result
+        ⊎ IsAlone asked.now (W.output writer.old) (W.output writer.new) result }
     ensures silent { IsSilent place.now → errors.new ≡ errors.old }
 {
     let Some(operator) = followed_at(asked) else {
         return host(rt, system, kept, place, asked, writer, errors);
     };
+    let has_begun = AtomicBool::new(false);
     let has_ended = AtomicBool::new(false);
     let mut kept = Some(kept);
     let ((), ended) = join_mut(
         rt,
-        &mut || follow(rt, rt.alloc(), operator, asked.follow, &has_ended),
+        &mut || {
+            has_begun.store(true, Ordering::SeqCst);
+            follow(rt, rt.alloc(), operator, asked.follow, &has_ended);
+        },
         &mut || -> Result<(), Failure>
             ensures hosted { IfSome kept.entry (λ served. IsHostedBy (S.edges system.entry.now) place.entry.now
                 (record { service = served.service; first = K.first served.records; records = K.kept served.records }) asked.entry.now
-                (W.output writer.entry.now) (W.output writer.exit.now) result) }
+                (W.output writer.entry.now) (W.output writer.exit.now) result
+                ⊎ ((result ≡ Err Thread) × (W.output writer.exit.now ≡ W.output writer.entry.now))) }
             ensures silent { IsSilent place.entry.now → errors.exit.now ≡ errors.entry.now }
         {
             let ended = match kept.take() {
-                Some(kept) => host(rt, system, kept, place, asked, writer, errors),
+                Some(kept) => {
+                    if has_soon(rt, &has_begun) {
+                        host(rt, system, kept, place, asked, writer, errors)
+                    } else {
+                        Err(Failure::Thread)
+                    }
+                }
                 None => Err(Failure::Memory),
             };
             has_ended.store(true, Ordering::SeqCst);

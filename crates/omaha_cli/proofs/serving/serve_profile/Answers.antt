@@ -6,7 +6,10 @@ returns-clause-serves g c = λ input. record {
   made = Ok (record { service = c.in-Ok.kept.service; first = _; records = _ });
   begun = c.in-Ok.ensures.begins;
   follows = (
-    inl (record { place = c.in-Ok-place_of.place; placed = c.in-Ok-place_of.ensures; hosted = c.serve_kept.ensures.hosted }),
+    elim c.serve_kept.ensures.hosted [
+      | inl hosted ↦ inl (record { place = c.in-Ok-place_of.place; placed = c.in-Ok-place_of.ensures; hosted = hosted })
+      | inr alone ↦ inr (inl alone)
+    ],
     refl,
   );
 }
@@ -18,5 +21,5 @@ pub returns-in_default-clause-serves : goal.returns-in_default-clause-serves
 returns-in_default-clause-serves g c = λ input. record {
   made = Ok (record { service = c.in-Ok.kept.service; first = _; records = _ });
   begun = c.in-Ok.ensures.begins;
-  follows = (inr (refl, refl), refl);
+  follows = (inr (inr (refl, refl)), refl);
 }
