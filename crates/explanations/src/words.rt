@@ -53,7 +53,7 @@ Remedy: Start it anew, and report it.
         "thread",
         "thread
 Found in: the start of `serve`.
-A thread of a worker or of the log could not be started; no connection was accepted.
+A thread of a worker, of the log, or of the looks at a shared history could not be started. No connection was accepted.
 Usual cause: A limit of threads or of memory, as `ulimit -u`, or `TasksMax=` of a unit.
 Remedy: Raise the limit, or serve with fewer workers.
 ",
