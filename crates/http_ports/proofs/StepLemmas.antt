@@ -1,12 +1,12 @@
 -- Parts of the loop for one connection, one after the other.
-use Rattle.std.proofs.Common.{◌≡◌, ◌∙◌, ◌++◌, ℕ, Bool, List, [], ◌∷◌, append-nil, append_assoc, None, refl, sym, subst, ap, inr}
+use Rattle.std.proofs.Common.{◌≡◌, ◌∙◌, ◌++◌, ℕ, Bool, List, [], ◌∷◌, append-nil, append_assoc, Option, None, refl, sym, subst, ap, inr}
 use Rattle.std.specs.Prelude.{⊤, Ok, Err}
 use Rattle.http_desks.specs.Calls.{Call, Leads}
 use Rattle.http_ports.specs.Loops.{IsLeft}
 use Rattle.http_ports.specs.Ports.{Closes}
 use Rattle.http_ports.specs.Speech.{Phase, Speech, speech_at}
 use Rattle.http_ports.specs.Steps.{IsEnding, IsPassed, Serves, ServesOut}
-use Rattle.http_ports.specs.Traffic.{Changes, Elsewhere, HasPassed, IsOpen, Slot, Traffic, later, marked, timing}
+use Rattle.http_ports.specs.Traffic.{Changes, Elsewhere, FitClock, FitsClock, HasPassed, IsOpen, Slot, Traffic, later, marked, timing}
 use Rattle.http_ports.specs.declared.last.Last.TheVariants.{Passed, Yields}
 use Rattle.http_ports.specs.declared.timestamp.Timestamp.{Timestamp}
 use Rattle.http_ports.proofs.RoundLemmas.{Leads-append}
@@ -20,6 +20,13 @@ pub stays_open :
     Changes at change old new → IsOpen (old at) → IsOpen (new at)
 stays_open {old} {new} at change changes (traffic, live) =
     (change traffic, ap (λ (slot : Slot). slot.current) (changes.0 traffic live))
+
+-- one more timestamp
+pub fits_later :
+    (stopped : Option ℕ) (timestamps : List Timestamp) (timestamp : Timestamp) →
+    FitClock stopped timestamps → FitsClock stopped timestamp.seconds → FitClock stopped (timestamps ++ timestamp ∷ [])
+fits_later stopped [] timestamp fit one = (one, tt)
+fits_later stopped (first ∷ timestamps) timestamp (here, fit) one = (here, fits_later stopped timestamps timestamp fit one)
 
 pub has_passed :
     {old new : ℕ → Slot} (at : ℕ) (change : Traffic → Traffic) →
@@ -59,24 +66,24 @@ module _ {C D : Type 0} (speech : Speech C) (steps : D → Call → D → Type 0
 
   -- the desk was called at a time, and nothing passed
   pub asked :
-      (IsSo : IsLeft) (at seconds : ℕ) (old new : ℕ → Slot) (conn left : C) (desk behind : D) (calls : List Call) →
-      Changes at (timing seconds) old new → Leads steps desk calls behind →
+      (IsSo : IsLeft) (at seconds : ℕ) (waiting : Option (List ℕ)) (old new : ℕ → Slot) (conn left : C) (desk behind : D) (calls : List Call) →
+      Changes at (timing seconds waiting) old new → Leads steps desk calls behind →
       ((received sent : List ℕ) (timestamps : List Timestamp) (made : List Call) →
       speech.so_far timestamps conn received sent made →
-      speech.so_far (later timestamps seconds received sent) left received sent (made ++ calls)) →
+      speech.so_far (later timestamps seconds waiting received sent) left received sent (made ++ calls)) →
       ((traffic : Traffic) → IsSo (speech.phase left) (speech.pending left) traffic) →
       Serves speech steps IsSo (old at) conn desk (new at) left behind
-  asked IsSo at seconds old new conn left desk behind calls tells leads goes_on is_left = (
+  asked IsSo at seconds waiting old new conn left desk behind calls tells leads goes_on is_left = (
     calls,
     leads,
     λ made (traffic, live, so_far).
         let slot = tells.0 traffic live in (
           ap (λ (s : Slot). s.ended) slot,
           (
-            timing seconds traffic,
+            timing seconds waiting traffic,
             ap (λ (s : Slot). s.current) slot,
             goes_on traffic.received traffic.sent traffic.timestamps made so_far,
-            is_left (timing seconds traffic),
+            is_left (timing seconds waiting traffic),
           ),
         ),
   )
@@ -104,22 +111,22 @@ module _ {C D : Type 0} (speech : Speech C) (steps : D → Call → D → Type 0
 
   -- calls of the desk at a time, and then another part
   pub asked_then :
-      (IsSo : IsLeft) (at seconds : ℕ) (old mid : ℕ → Slot) (after : Slot) (conn between left : C) (desk amid behind : D)
+      (IsSo : IsLeft) (at seconds : ℕ) (waiting : Option (List ℕ)) (old mid : ℕ → Slot) (after : Slot) (conn between left : C) (desk amid behind : D)
       (calls : List Call) →
-      Changes at (timing seconds) old mid → Leads steps desk calls amid →
+      Changes at (timing seconds waiting) old mid → Leads steps desk calls amid →
       ((received sent : List ℕ) (timestamps : List Timestamp) (made : List Call) →
       speech.so_far timestamps conn received sent made →
-      speech.so_far (later timestamps seconds received sent) between received sent (made ++ calls)) →
+      speech.so_far (later timestamps seconds waiting received sent) between received sent (made ++ calls)) →
       Serves speech steps IsSo (mid at) between amid after left behind →
       Serves speech steps IsSo (old at) conn desk after left behind
-  asked_then IsSo at seconds old mid after conn between left desk amid behind calls tells leads goes_on (more, leads_on, serves) = (
+  asked_then IsSo at seconds waiting old mid after conn between left desk amid behind calls tells leads goes_on (more, leads_on, serves) = (
     calls ++ more,
     Leads-append steps desk amid behind calls more leads leads_on,
     λ made (traffic, live, so_far).
         let slot = tells.0 traffic live in
         let (ended, (next, open_on, so_far_on, is_left)) =
         serves (made ++ calls) (
-          timing seconds traffic,
+          timing seconds waiting traffic,
           ap (λ (s : Slot). s.current) slot,
           goes_on traffic.received traffic.sent traffic.timestamps made so_far,
         ) in (
@@ -191,21 +198,23 @@ module _ {C D : Type 0} (speech : Speech C) (steps : D → Call → D → Type 0
         ),
   )
 
--- a relation of a desk's path and type holds of the same ones
+-- a relation of a port's clock and of a desk's path and type holds of the same ones
 pub at_same :
-    (Holds : List ℕ → List ℕ → Type 0) (path place kind type : List ℕ) →
-    path ≡ place → kind ≡ type → Holds path kind → Holds place type
-at_same Holds path place kind type paths types holds =
-    subst (λ (p : List ℕ). Holds p type) paths (subst (λ (t : List ℕ). Holds path t) types holds)
+    (Holds : Option ℕ → List ℕ → List ℕ → Type 0) (stopped stays : Option ℕ) (path place kind type : List ℕ) →
+    stopped ≡ stays → path ≡ place → kind ≡ type → Holds stopped path kind → Holds stays place type
+at_same Holds stopped stays path place kind type clocks paths types holds =
+    subst (λ (c : Option ℕ). Holds c place type) clocks
+    (subst (λ (p : List ℕ). Holds stopped p type) paths (subst (λ (t : List ℕ). Holds stopped path t) types holds))
 
 -- so does a part of the loop
 pub Serves-at_same :
     {C D : Type 0} (pending : C → List ℕ) (phase : C → Phase) (is_lost : C → Bool)
     (so_far : List ℕ → List ℕ → List Timestamp → C → List ℕ → List ℕ → List Call → Type 0) (steps : D → Call → D → Type 0)
-    (IsSo : IsLeft) (slot after : Slot) (conn left : C) (desk behind : D) (path place kind type : List ℕ) →
-    path ≡ place → kind ≡ type →
-    Serves (speech_at pending phase is_lost so_far path kind) steps IsSo slot conn desk after left behind →
-    Serves (speech_at pending phase is_lost so_far place type) steps IsSo slot conn desk after left behind
-Serves-at_same pending phase is_lost so_far steps IsSo slot after conn left desk behind path place kind type =
-    at_same (λ (p t : List ℕ). Serves (speech_at pending phase is_lost so_far p t) steps IsSo slot conn desk after left behind)
-    path place kind type
+    (IsSo : IsLeft) (slot after : Slot) (conn left : C) (desk behind : D) (stopped stays : Option ℕ)
+    (path place kind type : List ℕ) → stopped ≡ stays → path ≡ place → kind ≡ type →
+    Serves (speech_at stopped pending phase is_lost so_far path kind) steps IsSo slot conn desk after left behind →
+    Serves (speech_at stays pending phase is_lost so_far place type) steps IsSo slot conn desk after left behind
+Serves-at_same pending phase is_lost so_far steps IsSo slot after conn left desk behind stopped stays path place kind type =
+    at_same
+    (λ (c : Option ℕ) (p t : List ℕ). Serves (speech_at c pending phase is_lost so_far p t) steps IsSo slot conn desk after left behind)
+    stopped stays path place kind type

@@ -1,7 +1,7 @@
 -- What is said on connections, and how they end; this project's profile.
-use Rattle.std.specs.Prelude.{◌≡◌, ◌⊎◌, ◌<◌, ℕ, Bool, true, false, List, [], ◌∷◌, ◌++◌, length, sum_by}
+use Rattle.std.specs.Prelude.{◌≡◌, ◌⊎◌, ◌<◌, ℕ, Bool, true, false, List, [], ◌∷◌, ◌++◌, length, sum_by, Option}
 use Rattle.http_desks.specs.Calls.{Call}
-use Rattle.http_ports.specs.Traffic.{Traffic}
+use Rattle.http_ports.specs.Traffic.{FitClock, Traffic}
 use Rattle.http_ports.specs.declared.last.Last.{Last}
 use Rattle.http_ports.specs.declared.last.Last.TheVariants.{InputEnded, ReadFailed, WaitsToRead, WaitsToWrite, WriteFailed}
 use Rattle.http_ports.specs.declared.timestamp.Timestamp.{Timestamp}
@@ -28,12 +28,17 @@ pub record Speech (C : Type 0) : Type 1 where
   pub is_lost : C → Bool
   pub so_far : List Timestamp → C → List ℕ → List ℕ → List Call → Type 0
 
--- the same, of a protocol with a desk of this path and type
+-- the same, of a protocol with a desk of this path and type, at a port with this clock
 abbrev pub speech_at :
-    {C : Type 0} → (C → List ℕ) → (C → Phase) → (C → Bool) →
+    {C : Type 0} → Option ℕ → (C → List ℕ) → (C → Phase) → (C → Bool) →
     (List ℕ → List ℕ → List Timestamp → C → List ℕ → List ℕ → List Call → Type 0) → List ℕ → List ℕ → Speech C
-speech_at pending phase is_lost so_far path kind =
-    record { pending = pending; phase = phase; is_lost = is_lost; so_far = so_far path kind }
+speech_at stopped pending phase is_lost so_far path kind = record {
+  pending = pending;
+  phase = phase;
+  is_lost = is_lost;
+  so_far = λ timestamps conn received sent calls.
+      FitClock stopped timestamps × so_far path kind timestamps conn received sent calls;
+}
 
 -- rule: Close of a connection
 -- a connection ends only so: it is over and all is sent; or it waits for bytes and all is sent, and the input has

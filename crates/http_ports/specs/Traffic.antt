@@ -1,5 +1,6 @@
 -- What passes at a port: connections, each at a slot, which has one after the other; this project's profile.
 use Rattle.std.specs.Prelude.{◌≡◌, ◌≢◌, ◌<◌, ◌+◌, ◌^◌, ℕ, Bool, false, List, [], ◌∷◌, ◌++◌, length, Option, None, Some}
+use Rattle.std.specs.List.{AllByRecursion}
 use Rattle.http_ports.specs.declared.last.Last.{Last}
 use Rattle.http_ports.specs.declared.last.Last.TheVariants.{Passed, Reported}
 use Rattle.http_ports.specs.declared.timestamp.Timestamp.{Timestamp}
@@ -68,15 +69,26 @@ HasPassed slot = (traffic : Traffic) × (slot.current ≡ Some traffic) × (traf
 abbrev pub IsTime : ℕ → Type 0
 IsTime seconds = seconds < 2 ^ 63
 
--- a timestamp of a connection on which these bytes have come and been sent
-abbrev pub timestamp_of : ℕ → List ℕ → List ℕ → Timestamp
-timestamp_of seconds received sent = record { seconds = seconds; received = length received; sent = length sent }
+-- a timestamp by a clock that has stopped at this time, or goes
+abbrev pub FitsClock : Option ℕ → ℕ → Type 0
+FitsClock None seconds = IsTime seconds
+FitsClock (Some stopped) seconds = seconds ≡ stopped
+
+-- timestamps by such a clock
+abbrev pub FitClock : Option ℕ → List Timestamp → Type 0
+FitClock stopped timestamps = AllByRecursion (λ (timestamp : Timestamp). FitsClock stopped timestamp.seconds) timestamps
+
+-- a timestamp of a connection on which these bytes have come and been sent, and some wait, if a message may begin with them
+abbrev pub timestamp_of : ℕ → Option (List ℕ) → List ℕ → List ℕ → Timestamp
+timestamp_of seconds waiting received sent =
+    record { seconds = seconds; waiting = waiting; received = length received; sent = length sent }
 
 -- rule: Timestamp of a connection
 -- these timestamps, and then one more
-abbrev pub later : List Timestamp → ℕ → List ℕ → List ℕ → List Timestamp
-later timestamps seconds received sent = timestamps ++ timestamp_of seconds received sent ∷ []
+abbrev pub later : List Timestamp → ℕ → Option (List ℕ) → List ℕ → List ℕ → List Timestamp
+later timestamps seconds waiting received sent = timestamps ++ timestamp_of seconds waiting received sent ∷ []
 
 -- a timestamp was given for the connection
-abbrev pub timing : ℕ → Traffic → Traffic
-timing seconds traffic = record traffic { timestamps = later traffic.timestamps seconds traffic.received traffic.sent }
+abbrev pub timing : ℕ → Option (List ℕ) → Traffic → Traffic
+timing seconds waiting traffic =
+    record traffic { timestamps = later traffic.timestamps seconds waiting traffic.received traffic.sent }

@@ -30,14 +30,15 @@ fn serve_slot<P: Port, E: Protocol, D: Desk>(
     requires within { slot < length conns.old }
     requires many { length conns.old ≡ (P.terms port.old).capacity }
     ensures works { (start : _) (lost : ℕ)
-        → Works (speech_at E.pending E.phase E.is_lost (E.so_far protocol.now) (D.path desk.old) (D.content_type desk.old))
+        → Works (speech_at (P.stopped port.old) E.pending E.phase E.is_lost (E.so_far protocol.now) (D.path desk.old) (D.content_type desk.old))
         (rest_but slot) D.steps start desk.old (P.slots port.old) (kept_at conns.old)
         (counts_of (P.terms port.old).capacity (P.accepted port.old) lost)
-        → Works (speech_at E.pending E.phase E.is_lost (E.so_far protocol.now) (D.path desk.old) (D.content_type desk.old))
+        → Works (speech_at (P.stopped port.old) E.pending E.phase E.is_lost (E.so_far protocol.now) (D.path desk.old) (D.content_type desk.old))
         all_rest D.steps start desk.new (P.slots port.new) (kept_at conns.new)
         (counts_of (P.terms port.new).capacity (P.accepted port.new) (lost + one_if result)) }
     ensures many { length conns.new ≡ (P.terms port.new).capacity }
     ensures terms { P.terms port.new ≡ P.terms port.old }
+    ensures stopped { P.stopped port.new ≡ P.stopped port.old }
     ensures path { D.path desk.new ≡ D.path desk.old }
     ensures content_type { D.content_type desk.new ≡ D.content_type desk.old }
 {
@@ -69,6 +70,7 @@ fn close_slot<P: Port, E: Protocol>(
     ensures len { length conns.new ≡ length conns.old }
     ensures accepted { P.accepted port.new ≡ P.accepted port.old }
     ensures terms { P.terms port.new ≡ P.terms port.old }
+    ensures stopped { P.stopped port.new ≡ P.stopped port.old }
 {
     port.close(slot);
     match swap(conns, slot, None) {
@@ -91,18 +93,19 @@ fn serve_next<P: Port, E: Protocol, D: Desk>(
     requires room { 0 < length into.old }
     requires many { length conns.old ≡ (P.terms port.old).capacity }
     ensures works { (start : _) (lost : ℕ)
-        → Works (speech_at E.pending E.phase E.is_lost (E.so_far protocol.now) (D.path desk.old) (D.content_type desk.old))
+        → Works (speech_at (P.stopped port.old) E.pending E.phase E.is_lost (E.so_far protocol.now) (D.path desk.old) (D.content_type desk.old))
         all_rest D.steps start desk.old (P.slots port.old) (kept_at conns.old)
         (counts_of (P.terms port.old).capacity (P.accepted port.old) lost)
         → GoesRound result
-        (λ more. Works (speech_at E.pending E.phase E.is_lost (E.so_far protocol.now) (D.path desk.old) (D.content_type desk.old))
+        (λ more. Works (speech_at (P.stopped port.old) E.pending E.phase E.is_lost (E.so_far protocol.now) (D.path desk.old) (D.content_type desk.old))
         all_rest D.steps start desk.new (P.slots port.new) (kept_at conns.new)
         (counts_of (P.terms port.new).capacity (P.accepted port.new) (lost + more)))
-        (HasServed (speech_at E.pending E.phase E.is_lost (E.so_far protocol.now) (D.path desk.old) (D.content_type desk.old))
+        (HasServed (speech_at (P.stopped port.old) E.pending E.phase E.is_lost (E.so_far protocol.now) (D.path desk.old) (D.content_type desk.old))
         D.steps start desk.new (P.slots port.new) (counts_of (P.terms port.new).capacity (P.accepted port.new) lost)) }
     ensures over { IfNone result (P.is_over port.new) }
     ensures many { length conns.new ≡ (P.terms port.new).capacity }
     ensures terms { P.terms port.new ≡ P.terms port.old }
+    ensures stopped { P.stopped port.new ≡ P.stopped port.old }
     ensures path { D.path desk.new ≡ D.path desk.old }
     ensures content_type { D.content_type desk.new ≡ D.content_type desk.old }
 {
@@ -140,10 +143,11 @@ pub fn run<P: Port, E: Protocol, D: Desk, W: Wait>(
     requires many { length conns.old ≡ (P.terms port.old).capacity }
     requires room { 0 < length into.old }
     ensures served { (lost : ℕ) × (result ≡ min lost (2 ^ 64 - 1))
-        × HasServed (speech_at E.pending E.phase E.is_lost (E.so_far protocol.now) (D.path desk.old) (D.content_type desk.old))
+        × HasServed (speech_at (P.stopped port.old) E.pending E.phase E.is_lost (E.so_far protocol.now) (D.path desk.old) (D.content_type desk.old))
         D.steps desk.old desk.new (P.slots port.new) (counts_of (P.terms port.new).capacity (P.accepted port.new) lost) }
     ensures over { P.is_over port.new }
     ensures terms { P.terms port.new ≡ P.terms port.old }
+    ensures stopped { P.stopped port.new ≡ P.stopped port.old }
 {
     let mut lost = 0u64;
     for _ in rt.forever() {

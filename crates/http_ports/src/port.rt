@@ -1,6 +1,6 @@
-ghost use Rattle.std.specs.Prelude.{◌≡◌, ◌<◌, ◌+◌, ℕ, IsTrue, length};
+ghost use Rattle.std.specs.Prelude.{◌≡◌, ◌<◌, ◌+◌, ℕ, IsTrue, Option, length, option_map};
 ghost use Rattle.http_ports.specs.Ports.{Closes, IsDone, Reads, Reports, Rests, Writes, accepted_by};
-ghost use Rattle.http_ports.specs.Traffic.{Changes, HasPassed, IsOpen, IsTime, Slot, marked, timing};
+ghost use Rattle.http_ports.specs.Traffic.{Changes, FitsClock, HasPassed, IsOpen, IsTime, Slot, marked, timing};
 ghost use Rattle.http_ports.specs.declared.last.Last.TheVariants.{Yields};
 ghost use Rattle.http_ports.specs.declared.terms.Terms.{Terms};
 
@@ -17,6 +17,9 @@ pub trait Port {
 
     // what it serves by, which stays
     ghost terms: { Self → Terms };
+
+    // the time at which its clock has stopped, if it has, which stays
+    ghost stopped: { Self → Option ℕ };
 
     // how many connections were accepted
     ghost accepted: { Self → ℕ };
@@ -43,16 +46,20 @@ pub trait Port {
         ensures reports { Reports (terms self.old).capacity result (slots self.old) (slots self.new) }
         ensures over { IsDone result → is_over self.new }
         ensures accepted { accepted self.new ≡ accepted self.old + accepted_by result }
-        ensures terms { terms self.new ≡ terms self.old };
+        ensures terms { terms self.new ≡ terms self.old }
+        ensures stopped { stopped self.new ≡ stopped self.old };
 
     // rule: Timestamp of a connection
-    /// Returns how many seconds have passed since 1970, less than 2^63, as a timestamp of the connection of a slot.
-    fn timestamp(&mut self, slot: usize) -> u64
+    /// Returns how many seconds have passed since 1970, less than 2^63, as a timestamp of the connection of a slot. The
+    /// bytes `waiting` wait, if a message may begin with them.
+    fn timestamp(&mut self, slot: usize, waiting: Option<&[u8]>) -> u64
         requires live { IsOpen (slots self.old slot) }
         ensures time { IsTime result }
-        ensures noted { Changes slot (timing result) (slots self.old) (slots self.new) }
+        ensures clock { FitsClock (stopped self.old) result }
+        ensures noted { Changes slot (timing result (option_map (λ bytes. bytes.now) waiting.entry)) (slots self.old) (slots self.new) }
         ensures accepted { accepted self.new ≡ accepted self.old }
-        ensures terms { terms self.new ≡ terms self.old };
+        ensures terms { terms self.new ≡ terms self.old }
+        ensures stopped { stopped self.new ≡ stopped self.old };
 
     // rule: Reads of a port
     /// Reads what has come on the connection of a slot, into one cell or more.
@@ -61,7 +68,8 @@ pub trait Port {
         requires room { 0 < length into.old }
         ensures reads { Reads slot result into.new (slots self.old) (slots self.new) }
         ensures accepted { accepted self.new ≡ accepted self.old }
-        ensures terms { terms self.new ≡ terms self.old };
+        ensures terms { terms self.new ≡ terms self.old }
+        ensures stopped { stopped self.new ≡ stopped self.old };
 
     // rule: Writes of a port
     /// Writes a first part of the bytes, of which there is one or more, on the connection of a slot.
@@ -70,19 +78,22 @@ pub trait Port {
         requires some { 0 < length bytes.now }
         ensures writes { Writes slot result bytes.now (slots self.old) (slots self.new) }
         ensures accepted { accepted self.new ≡ accepted self.old }
-        ensures terms { terms self.new ≡ terms self.old };
+        ensures terms { terms self.new ≡ terms self.old }
+        ensures stopped { stopped self.new ≡ stopped self.old };
 
     /// Has the connection of a slot, on which bytes have just passed, reported again.
     fn again(&mut self, slot: usize)
         requires passed { HasPassed (slots self.old slot) }
         ensures yields { Changes slot (marked Yields) (slots self.old) (slots self.new) }
         ensures accepted { accepted self.new ≡ accepted self.old }
-        ensures terms { terms self.new ≡ terms self.old };
+        ensures terms { terms self.new ≡ terms self.old }
+        ensures stopped { stopped self.new ≡ stopped self.old };
 
     /// Ends the connection of a slot, which is free then.
     fn close(&mut self, slot: usize)
         requires live { IsOpen (slots self.old slot) }
         ensures closes { Closes slot (slots self.old) (slots self.new) }
         ensures accepted { accepted self.new ≡ accepted self.old }
-        ensures terms { terms self.new ≡ terms self.old };
+        ensures terms { terms self.new ≡ terms self.old }
+        ensures stopped { stopped self.new ≡ stopped self.old };
 }

@@ -1,4 +1,4 @@
-ghost use Rattle.std.specs.Prelude.{◌≡◌, ◌++◌, ◌≤◌, ℕ, Bool, List, [], length, take};
+ghost use Rattle.std.specs.Prelude.{◌≡◌, ◌++◌, ◌≤◌, ℕ, Bool, List, [], Option, length, option_map, take};
 ghost use Rattle.http_desks.specs.Calls.{Call, Leads};
 ghost use Rattle.http_ports.specs.Speech.{IsNext, Phase, Waiting};
 ghost use Rattle.http_ports.specs.Traffic.{IsTime, later};
@@ -29,6 +29,9 @@ pub trait Protocol {
     // the bytes that were made and not yet sent
     ghost pending: { Self.Conn → List ℕ };
 
+    // the bytes that wait, if a message may begin with them
+    ghost waiting: { Self.Conn → Option (List ℕ) };
+
     // how the connection goes on once they are sent
     ghost phase: { Self.Conn → Phase };
 
@@ -47,6 +50,10 @@ pub trait Protocol {
     /// Returns the bytes that were made and not yet sent.
     fn pending<'c>(&self, conn: &'c Self::Conn) -> &'c [u8]
         ensures { result.now ≡ pending conn.now };
+
+    /// Returns the bytes that wait, if a message may begin with them; none while the reply to one is under way.
+    fn waiting<'c>(&self, conn: &'c Self::Conn) -> Option<&'c [u8]>
+        ensures { option_map (λ bytes. bytes.now) result ≡ waiting conn.now };
 
     /// Ends with a connection that was closed, and returns whether memory ran out for it.
     fn end(&self, conn: Self::Conn) -> bool
@@ -81,7 +88,7 @@ pub trait Protocol {
         ensures calls { (calls : List Call) × Leads D.steps desk.old calls desk.new
             × ((received sent : List ℕ) (timestamps : List Timestamp) (made : List Call)
             → so_far self.now (D.path desk.old) (D.content_type desk.old) timestamps conn.old received sent made
-            → so_far self.now (D.path desk.old) (D.content_type desk.old) (later timestamps seconds received sent) conn.new received sent (made ++ calls)) }
+            → so_far self.now (D.path desk.old) (D.content_type desk.old) (later timestamps seconds (waiting conn.old) received sent) conn.new received sent (made ++ calls)) }
         ensures path { D.path desk.new ≡ D.path desk.old }
         ensures content_type { D.content_type desk.new ≡ D.content_type desk.old };
 }

@@ -34,13 +34,14 @@ fn push<P: Port, E: Protocol, D: Desk>(
 ) -> Step
     requires live { IsOpen (P.slots port.old slot) }
     requires some { 0 < length (E.pending conn.old) }
-    ensures serves { Serves (speech_at E.pending E.phase E.is_lost (E.so_far protocol.now) (D.path desk.now) (D.content_type desk.now))
+    ensures serves { Serves (speech_at (P.stopped port.old) E.pending E.phase E.is_lost (E.so_far protocol.now) (D.path desk.now) (D.content_type desk.now))
         D.steps (IsStep result) (P.slots port.old slot) conn.old desk.now (P.slots port.new slot) conn.new desk.now }
     ensures live { IsOpen (P.slots port.new slot) }
     ensures passing { IsPassing result (P.slots port.new slot) }
     ensures elsewhere { Elsewhere slot (P.slots port.old) (P.slots port.new) }
     ensures accepted { P.accepted port.new ≡ P.accepted port.old }
     ensures terms { P.terms port.new ≡ P.terms port.old }
+    ensures stopped { P.stopped port.new ≡ P.stopped port.old }
 {
     match port.write(slot, protocol.pending(conn)) {
         Sent::Bytes(count) => {
@@ -65,13 +66,14 @@ fn pull<P: Port, E: Protocol, D: Desk>(
     requires room { 0 < length into.old }
     requires sent { E.pending conn.old ≡ [] }
     requires waits { E.phase conn.old ≡ Waiting }
-    ensures serves { Serves (speech_at E.pending E.phase E.is_lost (E.so_far protocol.now) (D.path desk.now) (D.content_type desk.now))
+    ensures serves { Serves (speech_at (P.stopped port.old) E.pending E.phase E.is_lost (E.so_far protocol.now) (D.path desk.now) (D.content_type desk.now))
         D.steps (IsStep result) (P.slots port.old slot) conn.old desk.now (P.slots port.new slot) conn.new desk.now }
     ensures live { IsOpen (P.slots port.new slot) }
     ensures passing { IsPassing result (P.slots port.new slot) }
     ensures elsewhere { Elsewhere slot (P.slots port.old) (P.slots port.new) }
     ensures accepted { P.accepted port.new ≡ P.accepted port.old }
     ensures terms { P.terms port.new ≡ P.terms port.old }
+    ensures stopped { P.stopped port.new ≡ P.stopped port.old }
 {
     match port.read(slot, into) {
         Received::Bytes(count) => {
@@ -98,20 +100,21 @@ fn advance<P: Port, E: Protocol, D: Desk>(
 ) -> Step
     requires live { IsOpen (P.slots port.old slot) }
     requires room { 0 < length into.old }
-    ensures serves { Serves (speech_at E.pending E.phase E.is_lost (E.so_far protocol.now) (D.path desk.old) (D.content_type desk.old))
+    ensures serves { Serves (speech_at (P.stopped port.old) E.pending E.phase E.is_lost (E.so_far protocol.now) (D.path desk.old) (D.content_type desk.old))
         D.steps (IsStep result) (P.slots port.old slot) conn.old desk.old (P.slots port.new slot) conn.new desk.new }
     ensures live { IsOpen (P.slots port.new slot) }
     ensures passing { IsPassing result (P.slots port.new slot) }
     ensures elsewhere { Elsewhere slot (P.slots port.old) (P.slots port.new) }
     ensures accepted { P.accepted port.new ≡ P.accepted port.old }
     ensures terms { P.terms port.new ≡ P.terms port.old }
+    ensures stopped { P.stopped port.new ≡ P.stopped port.old }
     ensures path { D.path desk.new ≡ D.path desk.old }
     ensures content_type { D.content_type desk.new ≡ D.content_type desk.old }
 {
     if !protocol.pending(conn).is_empty() {
         return push(port, slot, protocol, conn, desk);
     }
-    let seconds = port.timestamp(slot);
+    let seconds = port.timestamp(slot, protocol.waiting(conn));
     match protocol.go_on(room, conn, desk, seconds) {
         Next::Made => push(port, slot, protocol, conn, desk),
         Next::Waits => pull(port, slot, protocol, into, conn, desk),
@@ -131,13 +134,14 @@ fn advance_far<P: Port, E: Protocol, D: Desk>(
 ) -> Step
     requires live { IsOpen (P.slots port.old slot) }
     requires room { 0 < length into.old }
-    ensures serves { Serves (speech_at E.pending E.phase E.is_lost (E.so_far protocol.now) (D.path desk.old) (D.content_type desk.old))
+    ensures serves { Serves (speech_at (P.stopped port.old) E.pending E.phase E.is_lost (E.so_far protocol.now) (D.path desk.old) (D.content_type desk.old))
         D.steps (IsStep result) (P.slots port.old slot) conn.old desk.old (P.slots port.new slot) conn.new desk.new }
     ensures live { IsOpen (P.slots port.new slot) }
     ensures passing { IsPassing result (P.slots port.new slot) }
     ensures elsewhere { Elsewhere slot (P.slots port.old) (P.slots port.new) }
     ensures accepted { P.accepted port.new ≡ P.accepted port.old }
     ensures terms { P.terms port.new ≡ P.terms port.old }
+    ensures stopped { P.stopped port.new ≡ P.stopped port.old }
     ensures path { D.path desk.new ≡ D.path desk.old }
     ensures content_type { D.content_type desk.new ≡ D.content_type desk.old }
 {
@@ -164,11 +168,12 @@ pub(crate) fn serve_out<P: Port, E: Protocol, D: Desk>(
 ) -> Result<E::Conn, bool>
     requires live { IsOpen (P.slots port.old slot) }
     requires room { 0 < length into.old }
-    ensures serves { ServesOut (speech_at E.pending E.phase E.is_lost (E.so_far protocol.now) (D.path desk.old) (D.content_type desk.old))
+    ensures serves { ServesOut (speech_at (P.stopped port.old) E.pending E.phase E.is_lost (E.so_far protocol.now) (D.path desk.old) (D.content_type desk.old))
         D.steps (P.slots port.old slot) conn desk.old (P.slots port.new slot) result desk.new }
     ensures elsewhere { Elsewhere slot (P.slots port.old) (P.slots port.new) }
     ensures accepted { P.accepted port.new ≡ P.accepted port.old }
     ensures terms { P.terms port.new ≡ P.terms port.old }
+    ensures stopped { P.stopped port.new ≡ P.stopped port.old }
     ensures path { D.path desk.new ≡ D.path desk.old }
     ensures content_type { D.content_type desk.new ≡ D.content_type desk.old }
 {

@@ -1,8 +1,12 @@
+use traces::Trace;
+
 /// A timestamp that a port gave for a connection, for contracts alone.
-#[derive(Clone, Copy, Drop)]
+#[derive(Drop)]
 pub struct Timestamp {
     /// How many seconds had passed since 1970.
     pub seconds: u64,
+    /// The bytes that waited, if a message could begin with them.
+    pub waiting: Option<Trace<u8>>,
     /// How many bytes had come on the connection.
     pub received: usize,
     /// How many bytes had been sent on it.

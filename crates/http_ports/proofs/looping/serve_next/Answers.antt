@@ -12,29 +12,29 @@ serve_slot-requires-clause-live g c = (no_traffic, ap (λ (slot : Slot). slot.cu
 pub returns-in-Accepted-clause-works : goal.returns-in-Accepted-clause-works
 returns-in-Accepted-clause-works g c = λ start lost works.
     let (within, free, opened, elsewhere) = c.in-Accepted.ensures.reports in
-    c.serve_slot.ensures.works start lost
-    (Works-counted (speech_at g.E.Protocol.pending g.E.Protocol.phase g.E.Protocol.is_lost (g.E.Protocol.so_far c.args.protocol.now)
+    (rw c.in-Accepted.ensures.stopped at c.serve_slot.ensures.works) start lost
+    (Works-counted (speech_at (g.P.Port.stopped c.args.port.now) g.E.Protocol.pending g.E.Protocol.phase g.E.Protocol.is_lost (g.E.Protocol.so_far c.args.protocol.now)
     (g.D.Desk.path c.args.desk.now) (g.D.Desk.content_type c.args.desk.now)) g.D.Desk.steps
     start (rest_but c.in-Accepted.slot) c.args.desk.now (g.P.Port.slots c.wait.new.self) (kept_at c.swap.new.items)
     (g.P.Port.terms c.args.port.now).capacity (g.P.Port.terms c.wait.new.self).capacity (g.P.Port.accepted c.wait.new.self) _ lost _
     (ap capacity_of c.in-Accepted.ensures.terms) refl refl
-    (Works-accepted (speech_at g.E.Protocol.pending g.E.Protocol.phase g.E.Protocol.is_lost (g.E.Protocol.so_far c.args.protocol.now)
+    (Works-accepted (speech_at (g.P.Port.stopped c.args.port.now) g.E.Protocol.pending g.E.Protocol.phase g.E.Protocol.is_lost (g.E.Protocol.so_far c.args.protocol.now)
     (g.D.Desk.path c.args.desk.now) (g.D.Desk.content_type c.args.desk.now)) g.D.Desk.steps
     start c.in-Accepted.slot c.args.desk.now (g.P.Port.slots c.args.port.now) (g.P.Port.slots c.wait.new.self)
     (kept_at c.args.conns.now) (kept_at c.swap.new.items) c.open.result (g.P.Port.terms c.args.port.now).capacity (g.P.Port.accepted c.args.port.now) (g.P.Port.accepted c.wait.new.self) lost
     works within c.in-Accepted.ensures.accepted free opened elsewhere c.swap.ensures.put c.swap.ensures.elsewhere
-    (c.open.ensures.so_far _ _)))
+    (tt, c.open.ensures.so_far _ _)))
 
 pub returns-in-Ready-clause-works : goal.returns-in-Ready-clause-works
 returns-in-Ready-clause-works g c = λ start lost works.
     let (within, live, changes) = c.in-Ready.ensures.reports in
-    c.serve_slot-in-Ready.ensures.works start lost
-    (Works-counted (speech_at g.E.Protocol.pending g.E.Protocol.phase g.E.Protocol.is_lost (g.E.Protocol.so_far c.args.protocol.now)
+    (rw c.in-Ready.ensures.stopped at c.serve_slot-in-Ready.ensures.works) start lost
+    (Works-counted (speech_at (g.P.Port.stopped c.args.port.now) g.E.Protocol.pending g.E.Protocol.phase g.E.Protocol.is_lost (g.E.Protocol.so_far c.args.protocol.now)
     (g.D.Desk.path c.args.desk.now) (g.D.Desk.content_type c.args.desk.now)) g.D.Desk.steps
     start (rest_but c.in-Ready.slot) c.args.desk.now (g.P.Port.slots c.wait.new.self) (kept_at c.args.conns.now)
     (g.P.Port.terms c.args.port.now).capacity (g.P.Port.terms c.wait.new.self).capacity (g.P.Port.accepted c.args.port.now) (g.P.Port.accepted c.wait.new.self) lost _
     (ap capacity_of c.in-Ready.ensures.terms) (c.in-Ready.ensures.accepted ∙ omega arith) refl
-    (Works-reported (speech_at g.E.Protocol.pending g.E.Protocol.phase g.E.Protocol.is_lost (g.E.Protocol.so_far c.args.protocol.now)
+    (Works-reported (speech_at (g.P.Port.stopped c.args.port.now) g.E.Protocol.pending g.E.Protocol.phase g.E.Protocol.is_lost (g.E.Protocol.so_far c.args.protocol.now)
     (g.D.Desk.path c.args.desk.now) (g.D.Desk.content_type c.args.desk.now)) g.D.Desk.steps
     start c.in-Ready.slot c.args.desk.now (g.P.Port.slots c.args.port.now) (g.P.Port.slots c.wait.new.self)
     (kept_at c.args.conns.now) (counts_of (g.P.Port.terms c.args.port.now).capacity (g.P.Port.accepted c.args.port.now) lost) works live changes))
@@ -43,17 +43,17 @@ pub returns-in-Expired-clause-works : goal.returns-in-Expired-clause-works
 returns-in-Expired-clause-works g c = λ start lost works.
     let (within, (traffic, live, waiting), changes) = c.in-Expired.ensures.reports in
     let (conn, kept) =
-    Works-kept (speech_at g.E.Protocol.pending g.E.Protocol.phase g.E.Protocol.is_lost (g.E.Protocol.so_far c.args.protocol.now)
+    Works-kept (speech_at (g.P.Port.stopped c.args.port.now) g.E.Protocol.pending g.E.Protocol.phase g.E.Protocol.is_lost (g.E.Protocol.so_far c.args.protocol.now)
     (g.D.Desk.path c.args.desk.now) (g.D.Desk.content_type c.args.desk.now)) g.D.Desk.steps
     start all_rest c.in-Expired.slot c.args.desk.now (g.P.Port.slots c.args.port.now) (kept_at c.args.conns.now)
     (counts_of (g.P.Port.terms c.args.port.now).capacity (g.P.Port.accepted c.args.port.now) lost) works (traffic, live) in
-    Works-counted (speech_at g.E.Protocol.pending g.E.Protocol.phase g.E.Protocol.is_lost (g.E.Protocol.so_far c.args.protocol.now)
+    Works-counted (speech_at (g.P.Port.stopped c.args.port.now) g.E.Protocol.pending g.E.Protocol.phase g.E.Protocol.is_lost (g.E.Protocol.so_far c.args.protocol.now)
     (g.D.Desk.path c.args.desk.now) (g.D.Desk.content_type c.args.desk.now)) g.D.Desk.steps
     start all_rest c.args.desk.now (g.P.Port.slots c.close_slot.new.port) (kept_at c.close_slot.new.conns)
     (g.P.Port.terms c.args.port.now).capacity (g.P.Port.terms c.close_slot.new.port).capacity (g.P.Port.accepted c.args.port.now) (g.P.Port.accepted c.close_slot.new.port) _ _
     (ap capacity_of (c.close_slot.ensures.terms ∙ c.in-Expired.ensures.terms))
     (c.close_slot.ensures.accepted ∙ c.in-Expired.ensures.accepted ∙ omega arith) refl
-    (Works-expired (speech_at g.E.Protocol.pending g.E.Protocol.phase g.E.Protocol.is_lost (g.E.Protocol.so_far c.args.protocol.now)
+    (Works-expired (speech_at (g.P.Port.stopped c.args.port.now) g.E.Protocol.pending g.E.Protocol.phase g.E.Protocol.is_lost (g.E.Protocol.so_far c.args.protocol.now)
     (g.D.Desk.path c.args.desk.now) (g.D.Desk.content_type c.args.desk.now)) g.D.Desk.steps
     start c.in-Expired.slot c.args.desk.now (g.P.Port.slots c.args.port.now) (g.P.Port.slots c.wait.new.self)
     (g.P.Port.slots c.close_slot.new.port) (kept_at c.args.conns.now) (kept_at c.close_slot.new.conns) traffic conn
@@ -64,11 +64,11 @@ returns-in-Expired-clause-works g c = λ start lost works.
 pub returns-in-Done-clause-works : goal.returns-in-Done-clause-works
 returns-in-Done-clause-works g c = λ start lost works.
     let (free, same) = c.in-Done.ensures.reports in
-    Works-done (speech_at g.E.Protocol.pending g.E.Protocol.phase g.E.Protocol.is_lost (g.E.Protocol.so_far c.args.protocol.now)
+    Works-done (speech_at (g.P.Port.stopped c.args.port.now) g.E.Protocol.pending g.E.Protocol.phase g.E.Protocol.is_lost (g.E.Protocol.so_far c.args.protocol.now)
     (g.D.Desk.path c.args.desk.now) (g.D.Desk.content_type c.args.desk.now)) g.D.Desk.steps
     start c.args.desk.now (g.P.Port.slots c.args.port.now) (g.P.Port.slots c.wait.new.self) (kept_at c.args.conns.now)
     (counts_of (g.P.Port.terms c.wait.new.self).capacity (g.P.Port.accepted c.wait.new.self) lost)
-    (Works-counted (speech_at g.E.Protocol.pending g.E.Protocol.phase g.E.Protocol.is_lost (g.E.Protocol.so_far c.args.protocol.now)
+    (Works-counted (speech_at (g.P.Port.stopped c.args.port.now) g.E.Protocol.pending g.E.Protocol.phase g.E.Protocol.is_lost (g.E.Protocol.so_far c.args.protocol.now)
     (g.D.Desk.path c.args.desk.now) (g.D.Desk.content_type c.args.desk.now)) g.D.Desk.steps
     start all_rest c.args.desk.now (g.P.Port.slots c.args.port.now) (kept_at c.args.conns.now) (g.P.Port.terms c.args.port.now).capacity
     (g.P.Port.terms c.wait.new.self).capacity (g.P.Port.accepted c.args.port.now) (g.P.Port.accepted c.wait.new.self) lost lost

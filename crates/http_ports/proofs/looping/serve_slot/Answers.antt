@@ -6,12 +6,12 @@ use Rattle.http_ports.proofs.looping.serve_slot.Goals as goal
 
 pub returns-in-Ok-clause-works : goal.returns-in-Ok-clause-works
 returns-in-Ok-clause-works g c = λ start lost works.
-    Works-counted (speech_at g.E.Protocol.pending g.E.Protocol.phase g.E.Protocol.is_lost (g.E.Protocol.so_far c.args.protocol.now)
+    Works-counted (speech_at (g.P.Port.stopped c.args.port.now) g.E.Protocol.pending g.E.Protocol.phase g.E.Protocol.is_lost (g.E.Protocol.so_far c.args.protocol.now)
     (g.D.Desk.path c.args.desk.now) (g.D.Desk.content_type c.args.desk.now)) g.D.Desk.steps
     start all_rest c.serve_out.new.desk (g.P.Port.slots c.serve_out.new.port) (kept_at c.swap-in-Ok.new.items)
     (g.P.Port.terms c.args.port.now).capacity (g.P.Port.terms c.serve_out.new.port).capacity (g.P.Port.accepted c.args.port.now)
     (g.P.Port.accepted c.serve_out.new.port) lost _ (ap capacity_of c.serve_out.ensures.terms) c.serve_out.ensures.accepted (omega arith)
-    (Works-resting (speech_at g.E.Protocol.pending g.E.Protocol.phase g.E.Protocol.is_lost (g.E.Protocol.so_far c.args.protocol.now)
+    (Works-resting (speech_at (g.P.Port.stopped c.args.port.now) g.E.Protocol.pending g.E.Protocol.phase g.E.Protocol.is_lost (g.E.Protocol.so_far c.args.protocol.now)
     (g.D.Desk.path c.args.desk.now) (g.D.Desk.content_type c.args.desk.now)) g.D.Desk.steps
     start c.args.slot c.args.desk.now c.serve_out.new.desk (g.P.Port.slots c.args.port.now) (g.P.Port.slots c.serve_out.new.port)
     (kept_at c.args.conns.now) (kept_at c.swap-in-Ok.new.items) c.in-Some.conn c.in-Ok.left _ works
@@ -20,12 +20,12 @@ returns-in-Ok-clause-works g c = λ start lost works.
 
 pub returns-in-Err-clause-works : goal.returns-in-Err-clause-works
 returns-in-Err-clause-works g c = λ start lost works.
-    Works-counted (speech_at g.E.Protocol.pending g.E.Protocol.phase g.E.Protocol.is_lost (g.E.Protocol.so_far c.args.protocol.now)
+    Works-counted (speech_at (g.P.Port.stopped c.args.port.now) g.E.Protocol.pending g.E.Protocol.phase g.E.Protocol.is_lost (g.E.Protocol.so_far c.args.protocol.now)
     (g.D.Desk.path c.args.desk.now) (g.D.Desk.content_type c.args.desk.now)) g.D.Desk.steps
     start all_rest c.serve_out.new.desk (g.P.Port.slots c.serve_out.new.port) (kept_at c.swap.new.items)
     (g.P.Port.terms c.args.port.now).capacity (g.P.Port.terms c.serve_out.new.port).capacity (g.P.Port.accepted c.args.port.now)
     (g.P.Port.accepted c.serve_out.new.port) _ _ (ap capacity_of c.serve_out.ensures.terms) c.serve_out.ensures.accepted refl
-    (Works-ended (speech_at g.E.Protocol.pending g.E.Protocol.phase g.E.Protocol.is_lost (g.E.Protocol.so_far c.args.protocol.now)
+    (Works-ended (speech_at (g.P.Port.stopped c.args.port.now) g.E.Protocol.pending g.E.Protocol.phase g.E.Protocol.is_lost (g.E.Protocol.so_far c.args.protocol.now)
     (g.D.Desk.path c.args.desk.now) (g.D.Desk.content_type c.args.desk.now)) g.D.Desk.steps
     start c.args.slot c.args.desk.now c.serve_out.new.desk (g.P.Port.slots c.args.port.now) (g.P.Port.slots c.serve_out.new.port)
     (kept_at c.args.conns.now) (kept_at c.swap.new.items) c.in-Some.conn c.in-Err.lost (g.P.Port.terms c.args.port.now).capacity (g.P.Port.accepted c.args.port.now) lost works

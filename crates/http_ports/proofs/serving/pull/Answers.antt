@@ -10,10 +10,10 @@ use Rattle.http_ports.proofs.serving.pull.Goals as goal
 
 pub returns-in-Bytes-clause-serves : goal.returns-in-Bytes-clause-serves
 returns-in-Bytes-clause-serves g c =
-    changed (speech_at g.E.Protocol.pending g.E.Protocol.phase g.E.Protocol.is_lost (g.E.Protocol.so_far c.args.protocol.now) (g.D.Desk.path c.args.desk.now) (g.D.Desk.content_type c.args.desk.now)) g.D.Desk.steps
+    changed (speech_at (g.P.Port.stopped c.args.port.now) g.E.Protocol.pending g.E.Protocol.phase g.E.Protocol.is_lost (g.E.Protocol.so_far c.args.protocol.now) (g.D.Desk.path c.args.desk.now) (g.D.Desk.content_type c.args.desk.now)) g.D.Desk.steps
     IsPassed c.args.slot (receiving (take c.in-Bytes.count c.read.new.into)) (g.P.Port.slots c.args.port.now)
     (g.P.Port.slots c.read.new.self) c.args.conn.now c.take.new.conn c.args.desk.now c.in-Bytes.ensures.reads.2
-    (λ traffic made so_far. (c.take.ensures.so_far _ _ _ _ _ _ so_far, refl))
+    (λ traffic made (clock, so_far). ((clock, c.take.ensures.so_far _ _ _ _ _ _ so_far), refl))
 
 pub returns-in-Bytes-clause-live : goal.returns-in-Bytes-clause-live
 returns-in-Bytes-clause-live g c =
@@ -26,21 +26,21 @@ returns-in-Bytes-clause-passing g c =
 
 pub returns-in-Nothing-clause-serves : goal.returns-in-Nothing-clause-serves
 returns-in-Nothing-clause-serves g c =
-    changed (speech_at g.E.Protocol.pending g.E.Protocol.phase g.E.Protocol.is_lost (g.E.Protocol.so_far c.args.protocol.now) (g.D.Desk.path c.args.desk.now) (g.D.Desk.content_type c.args.desk.now)) g.D.Desk.steps
+    changed (speech_at (g.P.Port.stopped c.args.port.now) g.E.Protocol.pending g.E.Protocol.phase g.E.Protocol.is_lost (g.E.Protocol.so_far c.args.protocol.now) (g.D.Desk.path c.args.desk.now) (g.D.Desk.content_type c.args.desk.now)) g.D.Desk.steps
     IsResting c.args.slot (marked WaitsToRead) (g.P.Port.slots c.args.port.now) (g.P.Port.slots c.read.new.self)
     c.args.conn.now c.args.conn.now c.args.desk.now c.in-Nothing.ensures.reads
     (λ traffic made so_far. (so_far, inl (refl, c.requires.sent, c.requires.waits)))
 
 pub returns-in-End-clause-serves : goal.returns-in-End-clause-serves
 returns-in-End-clause-serves g c =
-    changed (speech_at g.E.Protocol.pending g.E.Protocol.phase g.E.Protocol.is_lost (g.E.Protocol.so_far c.args.protocol.now) (g.D.Desk.path c.args.desk.now) (g.D.Desk.content_type c.args.desk.now)) g.D.Desk.steps
+    changed (speech_at (g.P.Port.stopped c.args.port.now) g.E.Protocol.pending g.E.Protocol.phase g.E.Protocol.is_lost (g.E.Protocol.so_far c.args.protocol.now) (g.D.Desk.path c.args.desk.now) (g.D.Desk.content_type c.args.desk.now)) g.D.Desk.steps
     IsEnding c.args.slot (marked InputEnded) (g.P.Port.slots c.args.port.now) (g.P.Port.slots c.read.new.self)
     c.args.conn.now c.args.conn.now c.args.desk.now c.in-End.ensures.reads
     (λ traffic made so_far. (so_far, inr (inl (c.requires.sent, c.requires.waits, inl refl))))
 
 pub returns-in-Failure-clause-serves : goal.returns-in-Failure-clause-serves
 returns-in-Failure-clause-serves g c =
-    changed (speech_at g.E.Protocol.pending g.E.Protocol.phase g.E.Protocol.is_lost (g.E.Protocol.so_far c.args.protocol.now) (g.D.Desk.path c.args.desk.now) (g.D.Desk.content_type c.args.desk.now)) g.D.Desk.steps
+    changed (speech_at (g.P.Port.stopped c.args.port.now) g.E.Protocol.pending g.E.Protocol.phase g.E.Protocol.is_lost (g.E.Protocol.so_far c.args.protocol.now) (g.D.Desk.path c.args.desk.now) (g.D.Desk.content_type c.args.desk.now)) g.D.Desk.steps
     IsEnding c.args.slot (marked ReadFailed) (g.P.Port.slots c.args.port.now) (g.P.Port.slots c.read.new.self)
     c.args.conn.now c.args.conn.now c.args.desk.now c.in-Failure.ensures.reads
     (λ traffic made so_far. (so_far, inr (inl (c.requires.sent, c.requires.waits, inr (inl refl)))))
