@@ -27,5 +27,5 @@ pub use crate::looping::run;
 pub use crate::port::Port;
 pub use crate::protocol::{Next, Protocol};
 pub use crate::terms::Terms;
-pub use crate::timestamp::Timestamp;
+pub use crate::timestamp::{Timestamp, trace_waiting};
 pub use crate::watch::WatchEach;

@@ -1,3 +1,5 @@
+ghost use Rattle.std.specs.Prelude.{◌≡◌, option_map};
+
 use traces::Trace;
 
 /// A timestamp that a port gave for a connection, for contracts alone.
@@ -11,4 +13,14 @@ pub struct Timestamp {
     pub received: usize,
     /// How many bytes had been sent on it.
     pub sent: usize,
+}
+
+/// Returns the bytes that wait as a timestamp has them, for whoever makes one.
+pub fn trace_waiting(waiting: Option<&[u8]>) -> Option<Trace<u8>>
+    ensures { result ≡ option_map (λ bytes. bytes.now) waiting.entry }
+{
+    match waiting {
+        Some(bytes) => Some(Trace::of(bytes)),
+        None => None,
+    }
 }

@@ -15,7 +15,7 @@ use Rattle.http_sessions.specs.Readings.{IsFound}
 use Rattle.http_sessions.specs.Sessions.{Writes}
 use Rattle.http_sessions.specs.Stops.{Last, More, Stop, end_after, stop_bytes}
 use Rattle.http_talks.specs.Talks.{IsSent}
-use Rattle.http_talks.specs.Leaves.{EndsAnyhow, EndsOpen, EndsOver, EndsSending, IsDone, IsNew, IsStarted, Leaves, Makes}
+use Rattle.http_talks.specs.Leaves.{EndsLost, EndsOpen, EndsOver, EndsSending, IsDone, IsNew, IsStarted, Leaves, Makes}
 use Rattle.http_talks.specs.declared.outcome.After.{After}
 use Rattle.http_talks.specs.declared.outcome.After.TheVariants as after
 use Rattle.http_talks.specs.declared.talk.Sending.{Sending}
@@ -136,8 +136,8 @@ module _
           drop found.length kept,
           made,
           true,
-          made_last answers.used true made EndsAnyhow answers.fits
-              (sent ∙ ap (λ (b : Bool). reply_to kind b answers.used) same) answers.calls tt,
+          made_last answers.used true made EndsLost answers.fits
+              (sent ∙ ap (λ (b : Bool). reply_to kind b answers.used) same) answers.calls refl,
         )
 
     -- the head of a package
@@ -178,8 +178,8 @@ module _
       drop found.length kept,
       made,
       true,
-      made_last (Fetched name declared (Broken [])) true made EndsAnyhow fit
-          (head ∙ ap (λ (b : Bool). reply_to kind b (Fetched name declared (Broken []))) same) calls tt,
+      made_last (Fetched name declared (Broken [])) true made EndsLost fit
+          (head ∙ ap (λ (b : Bool). reply_to kind b (Fetched name declared (Broken []))) same) calls refl,
     )
 
     -- memory ran out for the package's name
@@ -193,8 +193,8 @@ module _
       drop found.length kept,
       made,
       true,
-      made_last (Fetched name declared (Broken [])) true made EndsAnyhow fit
-          (head ∙ ap (λ (b : Bool). reply_to kind b (Fetched name declared (Broken []))) same) calls tt,
+      made_last (Fetched name declared (Broken [])) true made EndsLost fit
+          (head ∙ ap (λ (b : Bool). reply_to kind b (Fetched name declared (Broken []))) same) calls refl,
     )
 
     -- memory ran out for the reply
@@ -207,7 +207,7 @@ module _
       drop found.length kept,
       made,
       false,
-      made_last answers.used false made EndsAnyhow answers.fits
+      made_last answers.used false made EndsLost answers.fits
           (subst (λ (b : Bool). Writes false (Some []) (Some made) [] (reply_to kind b answers.used)) same answers.writes)
-          answers.calls tt,
+          answers.calls refl,
     )

@@ -10,7 +10,8 @@ use Rattle.http_ports.specs.declared.timestamp.Timestamp.{Timestamp}
 use Rattle.http_sessions.specs.Messages.{Exchange, IsOpen, exchange_bytes, exchange_calls, open_reply}
 use Rattle.http_sessions.specs.Stops.{Ends, More, Stop, stop_bytes, stop_calls}
 use Rattle.http_sessions.specs.Sessions.{Serves}
-use Rattle.http_talks.specs.Talks.{AreReplies, IsAt, Said, SendsFor, pending}
+use Rattle.http_talks.specs.Talks.{AreReplies, IsAt, Said, SendsFor, pending, waiting_at, waiting_of}
+use Rattle.http_talks.specs.Timestamps.{AreTimed, IsAskedAt, IsLastTimed, IsPlaced}
 use Rattle.http_talks.specs.Leaves.{GoesOn, IsApplied, Leaves}
 use Rattle.http_talks.specs.declared.outcome.After.{After}
 use Rattle.http_talks.specs.declared.outcome.After.TheVariants as after
@@ -18,49 +19,26 @@ use Rattle.http_talks.specs.declared.talk.Stage.{Stage}
 use Rattle.http_talks.specs.declared.talk.Stage.TheVariants as stage
 use Rattle.http_talks.specs.declared.talk.Talk.{Talk}
 use Rattle.http_talks.proofs.TalkLemmas.{all_replies}
-use Rattle.http_talks.proofs.TimestampLemmas.{AreTimed-append, AreTimed-later, AreTimed-now, IsAskedAt, IsLastTimed-now, all_append}
+use Rattle.http_talks.proofs.TimestampLemmas.{ArePlaced-later, ArePlaced-more, AreTimed-later, AreTimed-now, AreTimed-then, IsBusy, IsLastTimed-now, IsOnce, all_append, busy_of, none_once, one_once, placed_after}
 use Rattle.http_talks.proofs.WiderLemmas.{all_wider, stops_wider}
 
 module _
     (IsNow IsFit : Method → List ℕ → Use → Type 0) (kind : List ℕ) (seconds : ℕ)
     (now : (method : Method) (target : List ℕ) (used : Use) → IsNow method target used →
-    IsFit method target used × IsAskedAt seconds used)
+    IsFit method target used × IsAskedAt used seconds)
   where
-    -- of a busy session all replies were sent, and what is kept is what comes after its messages
-    pub record IsBusy (talk : Talk) (sent : List ℕ) (exchanges : List Exchange) (stop : Stop) (rest unread : List ℕ) : Type 0 where
-      pub stopped : stop ≡ More
-      pub count : talk.begun ≡ length exchanges
-      pub kept : talk.kept.items ≡ rest ++ unread
-      pub all_sent : sent ≡ flat_map (open_reply kind) exchanges
-
-    busy_of :
-        (timestamps : List Timestamp) (talk : Talk) (received sent : List ℕ) (calls : List Call) →
-        talk.stage ≡ stage.Busy → pending talk ≡ [] →
-        (said : Said IsFit kind timestamps talk received sent calls) → IsBusy talk sent said.exchanges said.stop said.rest said.unread
-    busy_of timestamps talk received sent calls busy none said =
-        let (stop, count, kept) =
-        subst (λ (at : Stage). IsAt at talk.begun talk.kept.items talk.need (length said.exchanges) said.stop said.rest said.unread) busy said.is_at in
-        let replies = subst (λ (at : Stage). AreReplies at sent (pending talk) (all_replies kind said.exchanges said.stop)) busy said.replies in
-        record {
-          stopped = stop;
-          count = count;
-          kept = kept;
-          all_sent = sym (append-nil sent) ∙ ap (λ (l : List ℕ). sent ++ l) (sym none) ∙ replies
-              ∙ ap (all_replies kind said.exchanges) stop
-              ∙ append-nil (flat_map (open_reply kind) said.exchanges);
-        }
-
     module _ {D : Type 0} (steps : D → Call → D → Type 0) where
       -- what was said, and then a part of a session
       extended :
           (timestamps : List Timestamp) (talk next : Talk) (received sent left : List ℕ) (calls : List Call) (IsEnd : ℕ → Stop → List ℕ → Type 0) (whole : Bool)
           (old new : Option (List ℕ)) (before behind : D) (said : Said IsFit kind timestamps talk received sent calls) →
-          IsBusy talk sent said.exchanges said.stop said.rest said.unread →
+          talk.stage ≡ stage.Busy → IsBusy kind talk sent said.exchanges said.stop said.rest said.unread →
           (part : Serves IsNow steps kind talk.begun IsEnd whole [] (Some talk.kept.items) (Some left) old new before behind) →
+          IsOnce part.exchanges part.stop →
           AreReplies next.stage sent (pending next) (all_replies kind (said.exchanges ++ part.exchanges) part.stop) →
           IsAt next.stage next.begun next.kept.items next.need (length (said.exchanges ++ part.exchanges)) part.stop part.rest left →
-          Said IsFit kind (later timestamps seconds received sent) next received sent (calls ++ (flat_map exchange_calls part.exchanges ++ stop_calls part.stop))
-      extended timestamps talk next received sent left calls IsEnd whole old new before behind said busy part replies is_at = record {
+          Said IsFit kind (later timestamps seconds (waiting_of talk) received sent) next received sent (calls ++ (flat_map exchange_calls part.exchanges ++ stop_calls part.stop))
+      extended timestamps talk next received sent left calls IsEnd whole old new before behind said is_busy busy part once replies is_at = record {
         exchanges = said.exchanges ++ part.exchanges;
         stop = part.stop;
         rest = part.rest;
@@ -79,24 +57,30 @@ module _
             ∙ append-nil (flat_map exchange_calls said.exchanges))
             ∙ sym (append_assoc (flat_map exchange_calls said.exchanges) (flat_map exchange_calls part.exchanges) (stop_calls part.stop))
             ∙ ap (λ (l : List Call). l ++ stop_calls part.stop) (sym (flat_map-append exchange_calls said.exchanges part.exchanges));
-        timed = AreTimed-append kind (later timestamps seconds received sent) said.exchanges part.exchanges 0 0
-            (AreTimed-later kind timestamps (timestamp_of seconds received sent) 0 0 said.exchanges said.timed)
-            (AreTimed-now IsNow kind seconds asked timestamps received sent part.exchanges _ _ part.each
-            (omega (arith, came, length-append (flat_map exchange_bytes part.exchanges) part.rest)) (omega (arith, ap length busy.all_sent)));
-        last_timed = IsLastTimed-now IsNow kind seconds asked timestamps received sent part.stop part.rest _ _ part.stops
-            (omega (
-              arith,
-              came,
-              length-append (flat_map exchange_bytes part.exchanges) part.rest,
-              ap length (flat_map-append exchange_bytes said.exchanges part.exchanges),
-              length-append (flat_map exchange_bytes said.exchanges) (flat_map exchange_bytes part.exchanges),
-            ))
-            (omega (
-              arith,
-              ap length busy.all_sent,
-              ap length (flat_map-append (open_reply kind) said.exchanges part.exchanges),
-              length-append (flat_map (open_reply kind) said.exchanges) (flat_map (open_reply kind) part.exchanges),
-            ));
+        timed = subst (λ (w : Option (List ℕ)). AreTimed kind (later timestamps seconds w received sent) 0 0 (said.exchanges ++ part.exchanges)) (sym waits)
+            (AreTimed-then kind (later timestamps seconds (Some kept) received sent) said.exchanges part.exchanges
+            (AreTimed-later kind timestamps (timestamp_of seconds (Some kept) received sent) 0 0 said.exchanges said.timed)
+            (AreTimed-now IsNow kind seconds asked timestamps kept received sent part.exchanges part.stop (part.rest ++ left) _ _ once part.each
+            cut came (ap length busy.all_sent)));
+        last_timed = subst
+            (λ (w : Option (List ℕ)). IsLastTimed (later timestamps seconds w received sent)
+            (length (flat_map exchange_bytes (said.exchanges ++ part.exchanges)))
+            (length (flat_map (open_reply kind) (said.exchanges ++ part.exchanges))) part.stop) (sym waits)
+            (subst
+            (λ (n : ℕ). IsLastTimed (later timestamps seconds (Some kept) received sent) n
+            (length (flat_map (open_reply kind) (said.exchanges ++ part.exchanges))) part.stop)
+            (length_of exchange_bytes)
+            (subst
+            (λ (n : ℕ). IsLastTimed (later timestamps seconds (Some kept) received sent)
+            (length (flat_map exchange_bytes said.exchanges) + length (flat_map exchange_bytes part.exchanges)) n part.stop)
+            (length_of (open_reply kind))
+            (IsLastTimed-now IsNow kind seconds asked timestamps kept received sent part.exchanges part.stop part.rest left _ _ once part.stops
+            cut came (ap length busy.all_sent))));
+        placed = ArePlaced-later kind timestamps (timestamp_of seconds (waiting_of talk) received sent) (said.exchanges ++ part.exchanges)
+            (ArePlaced-more kind timestamps said.exchanges part.exchanges said.placed)
+            (subst (IsPlaced kind (said.exchanges ++ part.exchanges) (length received) (length sent)) (sym waits)
+            (placed_after kind said.exchanges part.exchanges kept received sent
+            (said.cut ∙ ap (λ (l : List ℕ). flat_map exchange_bytes said.exchanges ++ l) (sym busy.kept)) busy.all_sent));
         replies = replies;
         is_at = is_at;
       }
@@ -104,23 +88,34 @@ module _
           fits : (method : Method) (target : List ℕ) (used : Use) → IsNow method target used → IsFit method target used
           fits method target used is = (now method target used is).0
 
-          asked : (method : Method) (target : List ℕ) (used : Use) → IsNow method target used → IsAskedAt seconds used
+          asked : (method : Method) (target : List ℕ) (used : Use) → IsNow method target used → IsAskedAt used seconds
           asked method target used is = (now method target used is).1
 
-          -- all messages have come
-          came : length (flat_map exchange_bytes said.exchanges) + length (flat_map exchange_bytes part.exchanges ++ part.rest) ≤ length received
-          came = omega (
-            arith,
-            ap length said.cut,
-            length-append (flat_map exchange_bytes said.exchanges) (said.rest ++ said.unread),
-            ap length (sym busy.kept ∙ part.consumed ∙ ap (λ (l : List ℕ). l ++ left) part.cut),
-            length-append (flat_map exchange_bytes part.exchanges ++ part.rest) left,
-          )
+          kept : List ℕ
+          kept = talk.kept.items
+
+          waits : waiting_of talk ≡ Some kept
+          waits = ap (λ (at : Stage). waiting_at at kept) is_busy
+
+          cut : kept ≡ flat_map exchange_bytes part.exchanges ++ (part.rest ++ left)
+          cut = part.consumed ∙ ap (λ (l : List ℕ). l ++ left) part.cut ∙ append_assoc (flat_map exchange_bytes part.exchanges) part.rest left
+
+          came : length received ≡ length (flat_map exchange_bytes said.exchanges) + length kept
+          came = ap length said.cut ∙ length-append (flat_map exchange_bytes said.exchanges) (said.rest ++ said.unread)
+              ∙ ap (λ (l : List ℕ). length (flat_map exchange_bytes said.exchanges) + length l) (sym busy.kept)
+
+          length_of :
+              (bytes_of : Exchange → List ℕ) →
+              length (flat_map bytes_of said.exchanges) + length (flat_map bytes_of part.exchanges)
+              ≡ length (flat_map bytes_of (said.exchanges ++ part.exchanges))
+          length_of bytes_of =
+              sym (length-append (flat_map bytes_of said.exchanges) (flat_map bytes_of part.exchanges))
+              ∙ ap length (sym (flat_map-append bytes_of said.exchanges part.exchanges))
 
       -- what was sent, and what a whole part made, are the replies
       made_replies :
           (talk : Talk) (sent left made : List ℕ) (exchanges : List Exchange) (stop : Stop) (rest unread : List ℕ)
-          (IsEnd : ℕ → Stop → List ℕ → Type 0) (before behind : D) → IsBusy talk sent exchanges stop rest unread →
+          (IsEnd : ℕ → Stop → List ℕ → Type 0) (before behind : D) → IsBusy kind talk sent exchanges stop rest unread →
           (part : Serves IsNow steps kind talk.begun IsEnd true [] (Some talk.kept.items) (Some left) (Some []) (Some made) before behind) →
           sent ++ made ≡ all_replies kind (exchanges ++ part.exchanges) part.stop
       made_replies talk sent left made exchanges stop rest unread IsEnd before behind busy part =
@@ -143,8 +138,8 @@ module _
             flat_map exchange_calls part.exchanges ++ stop_calls part.stop,
             part.calls,
             λ received sent timestamps calls said.
-                let is_busy = busy_of timestamps talk received sent calls busy none said in
-                extended timestamps talk next received sent left calls _ true (Some []) (Some opened.made.items) before behind said is_busy part
+                let is_busy = busy_of IsFit kind timestamps talk received sent calls busy none said in
+                extended timestamps talk next received sent left calls _ true (Some []) (Some opened.made.items) before behind said busy is_busy part (one_once part.exchanges part.stop one more)
                 (subst (λ (at : Stage). AreReplies at sent (pending next) (all_replies kind (said.exchanges ++ part.exchanges) part.stop)) (sym stage_is)
                 (ap (λ (l : List ℕ). sent ++ l) waits
                 ∙ made_replies talk sent left opened.made.items said.exchanges said.stop said.rest said.unread _ before behind is_busy part))
@@ -159,10 +154,10 @@ module _
             flat_map exchange_calls part.exchanges ++ stop_calls part.stop,
             part.calls,
             λ received sent timestamps calls said.
-                let is_busy = busy_of timestamps talk received sent calls busy none said in
+                let is_busy = busy_of IsFit kind timestamps talk received sent calls busy none said in
                 let same : talk.begun ≡ length (said.exchanges ++ part.exchanges) =
                 omega (arith, is_busy.count, zero_count, length-append said.exchanges part.exchanges) in
-                extended timestamps talk next received sent started.kept.items calls _ true (Some []) (Some started.made.items) before behind said is_busy part
+                extended timestamps talk next received sent started.kept.items calls _ true (Some []) (Some started.made.items) before behind said busy is_busy part (none_once part.exchanges part.stop zero_count)
                 (subst (λ (at : Stage). AreReplies at sent (pending next) (all_replies kind (said.exchanges ++ part.exchanges) part.stop)) (sym stage_is)
                 (ap (λ (l : List ℕ). sent ++ l) waits
                 ∙ made_replies talk sent started.kept.items started.made.items said.exchanges said.stop said.rest said.unread _ before behind is_busy part))
@@ -177,10 +172,10 @@ module _
             flat_map exchange_calls part.exchanges ++ stop_calls part.stop,
             part.calls,
             λ received sent timestamps calls said.
-                let is_busy = busy_of timestamps talk received sent calls busy none said in
+                let is_busy = busy_of IsFit kind timestamps talk received sent calls busy none said in
                 let same : talk.begun ≡ length (said.exchanges ++ part.exchanges) =
                 omega (arith, is_busy.count, zero_count, length-append said.exchanges part.exchanges) in
-                extended timestamps talk next received sent left calls _ true (Some []) (Some made.items) before behind said is_busy part
+                extended timestamps talk next received sent left calls _ true (Some []) (Some made.items) before behind said busy is_busy part (none_once part.exchanges part.stop zero_count)
                 (subst (λ (at : Stage). AreReplies at sent (pending next) (all_replies kind (said.exchanges ++ part.exchanges) part.stop)) (sym stage_is)
                 (ap (λ (l : List ℕ). sent ++ l) waits
                 ∙ made_replies talk sent left made.items said.exchanges said.stop said.rest said.unread _ before behind is_busy part))
@@ -191,9 +186,9 @@ module _
         flat_map exchange_calls part.exchanges ++ stop_calls part.stop,
         part.calls,
         λ received sent timestamps calls said.
-            let is_busy = busy_of timestamps talk received sent calls busy none said in
+            let is_busy = busy_of IsFit kind timestamps talk received sent calls busy none said in
             let after = stop_bytes kind (length (said.exchanges ++ part.exchanges) == 999) part.stop in
-            extended timestamps talk next received sent left calls _ _ (Some []) (Some made) before behind said is_busy part
+            extended timestamps talk next received sent left calls _ _ (Some []) (Some made) before behind said busy is_busy part (none_once part.exchanges part.stop part.ends)
             (subst (λ (at : Stage). AreReplies at sent (pending next) (all_replies kind (said.exchanges ++ part.exchanges) part.stop)) (sym stage_is) (
               waits ∙ none,
               (

@@ -10,7 +10,7 @@ use Rattle.http_sessions.specs.Messages.{Exchange}
 use Rattle.http_sessions.specs.Readings.{IsRejected}
 use Rattle.http_sessions.specs.Sessions.{Writes}
 use Rattle.http_sessions.specs.Stops.{Bad, Ends, Long, Refuses, Stop, StopsAt, begun, stop_bytes, stop_calls}
-use Rattle.http_talks.specs.Leaves.{EndsAnyhow, EndsOver, IsRejection, Leaves, Makes}
+use Rattle.http_talks.specs.Leaves.{EndsLost, EndsOver, IsRejection, Leaves, Makes}
 use Rattle.http_talks.specs.declared.outcome.After.{After}
 use Rattle.http_talks.specs.declared.outcome.After.TheVariants as after
 
@@ -82,4 +82,4 @@ module _ (IsFit : Method → List ℕ → Use → Type 0) (kind kept : List ℕ)
         ([], made_rejection why true made.items (EndsOver start []) at is (refl, (Refused, at.ends (start == 999) (Some [])), at.one))
     rejection_leaves why after.Lost rejected (made, part) =
         let at = rejects_at why rejected in
-        ([], made, false, made_rejection why false made EndsAnyhow at part tt)
+        ([], made, false, made_rejection why false made EndsLost at part refl)

@@ -22,7 +22,8 @@ use Rattle.http_talks.specs.declared.talk.Stage.{Stage}
 use Rattle.http_talks.specs.declared.talk.Stage.TheVariants as stage
 use Rattle.http_talks.specs.declared.talk.Talk.{Talk}
 use Rattle.http_talks.proofs.TalkLemmas.{all_replies}
-use Rattle.http_talks.proofs.TimestampLemmas.{AreTimed-append, all_append}
+use Rattle.http_talks.specs.Timestamps.{HasStart, IsAnyTime, IsAskedAt, IsLastTimed}
+use Rattle.http_talks.proofs.TimestampLemmas.{ArePlaced-more, AreTimed-then, all_append, at_any_time}
 use Rattle.values.specs.declared.declared.Declared.{Declared}
 
 joined_more : (blocks : List (List ℕ)) (block : List ℕ) → joined_blocks (blocks ++ block ∷ []) ≡ joined_blocks blocks ++ block
@@ -104,6 +105,7 @@ module _
       pub fits : (fetch : Fetch) → IsFetch (sizes name) (reads name) declared.size fetch → IsExchange Fits (used_so e fetch)
       pub called : calls ≡ flat_map exchange_calls said.exchanges ++ Looks name (Some declared) ∷ []
       pub text : sent ≡ before ++ fetch_reply declared sending.closes (Broken blocks)
+      pub began : HasStart timestamps (length (flat_map exchange_bytes said.exchanges)) (length before) (exchange_bytes e) IsAnyTime
 
     mid_of : (e : Exchange) × (blocks : List (List ℕ)) × IsMid e blocks
     mid_of =
@@ -133,6 +135,8 @@ module _
                 ∙ ap (all_replies kind said.exchanges) stop
                 ∙ ap (λ (u : Use). before ++ reply_to kind (closing last e.head) u) is_sent.used
                 ∙ ap (λ (b : Bool). before ++ fetch_reply declared b (Broken blocks)) (sym is_sent.closes);
+            began = at_any_time timestamps _ _ (exchange_bytes e) (IsAskedAt e.used)
+                (subst (λ (s : Stop). IsLastTimed timestamps (length (flat_map exchange_bytes said.exchanges)) (length before) s) stop said.last_timed);
           },
         )
 
@@ -165,7 +169,8 @@ module _
           stops = ([], sym (append-nil (exchange_bytes e)), mid.fits (Broken all) fetch);
           called = mid.called;
           timed = said.timed;
-          last_timed = tt;
+          last_timed = mid.began;
+          placed = said.placed;
           replies = subst (λ (at : Stage). AreReplies at sent (pending new) (all_replies kind said.exchanges (Last (used_so e (Broken all))))) (sym on)
               (ap (λ (l : List ℕ). sent ++ l) makes_cells ∙ ap (λ (l : List ℕ). l ++ cells) mid.text
               ∙ append_assoc before (fetch_reply declared sending.closes (Broken blocks)) cells
@@ -202,7 +207,8 @@ module _
       stops = ([], sym (append-nil (exchange_bytes e)), mid.fits (Read blocks end) fetch);
       called = mid.called;
       timed = said.timed;
-      last_timed = tt;
+      last_timed = mid.began;
+      placed = said.placed;
       replies = subst (λ (at : Stage). AreReplies at sent (pending new) (all_replies kind said.exchanges (Last (used_so e (Read blocks end))))) (sym over)
           (ap (λ (l : List ℕ). sent ++ l) makes_cells ∙ ap (λ (l : List ℕ). l ++ made) mid.text
           ∙ append_assoc before (fetch_reply declared sending.closes (Broken blocks)) made
@@ -274,8 +280,9 @@ module _
           called = mid.called ∙ ap (λ (l : List Call). flat_map exchange_calls said.exchanges ++ l) (sym asked)
               ∙ sym (flat_map-append exchange_calls said.exchanges (whole ∷ []))
               ∙ sym (append-nil (flat_map exchange_calls (said.exchanges ++ whole ∷ [])));
-          timed = AreTimed-append kind timestamps said.exchanges (whole ∷ []) 0 0 said.timed (tt, tt);
+          timed = AreTimed-then kind timestamps said.exchanges (whole ∷ []) said.timed (mid.began, tt);
           last_timed = tt;
+          placed = ArePlaced-more kind timestamps said.exchanges (whole ∷ []) said.placed;
           replies = subst (λ (at : Stage). AreReplies at sent (pending new) (all_replies kind (said.exchanges ++ whole ∷ []) More)) (sym busy)
               (ap (λ (l : List ℕ). sent ++ l) makes_cells ∙ ap (λ (l : List ℕ). l ++ end) mid.text
               ∙ append_assoc before (fetch_reply declared sending.closes (Broken blocks)) end

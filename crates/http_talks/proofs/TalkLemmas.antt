@@ -65,27 +65,28 @@ written_over len block items long = subst (λ (n : ℕ). take n (block ++ items)
 pub rest_from : (at : ℕ) (bytes : List ℕ) → take (length bytes - at) (drop at bytes) ≡ drop at bytes
 rest_from at bytes = take_all (length bytes - at) (drop at bytes) (omega (arith, length-drop at bytes))
 
-module _ (IsFit : Method → List ℕ → Use → Type 0) (kind : List ℕ) (timestamps : List Timestamp) where
-  -- a connection that was accepted
-  pub Said-nothing :
-      (talk : Talk) → talk.stage ≡ stage.Busy → talk.begun ≡ 0 → talk.kept.items ≡ [] → pending talk ≡ [] →
-      Said IsFit kind timestamps talk [] [] []
-  Said-nothing talk busy none empty waits = record {
-    exchanges = [];
-    stop = More;
-    rest = [];
-    unread = [];
-    cut = refl;
-    each = tt;
-    few = omega arith;
-    stops = tt;
-    called = refl;
-    timed = tt;
-    last_timed = tt;
-    replies = subst (λ (at : Stage). AreReplies at [] (pending talk) []) (sym busy) waits;
-    is_at = subst (λ (at : Stage). IsAt at talk.begun talk.kept.items talk.need 0 More [] []) (sym busy) (refl, none, empty);
-  }
+-- a connection that was accepted
+pub Said-nothing :
+    (IsFit : Method → List ℕ → Use → Type 0) (kind : List ℕ) (talk : Talk) → talk.stage ≡ stage.Busy → talk.begun ≡ 0 → talk.kept.items ≡ [] → pending talk ≡ [] →
+    Said IsFit kind [] talk [] [] []
+Said-nothing IsFit kind talk busy none empty waits = record {
+  exchanges = [];
+  stop = More;
+  rest = [];
+  unread = [];
+  cut = refl;
+  each = tt;
+  few = omega arith;
+  stops = tt;
+  called = refl;
+  timed = tt;
+  last_timed = tt;
+  placed = tt;
+  replies = subst (λ (at : Stage). AreReplies at [] (pending talk) []) (sym busy) waits;
+  is_at = subst (λ (at : Stage). IsAt at talk.begun talk.kept.items talk.need 0 More [] []) (sym busy) (refl, none, empty);
+}
 
+module _ (IsFit : Method → List ℕ → Use → Type 0) (kind : List ℕ) (timestamps : List Timestamp) where
   -- some of what is pending was sent
   pub Said-sent :
       (talk next : Talk) (received sent first : List ℕ) (calls : List Call) →
@@ -104,6 +105,7 @@ module _ (IsFit : Method → List ℕ → Use → Type 0) (kind : List ℕ) (tim
     called = said.called;
     timed = said.timed;
     last_timed = said.last_timed;
+    placed = said.placed;
     replies = subst (λ (at : Stage). AreReplies at (sent ++ first) (pending next) (all_replies kind said.exchanges said.stop)) (sym same)
         (AreReplies-sent talk.stage sent (pending talk) (pending next) _ first cut said.replies);
     is_at = subst (λ (at : Stage). IsAt at next.begun next.kept.items next.need (length said.exchanges) said.stop said.rest said.unread) (sym same)
@@ -128,6 +130,7 @@ module _ (IsFit : Method → List ℕ → Use → Type 0) (kind : List ℕ) (tim
     called = said.called;
     timed = said.timed;
     last_timed = said.last_timed;
+    placed = said.placed;
     replies = subst (λ (at : Stage). AreReplies at sent (pending next) (all_replies kind said.exchanges said.stop)) (sym is)
         (none, sent_part talk.stage sent (pending talk) _ said.replies);
     is_at = subst (λ (at : Stage). IsAt at next.begun next.kept.items next.need (length said.exchanges) said.stop said.rest said.unread) (sym is) tt;
@@ -159,6 +162,7 @@ module _ (IsFit : Method → List ℕ → Use → Type 0) (kind : List ℕ) (tim
         called = said.called ∙ ap (λ (s : Stop). flat_map exchange_calls said.exchanges ++ stop_calls s) stop;
         timed = said.timed;
         last_timed = tt;
+        placed = said.placed;
         replies = subst (λ (at : Stage). AreReplies at sent (pending next) (flat_map (open_reply kind) said.exchanges ++ [])) (sym busy)
             (ap (λ (l : List ℕ). sent ++ l) waits ∙ replies ∙ ap (all_replies kind said.exchanges) stop);
         is_at = subst (λ (at : Stage). IsAt at next.begun next.kept.items next.need (length said.exchanges) More (said.rest ++ bytes) []) (sym busy)
@@ -192,6 +196,7 @@ module _ (IsFit : Method → List ℕ → Use → Type 0) (kind : List ℕ) (tim
         called = said.called ∙ ap (λ (s : Stop). flat_map exchange_calls said.exchanges ++ stop_calls s) stop;
         timed = said.timed;
         last_timed = tt;
+        placed = said.placed;
         replies = subst (λ (at : Stage). AreReplies at sent (pending next) (flat_map (open_reply kind) said.exchanges ++ [])) (sym still)
             (ap (λ (l : List ℕ). sent ++ l) waits ∙ replies ∙ ap (all_replies kind said.exchanges) stop);
         is_at = subst (λ (at : Stage). IsAt at next.begun next.kept.items next.need (length said.exchanges) Waits (said.rest ++ bytes) []) (sym still) (
@@ -228,6 +233,7 @@ module _ (IsFit : Method → List ℕ → Use → Type 0) (kind : List ℕ) (tim
         called = said.called ∙ ap (λ (s : Stop). flat_map exchange_calls said.exchanges ++ stop_calls s) stop;
         timed = said.timed;
         last_timed = tt;
+        placed = said.placed;
         replies = subst (λ (at : Stage). AreReplies at sent (pending next) (flat_map (open_reply kind) said.exchanges ++ [])) (sym part)
             (ap (λ (l : List ℕ). sent ++ l) waits ∙ replies ∙ ap (all_replies kind said.exchanges) stop);
         is_at = subst (λ (at : Stage). IsAt at next.begun next.kept.items next.need (length said.exchanges) Waits (said.rest ++ said.unread) []) (sym part)
@@ -253,6 +259,7 @@ module _ (IsFit : Method → List ℕ → Use → Type 0) (kind : List ℕ) (tim
     called = said.called;
     timed = said.timed;
     last_timed = said.last_timed;
+    placed = said.placed;
     replies = subst (λ (at : Stage). AreReplies at sent (pending next) (all_replies kind said.exchanges said.stop)) (sym is)
         (none, sent_part talk.stage sent (pending talk) _ said.replies);
     is_at = subst (λ (at : Stage). IsAt at next.begun next.kept.items next.need (length said.exchanges) said.stop said.rest (said.unread ++ bytes)) (sym is) tt;

@@ -16,7 +16,7 @@ use Rattle.http_sessions.specs.Stops.{Ends, More, Stop, begun, end_after}
 use Rattle.http_sessions.specs.Sessions.{Serves}
 use Rattle.http_ports.specs.Traffic.{later}
 use Rattle.http_ports.specs.declared.timestamp.Timestamp.{Timestamp}
-use Rattle.http_talks.specs.Talks.{Said, SendsFor, is_lost, pending}
+use Rattle.http_talks.specs.Talks.{Said, SendsFor, is_lost, pending, waiting_of}
 use Rattle.http_talks.specs.declared.outcome.After.{After}
 use Rattle.http_talks.specs.declared.outcome.After.TheVariants as after
 use Rattle.http_talks.specs.declared.outcome.Opened.{Opened}
@@ -75,6 +75,10 @@ abbrev pub EndsOver : ℕ → List ℕ → ℕ → Stop → List ℕ → Type 0
 EndsOver start left count stop rest =
     (count ≡ 0) × ((how : End) × Ends (start == 999) (Some left) stop rest how) × (begun stop ≡ 1)
 
+-- with a message whose reply was not made
+abbrev pub EndsLost : ℕ → Stop → List ℕ → Type 0
+EndsLost count stop rest = count ≡ 0
+
 -- anyhow
 abbrev pub EndsAnyhow : ℕ → Stop → List ℕ → Type 0
 EndsAnyhow count stop rest = ⊤
@@ -96,7 +100,7 @@ Leaves IsFit steps kind start kept before behind (after.Sends started) =
 Leaves IsFit steps kind start kept before behind (after.Over made) =
     (left : List ℕ) × Makes IsFit steps kind start (EndsOver start left) true kept left made.items before behind
 Leaves IsFit steps kind start kept before behind after.Lost =
-    (left : List ℕ) × (made : List ℕ) × (whole : Bool) × Makes IsFit steps kind start EndsAnyhow whole kept left made before behind
+    (left : List ℕ) × (made : List ℕ) × (whole : Bool) × Makes IsFit steps kind start EndsLost whole kept left made before behind
 
 -- the use fits, and no block is sent of a package with bytes
 abbrev pub AtOnce : (Method → List ℕ → Use → Type 0) → Method → List ℕ → Use → Type 0
@@ -120,7 +124,7 @@ GoesOn IsFit steps kind seconds old before new behind =
     (calls : List Call) × Leads steps before calls behind
     × ((received sent : List ℕ) (timestamps : List Timestamp) (made : List Call) →
     Said IsFit kind timestamps old received sent made →
-    Said IsFit kind (later timestamps seconds received sent) new received sent (made ++ calls))
+    Said IsFit kind (later timestamps seconds (waiting_of old) received sent) new received sent (made ++ calls))
 
 -- what a step of a busy connection made, unless memory ran out: a part of the session, without a block of a package
 abbrev pub MakesAtOnce :

@@ -1,11 +1,12 @@
 -- What was said on all connections of a port; this project's profile.
-use Rattle.std.specs.Prelude.{◌≡◌, ◌-◌, ◌^◌, ℕ, List, min}
+use Rattle.std.specs.Prelude.{◌≡◌, ◌-◌, ◌^◌, ℕ, List, Option, min}
+use Rattle.std.specs.List.{AllByRecursion}
 use Rattle.http_desks.specs.declared.method.Method.{Method}
 use Rattle.http_desks.specs.Calls.{Call}
 use Rattle.http_desks.specs.Uses.{Use}
 use Rattle.http_ports.specs.Loops.{HasServed, counts_of}
 use Rattle.http_ports.specs.Speech.{Speech}
-use Rattle.http_ports.specs.Traffic.{Slot}
+use Rattle.http_ports.specs.Traffic.{FitClock, Slot, Traffic}
 use Rattle.http_ports.specs.declared.terms.Terms.{Terms}
 use Rattle.http_talks.specs.Talks.{Said, is_lost, pending, phase_of}
 use Rattle.http_talks.specs.declared.talk.Talk.{Talk}
@@ -18,6 +19,10 @@ talk_speech IsFit kind = record {
   is_lost = λ talk. is_lost talk.stage;
   so_far = λ timestamps talk. Said IsFit kind timestamps talk;
 }
+
+-- the timestamps of these connections are those of a clock that has stopped at this time, or goes
+abbrev pub FitEnded : Option ℕ → List Traffic → Type 0
+FitEnded stopped ended = AllByRecursion (λ (traffic : Traffic). FitClock stopped traffic.timestamps) ended
 
 -- what passed at a port: by which terms, at each of its slots, of so many connections that were accepted; and for how
 -- many of them memory ran out, up to 2^64 - 1

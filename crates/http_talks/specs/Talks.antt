@@ -1,6 +1,6 @@
 -- What is said on a connection so far: messages and their replies (RFC 9112, section 9.3), in any parts; this project's
 -- profile.
-use Rattle.std.specs.Prelude.{◌≡◌, ⊤, ◌+◌, ◌<◌, ℕ, Bool, true, false, ◌==◌, List, [], ◌++◌, drop, length, flat_map, Some}
+use Rattle.std.specs.Prelude.{◌≡◌, ⊤, ◌+◌, ◌<◌, ℕ, Bool, true, false, ◌==◌, List, [], ◌++◌, drop, length, flat_map, Option, None, Some}
 use Rattle.std.specs.List.{AllByRecursion}
 use Rattle.http_desks.specs.declared.method.Method.{Method}
 use Rattle.http_desks.specs.Calls.{Call}
@@ -12,7 +12,7 @@ use Rattle.http_sessions.specs.Readings.{IsPart}
 use Rattle.http_sessions.specs.Stops.{Ends, Last, More, Stop, StopsAt, Waits, begun, stop_bytes, stop_calls}
 use Rattle.http_ports.specs.Speech.{Busy, Over, Phase, Waiting}
 use Rattle.http_ports.specs.declared.timestamp.Timestamp.{Timestamp}
-use Rattle.http_talks.specs.Timestamps.{AreTimed, IsLastTimed}
+use Rattle.http_talks.specs.Timestamps.{ArePlaced, AreTimed, IsLastTimed}
 use Rattle.http_talks.specs.declared.talk.Sending.{Sending}
 use Rattle.http_talks.specs.declared.talk.Stage.{Stage}
 use Rattle.http_talks.specs.declared.talk.Stage.TheVariants as stage
@@ -21,6 +21,17 @@ use Rattle.http_talks.specs.declared.talk.Talk.{Talk}
 -- what was made and is not yet sent
 abbrev pub pending : Talk → List ℕ
 pending talk = drop talk.sent talk.made.items
+
+-- what waits, if a message may begin with it
+abbrev pub waiting_at : Stage → List ℕ → Option (List ℕ)
+waiting_at stage.Busy kept = Some kept
+waiting_at stage.Part kept = None
+waiting_at (stage.Sends sending) kept = None
+waiting_at stage.Over kept = None
+waiting_at stage.Lost kept = None
+
+abbrev pub waiting_of : Talk → Option (List ℕ)
+waiting_of talk = waiting_at talk.stage talk.kept.items
 
 -- how the connection goes on once all is sent
 abbrev pub phase_of : Stage → Phase
@@ -83,7 +94,8 @@ AreReplies stage.Lost sent pending replies = (pending ≡ []) × ((left : List �
 
 -- rule: Session over a port
 -- the bytes that were received are messages, each after the one before, that kept the connection open, and a rest; the
--- desk was called for each, at one of these timestamps, and each was replied to, in order
+-- desk was called for each, at one of these timestamps, and each was replied to, in order; bytes waited for a message only
+-- between two replies
 pub record Said (IsFit : Method → List ℕ → Use → Type 0) (kind : List ℕ) (timestamps : List Timestamp) (talk : Talk)
     (received sent : List ℕ) (calls : List Call) : Type 0 where
   pub exchanges : List Exchange
@@ -98,6 +110,7 @@ pub record Said (IsFit : Method → List ℕ → Use → Type 0) (kind : List �
   pub timed : AreTimed kind timestamps 0 0 exchanges
   pub last_timed : IsLastTimed timestamps (length (flat_map exchange_bytes exchanges))
       (length (flat_map (open_reply kind) exchanges)) stop
+  pub placed : ArePlaced kind exchanges timestamps
   pub replies : AreReplies talk.stage sent (pending talk)
       (flat_map (open_reply kind) exchanges ++ stop_bytes kind (length exchanges == 999) stop)
   pub is_at : IsAt talk.stage talk.begun talk.kept.items talk.need (length exchanges) stop rest unread

@@ -4,7 +4,7 @@ ghost use Rattle.std.specs.Prelude.{◌≡◌, ◌<◌, ℕ, None, length, vec_l
 ghost use Rattle.http_desks.specs.Uses.{IsUse};
 ghost use Rattle.http_ports.specs.Loops.{kept_at};
 ghost use Rattle.http_ports.specs.Traffic.{IsTime, unused};
-ghost use Rattle.http_talks.specs.Ports.{HasTalked};
+ghost use Rattle.http_talks.specs.Ports.{FitEnded, HasTalked};
 
 use crate::talks::Talks;
 use crate::watched::{Watched, WatchedTalks};
@@ -82,6 +82,7 @@ pub fn serve_port<P: Port, Z: Packages, V: WatchEach, D: Desk, R: Wait + AllocGl
     requires many { connections ≡ (P.terms port.old).capacity }
     ensures served { HasTalked (IsUse (D.path desk.old) IsTime (Z.sizes site.now) (Z.reads site.now)) (D.content_type desk.old) D.steps desk.old desk.new
         (record { terms = P.terms port.new; slots = P.slots port.new; accepted = P.accepted port.new; lost = result }) }
+    ensures clock { (k : ℕ) → FitEnded (P.stopped port.old) (P.slots port.new k).ended }
     ensures over { P.is_over port.new }
     ensures terms { P.terms port.new ≡ P.terms port.old }
 {

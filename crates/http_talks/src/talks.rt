@@ -89,13 +89,15 @@ fn apply(alloc: Global, talk: &mut Talk, after: After)
 impl<Z: Packages> Protocol for Talks<'_, Z> {
     ghost use Rattle.http_desks.specs.Uses.{IsUse};
     ghost use Rattle.http_ports.specs.Traffic.{IsTime};
-    ghost use Rattle.http_talks.specs.Talks.{Said, is_lost, pending, phase_of};
+    ghost use Rattle.http_talks.specs.Talks.{Said, is_lost, pending, phase_of, waiting_of};
 
     type Conn = Talk;
 
     type Room = Buffers;
 
     ghost pending = { pending };
+
+    ghost waiting = { waiting_of };
 
     ghost phase = { λ talk. phase_of talk.stage };
 
@@ -117,6 +119,13 @@ impl<Z: Packages> Protocol for Talks<'_, Z> {
 
     fn pending<'c>(&self, talk: &'c Talk) -> &'c [u8] {
         &talk.made[talk.sent..]
+    }
+
+    fn waiting<'c>(&self, talk: &'c Talk) -> Option<&'c [u8]> {
+        match talk.stage {
+            Stage::Busy => Some(&talk.kept),
+            Stage::Part | Stage::Sends(_) | Stage::Over | Stage::Lost => None,
+        }
     }
 
     fn end(&self, talk: Talk) -> bool {

@@ -31,13 +31,15 @@ pub struct WatchedTalks<'a, 'w, Z, V> {
 impl<Z: Packages, V: WatchEach> Protocol for WatchedTalks<'_, '_, Z, V> {
     ghost use Rattle.http_desks.specs.Uses.{IsUse};
     ghost use Rattle.http_ports.specs.Traffic.{IsTime};
-    ghost use Rattle.http_talks.specs.Talks.{Said, is_lost, pending, phase_of};
+    ghost use Rattle.http_talks.specs.Talks.{Said, is_lost, pending, phase_of, waiting_of};
 
     type Conn = Watched<V::Seen>;
 
     type Room = Buffers;
 
     ghost pending = { λ conn. pending conn.talk };
+
+    ghost waiting = { λ conn. waiting_of conn.talk };
 
     ghost phase = { λ conn. phase_of conn.talk.stage };
 
@@ -55,6 +57,10 @@ impl<Z: Packages, V: WatchEach> Protocol for WatchedTalks<'_, '_, Z, V> {
 
     fn pending<'c>(&self, conn: &'c Watched<V::Seen>) -> &'c [u8] {
         self.talks.pending(&conn.talk)
+    }
+
+    fn waiting<'c>(&self, conn: &'c Watched<V::Seen>) -> Option<&'c [u8]> {
+        self.talks.waiting(&conn.talk)
     }
 
     fn end(&self, conn: Watched<V::Seen>) -> bool {

@@ -84,12 +84,15 @@ impl<R: Wait + Clock> MioPort<'_, R> {
 }
 
 impl<R: Wait + Clock> Port for MioPort<'_, R> {
-    ghost use Rattle.std.specs.Prelude.{◌≡◌, ◌⊎◌, true};
+    ghost use Rattle.std.specs.Prelude.{◌≡◌, ◌⊎◌, None, true};
     ghost use Rattle.port_books.specs.Books.{accepted_in, slots_after};
 
     ghost slots = { λ port. slots_after port.book.moves };
 
     ghost terms = { λ port. port.terms };
+
+    // it never stops
+    ghost stopped = { λ _. None };
 
     ghost accepted = { λ port. accepted_in port.book.moves };
 
@@ -121,9 +124,9 @@ impl<R: Wait + Clock> Port for MioPort<'_, R> {
         unreachable!()
     }
 
-    fn timestamp(&mut self, slot: usize) -> u64 {
+    fn timestamp(&mut self, slot: usize, waiting: Option<&[u8]>) -> u64 {
         let seconds = SystemClock::new(self.rt).now();
-        self.book.note_time(slot, seconds);
+        self.book.note_time(slot, seconds, waiting);
         seconds
     }
 

@@ -14,7 +14,7 @@ use Rattle.port_books.specs.declared.place.Place.{Place}
 abbrev pub changed_by : Change → Traffic → Traffic
 changed_by (change.Marked last) = marked last
 changed_by change.Expired = expiring
-changed_by (change.Timed seconds) = timing seconds
+changed_by (change.Timed seconds waiting) = timing seconds waiting
 changed_by (change.Received bytes) = receiving bytes
 changed_by (change.Sent bytes) = sending bytes
 

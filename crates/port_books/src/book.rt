@@ -6,6 +6,7 @@ ghost use Rattle.port_books.specs.Books.{accepted_in, changed_by, is_waiting, ke
 
 use crate::moves::{Change, Move};
 use crate::place::Place;
+use http_ports::trace_waiting;
 use std::alloc::{AllocError, Global};
 use std::mem;
 use traces::Trace;
@@ -147,14 +148,15 @@ impl<S: Drop> Book<S> {
         self.moves.push(&Move::Changed(slot, Change::Expired));
     }
 
-    /// Records that a slot's connection was given a timestamp; it waits then if it did before.
-    pub fn note_time(&mut self, slot: usize, seconds: u64)
-        ensures changes { Changes slot (timing seconds) (slots_after self.old.moves) (slots_after self.new.moves) }
+    /// Records that a slot's connection was given a timestamp, while these bytes waited, if a message could begin with
+    /// them; it waits then if it did before.
+    pub fn note_time(&mut self, slot: usize, seconds: u64, waiting: Option<&[u8]>)
+        ensures changes { Changes slot (timing seconds (option_map (λ bytes. bytes.now) waiting.entry)) (slots_after self.old.moves) (slots_after self.new.moves) }
         ensures accepted { accepted_in self.new.moves ≡ accepted_in self.old.moves }
         ensures capacity { vec_len self.new.places ≡ vec_len self.old.places }
     {
-        self.moves
-            .push(&Move::Changed(slot, Change::Timed(seconds)));
+        let change = Change::Timed(seconds, trace_waiting(waiting));
+        self.moves.push(&Move::Changed(slot, change));
     }
 
     // rule: Traffic of a book

@@ -8,8 +8,9 @@ pub enum Change {
     Marked(Last),
     /// Its time is up.
     Expired,
-    /// It was given a timestamp: so many seconds after the start of 1970.
-    Timed(u64),
+    /// It was given a timestamp, so many seconds after the start of 1970, and these bytes waited, if a message could begin
+    /// with them.
+    Timed(u64, Option<Trace<u8>>),
     /// These bytes were received.
     Received(Trace<u8>),
     /// These bytes were sent.

@@ -1,5 +1,5 @@
 -- The slots of a script, each with its peers; this project's profile.
-use Rattle.std.specs.Prelude.{◌≡◌, ◌+◌, ⊤, ℕ, Bool, true, false, All, List, map, reverse, sum_by, take, slice_get, None, Some, option_map, IfSome, if◌then◌else◌, vec_len}
+use Rattle.std.specs.Prelude.{◌≡◌, ◌+◌, ◌%◌, ◌^◌, ⊤, ℕ, zero, suc, Bool, true, false, All, List, map, reverse, sum_by, take, slice_get, Option, None, Some, option_map, IfSome, if◌then◌else◌, vec_len}
 use Rattle.std.specs.Option.{option_map_or}
 use Rattle.http_ports.specs.Ports.{IsWaiting, expiring}
 use Rattle.http_ports.specs.Traffic.{IsOpen, Slot, Traffic, marked, no_traffic, unused, with_open}
@@ -13,6 +13,11 @@ use Rattle.port_scripts.specs.declared.seat.Seat.{Seat}
 -- the connections of the first so many peers, the latest first
 abbrev pub ended_among : List Peer → ℕ → List Traffic
 ended_among peers ended = reverse (map traffic_of (take ended peers))
+
+-- the time at which the clock of a script has stopped: its first timestamp, if no time passes
+abbrev pub stopped_at : ℕ → ℕ → Option ℕ
+stopped_at seconds zero = Some (seconds % 2 ^ 63)
+stopped_at seconds (suc step) = None
 
 -- the peers of each seat
 abbrev pub peers_of : List Seat → List (List Peer)

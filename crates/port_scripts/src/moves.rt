@@ -1,13 +1,13 @@
 // What a peer sends and takes.
 
-ghost use Rattle.std.specs.Prelude.{◌≡◌, ◌<◌, ◌≤◌, ℕ, [], length, IfOk, IsTrue, vec_len, vec_capacity};
+ghost use Rattle.std.specs.Prelude.{◌≡◌, ◌<◌, ◌≤◌, ℕ, [], length, option_map, IfOk, IsTrue, vec_len, vec_capacity};
 ghost use Rattle.http_ports.specs.Traffic.{marked, no_traffic, timing};
 ghost use Rattle.http_ports.specs.Ports.{IsWaiting, expiring};
 ghost use Rattle.http_ports.specs.declared.last.Last.TheVariants.{Reported, Yields};
 ghost use Rattle.port_scripts.specs.Peers.{Gives, Takes, read_at_end, read_of, traffic_of, write_at_limit, write_of};
 
 use crate::peer::{Finish, Peer};
-use http_ports::{Last, Received, Sent, Timestamp};
+use http_ports::{Last, Received, Sent, Timestamp, trace_waiting};
 use std::alloc::{AllocError, Global};
 use traces::Trace;
 
@@ -167,13 +167,14 @@ impl Peer {
         self.last = Last::Yields;
     }
 
-    // Its connection is given a timestamp.
-    pub(crate) fn note_time(&mut self, seconds: u64)
-        ensures noted { traffic_of self.new ≡ timing seconds (traffic_of self.old) }
+    // Its connection is given a timestamp, while these bytes wait, if a message may begin with them.
+    pub(crate) fn note_time(&mut self, seconds: u64, waiting: Option<&[u8]>)
+        ensures noted { traffic_of self.new ≡ timing seconds (option_map (λ bytes. bytes.now) waiting.entry) (traffic_of self.old) }
         ensures input { self.new.input ≡ self.old.input }
     {
         self.timestamps.push(&Timestamp {
             seconds,
+            waiting: trace_waiting(waiting),
             received: self.read,
             sent: self.got.len(),
         });

@@ -3,7 +3,7 @@
 ghost use Rattle.std.specs.Prelude.{◌≡◌, ◌+◌, ◌<◌, ◌≤◌, ◌^◌, ℕ, IfNone, IfSome, IsSome, IsTrue, vec_len};
 ghost use Rattle.http_ports.specs.Ports.{Reports, accepted_by};
 ghost use Rattle.http_ports.specs.Traffic.{unused};
-ghost use Rattle.port_scripts.specs.Seats.{AreDone, IsOfSlot, IsQuietAt, accepted_in, peers_in, peers_of, slots_of};
+ghost use Rattle.port_scripts.specs.Seats.{AreDone, IsOfSlot, IsQuietAt, accepted_in, peers_in, peers_of, slots_of, stopped_at};
 
 use crate::seat::Seat;
 use http_ports::{Event, Port, Received, Sent, Terms};
@@ -21,14 +21,17 @@ pub struct Script {
     pub turns: Vec<usize>,
     /// The slot that is looked at first once there are no more turns.
     pub next: usize,
-    /// The timestamp that it gives next, modulo 2^63.
+    /// Its first timestamp, modulo 2^63.
     pub seconds: u64,
     /// How many seconds pass from one timestamp to the next.
     pub step: u64,
+    // how many seconds have passed
+    passed: u64,
     /// What it serves by: a place for each slot, and as many connections as there are peers.
     pub terms: Terms,
     ghost sized: { vec_len seats ≡ terms.capacity },
     ghost limited: { peers_in seats.items ≡ terms.limit },
+    ghost still: { step ≡ 0 → passed ≡ 0 },
 }
 
 // How many peers there are, if they are fewer than 2^64.
@@ -102,6 +105,7 @@ impl Script {
             next: 0,
             seconds: 0,
             step: 0,
+            passed: 0,
             terms,
         })
     }
@@ -118,6 +122,7 @@ impl Script {
         ensures accepted { IfSome result (λ event.
             accepted_in self.new.seats.items ≡ accepted_in self.old.seats.items + accepted_by event) }
         ensures terms { self.new.terms ≡ self.old.terms }
+        ensures stopped { stopped_at self.new.seconds self.new.step ≡ stopped_at self.old.seconds self.old.step }
     {
         for slot in from..to {
             if let Some(event) = self.seats[slot].report(slot, patient) {
@@ -137,6 +142,7 @@ impl Script {
         ensures accepted { IfSome result (λ event.
             accepted_in self.new.seats.items ≡ accepted_in self.old.seats.items + accepted_by event) }
         ensures terms { self.new.terms ≡ self.old.terms }
+        ensures stopped { stopped_at self.new.seconds self.new.step ≡ stopped_at self.old.seconds self.old.step }
     {
         for _ in 0..self.turns.len() {
             let Some(slot) = self.turns.pop() else {
@@ -164,6 +170,7 @@ impl Script {
         ensures accepted { IfSome result (λ event.
             accepted_in self.new.seats.items ≡ accepted_in self.old.seats.items + accepted_by event) }
         ensures terms { self.new.terms ≡ self.old.terms }
+        ensures stopped { stopped_at self.new.seconds self.new.step ≡ stopped_at self.old.seconds self.old.step }
     {
         if let Some(event) = self.next_turn() {
             return Some(event);
@@ -182,11 +189,14 @@ impl Script {
 
 impl Port for Script {
     ghost use Rattle.std.specs.Prelude.{◌≡◌};
-    ghost use Rattle.port_scripts.specs.Seats.{AreDone, accepted_in, slots_of};
+    ghost use Rattle.port_scripts.specs.Seats.{AreDone, accepted_in, slots_of, stopped_at};
 
     ghost slots = { λ port. slots_of port.seats.items };
 
     ghost terms = { λ port. port.terms };
+
+    // its first timestamp, if no time passes
+    ghost stopped = { λ port. stopped_at port.seconds port.step };
 
     ghost accepted = { λ port. accepted_in port.seats.items };
 
@@ -218,10 +228,10 @@ impl Port for Script {
         event
     }
 
-    fn timestamp(&mut self, slot: usize) -> u64 {
-        let seconds = self.seconds % (1 << 63);
-        self.seconds = seconds.saturating_add(self.step);
-        self.seats[slot].note_time(seconds);
+    fn timestamp(&mut self, slot: usize, waiting: Option<&[u8]>) -> u64 {
+        let seconds = self.seconds.wrapping_add(self.passed) % (1 << 63);
+        self.passed = self.passed.wrapping_add(self.step);
+        self.seats[slot].note_time(seconds, waiting);
         seconds
     }
 

@@ -1,6 +1,6 @@
 // What happens at a slot of a script.
 
-ghost use Rattle.std.specs.Prelude.{◌≡◌, ◌<◌, ◌≤◌, ℕ, None, Some, false, length, IfNone, IfSome, vec_len};
+ghost use Rattle.std.specs.Prelude.{◌≡◌, ◌<◌, ◌≤◌, ℕ, None, Some, false, length, option_map, IfNone, IfSome, vec_len};
 ghost use Rattle.http_ports.specs.Ports.{accepted_by, expiring};
 ghost use Rattle.http_ports.specs.Traffic.{IsOpen, Traffic, marked, no_traffic, timing, unused, with_ended, with_open};
 ghost use Rattle.http_ports.specs.declared.last.Last.TheVariants.{Reported, Yields};
@@ -57,12 +57,12 @@ impl Seat {
     }
 
     // The connection is given a timestamp.
-    pub(crate) fn note_time(&mut self, seconds: u64)
+    pub(crate) fn note_time(&mut self, seconds: u64, waiting: Option<&[u8]>)
         requires live { IsOpen (slot_of self.old) }
-        ensures changes { ChangesSeat (timing seconds) self.old self.new }
+        ensures changes { ChangesSeat (timing seconds (option_map (λ bytes. bytes.now) waiting.entry)) self.old self.new }
         ensures counts { HasConnected 0 self.old self.new }
     {
-        self.peers[self.ended].note_time(seconds);
+        self.peers[self.ended].note_time(seconds, waiting);
     }
 
     // The connection is to be reported again.

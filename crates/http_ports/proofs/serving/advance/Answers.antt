@@ -14,7 +14,7 @@ returns-in-Made-clause-serves g c =
     c.args.conn.now c.go_on.new.conn c.push-in-Made.new.conn c.args.desk.now c.go_on.new.desk c.go_on.new.desk calls
     noted leads
     (λ received sent timestamps made (clock, so_far).
-        (fits_later _ timestamps _ clock c.timestamp-seconds.ensures.clock, goes_on received sent timestamps made so_far))
+    (fits_later _ timestamps _ clock c.timestamp-seconds.ensures.clock, goes_on received sent timestamps made so_far))
     (Serves-at_same g.E.Protocol.pending g.E.Protocol.phase g.E.Protocol.is_lost (g.E.Protocol.so_far c.args.protocol.now)
     g.D.Desk.steps (IsStep c.push-in-Made.result) (g.P.Port.slots c.timestamp-seconds.new.self c.args.slot)
     (g.P.Port.slots c.push-in-Made.new.port c.args.slot) c.go_on.new.conn c.push-in-Made.new.conn c.go_on.new.desk c.go_on.new.desk
@@ -30,7 +30,7 @@ returns-in-Waits-clause-serves g c =
     c.args.conn.now c.go_on.new.conn c.pull.new.conn c.args.desk.now c.go_on.new.desk c.go_on.new.desk calls
     noted leads
     (λ received sent timestamps made (clock, so_far).
-        (fits_later _ timestamps _ clock c.timestamp-seconds.ensures.clock, goes_on received sent timestamps made so_far))
+    (fits_later _ timestamps _ clock c.timestamp-seconds.ensures.clock, goes_on received sent timestamps made so_far))
     (Serves-at_same g.E.Protocol.pending g.E.Protocol.phase g.E.Protocol.is_lost (g.E.Protocol.so_far c.args.protocol.now)
     g.D.Desk.steps (IsStep c.pull.result) (g.P.Port.slots c.timestamp-seconds.new.self c.args.slot)
     (g.P.Port.slots c.pull.new.port c.args.slot) c.go_on.new.conn c.pull.new.conn c.go_on.new.desk c.go_on.new.desk

@@ -2,10 +2,11 @@ use Rattle.std.proofs.Common.{◌≡◌, ◌++◌, ◌∙◌, ℕ, List, [], ref
 use Rattle.http_desks.specs.Uses.{IsUse}
 use Rattle.http_ports.specs.Traffic.{IsTime, later}
 use Rattle.http_talks.specs.Leaves.{AtOnce}
-use Rattle.http_talks.specs.Talks.{Said}
+use Rattle.http_talks.specs.Talks.{Said, waiting_at, waiting_of}
+use Rattle.http_talks.specs.declared.talk.Stage.{Stage}
 use Rattle.http_talks.specs.declared.talk.Talk.{Talk}
 use Rattle.http_talks.proofs.TalkLemmas.{Said-lost, Said-part}
-use Rattle.http_talks.proofs.TimestampLemmas.{Said-idle, fits_at}
+use Rattle.http_talks.proofs.TimestampLemmas.{Said-busy, Said-idle, fits_at}
 use Rattle.http_talks.proofs.LeavesLemmas.{left_on}
 use Rattle.http_talks.proofs.RejectLemmas.{rejection_leaves}
 use Rattle.http_talks.proofs.WiderLemmas.{part_at_once, steps_at_once}
@@ -17,7 +18,7 @@ returns-in-Part-clause-calls g c = (
   refl,
   λ received sent timestamps made said.
       Said-idle (IsUse (g.D.Desk.path c.args.desk.now) IsTime (g.Z.Packages.sizes c.args.self.now.site.now) (g.Z.Packages.reads c.args.self.now.site.now))
-      (g.D.Desk.content_type c.args.desk.now) timestamps c.args.seconds c.args.talk.now received sent made said,
+      (g.D.Desk.content_type c.args.desk.now) timestamps c.args.seconds c.args.talk.now received sent made (ap (λ (at : Stage). waiting_at at c.args.talk.now.kept.items) c.in-Part.is) said,
 )
 
 pub returns-in-Over-clause-calls : goal.returns-in-Over-clause-calls
@@ -26,7 +27,7 @@ returns-in-Over-clause-calls g c = (
   refl,
   λ received sent timestamps made said.
       Said-idle (IsUse (g.D.Desk.path c.args.desk.now) IsTime (g.Z.Packages.sizes c.args.self.now.site.now) (g.Z.Packages.reads c.args.self.now.site.now))
-      (g.D.Desk.content_type c.args.desk.now) timestamps c.args.seconds c.args.talk.now received sent made said,
+      (g.D.Desk.content_type c.args.desk.now) timestamps c.args.seconds c.args.talk.now received sent made (ap (λ (at : Stage). waiting_at at c.args.talk.now.kept.items) c.in-Over.is) said,
 )
 
 pub returns-in-Lost-clause-calls : goal.returns-in-Lost-clause-calls
@@ -35,7 +36,7 @@ returns-in-Lost-clause-calls g c = (
   refl,
   λ received sent timestamps made said.
       Said-idle (IsUse (g.D.Desk.path c.args.desk.now) IsTime (g.Z.Packages.sizes c.args.self.now.site.now) (g.Z.Packages.reads c.args.self.now.site.now))
-      (g.D.Desk.content_type c.args.desk.now) timestamps c.args.seconds c.args.talk.now received sent made said,
+      (g.D.Desk.content_type c.args.desk.now) timestamps c.args.seconds c.args.talk.now received sent made (ap (λ (at : Stage). waiting_at at c.args.talk.now.kept.items) c.in-Lost.is) said,
 )
 
 pub returns-in-Part-foresee-clause-calls : goal.returns-in-Part-foresee-clause-calls
@@ -46,9 +47,9 @@ returns-in-Part-foresee-clause-calls g c =
       [],
       refl,
       λ received sent timestamps made said.
-          Said-part IsFit kind (later timestamps c.args.seconds received sent) c.args.talk.now _ received sent _ c.in-Busy.is refl refl refl
+          Said-part IsFit kind (later timestamps c.args.seconds (waiting_of c.args.talk.now) received sent) c.args.talk.now _ received sent _ c.in-Busy.is refl refl refl
           (ap (λ (bytes : List ℕ). drop 0 bytes) c.new.ensures.items ∙ sym c.requires.sent) is_part stays
-          (Said-idle IsFit kind timestamps c.args.seconds c.args.talk.now received sent made said),
+          (Said-busy IsFit kind timestamps c.args.seconds c.args.talk.now received sent made c.in-Busy.is c.requires.sent said),
     )
 
 pub returns-in-Rejected-clause-calls : goal.returns-in-Rejected-clause-calls
@@ -68,9 +69,9 @@ returns-in-Rejected-clause-calls g c =
       leads,
       λ received sent timestamps made said.
           elim c.next_of-in-Rejected.ensures.left [
-            | inl same ↦ subst (λ (talk : Talk). Said IsFit kind (later timestamps c.args.seconds received sent) talk received sent (made ++ calls)) (sym same)
+            | inl same ↦ subst (λ (talk : Talk). Said IsFit kind (later timestamps c.args.seconds (waiting_of c.args.talk.now) received sent) talk received sent (made ++ calls)) (sym same)
                 (goes_on received sent timestamps made said)
-            | inr (is, none) ↦ Said-lost IsFit kind (later timestamps c.args.seconds received sent) c.apply-in-Rejected.new.talk c.next_of-in-Rejected.new.talk
+            | inr (is, none) ↦ Said-lost IsFit kind (later timestamps c.args.seconds (waiting_of c.args.talk.now) received sent) c.apply-in-Rejected.new.talk c.next_of-in-Rejected.new.talk
                 received sent (made ++ calls) is none (goes_on received sent timestamps made said)
           ],
     )
@@ -89,9 +90,9 @@ returns-in-Whole-clause-calls g c =
       leads,
       λ received sent timestamps made said.
           elim c.next_of-in-Whole.ensures.left [
-            | inl same ↦ subst (λ (talk : Talk). Said IsFit kind (later timestamps c.args.seconds received sent) talk received sent (made ++ calls)) (sym same)
+            | inl same ↦ subst (λ (talk : Talk). Said IsFit kind (later timestamps c.args.seconds (waiting_of c.args.talk.now) received sent) talk received sent (made ++ calls)) (sym same)
                 (goes_on received sent timestamps made said)
-            | inr (is, none) ↦ Said-lost IsFit kind (later timestamps c.args.seconds received sent) c.apply.new.talk c.next_of-in-Whole.new.talk
+            | inr (is, none) ↦ Said-lost IsFit kind (later timestamps c.args.seconds (waiting_of c.args.talk.now) received sent) c.apply.new.talk c.next_of-in-Whole.new.talk
                 received sent (made ++ calls) is none (goes_on received sent timestamps made said)
           ],
     )
@@ -103,11 +104,12 @@ returns-in-Sends-clause-calls g c = (
   λ received sent timestamps made said.
       let IsFit = (IsUse (g.D.Desk.path c.args.desk.now) IsTime (g.Z.Packages.sizes c.args.self.now.site.now) (g.Z.Packages.reads c.args.self.now.site.now)) in
       let kind = g.D.Desk.content_type c.args.desk.now in
-      let sends = c.send_on.ensures.sends (g.D.Desk.path c.args.desk.now) kind (later timestamps c.args.seconds received sent)
-      received sent (made ++ []) (Said-idle IsFit kind timestamps c.args.seconds c.args.talk.now received sent made said) in
+      let sends = c.send_on.ensures.sends (g.D.Desk.path c.args.desk.now) kind (later timestamps c.args.seconds (waiting_of c.args.talk.now) received sent)
+      received sent (made ++ []) (Said-idle IsFit kind timestamps c.args.seconds c.args.talk.now received sent made
+      (ap (λ (at : Stage). waiting_at at c.args.talk.now.kept.items) c.in-Sends.is) said) in
       elim c.next_of.ensures.left [
-        | inl same ↦ subst (λ (talk : Talk). Said IsFit kind (later timestamps c.args.seconds received sent) talk received sent (made ++ [])) (sym same) sends
-        | inr (is, none) ↦ Said-lost IsFit kind (later timestamps c.args.seconds received sent) c.send_on.new.talk c.next_of.new.talk received sent (made ++ []) is none sends
+        | inl same ↦ subst (λ (talk : Talk). Said IsFit kind (later timestamps c.args.seconds (waiting_of c.args.talk.now) received sent) talk received sent (made ++ [])) (sym same) sends
+        | inr (is, none) ↦ Said-lost IsFit kind (later timestamps c.args.seconds (waiting_of c.args.talk.now) received sent) c.send_on.new.talk c.next_of.new.talk received sent (made ++ []) is none sends
       ],
 )
 

@@ -7,5 +7,5 @@ use Rattle.http_talks.proofs.talks.TalksProtocol.open.Goals as goal
 pub returns-clause-so_far : goal.returns-clause-so_far
 returns-clause-so_far g c = λ path kind.
     Said-nothing (IsUse path IsTime (g.Z.Packages.sizes c.args.self.now.site.now)
-    (g.Z.Packages.reads c.args.self.now.site.now)) kind [] _ refl refl c.new.ensures.items
+    (g.Z.Packages.reads c.args.self.now.site.now)) kind _ refl refl c.new.ensures.items
     (ap (λ (bytes : List ℕ). drop 0 bytes) c.new-2.ensures.items)

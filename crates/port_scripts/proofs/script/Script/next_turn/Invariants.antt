@@ -1,4 +1,5 @@
 use Rattle.std.proofs.Common.{◌≡◌, vec_len}
+use Rattle.port_scripts.specs.Seats.{stopped_at}
 use Rattle.port_scripts.proofs.script.Script.next_turn.Given as goal
 
 abbrev pub invariant-loop : goal.invariant-loop
@@ -6,3 +7,4 @@ invariant-loop l =
     (l.self.seats.items ≡ l.fn.self.seats.items)
     × (vec_len l.self.seats ≡ vec_len l.fn.self.seats)
     × (l.self.terms ≡ l.fn.self.terms)
+    × (stopped_at l.self.seconds l.self.step ≡ stopped_at l.fn.self.seconds l.fn.self.step)

@@ -6,7 +6,7 @@ use Rattle.port_scripts.proofs.script.Script.report_of.Goals as goal
 
 pub loop-slot-preserved : goal.loop-slot-preserved
 loop-slot-preserved c =
-    let (same, len, terms, quiet) = c.loop-slot.invariant in
+    let (same, len, terms, stopped, quiet) = c.loop-slot.invariant in
     let seats = c.loop-slot.self.seats.items in
     let at = c.loop-slot.slot in
     let seat = c.index_mut.result.now in
@@ -16,6 +16,7 @@ loop-slot-preserved c =
       restored ∙ same,
       len,
       terms,
+      stopped,
       λ k first below. elim (below_or_last k at below) [
         | inl before ↦ quiet k first before
         | inr last ↦ subst (λ (j : ℕ). IsQuietAt c.args.patient c.args.self.now.seats.items j) (sym last)
