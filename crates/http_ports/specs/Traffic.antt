@@ -69,6 +69,7 @@ HasPassed slot = (traffic : Traffic) × (slot.current ≡ Some traffic) × (traf
 abbrev pub IsTime : ℕ → Type 0
 IsTime seconds = seconds < 2 ^ 63
 
+-- rule: Clock of a port
 -- a timestamp by a clock that has stopped at this time, or goes
 abbrev pub FitsClock : Option ℕ → ℕ → Type 0
 FitsClock None seconds = IsTime seconds

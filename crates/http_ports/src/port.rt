@@ -50,6 +50,7 @@ pub trait Port {
         ensures stopped { stopped self.new ≡ stopped self.old };
 
     // rule: Timestamp of a connection
+    // rule: Clock of a port
     /// Returns how many seconds have passed since 1970, less than 2^63, as a timestamp of the connection of a slot. The
     /// bytes `waiting` wait, if a message may begin with them.
     fn timestamp(&mut self, slot: usize, waiting: Option<&[u8]>) -> u64

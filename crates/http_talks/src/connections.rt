@@ -62,6 +62,7 @@ impl<S: Drop> Connections<S> {
 }
 
 // rule: Timestamp of a reply
+// rule: Begin of a message
 // rule: Sessions of a port
 /// Serves the connections of a port by a site's sessions, each as it becomes ready, until none will be accepted any more,
 /// and returns for how many memory ran out, up to 2^64 - 1. The watch is shown each. The desk is asked at timestamps that the

@@ -155,8 +155,8 @@ impl<S: Drop> Book<S> {
         ensures accepted { accepted_in self.new.moves ≡ accepted_in self.old.moves }
         ensures capacity { vec_len self.new.places ≡ vec_len self.old.places }
     {
-        let change = Change::Timed(seconds, trace_waiting(waiting));
-        self.moves.push(&Move::Changed(slot, change));
+        let timed = Change::Timed(seconds, trace_waiting(waiting));
+        self.moves.push(&Move::Changed(slot, timed));
     }
 
     // rule: Traffic of a book
