@@ -5,6 +5,7 @@ ghost use Rattle.http_ports.specs.declared.last.Last.TheVariants.{Yields};
 ghost use Rattle.http_ports.specs.declared.terms.Terms.{Terms};
 
 use crate::event::{Event, Received, Sent};
+use crate::terms::Terms;
 use std::net::IpAddr;
 
 /// One worker's side of the network: connections, each at a slot, which has one after the other.
@@ -30,9 +31,9 @@ pub trait Port {
     /// Returns the address of a slot's peer, if it has a connection and the system gives its address.
     fn peer(&self, slot: usize) -> Option<IpAddr>;
 
-    /// Returns how many connections may be open at once: the slots are those below.
-    fn capacity(&self) -> usize
-        ensures { result ≡ (terms self.now).capacity };
+    /// Returns what it serves by: the slots are those below its capacity.
+    fn terms(&self) -> Terms
+        ensures { result ≡ terms self.now };
 
     /// Whether as many connections were accepted as the terms say.
     fn has_accepted_all(&self) -> bool

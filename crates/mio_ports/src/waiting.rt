@@ -6,7 +6,7 @@ use crate::passing::{note_read, note_write, read_stream, write_stream};
 use crate::port::{EVENTS, LISTENER, MioPort};
 use http_desks::Clock as _;
 use http_devices::SystemClock;
-use http_ports::{Event, Last, Port, Received, Sent};
+use http_ports::{Event, Last, Port, Received, Sent, Terms};
 use port_books::Change;
 use std::net::IpAddr;
 use std::sync::Wait;
@@ -103,8 +103,8 @@ impl<R: Wait + Clock> Port for MioPort<'_, R> {
         *self.peers.get(slot)?
     }
 
-    fn capacity(&self) -> usize {
-        self.book.capacity()
+    fn terms(&self) -> Terms {
+        self.terms
     }
 
     fn has_accepted_all(&self) -> bool {

@@ -33,7 +33,7 @@ impl<P: Port + Drop> NewPort<P> {
         requires { IsNew P.terms P.slots P.accepted P.is_over port }
         ensures { IfOk result (λ made. made ≡ port) }
     {
-        let room = Connections::new(alloc, port.capacity())?;
+        let room = Connections::new(alloc, port.terms().capacity)?;
         Ok(NewPort { port, room })
     }
 

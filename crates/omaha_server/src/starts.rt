@@ -17,7 +17,7 @@ use values::Text;
 fn count_connections<P: Port>(ports: &[P]) -> u64 {
     let mut count = 0u64;
     for port in ports {
-        count = count.saturating_add(port.capacity() as u64);
+        count = count.saturating_add(port.terms().capacity as u64);
     }
     count
 }

@@ -64,7 +64,7 @@ fn serve_logged<R: Wait + AllocGlobal>(
 fn lines_of<R: Wait + AllocGlobal>(rt: &R, alloc: Global, piece: usize) -> Option<Vec<u8>> {
     let mut room = Buffers::new(alloc).ok()?;
     let mut script = script_of(alloc, PEERS, piece, 0)?;
-    if script.capacity() != 2 {
+    if script.terms.capacity != 2 {
         return None;
     }
     let mut lines = Vec::new(alloc);

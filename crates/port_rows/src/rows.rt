@@ -47,7 +47,7 @@ fn is_so<R: Wait + AllocGlobal>(
 ) -> Option<bool> {
     let alloc = rt.alloc();
     let mut script = script_of(alloc, row, piece, order)?;
-    if script.capacity() != 2 {
+    if script.terms.capacity != 2 {
         return None;
     }
     if serve(rt, room, &mut script) != 0 {

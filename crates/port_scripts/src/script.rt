@@ -207,8 +207,8 @@ impl Port for Script {
         None
     }
 
-    fn capacity(&self) -> usize {
-        self.seats.len()
+    fn terms(&self) -> Terms {
+        self.terms
     }
 
     fn has_accepted_all(&self) -> bool {

@@ -5,7 +5,7 @@ ghost use Rattle.serve_rows.specs.NewScripts.{IsNewScript};
 
 use crate::turns::{Part, Turns};
 use http_desks::{Desk, Packages};
-use http_ports::{Terms, WatchEach};
+use http_ports::{Port, Terms, WatchEach};
 use http_talks::{Connections, serve_port};
 use http_wire::Failed;
 use port_scripts::{Peer, Script, Seat};
@@ -151,10 +151,10 @@ impl<R: Clock + Wait + AllocGlobal> System<Script> for Rooms<'_, R> {
         None
     }
 
-    fn serve_port<'f, D: Desk, V: WatchEach>(
+    fn serve_port<'f, Q: Port, D: Desk, V: WatchEach>(
         &'f self,
         _folder: &'f str,
-        port: &mut Script,
+        port: &mut Q,
         room: Connections<V::Seen>,
         desk: &mut D,
         watch: &V,
@@ -162,7 +162,7 @@ impl<R: Clock + Wait + AllocGlobal> System<Script> for Rooms<'_, R> {
         let turns = Turns {
             clock: self.rt,
             stage: &self.stage,
-            part: part_of(&port.terms),
+            part: part_of(&port.terms()),
             has_sent: AtomicBool::new(false),
             watch,
         };

@@ -6,7 +6,7 @@ ghost use Rattle.systems.specs.Sockets.{IsNewSocketPort};
 use crate::system::{OpenError, System};
 use http_desks::{Desk, Packages};
 use http_devices::Folder;
-use http_ports::{Terms, WatchEach};
+use http_ports::{Port, Terms, WatchEach};
 use http_talks::{Connections, serve_port};
 use mio_ports::{EndSign, Listener, MioPort};
 use std::alloc::{AllocError, Global};
@@ -261,10 +261,10 @@ where
         Folder::new(self.rt.alloc(), self.rt, folder).size(name)
     }
 
-    fn serve_port<'f, D: Desk, V: WatchEach>(
+    fn serve_port<'f, Q: Port, D: Desk, V: WatchEach>(
         &'f self,
         folder: &'f str,
-        port: &mut MioPort<'a, R>,
+        port: &mut Q,
         room: Connections<V::Seen>,
         desk: &mut D,
         watch: &V,

@@ -81,20 +81,20 @@ pub trait System<P: Port> {
     // rule: Sessions of a port
     /// Serves the connections of a new port by a desk, with the packages of the folder at a path, until none will be
     /// accepted any more; returns for how many memory ran out.
-    fn serve_port<'f, D: Desk, V: WatchEach>(
+    fn serve_port<'f, Q: Port, D: Desk, V: WatchEach>(
         &'f self,
         folder: &'f str,
-        port: &mut P,
+        port: &mut Q,
         room: Connections<V::Seen>,
         desk: &mut D,
         watch: &V,
     ) -> u64
-        requires fresh { (k : ℕ) → P.slots port.old k ≡ unused }
-        requires none { P.accepted port.old ≡ 0 }
-        requires many { room ≡ (P.terms port.old).capacity }
+        requires fresh { (k : ℕ) → Q.slots port.old k ≡ unused }
+        requires none { Q.accepted port.old ≡ 0 }
+        requires many { room ≡ (Q.terms port.old).capacity }
         ensures served { HasTalked (IsUse (D.path desk.old) IsTime ((edges self.now).sizes folder.now) ((edges self.now).reads folder.now))
             (D.content_type desk.old) D.steps desk.old desk.new
-            (record { terms = P.terms port.new; slots = P.slots port.new; accepted = P.accepted port.new; lost = result }) }
-        ensures over { P.is_over port.new }
-        ensures terms { P.terms port.new ≡ P.terms port.old };
+            (record { terms = Q.terms port.new; slots = Q.slots port.new; accepted = Q.accepted port.new; lost = result }) }
+        ensures over { Q.is_over port.new }
+        ensures terms { Q.terms port.new ≡ Q.terms port.old };
 }
