@@ -7,10 +7,12 @@ use Rattle.std.specs.Str.{bytes_eq}
 use Rattle.std.proofs.lemmas.Bool.{and_parts, cases_lt, eqb-true, false_from_ne_true, leb-true}
 use Rattle.std.proofs.lemmas.Bool.Decides.{nat_tests, same_from_decides, Decides-like}
 use Rattle.std.proofs.lemmas.List.{get_or_past}
+use Rattle.std.proofs.lemmas.Option.{get_or_from_slice_get, slice_get_cases}
 use Rattle.std.proofs.lemmas.Slice.Eq.{bytes_eq-Decides}
 use Rattle.std.specs.Prelude.{Result, Ok}
 use Rattle.std.specs.Result.{result_ok}
 use Rattle.values.specs.Lists.{IsOnce}
+use Rattle.values.proofs.OnceLemmas.{position-once}
 use Rattle.hex.specs.Hex.{IsBytes, decode_sized, encode_lower, encode_with, hex_digit_value, lower_digits}
 use Rattle.hex.specs.declared.error.FromHexError.{FromHexError}
 use Rattle.hex.proofs.HexLemmas.{IsDigits-lower_digits, decode_sized-encode_lower}
@@ -180,3 +182,38 @@ hashes_at-once apps index valid = cases (slice_get apps index) refl
     cases : (found : Option App) → slice_get apps index ≡ found → IsOnce has_hash (option_map_or (λ app. app.releases) found [])
     cases None nowhere = λ hash. omega arith
     cases (Some app) there = (at_index IsValidApp apps index app valid.apps_valid there).hashes_once
+
+-- an item at an index is within the list
+within_from_there : {A : Type 0} (items : List A) (index : ℕ) (item : A)
+    → slice_get items index ≡ Some item → index < length items
+within_from_there items index item there = elim (slice_get_cases items index).1 [
+  | inl within ↦ within.1
+  | inr past ↦
+      let nothing : None ≡ Some item = sym past.1 ∙ there in
+      cc
+]
+
+-- what holds of all items holds of the one at an index
+good_at : {A : Type 0} (good : A → Bool) (items : List A) (index : ℕ) (item : A)
+    → list_all good items ≡ true → slice_get items index ≡ Some item → good item ≡ true
+good_at good [] index item all there = cc
+good_at good (first ∷ items) zero item all there =
+    let same : first ≡ item = cc in
+    rw (← same) (and_parts _ _ all).0
+good_at good (first ∷ items) (suc index) item all there = good_at good items index item (and_parts _ _ all).1 there
+
+-- in a valid content a release that has a fingerprint is the one that has it
+pub position-fingerprint : (apps : List App) (app index : ℕ) (release : Release) (fp : List ℕ) → IsValid apps
+    → slice_get (releases_at apps app) index ≡ Some release → has_fingerprint fp release ≡ true
+    → position (has_fingerprint fp) (releases_at apps app) ≡ Some index
+position-fingerprint apps app index release fp valid there has =
+    let releases = releases_at apps app in
+    let good = good_at (is_valid_release (cohorts_at apps app)) releases index release (releases_at-good apps app valid) there in
+    let hash = and_parts _ _ (and_parts _ _ (and_parts _ _ good).0).1 in
+    let spelled : fp ≡ fingerprint_with release.hash = (bytes_eq-Decides fp (fingerprint_with release.hash)).0 has in
+    let is : IsHashOf fp (Some release.hash) = (spelled, IsBytes-small release.hash hash.1) in
+    let own : has_hash release.hash release ≡ true = (bytes_eq-Decides release.hash release.hash).1 refl in
+    let here : position (has_hash release.hash) releases ≡ Some index =
+    position-once (has_hash release.hash) releases index (hashes_at-once apps app valid release.hash) (within_from_there releases index release there)
+    (λ other. ap (has_hash release.hash) (get_or_from_slice_get releases index release other there) ∙ own) in
+    sym (position-has_hash fp release.hash releases is) ∙ here

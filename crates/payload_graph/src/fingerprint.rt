@@ -1,11 +1,11 @@
 //! Fingerprints of releases: `1.` and the 64 lower-case hexadecimal digits of a hash.
 
-ghost use Rattle.std.specs.Prelude.{◌≡◌, ◌<◌, length, position};
+ghost use Rattle.std.specs.Prelude.{◌≡◌, ◌<◌, IfSome, Some, length, position};
 ghost use Rattle.hex.specs.Hex.{encode_lower};
-ghost use Rattle.records.specs.Lookups.{has_hash, releases_at};
+ghost use Rattle.records.specs.Lookups.{releases_at};
 ghost use Rattle.payload_graph.specs.Places.{has_fingerprint, IsHashOf};
 
-use catalogue::Catalogue;
+use catalogue::{Catalogue, Release};
 use hex::FromHex;
 use version::Version;
 
@@ -29,24 +29,34 @@ fn parse_fingerprint(fp: &str) -> Option<[u8; 32]>
     Some(hash)
 }
 
-// Finds the index of the release of a hash. The release of the client's version is looked at first: mostly that is
-// the one.
-fn find_hash(catalogue: &Catalogue, app: usize, hash: &[u8; 32], version: &Version) -> Option<usize>
+// Whether a release has a fingerprint. It compares digits, and decodes none.
+fn is_of(fp: &str, release: &Release) -> bool
+    ensures { result ≡ has_fingerprint fp.now release.now }
+{
+    match fp.as_bytes().strip_prefix(b"1.") {
+        Some(digits) => digits == encode_digits(release.hash).as_slice(),
+        None => false,
+    }
+}
+
+// Finds the index of the release of the client's version, if it has the fingerprint.
+fn find_installed(catalogue: &Catalogue, app: usize, fp: &str, version: &Version) -> Option<usize>
     requires { app < length catalogue.now }
-    ensures { result ≡ position (has_hash hash.now) (releases_at catalogue.now app) }
+    ensures { IfSome result (λ index. position (has_fingerprint fp.now) (releases_at catalogue.now app) ≡ Some index) }
 {
     catalogue.validity();
-    if let Some(index) = catalogue.find_release(app, version) {
-        if let Some(release) = catalogue.releases(app).get(index) {
-            if *hash == release.hash {
-                return Some(index);
-            }
-        }
+    let index = catalogue.find_release(app, version)?;
+    let release = catalogue.releases(app).get(index)?;
+    if is_of(fp, release) {
+        Some(index)
+    } else {
+        None
     }
-    catalogue.find_hash(app, hash)
 }
 
 /// Finds the index of the release that has a fingerprint, whatever the client's version.
+///
+/// The release of that version is looked at first: mostly it is the one.
 pub(crate) fn find_fingerprint(
     catalogue: &Catalogue,
     app: usize,
@@ -57,6 +67,9 @@ pub(crate) fn find_fingerprint(
     ensures { result ≡ position (has_fingerprint fp.now) (releases_at catalogue.now app) }
 {
     catalogue.validity();
+    if let Some(index) = find_installed(catalogue, app, fp, version) {
+        return Some(index);
+    }
     let hash = parse_fingerprint(fp)?;
-    find_hash(catalogue, app, &hash, version)
+    catalogue.find_hash(app, &hash)
 }
