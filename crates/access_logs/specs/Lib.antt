@@ -1,1 +1,5 @@
 pub mod Lines
+pub mod Replies
+pub mod Entries
+pub mod Logs
+pub mod Sights

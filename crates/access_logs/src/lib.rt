@@ -16,12 +16,19 @@
 
 mod cut;
 mod entry;
+mod kept;
 mod lines;
 mod log;
+mod logged;
+mod logged_port;
 mod message;
+mod port_log;
 mod seen;
 mod times;
 
 pub use crate::cut::{CutReply, LastReply};
 pub use crate::log::{AccessLog, ReplyLog};
+pub use crate::logged::Logged;
+pub use crate::logged_port::LoggedPort;
+pub use crate::port_log::PortLog;
 pub use crate::seen::Seen;

@@ -99,6 +99,13 @@ impl LineSender {
         }
     }
 
+    /// Counts a line as lost that isn't sent.
+    pub fn lose(&mut self)
+        ensures { Loses self.old self.new }
+    {
+        self.lost = self.lost.saturating_add(1);
+    }
+
     // rule: Note of lost lines
     /// Ends a sender. If lines were lost after the last one that went, it sends one more line, which says how many.
     ///

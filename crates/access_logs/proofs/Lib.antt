@@ -1,0 +1,4 @@
+pub mod LineLemmas
+pub mod PlaceLemmas
+pub mod LogLemmas
+pub mod SeenLemmas
