@@ -2,3 +2,5 @@ pub mod LineLemmas
 pub mod PlaceLemmas
 pub mod LogLemmas
 pub mod SeenLemmas
+pub mod BeginLemmas
+pub mod PortLemmas

@@ -85,8 +85,10 @@ impl<P: Port, C: Clock> Port for LoggedPort<'_, P, C> {
 
     fn timestamp(&mut self, slot: usize, waiting: Option<&[u8]>) -> u64 {
         let seconds = self.port.timestamp(slot, waiting);
-        if let (Some(log), Some(bytes)) = (&mut self.log, waiting) {
-            log.begin(slot, self.clock.now(), bytes);
+        if let Some(bytes) = waiting {
+            if let Some(log) = &mut self.log {
+                log.begin(slot, self.clock.now(), bytes);
+            }
         }
         seconds
     }
@@ -97,8 +99,10 @@ impl<P: Port, C: Clock> Port for LoggedPort<'_, P, C> {
 
     fn write(&mut self, slot: usize, bytes: &[u8]) -> Sent {
         let sent = self.port.write(slot, bytes);
-        if let (Some(log), Sent::Bytes(count)) = (&mut self.log, sent) {
-            log.write(slot, &bytes[..count]);
+        if let Sent::Bytes(count) = sent {
+            if let Some(log) = &mut self.log {
+                log.write(slot, &bytes[..count]);
+            }
         }
         sent
     }
