@@ -1,57 +1,54 @@
-ghost use Rattle.std.specs.Prelude.{◌≡◌, ◌≤◌, [], ℕ, IfSome, None, Some, is_some, length};
+ghost use Rattle.std.specs.Prelude.{◌≡◌, ◌≤◌, [], ℕ, None, Some, length};
 ghost use Rattle.http_ports.specs.Traffic.{Traffic, unused};
 ghost use Rattle.access_logs.specs.Logs.{IsLogOf};
 ghost use Rattle.access_logs.specs.Replies.{begins_of, latest_begin};
-ghost use Rattle.access_logs.specs.Sights.{LogSight, sees, sight_of};
+ghost use Rattle.access_logs.specs.Sights.{sees, sight_of};
 
 use crate::port_log::PortLog;
 use http_desks::Clock;
-use http_ports::{Event, Port, Received, Sent};
+use http_ports::{Event, Port, Received, Sent, Terms};
 use log_queues::LineSender;
 use std::net::IpAddr;
 
-/// A port whose replies are logged, if there is a log.
+/// A port whose replies are logged. What passes there is what passes at the port that it has.
 #[derive(Drop)]
 pub struct LoggedPort<'c, P: Port, C: Clock> {
-    port: P,
-    log: Option<PortLog>,
-    clock: &'c C,
+    /// The port.
+    pub port: P,
+    /// Its log.
+    pub log: PortLog,
+    /// What gives the times of the lines.
+    pub clock: &'c C,
     ghost begun: { (k : ℕ) (traffic : Traffic) → (P.slots port k).current ≡ Some traffic
         → latest_begin (begins_of traffic.timestamps) ≤ length traffic.sent },
-    ghost places: { (seen : LogSight) → log ≡ Some seen → length seen.going ≡ (P.terms port).capacity },
-    ghost tied: { (seen : LogSight) → log ≡ Some seen → (k : ℕ) → sees seen k ≡ sight_of (P.slots port k) },
+    ghost places: { length log.going ≡ (P.terms port).capacity },
+    ghost tied: { (k : ℕ) → sees log k ≡ sight_of (P.slots port k) },
 }
 
 impl<'c, P: Port, C: Clock> LoggedPort<'c, P, C> {
-    /// Has a new port log its replies by a log of as many slots, with the times of a clock; without a log it is served as it
-    /// is, and nothing is kept.
-    pub fn new(port: P, log: Option<PortLog>, clock: &'c C) -> LoggedPort<'c, P, C>
+    /// Has a new port log its replies, by a log of as many slots at which nothing has happened, with the times of a clock.
+    pub fn new(port: P, log: PortLog, clock: &'c C) -> LoggedPort<'c, P, C>
         requires fresh { (k : ℕ) → P.slots port k ≡ unused }
-        requires places { IfSome log (λ seen. length seen.going ≡ (P.terms port).capacity) }
-        requires empty { IfSome log (λ seen. (k : ℕ) → sees seen k ≡ record { done = []; going = None }) }
+        requires places { length log.going ≡ (P.terms port).capacity }
+        requires empty { (k : ℕ) → sees log k ≡ record { done = []; going = None } }
         ensures { result.port ≡ port }
     {
         LoggedPort { port, log, clock }
     }
 
     // rule: Log of a port
-    /// Gives the port, and the sender of its log.
-    pub fn into_parts(self) -> (P, Option<LineSender>)
+    /// Gives the port, and the sender of its log's lines.
+    pub fn into_parts(self) -> (P, LineSender)
         ensures port { result.0 ≡ self.entry.port }
-        ensures logs { is_some result.1 ≡ is_some self.entry.log }
-        ensures log { IfSome result.1 (IsLogOf (P.slots result.0)) }
+        ensures log { IsLogOf (P.slots result.0) result.1 }
     {
         let LoggedPort { port, log, .. } = self;
-        match log {
-            Some(log) => {
-                let (lines, _) = log.into_lines();
-                (port, Some(lines))
-            }
-            None => (port, None),
-        }
+        let (lines, _) = log.into_lines();
+        (port, lines)
     }
 }
 
+// rule: Log of a port
 impl<P: Port, C: Clock> Port for LoggedPort<'_, P, C> {
     ghost slots = { λ port. P.slots port.port };
 
@@ -67,8 +64,8 @@ impl<P: Port, C: Clock> Port for LoggedPort<'_, P, C> {
         self.port.peer(slot)
     }
 
-    fn capacity(&self) -> usize {
-        self.port.capacity()
+    fn terms(&self) -> Terms {
+        self.port.terms()
     }
 
     fn has_accepted_all(&self) -> bool {
@@ -77,8 +74,8 @@ impl<P: Port, C: Clock> Port for LoggedPort<'_, P, C> {
 
     fn wait(&mut self) -> Event {
         let event = self.port.wait();
-        if let (Some(log), Event::Accepted(slot)) = (&mut self.log, event) {
-            log.accept(slot, self.port.peer(slot));
+        if let Event::Accepted(slot) = event {
+            self.log.accept(slot, self.port.peer(slot));
         }
         event
     }
@@ -86,9 +83,7 @@ impl<P: Port, C: Clock> Port for LoggedPort<'_, P, C> {
     fn timestamp(&mut self, slot: usize, waiting: Option<&[u8]>) -> u64 {
         let seconds = self.port.timestamp(slot, waiting);
         if let Some(bytes) = waiting {
-            if let Some(log) = &mut self.log {
-                log.begin(slot, self.clock.now(), bytes);
-            }
+            self.log.begin(slot, self.clock.now(), bytes);
         }
         seconds
     }
@@ -100,9 +95,7 @@ impl<P: Port, C: Clock> Port for LoggedPort<'_, P, C> {
     fn write(&mut self, slot: usize, bytes: &[u8]) -> Sent {
         let sent = self.port.write(slot, bytes);
         if let Sent::Bytes(count) = sent {
-            if let Some(log) = &mut self.log {
-                log.write(slot, &bytes[..count]);
-            }
+            self.log.write(slot, &bytes[..count]);
         }
         sent
     }
@@ -113,8 +106,6 @@ impl<P: Port, C: Clock> Port for LoggedPort<'_, P, C> {
 
     fn close(&mut self, slot: usize) {
         self.port.close(slot);
-        if let Some(log) = &mut self.log {
-            log.end(slot, self.clock.now());
-        }
+        self.log.end(slot, self.clock.now());
     }
 }
