@@ -9,13 +9,20 @@
 
 #![tactic(auto)]
 
+pub mod laws;
 mod notes;
+mod opening;
 mod page;
+mod rings;
 mod sender;
 mod signal;
+mod task;
+mod thread;
 mod writer;
 
+pub use crate::opening::{Log, open_log};
 pub use crate::page::Page;
 pub use crate::sender::{EndedSender, LineSender};
 pub use crate::signal::Signal;
-pub use crate::writer::{Log, LogWriter, open_log, start_writer};
+pub use crate::thread::{WriterTask, WriterThread, start_writer};
+pub use crate::writer::LogWriter;
