@@ -1,5 +1,5 @@
 -- What has been written in several rounds.
-use Rattle.std.proofs.Common.{◌≡◌, ◌∙◌, ◌+◌, ℕ, zero, suc, Bool, List, refl, sym, subst}
+use Rattle.std.proofs.Common.{ℕ, zero, suc, Bool, List, refl, sym, subst}
 use Rattle.streams.specs.Streams.{Known}
 use Rattle.log_queues.specs.Queues.{HaveWritten, HaveLogged, WrittenIn}
 

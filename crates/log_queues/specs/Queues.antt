@@ -100,7 +100,6 @@ WrittenIn (suc rounds) befores afters old new was_cut is_cut =
     × HaveWritten befores middles old between was_cut was_between
     × WrittenIn rounds middles afters between new was_between is_cut
 
--- rule: Written log
 -- what was received from each sender in the meantime was written, round after round, and nothing else
 abbrev pub HaveLogged : List (List ℕ) → List (List ℕ) → Known → Known → Bool → Bool → Type 0
 HaveLogged befores afters old new was_cut is_cut = (rounds : ℕ) × WrittenIn rounds befores afters old new was_cut is_cut

@@ -2,19 +2,16 @@
 
 ghost use Rattle.log_queues.specs.Laws.{EndsStay, LogsTwice, LogsOn};
 
-// rule: Written log
 /// States that what was logged, and then written in one more round, was logged.
 pub fn logs_on()
     ensures { LogsOn }
 {}
 
-// rule: Written log
 /// States that what was logged twice in a row was logged.
 pub fn logs_twice()
     ensures { LogsTwice }
 {}
 
-// rule: Written log
 /// States that senders have ended that had the other ends of a writer's rings: sending, ending and writing keep which rings
 /// they are.
 pub fn ends_stay()
