@@ -4,7 +4,7 @@ use crate::writers::Paper;
 use log_queues::{LineSender, Page, Signal, open_log, start_writer};
 use std::alloc::Global;
 use std::io::Write;
-use std::sync::{Mutex, Wait};
+use std::sync::Wait;
 use std::thread;
 use std::thread::Threads;
 
@@ -140,7 +140,7 @@ fn send_ten(senders: &mut [LineSender], signal: &Signal) {
 fn send_beside<R: Threads + Wait + Sync>(
     rt: &R,
     alloc: Global,
-    page: &Mutex<Page<'_, Paper>>,
+    page: &mut Page<'_, Paper>,
 ) -> bool {
     let Ok(log) = open_log(alloc, 3, 64) else {
         return false;
@@ -148,20 +148,43 @@ fn send_beside<R: Threads + Wait + Sync>(
     let mut senders = log.senders;
     let (writer, signal) = (log.writer, log.signal);
     thread::scope(thread::scope_env(), rt, |scope| -> bool {
-        let is_started = start_writer(scope, rt, writer, page);
+        let Some(thread) = start_writer(scope, rt, writer, page) else {
+            return false;
+        };
         send_ten(&mut senders, &signal);
-        is_started
+        let (mut writer, page) = thread.join(rt);
+        !writer.write_now(page)
     })
 }
 
-// Whether three senders' lines are all written in a thread of its own.
+// Whether three senders' lines are all written in a thread of its own, so that nothing is left.
 fn is_written<R: Threads + Wait + Sync>(rt: &R, alloc: Global) -> bool {
     let mut all = paper(alloc, 0, 0);
-    let is_started = send_beside(rt, alloc, &Mutex::new(Page::new(&mut all)));
-    is_started && all.bytes.len() == 150
+    let is_all = send_beside(rt, alloc, &mut Page::new(&mut all));
+    is_all && all.bytes.len() == 150
 }
 
+// rule: Written log
 #[test]
 fn a_writer_ends_once_all_is_written(rt: HostRuntime) {
     assert!(rt; is_written(&rt, rt.alloc()));
+}
+
+// Sends a line and ends, and has the rest written; whether it was written.
+fn writes_rest(alloc: Global, paper: &mut Paper) -> Option<bool> {
+    let log = open_log(alloc, 1, 64).ok()?;
+    let (mut senders, mut writer) = (log.senders, log.writer);
+    let mut sender = senders.pop()?;
+    sender.send(b"line\n");
+    let mut ended = Vec::new(alloc);
+    ended.push(sender.finish()).ok()?;
+    writer.write_rest(ended, &mut Page::new(paper));
+    Some(paper.bytes.as_slice() == b"line\n".as_slice())
+}
+
+// rule: Written log
+#[test]
+fn what_is_left_of_ended_senders_is_written(rt: HostRuntime) {
+    let mut all = paper(rt.alloc(), 0, 0);
+    assert!(rt; writes_rest(rt.alloc(), &mut all) == Some(true));
 }

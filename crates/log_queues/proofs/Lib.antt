@@ -1,2 +1,4 @@
 mod PageLemmas
+mod RingLemmas
+mod RoundLemmas
 mod WrittenLemmas

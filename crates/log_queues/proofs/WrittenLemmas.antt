@@ -58,9 +58,9 @@ WrittenTo-all f (suc n) (x ∷ xs) [] old new was is most to = to
 WrittenTo-all f (suc n) (x ∷ xs) (y ∷ ys) old new was is most (between, was_between, one, rest) =
     (between, was_between, one, WrittenTo-all f n xs ys between new was_between is (omega (arith, most)) rest)
 
--- a ring through which nothing came leaves what was received as it was
+-- an element that has what the one before it had leaves all as they were
 pub map-set_same :
-    {T : Type 0} (f : T → List ℕ) (n : ℕ) (ys : List T) (d y : T) → f y ≡ f (get_or ys n d) → map f (set ys n y) ≡ map f ys
+    {T U : Type 0} (f : T → U) (n : ℕ) (ys : List T) (d y : T) → f y ≡ f (get_or ys n d) → map f (set ys n y) ≡ map f ys
 map-set_same f n [] d y same = refl
 map-set_same f zero (head ∷ ys) d y same = ap (λ xs. xs ∷ map f ys) same
 map-set_same f (suc n) (head ∷ ys) d y same = ap (λ xss. f head ∷ xss) (map-set_same f n ys d y same)

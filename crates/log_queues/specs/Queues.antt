@@ -3,17 +3,45 @@ use Rattle.std.specs.Prelude.{◌≡◌, ◌+◌, ◌-◌, ◌^◌, ℕ, zero, s
 use Rattle.std.specs.Io.KnownBytes.{Appends}
 use Rattle.streams.specs.Streams.{Known}
 use Rattle.streams.specs.Writing.{Breaks}
+use Rattle.std.specs.declared.alloc.Global.{Global}
+use Rattle.rtrb.specs.Ring.{IsPair, consumer_capacity, producer_capacity}
+use Rattle.rtrb.specs.declared.AnyItems.{AnyItems}
+use Rattle.rtrb.specs.declared.consumer.Consumer.{Consumer}
+use Rattle.rtrb.specs.declared.producer.Producer.{Producer}
 
--- what a sender has sent so far, how many lines it has lost since the last one that it sent, and how much room it knows
--- of in its ring, without the room that it keeps for its last note
+-- the end of a ring that a sender has
+abbrev pub SendingEnd : Type 0
+SendingEnd = Producer ℕ Global AnyItems
+
+-- the end of a ring that a log's writer has
+abbrev pub ReceivingEnd : Type 0
+ReceivingEnd = Consumer ℕ Global AnyItems
+
+-- the two are the ends of one ring, with as much room at both
+abbrev pub AreEnds : SendingEnd → ReceivingEnd → Type 0
+AreEnds sending receiving = IsPair sending receiving × (producer_capacity sending ≡ consumer_capacity receiving)
+
+-- a sender's end of its ring, what it has sent so far, how many lines it has lost since the last one that it sent, and how
+-- much room it knows of in its ring, without the room that it keeps for its last note
 pub record Sending : Type 0 where
+  pub end : SendingEnd
   pub sent : List ℕ
   pub lost : ℕ
   pub free : ℕ
 
+-- the end of its ring that a sender had that has ended, and all that it has sent
+pub record Ended : Type 0 where
+  pub end : SendingEnd
+  pub sent : List ℕ
+
+-- a writer's ends of its rings, and what it has received so far through each
+pub record Receiving : Type 0 where
+  pub ends : List ReceivingEnd
+  pub received : List (List ℕ)
+
 -- a sender that has sent nothing, with room for so many bytes
-abbrev pub opened : ℕ → Sending
-opened bytes = record { sent = []; lost = 0; free = bytes }
+abbrev pub IsOpened : ℕ → Sending → Type 0
+IsOpened bytes sender = (sender.sent ≡ []) × (sender.lost ≡ 0) × (sender.free ≡ bytes)
 
 -- the line that says how many were lost
 abbrev pub note_string : ℕ → List ℕ
@@ -63,3 +91,15 @@ HaveWritten (before ∷ befores) [] old new was_cut is_cut = ⊥
 HaveWritten (before ∷ befores) (after ∷ afters) old new was_cut is_cut =
     (between : Known) × (was_between : Bool) × HasWritten before after old between was_cut was_between
     × HaveWritten befores afters between new was_between is_cut
+
+-- what was received from each sender in the meantime was written in so many rounds, and nothing else
+abbrev pub WrittenIn : ℕ → List (List ℕ) → List (List ℕ) → Known → Known → Bool → Bool → Type 0
+WrittenIn zero befores afters old new was_cut is_cut = (afters ≡ befores) × (new ≡ old) × (is_cut ≡ was_cut)
+WrittenIn (suc rounds) befores afters old new was_cut is_cut =
+    (middles : List (List ℕ)) × (between : Known) × (was_between : Bool)
+    × HaveWritten befores middles old between was_cut was_between
+    × WrittenIn rounds middles afters between new was_between is_cut
+
+-- what was received from each sender in the meantime was written, round after round, and nothing else
+abbrev pub HaveLogged : List (List ℕ) → List (List ℕ) → Known → Known → Bool → Bool → Type 0
+HaveLogged befores afters old new was_cut is_cut = (rounds : ℕ) × WrittenIn rounds befores afters old new was_cut is_cut

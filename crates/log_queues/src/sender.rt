@@ -1,5 +1,5 @@
 ghost use Rattle.std.specs.Prelude.{◌≡◌, ◌⊎◌, ◌++◌, ◌≤◌, IsOk, IsTrue, IsFalse, Ok, length};
-ghost use Rattle.rtrb.specs.Ring.{known_free};
+ghost use Rattle.rtrb.specs.Ring.{SameProducer, known_free};
 ghost use Rattle.log_queues.specs.Queues.{Loses, Sends, note_of};
 
 use crate::notes::{MAX_NOTE, after_note, lost_note};
@@ -30,7 +30,12 @@ impl Model for LineSender {
 
     ghost Value = { Sending };
 
-    ghost view = { λ sender. record { sent = sent sender.ring; lost = sender.lost; free = known_free sender.ring - 61 } };
+    ghost view = { λ sender. record {
+      end = sender.ring;
+      sent = sent sender.ring;
+      lost = sender.lost;
+      free = known_free sender.ring - 61;
+    } };
 
     ghost invariant = { λ _. Unit {0} };
 }
@@ -38,16 +43,16 @@ impl Model for LineSender {
 /// A sender that has ended: what it has sent is all that comes from it.
 #[derive(Drop)]
 pub struct EndedSender {
-    ring: Producer<u8>,
+    pub(crate) ring: Producer<u8>,
 }
 
 impl Model for EndedSender {
-    ghost use Rattle.std.specs.Prelude.{ℕ, List};
     ghost use Rattle.rtrb.specs.Ring.{sent};
+    ghost use Rattle.log_queues.specs.Queues.{Ended};
 
-    ghost Value = { List ℕ };
+    ghost Value = { Ended };
 
-    ghost view = { λ ended. sent ended.ring };
+    ghost view = { λ ended. record { end = ended.ring; sent = sent ended.ring } };
 
     ghost invariant = { λ _. Unit {0} };
 }
@@ -59,6 +64,7 @@ impl LineSender {
         ensures full { IsFalse result → self.new.sent ≡ self.old.sent }
         ensures fits { length bytes.now ≤ self.old.free → IsTrue result }
         ensures lost { self.new.lost ≡ self.old.lost }
+        ensures ring { SameProducer self.old.end self.new.end }
     {
         let room = self.ring.slots();
         if room - MAX_NOTE < bytes.len() {
@@ -73,6 +79,7 @@ impl LineSender {
         ensures full { IsFalse result → self.new.sent ≡ self.old.sent }
         ensures fits { self.old.lost ≡ 0 → length line.now ≤ self.old.free → IsTrue result }
         ensures lost { self.new.lost ≡ self.old.lost }
+        ensures ring { SameProducer self.old.end self.new.end }
     {
         if self.lost == 0 {
             return self.push(line);
@@ -90,6 +97,7 @@ impl LineSender {
     pub fn send(&mut self, line: &[u8])
         ensures sends { Sends self.old self.new line.now ⊎ Loses self.old self.new }
         ensures fits { self.old.lost ≡ 0 → length line.now ≤ self.old.free → Sends self.old self.new line.now }
+        ensures ring { SameProducer self.old.end self.new.end }
     {
         if self.push_noted(line) {
             self.lost = 0;
@@ -111,7 +119,8 @@ impl LineSender {
     ///
     /// There is always room for that line. Senders are finished before the log's signal ends.
     pub fn finish(self) -> EndedSender
-        ensures { result ≡ self.sent ++ note_of self.lost }
+        ensures sent { result.sent ≡ self.sent ++ note_of self.lost }
+        ensures ring { SameProducer self.end result.end }
     {
         let mut ring = self.ring;
         if self.lost > 0 {
@@ -133,6 +142,7 @@ impl Write for LineSender {
     fn write(&mut self, bytes: &[u8]) -> io::Result<usize>
         ensures taken { result ≡ Ok (length bytes.now) }
         ensures sends { Sends self.old self.new bytes.now ⊎ Loses self.old self.new }
+        ensures ring { SameProducer self.old.end self.new.end }
     {
         self.send(bytes);
         Ok(bytes.len())

@@ -1,7 +1,8 @@
-use Rattle.std.proofs.Common.{◌≡◌, map, IsFalse, IsTrue}
-use Rattle.rtrb.specs.Ring.{received}
+use Rattle.std.proofs.Common.{◌≡◌, map, length, IsFalse, IsTrue}
+use Rattle.std.specs.List.{AllZip}
+use Rattle.rtrb.specs.Ring.{SameConsumer, received}
 use Rattle.log_queues.proofs.WrittenLemmas.{WrittenTo}
-use Rattle.log_queues.proofs.writer.write_rings.Given as goal
+use Rattle.log_queues.proofs.rings.write_rings.Given as goal
 
 -- the rings before the index are done
 abbrev pub invariant-loop-ring : goal.invariant-loop-ring
@@ -13,4 +14,6 @@ invariant-loop-ring g l =
           l.fn.page.is_cut l.page.is_cut;
       none : IsFalse l.found → map received l.rings ≡ map received l.fn.rings;
       some : IsTrue l.found → map received l.rings ≡ map received l.fn.rings → ⊥;
+      same : AllZip SameConsumer l.fn.rings l.rings;
+      room : length l.room ≡ length l.fn.room;
     }

@@ -1,8 +1,19 @@
-use Rattle.std.proofs.Common.{◌∙◌, ◌<◌, length, true≢false, sym, arith}
+use Rattle.std.proofs.Common.{◌∙◌, ◌<◌, length, true≢false, refl, sym, arith}
 use Rattle.rtrb.specs.Ring.{received}
+use Rattle.log_queues.proofs.RingLemmas.{all-same, all-set}
 use Rattle.log_queues.proofs.WrittenLemmas.{WrittenTo-after, WrittenTo-all, map-set_same, none-before}
-use Rattle.log_queues.proofs.writer.write_rings.Goals as goal
-use Rattle.log_queues.proofs.writer.write_rings.Goals.{then-write_ring, else-write_ring}
+use Rattle.log_queues.proofs.rings.write_rings.Goals as goal
+use Rattle.log_queues.proofs.rings.write_rings.Goals.{then-write_ring, else-write_ring}
+
+pub loop-ring-init : goal.loop-ring-init
+loop-ring-init g c =
+    record {
+      written = (refl, refl, refl);
+      none = λ _. refl;
+      some = λ is. absurd (true≢false (sym is));
+      same = all-same c.args.rings.now;
+      room = refl;
+    }
 
 pub loop-ring-preserved : goal.loop-ring-preserved
 loop-ring-preserved g c =
@@ -20,11 +31,17 @@ loop-ring-preserved g c =
     none-before received index c.args.rings.now before.rings c.ring-item.result ring (output c.args.page.now.out.now)
     (output before.page.out.now) c.args.page.now.is_cut before.page.is_cut within before.invariant.written
     in
+    let same =
+    all-set index c.args.rings.now before.rings c.ring-item.result ring before.invariant.same c.write_ring.ensures.same
+    in
+    let room = c.write_ring.ensures.room ∙ before.invariant.room in
     elim c.if-write_ring.branch [
       | then-write_ring w ↦ record {
         written = next;
         none = λ not. absurd (true≢false (sym w.found-is ∙ not));
         some = λ is same. c.write_ring.ensures.some w.if-write_ring.true (nothing same).0;
+        same = same;
+        room = room;
       }
       | else-write_ring w ↦ record {
         written = next;
@@ -32,6 +49,8 @@ loop-ring-preserved g c =
             map-set_same received index before.rings c.ring-item.result ring (c.write_ring.ensures.none w.if-write_ring.false)
             ∙ before.invariant.none (sym w.found-is ∙ not);
         some = λ is same. before.invariant.some (sym w.found-is ∙ is) (nothing same).1;
+        same = same;
+        room = room;
       }
     ]
 
