@@ -1,5 +1,5 @@
-use Rattle.std.proofs.Common.{◌≡◌, ◌∙◌, ◌<◌, ◌≤◌, All, length, refl, sym, subst, arith}
-use Rattle.rtrb.specs.Ring.{consumer_capacity, received}
+use Rattle.std.proofs.Common.{◌∙◌, ◌<◌, ◌≤◌, length, refl, sym, arith}
+use Rattle.rtrb.specs.Ring.{received}
 use Rattle.log_queues.proofs.RingLemmas.{all-same, all-set, ends-at, ends-length, ends-set, roomy-at, roomy-same, taken-after, taken-all}
 use Rattle.log_queues.proofs.WrittenLemmas.{WrittenTo-after, WrittenTo-all, map-set_same}
 use Rattle.log_queues.proofs.rings.write_rests.Goals as goal
