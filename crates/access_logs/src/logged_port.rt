@@ -4,10 +4,10 @@ ghost use Rattle.access_logs.specs.Logs.{IsLogOf};
 ghost use Rattle.access_logs.specs.Replies.{begins_of, latest_begin};
 ghost use Rattle.access_logs.specs.Sights.{sees, sight_of};
 
+use crate::port_lines::PortLines;
 use crate::port_log::PortLog;
 use http_desks::Clock;
 use http_ports::{Event, Port, Received, Sent, Terms};
-use log_queues::LineSender;
 use std::net::IpAddr;
 
 /// A port whose replies are logged. What passes there is what passes at the port that it has.
@@ -37,14 +37,13 @@ impl<'c, P: Port, C: Clock> LoggedPort<'c, P, C> {
     }
 
     // rule: Log of a port
-    /// Gives the port, and the sender of its log's lines.
-    pub fn into_parts(self) -> (P, LineSender)
+    /// Gives the port, and what was sent to the log, whose sender it ends.
+    pub fn into_parts(self) -> (P, PortLines)
         ensures port { result.0 ≡ self.entry.port }
-        ensures log { IsLogOf (P.slots result.0) result.1 }
+        ensures log { IsLogOf (P.slots result.0) result.1.logged }
     {
         let LoggedPort { port, log, .. } = self;
-        let (lines, _) = log.into_lines();
-        (port, lines)
+        (port, log.finish())
     }
 }
 

@@ -1,6 +1,6 @@
 ghost use Rattle.std.specs.Prelude.{◌≡◌, ◌≢◌, ◌⊎◌, ◌<◌, ◌++◌, ◌||◌, [], ℕ, List, IfOk, None, Some, length, option_map, vec_len};
 ghost use Rattle.http_ports.specs.Loops.{kept_at};
-ghost use Rattle.log_queues.specs.Queues.{Loses, Sending, Sends, opened};
+ghost use Rattle.log_queues.specs.Queues.{IsOpened, Loses, Sending, Sends};
 ghost use Rattle.access_logs.specs.Entries.{IsLineOf};
 ghost use Rattle.access_logs.specs.Replies.{Piece, piece_if};
 ghost use Rattle.access_logs.specs.Logs.{LogsAll, pieces_at};
@@ -8,6 +8,7 @@ ghost use Rattle.access_logs.specs.Sights.{begun, piece_of, sees};
 
 use crate::lines::line_of;
 use crate::logged::Logged;
+use crate::port_lines::PortLines;
 use crate::seen::Seen;
 use log_queues::LineSender;
 use std::alloc::{AllocError, Global};
@@ -27,15 +28,14 @@ pub struct PortLog {
 
 impl Model for PortLog {
     ghost use Rattle.std.specs.Prelude.{ℕ, map};
-    ghost use Rattle.log_queues.specs.Queues.{opened};
-    ghost use Rattle.access_logs.specs.Logs.{LogsAll};
+    ghost use Rattle.access_logs.specs.Logs.{HasLogged};
     ghost use Rattle.access_logs.specs.Sights.{LogSight, going_at};
 
     ghost Value = { LogSight };
 
     ghost view = { λ log. record { going = map going_at log.seens.items; logged = log.logged; sender = log.lines } };
 
-    ghost invariant = { λ log. (room : ℕ) × LogsAll (opened room) log.logged log.lines };
+    ghost invariant = { λ log. HasLogged log.logged log.lines };
 }
 
 // So many places, without a connection.
@@ -131,7 +131,7 @@ fn log_last(
 impl PortLog {
     /// Makes the log of so many slots, at which nothing has happened, over a sender that has sent nothing.
     pub fn new(alloc: Global, lines: LineSender, slots: usize) -> Result<PortLog, AllocError>
-        requires { lines ≡ opened lines.free }
+        requires { IsOpened lines.free lines }
         ensures slots { IfOk result (λ log. length log.going ≡ slots) }
         ensures empty { IfOk result (λ log. (k : ℕ) → sees log k ≡ record { done = []; going = None }) }
     {
@@ -214,13 +214,14 @@ impl PortLog {
         }
     }
 
-    // Gives the sender, and the replies that were logged.
-    pub(crate) fn into_lines(self) -> (LineSender, Trace<Logged>)
-        ensures lines { result.0 ≡ self.sender }
-        ensures logged { result.1 ≡ self.logged }
-        ensures sends { (room : ℕ) × LogsAll (opened room) result.1 result.0 }
+    // Ends the sender.
+    pub(crate) fn finish(self) -> PortLines
+        ensures { result.logged ≡ self.logged }
     {
         let PortLog { lines, logged, .. } = self;
-        (lines, logged)
+        PortLines {
+            sender: lines.finish(),
+            logged,
+        }
     }
 }

@@ -1,6 +1,5 @@
-use Rattle.std.proofs.Common.{◌≡◌, ◌∙◌, List, [], Option, None, map, sym, subst, ap}
+use Rattle.std.proofs.Common.{◌≡◌, ◌∙◌, List, [], Option, None, map, refl, sym, subst, ap}
 use Rattle.http_ports.specs.Loops.{kept_at}
-use Rattle.log_queues.specs.Queues.{opened}
 use Rattle.access_logs.specs.Logs.{LogsAll, pieces_at}
 use Rattle.access_logs.specs.Replies.{Piece}
 use Rattle.access_logs.specs.Sights.{Sight, going_at}
@@ -9,10 +8,11 @@ use Rattle.access_logs.proofs.PlaceLemmas.{kept_at-going}
 use Rattle.access_logs.proofs.port_log.PortLog.new.Goals as goal
 
 pub invariant_of-result : goal.invariant_of-result
-invariant_of-result c = (
-  c.args.lines.free,
-  subst (λ (entries : List Logged). LogsAll (opened c.args.lines.free) entries c.args.lines) (sym c.new.ensures) c.requires,
-)
+invariant_of-result c = record {
+  start = c.args.lines;
+  fresh = c.requires;
+  logs = subst (λ (entries : List Logged). LogsAll c.args.lines entries c.args.lines) (sym c.new.ensures) refl;
+}
 
 pub returns-clause-empty : goal.returns-clause-empty
 returns-clause-empty c = λ k.
