@@ -1,30 +1,30 @@
 // The log of a server, to which each of its threads sends lines.
 
 use crate::setup::Setup;
-use log_queues::{LineSender, Log, LogWriter, Page, Signal, WriterThread, open_log, start_writer};
+use log_queues::{LineSender, Log, LogWriter, Page, Signal, open_log};
 use std::alloc::{AllocError, Global};
 use std::fs::File;
-use std::sync::{Arc, Wait};
-use std::thread::{Scope, Threads};
+use std::sync::{Arc, Mutex, Wait};
+use std::thread::Scope;
 use streams::WriteWhole;
 
 // How many bytes of lines may wait for the log in each thread.
 const ROOM: usize = 1 << 19;
 
 /// What the lines of a server are written to: the standard error and a file, if they are.
-#[derive(Drop)]
+#[derive(Clone, Copy, Drop)]
 pub(crate) struct Outlets<'a, 'b, 'c, 'd, F: WriteWhole> {
     /// The standard error, if its log or what it says of itself is written there.
-    pub(crate) errors: Option<&'a mut Page<'b, F>>,
+    pub(crate) errors: Option<&'a Mutex<Page<'b, F>>>,
     /// The file of its log, at its end, if it has one.
-    pub(crate) file: Option<&'c mut Page<'d, File>>,
+    pub(crate) file: Option<&'c Mutex<Page<'d, File>>>,
 }
 
 /// What writes lines, to what, and what ends it.
 #[derive(Drop)]
 pub(crate) struct Writing<'a, 'b, F: WriteWhole> {
     /// What they are written to.
-    pub(crate) page: &'a mut Page<'b, F>,
+    pub(crate) page: &'a Mutex<Page<'b, F>>,
     /// What writes them.
     pub(crate) writer: LogWriter,
     /// What says that there are no more.
@@ -44,7 +44,7 @@ pub(crate) struct Writings<'a, 'b, 'c, 'd, F: WriteWhole> {
 pub(crate) fn open_lines<'a, 'b, F: WriteWhole>(
     alloc: Global,
     count: usize,
-    page: Option<&'a mut Page<'b, F>>,
+    page: Option<&'a Mutex<Page<'b, F>>>,
 ) -> Result<(Vec<LineSender>, Option<Writing<'a, 'b, F>>), AllocError> {
     let Some(page) = page else {
         return Ok((Vec::new(alloc), None));
@@ -94,22 +94,30 @@ pub(crate) fn open_outlets<'a, 'b, 'c, 'd, S, R: Wait + AllocGlobal, F: WriteWho
     Ok((senders, Writings { errors, file }))
 }
 
-/// The thread of what writes lines, and what ends it.
-#[derive(Drop)]
-pub(crate) struct Written<'s, 'p, R: Wait, F: WriteWhole + Send> {
-    /// The thread.
-    pub(crate) thread: WriterThread<'s, 'p, R, F>,
-    /// What says that there are no more lines.
-    pub(crate) signal: Arc<Signal, Global>,
+// Writes what the senders of a log send to a page, which no one else has until then.
+fn write_page<R: Wait, F: WriteWhole>(rt: &R, writer: LogWriter, page: &Mutex<Page<'_, F>>) {
+    let mut writer = writer;
+    let mut page = page.lock(rt);
+    writer.write_all(rt, &mut page);
+}
+
+// Does a job in a thread of its own; whether there can be one.
+fn start<'s, E, F: FnOnce() + Send + Drop + 's>(scope: &Scope<'s, E>, job: F) -> bool
+    requires { F.pre job }
+{
+    match scope.spawn(job) {
+        Ok(_) => true,
+        Err(_) => false,
+    }
 }
 
 /// Starts the thread of what writes lines, if there is something, and gives what ends it; or `None` if there can be no
 /// thread.
-pub(crate) fn start_writing<'s, 'p, E, R: Wait + Sync, F: WriteWhole + Send>(
+pub(crate) fn start_writing<'s, E, R: Wait + Sync, F: WriteWhole + Send>(
     scope: &Scope<'s, E>,
     rt: &'s R,
-    writing: Option<Writing<'s, 'p, F>>,
-) -> Option<Option<Written<'s, 'p, R, F>>> {
+    writing: Option<Writing<'s, '_, F>>,
+) -> Option<Option<Arc<Signal, Global>>> {
     let Some(writing) = writing else {
         return Some(None);
     };
@@ -118,17 +126,13 @@ pub(crate) fn start_writing<'s, 'p, E, R: Wait + Sync, F: WriteWhole + Send>(
         writer,
         signal,
     } = writing;
-    let thread = start_writer(scope, rt, writer, page)?;
-    Some(Some(Written { thread, signal }))
+    let is_started = start(scope, move || write_page(rt, writer, page));
+    if is_started { Some(Some(signal)) } else { None }
 }
 
-/// Says that there are no more lines, if there were some, and waits until they are written.
-pub(crate) fn end_writing<R: Threads + Wait, F: WriteWhole + Send>(
-    rt: &R,
-    written: Option<Written<'_, '_, R, F>>,
-) {
-    if let Some(Written { thread, signal }) = written {
+/// Says that there are no more lines, if there were some.
+pub(crate) fn end_writing(signal: Option<Arc<Signal, Global>>) {
+    if let Some(signal) = signal {
         signal.end();
-        let _ = thread.join(rt);
     }
 }

@@ -106,13 +106,13 @@ fn run_jobs<
                 return Err(ServerError::Thread);
             };
             let Some(file) = start_writing(scope, rt, file) else {
-                end_writing(rt, errors);
+                end_writing(errors);
                 return Err(ServerError::Thread);
             };
             let ran = run_with_tills(rt, rt.alloc(), mirrors.into_vec(), gate, jobs, own);
             setup.notes.lock(rt).end();
-            end_writing(rt, errors);
-            end_writing(rt, file);
+            end_writing(errors);
+            end_writing(file);
             let ended = ends_of(rt.alloc(), ran)?;
             let run = published_run(rt.alloc(), ended)?;
             Ok(run)
@@ -279,8 +279,8 @@ fn serve_with<
     kept: KeptService<K>,
     gate: &G,
     out: &mut O,
-    errors: Option<&mut Page<'_, F>>,
-    file: Option<&mut Page<'_, File>>,
+    errors: Option<&Mutex<Page<'_, F>>>,
+    file: Option<&Mutex<Page<'_, File>>>,
 ) -> Result<ServedPorts<P>, ServerError>
     ensures serves { Serves (S.edges setup.now.system.now) setup.now.place.now kept.service
         (begun kept.service.edition (K.first kept.records) (K.kept kept.records)).store (O.output out.old) (O.output out.new)
@@ -319,7 +319,7 @@ fn serve_on_errors<
     kept: KeptService<K>,
     gate: &G,
     out: &mut O,
-    errors: &mut Page<'_, F>,
+    errors: &Mutex<Page<'_, F>>,
 ) -> Result<ServedPorts<P>, ServerError>
     ensures serves { Serves (S.edges setup.now.system.now) setup.now.place.now kept.service
         (begun kept.service.edition (K.first kept.records) (K.kept kept.records)).store (O.output out.old) (O.output out.new)
@@ -328,7 +328,7 @@ fn serve_on_errors<
     ensures stocked { IsStockedFor (S.edges setup.now.system.now) setup.now.place.now kept.service.edition
         (O.output out.old) (O.output out.new) result }
 {
-    let none = None::<&'static mut Page<'static, File>>;
+    let none = None::<&'static Mutex<Page<'static, File>>>;
     let errors = Some(errors);
     let Some(path) = &setup.place.log else {
         return serve_with(setup, kept, gate, out, errors, none);
@@ -340,8 +340,8 @@ fn serve_on_errors<
     let Ok(mut file) = setup.system.open_log(path) else {
         return Err(ServerError::Log);
     };
-    let mut page = Page::new(&mut file);
-    let file = Some(&mut page);
+    let page = Mutex::new(Page::new(&mut file));
+    let file = Some(&page);
     serve_with(setup, kept, gate, out, errors, file)
 }
 
@@ -416,23 +416,22 @@ pub fn serve<
         traffic: &traffic,
     };
     if place.named.is_some() {
-        let mut page = Page::new(errors);
-        return serve_on_errors(&setup, kept, gate, out, &mut page);
+        let page = Mutex::new(Page::new(errors));
+        return serve_on_errors(&setup, kept, gate, out, &page);
     }
-    let none = None::<&'static mut Page<'static, File>>;
+    let none = None::<&'static Mutex<Page<'static, File>>>;
     let Some(path) = &place.log else {
-        let no_file = None::<&'static mut Page<'static, File>>;
-        return serve_with(&setup, kept, gate, out, none, no_file);
+        return serve_with(&setup, kept, gate, out, none, none);
     };
     let path = path.as_str();
     if is_dash(path) {
-        let mut page = Page::new(errors);
-        return serve_on_errors(&setup, kept, gate, out, &mut page);
+        let page = Mutex::new(Page::new(errors));
+        return serve_on_errors(&setup, kept, gate, out, &page);
     }
     let Ok(mut file) = system.open_log(path) else {
         return Err(ServerError::Log);
     };
-    let mut page = Page::new(&mut file);
-    let file = Some(&mut page);
+    let page = Mutex::new(Page::new(&mut file));
+    let file = Some(&page);
     serve_with(&setup, kept, gate, out, none, file)
 }
