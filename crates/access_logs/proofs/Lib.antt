@@ -4,3 +4,4 @@ pub mod LogLemmas
 pub mod SeenLemmas
 pub mod BeginLemmas
 pub mod PortLemmas
+pub mod FieldLemmas

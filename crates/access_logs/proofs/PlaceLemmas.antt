@@ -1,7 +1,6 @@
 -- What is kept for a slot: of one more slot, and of what contracts see of it.
-use Rattle.std.proofs.Common.{◌≡◌, ℕ, zero, suc, List, [], ◌∷◌, ◌++◌, length, map, Option, None, refl, ap}
+use Rattle.std.proofs.Common.{◌≡◌, ℕ, zero, suc, List, [], ◌∷◌, ◌++◌, map, Option, None, refl}
 use Rattle.http_ports.specs.Loops.{kept_at}
-use Rattle.access_logs.specs.Replies.{Piece}
 use Rattle.access_logs.specs.Sights.{going_at}
 use Rattle.access_logs.specs.declared.seen.Seen.{Seen}
 

@@ -7,7 +7,7 @@ use Rattle.http_ports.specs.Ports.{Closes, Reads, sending}
 use Rattle.http_ports.specs.Traffic.{Changes, Elsewhere, IsOpen, Slot, Traffic, no_traffic, timing, unused, with_ended, with_open}
 use Rattle.http_ports.specs.declared.event.Received.{Received}
 use Rattle.http_ports.specs.declared.event.Received.TheVariants as received
-use Rattle.access_logs.specs.Replies.{Piece, begins_of, done_at, done_of, ended_pieces, going_of, latest_begin, piece_if, with_done}
+use Rattle.access_logs.specs.Replies.{Piece, done_at, done_of, ended_pieces, going_of, piece_if, with_done}
 use Rattle.access_logs.specs.Sights.{LogSight, Sight, begun, sees, sight_of}
 use Rattle.access_logs.proofs.BeginLemmas.{IsBegun, sending_done, sending_going, timing-none_begun, timing-none_done, timing-none_going, timing-some_done, timing-some_going}
 use Rattle.access_logs.proofs.SeenLemmas.{sight_is}

@@ -1,5 +1,5 @@
 -- What is seen of a reply: the line of it, and what the log has of its slot.
-use Rattle.std.proofs.Common.{◌≡◌, ◌∙◌, ◌≤◌, ◌||◌, ℕ, Bool, true, false, List, ◌++◌, length, take, map, Option, Some, refl, sym, subst, ap}
+use Rattle.std.proofs.Common.{◌≡◌, ◌∙◌, ◌≤◌, ◌||◌, ℕ, Bool, true, false, List, length, take, map, Option, Some, refl, sym, subst, ap}
 use Rattle.http_ports.specs.Loops.{kept_at}
 use Rattle.access_logs.specs.Entries.{IsEntry, IsKept, IsLineOf, size_of}
 use Rattle.access_logs.specs.Lines.{IsLine}

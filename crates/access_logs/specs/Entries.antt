@@ -1,6 +1,8 @@
 -- What a line of the log says of a reply, by what is kept of it; this project's profile.
-use Rattle.std.specs.Prelude.{◌≡◌, ◌⊎◌, ◌<◌, ◌≤◌, ◌-◌, ◌^◌, ◌==◌, ◌||◌, ℕ, Bool, false, min, List, [], ◌∷◌, length, take, Some, if◌then◌else◌}
-use Rattle.httparse.specs.Grammar.{ReadsResponse, ResponseHead, print_response, status_code}
+use Rattle.std.specs.Prelude.{◌≡◌, ◌⊎◌, ◌<◌, ◌≤◌, ◌-◌, ◌^◌, ◌==◌, ◌||◌, ℕ, Bool, false, min, List, [], ◌∷◌, bytes_eq, codes, length, map, take, Option, None, Some, option_map, if◌then◌else◌}
+use Rattle.std.specs.Char.{to_ascii_lowercase}
+use Rattle.httparse.specs.Grammar.{ReadsRequest, ReadsResponse, RequestHead, ResponseHead, print_response, status_code}
+use Rattle.httparse.specs.Spans.{name_and_value}
 use Rattle.access_logs.specs.Lines.{IsLine}
 use Rattle.access_logs.specs.Replies.{Piece}
 use Rattle.access_logs.specs.declared.entry.Entry.{Entry}
@@ -37,10 +39,30 @@ IsOutcome kept size entry =
     × (entry.size ≡ size - length (print_response head)))
     ⊎ (((head : ResponseHead) (rest : List ℕ) → ReadsResponse kept head rest → 64 < length head.fields) × (entry.size ≡ 0))
 
+-- a field's name and value: the name is this one, in any case
+abbrev pub is_named : List ℕ → List ℕ × List ℕ → Bool
+is_named name field = bytes_eq (map to_ascii_lowercase field.0) (map to_ascii_lowercase name)
+
+-- the value of the first field of this name
+abbrev pub value_named : List ℕ → List (List ℕ × List ℕ) → Option (List ℕ)
+value_named name [] = None
+value_named name (field ∷ fields) = if is_named name field then Some field.1 else value_named name fields
+
+-- by the first bytes of a message: the page that referred to it and the program that asks, as its head says; or none, of a
+-- message that doesn't begin with a head of up to 64 fields
+abbrev pub IsAsker : List ℕ → Option (List ℕ) → Option (List ℕ) → Type 0
+IsAsker kept referrer agent =
+    ((head : RequestHead) × (rest : List ℕ) × ReadsRequest kept head rest
+    × (referrer ≡ value_named (codes "referer") (map name_and_value head.fields))
+    × (agent ≡ value_named (codes "user-agent") (map name_and_value head.fields)))
+    ⊎ (((head : RequestHead) (rest : List ℕ) → ReadsRequest kept head rest → 64 < length head.fields)
+    × (referrer ≡ None) × (agent ≡ None))
+
 -- what an entry says of a reply, by what is kept of its message and of itself
 pub record IsEntry (message reply : List ℕ) (size : ℕ) (entry : Entry) : Type 0 where
   pub line : entry.line.now ≡ first_line message
   pub outcome : IsOutcome reply size entry
+  pub asker : IsAsker message (option_map (λ b. b.now) entry.referrer) (option_map (λ b. b.now) entry.agent)
 
 -- rule: Reply of a line
 -- the line is of this reply; its address and time are any

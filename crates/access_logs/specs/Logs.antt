@@ -1,7 +1,7 @@
 -- The lines of a port's log; this project's profile.
-use Rattle.std.specs.Prelude.{◌≡◌, ◌⊎◌, ◌==◌, ℕ, List, [], ◌∷◌, ◌++◌, if◌then◌else◌}
+use Rattle.std.specs.Prelude.{◌≡◌, ◌⊎◌, ◌==◌, ℕ, List, [], ◌∷◌, if◌then◌else◌}
 use Rattle.http_ports.specs.Traffic.{Slot}
-use Rattle.log_queues.specs.Queues.{IsOpened, Loses, Sending, Sends, note_of}
+use Rattle.log_queues.specs.Queues.{Loses, Sending, Sends}
 use Rattle.access_logs.specs.Entries.{IsLineOf}
 use Rattle.access_logs.specs.Replies.{Piece, done_at}
 use Rattle.access_logs.specs.declared.logged.Logged.{Logged}
@@ -26,24 +26,16 @@ abbrev pub LogsAll : Sending → List Logged → Sending → Type 0
 LogsAll old [] new = new ≡ old
 LogsAll old (logged ∷ more) new = (between : Sending) × LogsOne old logged between × LogsAll between more new
 
--- a sender that had sent nothing, after the lines of replies
-pub record HasLogged (logged : List Logged) (sender : Sending) : Type 0 where
-  pub start : Sending
-  pub fresh : IsOpened start.free start
-  pub logs : LogsAll start logged sender
-
--- what was logged, and all that was sent of it by a sender that has ended
-pub record EndedLog : Type 0 where
-  pub logged : List Logged
-  pub sent : List ℕ
-
--- the lines of these replies were sent, but for those that are counted as lost, and then the note of the last ones
-pub record AreSent (log : EndedLog) : Type 0 where
-  pub last : Sending
-  pub logs : HasLogged log.logged last
-  pub sent : log.sent ≡ last.sent ++ note_of last.lost
+-- a sender that has sent nothing, and lost nothing
+pub record IsFresh (sender : Sending) : Type 0 where
+  pub sent : sender.sent ≡ []
+  pub lost : sender.lost ≡ 0
 
 -- rule: Log of a port
--- the replies that were logged are those of each slot that are done there
-abbrev pub IsLogOf : (ℕ → Slot) → List Logged → Type 0
-IsLogOf slots logged = (at : ℕ) → pieces_at at logged ≡ done_at (slots at)
+-- what a sender has sent that had sent nothing at first: the lines of replies, in the order in which they were done, those of
+-- each slot just the replies that are done there
+pub record IsLogOf (slots : ℕ → Slot) (first sender : Sending) : Type 0 where
+  pub logged : List Logged
+  pub fresh : IsFresh first
+  pub each : (at : ℕ) → pieces_at at logged ≡ done_at (slots at)
+  pub sends : LogsAll first logged sender

@@ -8,8 +8,9 @@ use Rattle.access_logs.specs.Replies.{Piece, done_at, going_of}
 use Rattle.access_logs.specs.declared.logged.Logged.{Logged}
 use Rattle.access_logs.specs.declared.seen.Seen.{Seen}
 
--- a log: of each slot the reply that is under way, the replies that were logged, and its sender
+-- a log: its sender at first, of each slot the reply that is under way, the replies that were logged, and its sender
 pub record LogSight : Type 0 where
+  pub first : Sending
   pub going : List (Option Piece)
   pub logged : List Logged
   pub sender : Sending

@@ -4,10 +4,10 @@ ghost use Rattle.access_logs.specs.Logs.{IsLogOf};
 ghost use Rattle.access_logs.specs.Replies.{begins_of, latest_begin};
 ghost use Rattle.access_logs.specs.Sights.{sees, sight_of};
 
-use crate::port_lines::PortLines;
 use crate::port_log::PortLog;
 use http_desks::Clock;
 use http_ports::{Event, Port, Received, Sent, Terms};
+use log_queues::LineSender;
 use std::net::IpAddr;
 
 /// A port whose replies are logged. What passes there is what passes at the port that it has.
@@ -17,8 +17,7 @@ pub struct LoggedPort<'c, P: Port, C: Clock> {
     pub port: P,
     /// Its log.
     pub log: PortLog,
-    /// What gives the times of the lines.
-    pub clock: &'c C,
+    clock: &'c C,
     ghost begun: { (k : ℕ) (traffic : Traffic) → (P.slots port k).current ≡ Some traffic
         → latest_begin (begins_of traffic.timestamps) ≤ length traffic.sent },
     ghost places: { length log.going ≡ (P.terms port).capacity },
@@ -31,19 +30,21 @@ impl<'c, P: Port, C: Clock> LoggedPort<'c, P, C> {
         requires fresh { (k : ℕ) → P.slots port k ≡ unused }
         requires places { length log.going ≡ (P.terms port).capacity }
         requires empty { (k : ℕ) → sees log k ≡ record { done = []; going = None } }
-        ensures { result.port ≡ port }
+        ensures port { result.port ≡ port }
+        ensures log { result.log ≡ log }
     {
         LoggedPort { port, log, clock }
     }
 
     // rule: Log of a port
-    /// Gives the port, and what was sent to the log, whose sender it ends.
-    pub fn into_parts(self) -> (P, PortLines)
+    /// Gives the port, and the sender of its log's lines.
+    pub fn into_parts(self) -> (P, LineSender)
         ensures port { result.0 ≡ self.entry.port }
-        ensures log { IsLogOf (P.slots result.0) result.1.logged }
+        ensures log { IsLogOf (P.slots result.0) self.entry.log.first result.1 }
     {
         let LoggedPort { port, log, .. } = self;
-        (port, log.finish())
+        let (lines, _) = log.into_lines();
+        (port, lines)
     }
 }
 

@@ -1,8 +1,9 @@
 // What the heads of a message and of its reply say.
 
-ghost use Rattle.std.specs.Prelude.{◌≡◌, ◌<◌, ℕ, List, IfSome, None, Some, drop, length};
+ghost use Rattle.std.specs.Prelude.{◌≡◌, ◌<◌, ℕ, List, IfSome, None, Some, drop, length, map, option_map};
+ghost use Rattle.httparse.specs.Borrowed.{header_parts};
 ghost use Rattle.httparse.specs.Grammar.{ReadsResponse, ResponseHead, print_response, status_code};
-ghost use Rattle.access_logs.specs.Entries.{ends_line, first_line, up_to_end};
+ghost use Rattle.access_logs.specs.Entries.{IsAsker, ends_line, first_line, up_to_end, value_named};
 
 use httparse::{EMPTY_HEADER, Header, Request, Response, Status};
 use std::str;
@@ -51,7 +52,9 @@ pub(crate) struct Asker<'a> {
 }
 
 // The value of the first field of this name.
-fn value_of<'a>(fields: &[Header<'a>], name: &str) -> Option<&'a [u8]> {
+fn value_of<'a>(fields: &[Header<'a>], name: &str) -> Option<&'a [u8]>
+    ensures { option_map (λ b. b.now) result ≡ value_named name.now (map header_parts fields.now) }
+{
     for field in fields {
         if field.name.eq_ignore_ascii_case(name) {
             return Some(field.value);
@@ -61,14 +64,19 @@ fn value_of<'a>(fields: &[Header<'a>], name: &str) -> Option<&'a [u8]> {
 }
 
 /// Returns who asks by the head that the bytes begin with.
-pub(crate) fn asker_of(bytes: &[u8]) -> Asker<'_> {
+pub(crate) fn asker_of(bytes: &[u8]) -> Asker<'_>
+    ensures { IsAsker bytes.now (option_map (λ b. b.now) result.referrer) (option_map (λ b. b.now) result.agent) }
+{
     let mut fields = [EMPTY_HEADER; MAX_FIELDS];
     let mut head = Request::new(&mut fields);
     match head.parse(bytes) {
-        Ok(Status::Complete(_)) => Asker {
-            referrer: value_of(head.headers, "referer"),
-            agent: value_of(head.headers, "user-agent"),
-        },
+        Ok(Status::Complete(_)) => {
+            let fields: &[Header<'_>] = head.headers;
+            Asker {
+                referrer: value_of(fields, "referer"),
+                agent: value_of(fields, "user-agent"),
+            }
+        }
         _ => Asker {
             referrer: None,
             agent: None,

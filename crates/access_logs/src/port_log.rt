@@ -1,20 +1,20 @@
 ghost use Rattle.std.specs.Prelude.{◌≡◌, ◌≢◌, ◌⊎◌, ◌<◌, ◌++◌, ◌||◌, [], ℕ, List, IfOk, None, Some, length, option_map, vec_len};
 ghost use Rattle.http_ports.specs.Loops.{kept_at};
-ghost use Rattle.log_queues.specs.Queues.{IsOpened, Loses, Sending, Sends};
+ghost use Rattle.log_queues.specs.Queues.{Loses, Sending, Sends};
 ghost use Rattle.access_logs.specs.Entries.{IsLineOf};
 ghost use Rattle.access_logs.specs.Replies.{Piece, piece_if};
-ghost use Rattle.access_logs.specs.Logs.{LogsAll, pieces_at};
+ghost use Rattle.access_logs.specs.Logs.{IsFresh, LogsAll, pieces_at};
 ghost use Rattle.access_logs.specs.Sights.{begun, piece_of, sees};
 
 use crate::lines::line_of;
 use crate::logged::Logged;
-use crate::port_lines::PortLines;
 use crate::seen::Seen;
 use log_queues::LineSender;
 use std::alloc::{AllocError, Global};
 use std::marker::Model;
 use std::mem;
 use std::net::IpAddr;
+use std::snapshot::Snapshot;
 use traces::Trace;
 
 /// The log of a port: the sender of its lines, and what was seen of the reply that is under way at each slot.
@@ -24,18 +24,25 @@ pub struct PortLog {
     lines: LineSender,
     seens: Vec<Option<Seen>>,
     logged: Trace<Logged>,
+    // the sender at first
+    first: Snapshot<LineSender>,
 }
 
 impl Model for PortLog {
-    ghost use Rattle.std.specs.Prelude.{ℕ, map};
-    ghost use Rattle.access_logs.specs.Logs.{HasLogged};
+    ghost use Rattle.std.specs.Prelude.{map};
+    ghost use Rattle.access_logs.specs.Logs.{IsFresh, LogsAll};
     ghost use Rattle.access_logs.specs.Sights.{LogSight, going_at};
 
     ghost Value = { LogSight };
 
-    ghost view = { λ log. record { going = map going_at log.seens.items; logged = log.logged; sender = log.lines } };
+    ghost view = { λ log. record {
+      first = log.first.value;
+      going = map going_at log.seens.items;
+      logged = log.logged;
+      sender = log.lines;
+    } };
 
-    ghost invariant = { λ log. HasLogged log.logged log.lines };
+    ghost invariant = { λ log. IsFresh log.first.value × LogsAll log.first.value log.logged log.lines };
 }
 
 // So many places, without a connection.
@@ -131,16 +138,19 @@ fn log_last(
 impl PortLog {
     /// Makes the log of so many slots, at which nothing has happened, over a sender that has sent nothing.
     pub fn new(alloc: Global, lines: LineSender, slots: usize) -> Result<PortLog, AllocError>
-        requires { IsOpened lines.free lines }
+        requires { IsFresh lines }
+        ensures first { IfOk result (λ log. log.first ≡ lines) }
         ensures slots { IfOk result (λ log. length log.going ≡ slots) }
         ensures empty { IfOk result (λ log. (k : ℕ) → sees log k ≡ record { done = []; going = None }) }
     {
         let seens = empty_places(alloc, slots)?;
+        let first = Snapshot::of(&lines);
         Ok(PortLog {
             alloc,
             lines,
             seens,
             logged: Trace::new(),
+            first,
         })
     }
 
@@ -150,6 +160,7 @@ impl PortLog {
         ensures here { sees self.new slot ≡ record { done = (sees self.old slot).done; going = Some (begun []) } }
         ensures elsewhere { (k : ℕ) → k ≢ slot → sees self.new k ≡ sees self.old k }
         ensures slots { length self.new.going ≡ length self.old.going }
+        ensures first { self.new.first ≡ self.old.first }
     {
         set(&mut self.seens, slot, Seen::new(self.alloc, peer));
     }
@@ -162,6 +173,7 @@ impl PortLog {
             → sees self.new slot ≡ record { done = (sees self.old slot).done ++ piece_if piece.message piece.reply; going = Some (begun waiting.now) } }
         ensures elsewhere { (k : ℕ) → k ≢ slot → sees self.new k ≡ sees self.old k }
         ensures slots { length self.new.going ≡ length self.old.going }
+        ensures first { self.new.first ≡ self.old.first }
     {
         if let Some(seen) = put(&mut self.seens, slot, None) {
             let mut seen = seen;
@@ -185,6 +197,7 @@ impl PortLog {
             → sees self.new slot ≡ record { done = (sees self.old slot).done; going = Some (record { message = piece.message; reply = piece.reply ++ bytes.now }) } }
         ensures elsewhere { (k : ℕ) → k ≢ slot → sees self.new k ≡ sees self.old k }
         ensures slots { length self.new.going ≡ length self.old.going }
+        ensures first { self.new.first ≡ self.old.first }
     {
         if let Some(seen) = put(&mut self.seens, slot, None) {
             let mut seen = seen;
@@ -201,6 +214,7 @@ impl PortLog {
             → sees self.new slot ≡ record { done = (sees self.old slot).done ++ piece_if piece.message piece.reply; going = None } }
         ensures elsewhere { (k : ℕ) → k ≢ slot → sees self.new k ≡ sees self.old k }
         ensures slots { length self.new.going ≡ length self.old.going }
+        ensures first { self.new.first ≡ self.old.first }
     {
         if let Some(seen) = put(&mut self.seens, slot, None) {
             log_last(
@@ -214,14 +228,14 @@ impl PortLog {
         }
     }
 
-    // Ends the sender.
-    pub(crate) fn finish(self) -> PortLines
-        ensures { result.logged ≡ self.logged }
+    // Gives the sender, and the replies that were logged.
+    pub(crate) fn into_lines(self) -> (LineSender, Trace<Logged>)
+        ensures lines { result.0 ≡ self.sender }
+        ensures logged { result.1 ≡ self.logged }
+        ensures fresh { IsFresh self.first }
+        ensures sends { LogsAll self.first result.1 result.0 }
     {
         let PortLog { lines, logged, .. } = self;
-        PortLines {
-            sender: lines.finish(),
-            logged,
-        }
+        (lines, logged)
     }
 }

@@ -1,7 +1,6 @@
 use Rattle.std.proofs.Common.{[], Option, ap}
 use Rattle.access_logs.specs.Logs.{pieces_at}
 use Rattle.access_logs.specs.Replies.{Piece}
-use Rattle.access_logs.specs.Sights.{Sight}
 use Rattle.access_logs.proofs.SeenLemmas.{going_elsewhere, going_here}
 use Rattle.access_logs.proofs.port_log.PortLog.accept.Goals as goal
 

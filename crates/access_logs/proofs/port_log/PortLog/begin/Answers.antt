@@ -1,8 +1,7 @@
-use Rattle.std.proofs.Common.{◌≡◌, ◌∙◌, ◌++◌, List, [], Option, Some, map, sym, ap}
-use Rattle.http_ports.specs.Loops.{kept_at}
+use Rattle.std.proofs.Common.{◌∙◌, ◌++◌, List, [], Option, sym, ap}
 use Rattle.access_logs.specs.Logs.{pieces_at}
 use Rattle.access_logs.specs.Replies.{Piece, piece_if}
-use Rattle.access_logs.specs.Sights.{Sight, begun, going_at}
+use Rattle.access_logs.specs.Sights.{going_at}
 use Rattle.access_logs.proofs.PlaceLemmas.{kept_at-going}
 use Rattle.access_logs.proofs.SeenLemmas.{going_elsewhere, going_here, piece_was, sight_is}
 use Rattle.access_logs.proofs.port_log.PortLog.begin.Goals as goal

@@ -1,7 +1,7 @@
 use Rattle.std.proofs.Common.{◌∙◌, ◌++◌, Option, sym, ap}
 use Rattle.access_logs.specs.Logs.{pieces_at}
 use Rattle.access_logs.specs.Replies.{Piece, piece_if}
-use Rattle.access_logs.specs.Sights.{Sight, going_at}
+use Rattle.access_logs.specs.Sights.{going_at}
 use Rattle.access_logs.proofs.PlaceLemmas.{kept_at-going}
 use Rattle.access_logs.proofs.SeenLemmas.{going_elsewhere, piece_was, sight_is}
 use Rattle.access_logs.proofs.port_log.PortLog.end.Goals as goal

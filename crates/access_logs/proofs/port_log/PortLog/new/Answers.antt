@@ -1,18 +1,14 @@
-use Rattle.std.proofs.Common.{◌≡◌, ◌∙◌, List, [], Option, None, map, refl, sym, subst, ap}
+use Rattle.std.proofs.Common.{◌≡◌, ◌∙◌, List, [], Option, None, map, refl, ap}
 use Rattle.http_ports.specs.Loops.{kept_at}
-use Rattle.access_logs.specs.Logs.{LogsAll, pieces_at}
+use Rattle.access_logs.specs.Logs.{pieces_at}
 use Rattle.access_logs.specs.Replies.{Piece}
-use Rattle.access_logs.specs.Sights.{Sight, going_at}
+use Rattle.access_logs.specs.Sights.{going_at}
 use Rattle.access_logs.specs.declared.logged.Logged.{Logged}
 use Rattle.access_logs.proofs.PlaceLemmas.{kept_at-going}
 use Rattle.access_logs.proofs.port_log.PortLog.new.Goals as goal
 
 pub invariant_of-result : goal.invariant_of-result
-invariant_of-result c = record {
-  start = c.args.lines;
-  fresh = c.requires;
-  logs = subst (λ (entries : List Logged). LogsAll c.args.lines entries c.args.lines) (sym c.new.ensures) refl;
-}
+invariant_of-result c = rw (c.of-first.ensures, c.new.ensures) (c.requires, refl)
 
 pub returns-clause-empty : goal.returns-clause-empty
 returns-clause-empty c = λ k.

@@ -1,7 +1,7 @@
 use Rattle.std.proofs.Common.{◌∙◌, ◌++◌, Option, sym, ap}
 use Rattle.access_logs.specs.Logs.{pieces_at}
 use Rattle.access_logs.specs.Replies.{Piece}
-use Rattle.access_logs.specs.Sights.{Sight, going_at}
+use Rattle.access_logs.specs.Sights.{going_at}
 use Rattle.access_logs.proofs.PlaceLemmas.{kept_at-going}
 use Rattle.access_logs.proofs.SeenLemmas.{going_elsewhere, going_here, piece_was}
 use Rattle.access_logs.proofs.port_log.PortLog.write.Goals as goal
