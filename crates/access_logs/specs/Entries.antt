@@ -64,7 +64,6 @@ pub record IsEntry (message reply : List ℕ) (size : ℕ) (entry : Entry) : Typ
   pub outcome : IsOutcome reply size entry
   pub asker : IsAsker message (option_map (λ b. b.now) entry.referrer) (option_map (λ b. b.now) entry.agent)
 
--- rule: Reply of a line
 -- the line is of this reply; its address and time are any
 pub record IsLineOf (is_short : Bool) (piece : Piece) (line : List ℕ) : Type 0 where
   pub message : List ℕ

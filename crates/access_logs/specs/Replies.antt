@@ -68,7 +68,6 @@ abbrev pub with_done : List Piece → Option Traffic → List Piece
 with_done before None = before
 with_done before (Some traffic) = before ++ done_of traffic
 
--- rule: Replies of a slot
 -- the replies of a slot that are done
 abbrev pub done_at : Slot → List Piece
 done_at slot = with_done (ended_pieces slot.ended) slot.current

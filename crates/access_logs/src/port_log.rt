@@ -165,7 +165,7 @@ impl PortLog {
         set(&mut self.seens, slot, Seen::new(self.alloc, peer));
     }
 
-    // rule: Replies of a slot
+    // rule: Replies of a connection
     // A message may begin with these bytes, at a time: the reply before it is done.
     pub(crate) fn begin(&mut self, slot: usize, seconds: u64, waiting: &[u8])
         requires within { slot < length self.old.going }
@@ -206,7 +206,7 @@ impl PortLog {
         }
     }
 
-    // rule: Replies of a slot
+    // rule: Replies of a connection
     // The connection has ended, at a time, and its last reply with it.
     pub(crate) fn end(&mut self, slot: usize, seconds: u64)
         requires within { slot < length self.old.going }

@@ -114,6 +114,7 @@ fn each_reply_to_a_peer_has_its_line(rt: HostRuntime) {
     }
 }
 
+// rule: Begin of a message
 // rule: Replies of a connection
 #[test]
 fn parts_of_messages_make_no_other_lines(rt: HostRuntime) {

@@ -111,6 +111,7 @@ fn is_served<R: Clock + Threads + Wait + Sync + AllocGlobal>(rt: &R) -> Option<b
     Some(are_served(&ports)? && out.as_slice() == b"ready\nm0 56\n".as_slice())
 }
 
+// rule: Clock of a port
 // rule: Run of a server
 // rule: Sessions of a server
 // rule: Sessions of an operator
