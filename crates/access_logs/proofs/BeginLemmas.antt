@@ -28,7 +28,8 @@ done_from-push :
     ++ piece_if (last_begin begun begins).message (drop (last_begin begun begins).sent (take next.sent sent))
 done_from-push begun [] next sent = append-nil (piece_if begun.message (drop begun.sent (take next.sent sent)))
 done_from-push begun (first ∷ begins) next sent =
-    ap (λ (rest : List Piece). piece_if begun.message (drop begun.sent (take first.sent sent)) ++ rest) (done_from-push first begins next sent)
+    ap (λ (rest : List Piece). piece_if begun.message (drop begun.sent (take first.sent sent)) ++ rest)
+    (done_from-push first begins next sent)
     ∙ sym (append_assoc (piece_if begun.message (drop begun.sent (take first.sent sent))) (done_from first begins sent)
     (piece_if (last_begin first begins).message (drop (last_begin first begins).sent (take next.sent sent))))
 
@@ -38,7 +39,8 @@ latest_begin-push [] next = omega arith
 latest_begin-push (first ∷ begins) next = omega (arith, latest_begin-push begins next)
 
 -- the last one began no later than the latest
-last_latest : (begun : Begin) (begins : List Begin) → (last_begin begun begins).sent ≤ max begun.sent (latest_begin begins)
+last_latest :
+    (begun : Begin) (begins : List Begin) → (last_begin begun begins).sent ≤ max begun.sent (latest_begin begins)
 last_latest begun [] = omega arith
 last_latest begun (first ∷ begins) = omega (arith, last_latest first begins)
 
@@ -59,12 +61,14 @@ IsBegun traffic = latest_begin (begins_of traffic.timestamps) ≤ length traffic
 
 -- a timestamp at which no message may begin
 begins_of-timing-none :
-    (seconds : ℕ) (traffic : Traffic) → begins_of (timing seconds None traffic).timestamps ≡ begins_of traffic.timestamps
+    (seconds : ℕ) (traffic : Traffic) →
+    begins_of (timing seconds None traffic).timestamps ≡ begins_of traffic.timestamps
 begins_of-timing-none seconds traffic = begins_of-push traffic.timestamps _ ∙ append-nil (begins_of traffic.timestamps)
 
 pub timing-none_begun : (seconds : ℕ) (traffic : Traffic) → IsBegun traffic → IsBegun (timing seconds None traffic)
 timing-none_begun seconds traffic begun =
-    subst (λ (begins : List Begin). latest_begin begins ≤ length traffic.sent) (sym (begins_of-timing-none seconds traffic)) begun
+    subst (λ (begins : List Begin). latest_begin begins ≤ length traffic.sent)
+    (sym (begins_of-timing-none seconds traffic)) begun
 
 pub timing-none_done : (seconds : ℕ) (traffic : Traffic) → done_of (timing seconds None traffic) ≡ done_of traffic
 timing-none_done seconds traffic =
@@ -72,7 +76,8 @@ timing-none_done seconds traffic =
 
 pub timing-none_going : (seconds : ℕ) (traffic : Traffic) → going_of (timing seconds None traffic) ≡ going_of traffic
 timing-none_going seconds traffic =
-    ap (λ (begins : List Begin). going_from (last_begin at_first begins) traffic.sent) (begins_of-timing-none seconds traffic)
+    ap (λ (begins : List Begin). going_from (last_begin at_first begins) traffic.sent)
+    (begins_of-timing-none seconds traffic)
 
 -- one at which a message may begin
 begins_of-timing-some :
@@ -82,10 +87,17 @@ begins_of-timing-some :
 begins_of-timing-some seconds waiting traffic = begins_of-push traffic.timestamps _
 
 pub timing-some_begun :
-    (seconds : ℕ) (waiting : List ℕ) (traffic : Traffic) → IsBegun traffic → IsBegun (timing seconds (Some waiting) traffic)
+    (seconds : ℕ) (waiting : List ℕ) (traffic : Traffic) →
+    IsBegun traffic → IsBegun (timing seconds (Some waiting) traffic)
 timing-some_begun seconds waiting traffic begun =
-    subst (λ (begins : List Begin). latest_begin begins ≤ length traffic.sent) (sym (begins_of-timing-some seconds waiting traffic))
-    (omega (arith, begun, latest_begin-push (begins_of traffic.timestamps) (record { message = waiting; sent = length traffic.sent })))
+    subst (λ (begins : List Begin). latest_begin begins ≤ length traffic.sent)
+    (sym (begins_of-timing-some seconds waiting traffic))
+    (omega (
+      arith,
+      begun,
+      latest_begin-push (begins_of traffic.timestamps)
+          (record { message = waiting; sent = length traffic.sent }),
+    ))
 
 pub timing-some_done :
     (seconds : ℕ) (waiting : List ℕ) (traffic : Traffic) →
@@ -93,15 +105,18 @@ pub timing-some_done :
     ≡ done_of traffic ++ piece_if (going_of traffic).message (going_of traffic).reply
 timing-some_done seconds waiting traffic =
     ap (λ (begins : List Begin). done_from at_first begins traffic.sent) (begins_of-timing-some seconds waiting traffic)
-    ∙ done_from-push at_first (begins_of traffic.timestamps) (record { message = waiting; sent = length traffic.sent }) traffic.sent
-    ∙ ap (λ (all : List ℕ). done_of traffic ++ piece_if (going_of traffic).message (drop (last_begin at_first (begins_of traffic.timestamps)).sent all))
+    ∙ done_from-push at_first (begins_of traffic.timestamps) (record { message = waiting; sent = length traffic.sent })
+    traffic.sent
+    ∙ ap (λ (all : List ℕ). done_of traffic ++ piece_if (going_of traffic).message
+    (drop (last_begin at_first (begins_of traffic.timestamps)).sent all))
     (take-length traffic.sent)
 
 pub timing-some_going :
     (seconds : ℕ) (waiting : List ℕ) (traffic : Traffic) →
     going_of (timing seconds (Some waiting) traffic) ≡ record { message = waiting; reply = [] }
 timing-some_going seconds waiting traffic =
-    ap (λ (begins : List Begin). going_from (last_begin at_first begins) traffic.sent) (begins_of-timing-some seconds waiting traffic)
+    ap (λ (begins : List Begin). going_from (last_begin at_first begins) traffic.sent)
+    (begins_of-timing-some seconds waiting traffic)
     ∙ ap (λ (last : Begin). going_from last traffic.sent)
     (last_begin-push at_first (begins_of traffic.timestamps) (record { message = waiting; sent = length traffic.sent }))
     ∙ ap (λ (reply : List ℕ). record { message = waiting; reply = reply }) (drop-length traffic.sent)
@@ -121,4 +136,5 @@ pub sending_going :
 sending_going bytes traffic begun =
     let last = last_begin at_first (begins_of traffic.timestamps) in
     ap (λ (reply : List ℕ). record { message = last.message; reply = reply })
-    (drop-append-le last.sent traffic.sent bytes (omega (arith, begun, last_latest at_first (begins_of traffic.timestamps))))
+    (drop-append-le last.sent traffic.sent bytes
+    (omega (arith, begun, last_latest at_first (begins_of traffic.timestamps))))

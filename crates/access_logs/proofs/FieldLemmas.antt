@@ -24,4 +24,5 @@ pub named_is :
     (name : List ℕ) (field : List ℕ × List ℕ) (is : Bool) →
     Decides is (map to_ascii_lowercase field.0 ≡ map to_ascii_lowercase name) → is_named name field ≡ is
 named_is name field is test =
-    same_from_decides (is_named name field) is (bytes_eq-Decides (map to_ascii_lowercase field.0) (map to_ascii_lowercase name)) test
+    same_from_decides (is_named name field) is
+    (bytes_eq-Decides (map to_ascii_lowercase field.0) (map to_ascii_lowercase name)) test

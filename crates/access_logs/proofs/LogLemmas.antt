@@ -16,7 +16,8 @@ LogsAll-push old between new (first ∷ entries) entry (next, logs, rest) one =
 
 -- a reply of which a byte was sent
 pub piece_if-some :
-    (message reply : List ℕ) → nat_lt 0 (length reply) ≡ true → piece_if message reply ≡ record { message = message; reply = reply } ∷ []
+    (message reply : List ℕ) → nat_lt 0 (length reply) ≡ true →
+    piece_if message reply ≡ record { message = message; reply = reply } ∷ []
 piece_if-some message [] some = cc
 piece_if-some message (byte ∷ reply) some = refl
 
@@ -27,13 +28,16 @@ pieces_at-own :
 pieces_at-own [] entry =
     ap (λ (is : Bool). if is then piece_in entry ∷ [] else []) (eq-eqb entry.slot entry.slot refl)
 pieces_at-own (first ∷ entries) entry =
-    ap (λ (rest : List Piece). if first.slot == entry.slot then piece_in first ∷ rest else rest) (pieces_at-own entries entry)
+    ap (λ (rest : List Piece). if first.slot == entry.slot then piece_in first ∷ rest else rest)
+    (pieces_at-own entries entry)
     ∙ of_first (first.slot == entry.slot)
   where
     of_first :
         (is : Bool) →
-        (if is then piece_in first ∷ pieces_at entry.slot entries ++ piece_in entry ∷ [] else pieces_at entry.slot entries ++ piece_in entry ∷ [])
-        ≡ (if is then piece_in first ∷ pieces_at entry.slot entries else pieces_at entry.slot entries) ++ piece_in entry ∷ []
+        (if is then piece_in first ∷ pieces_at entry.slot entries ++ piece_in entry ∷ []
+        else pieces_at entry.slot entries ++ piece_in entry ∷ [])
+        ≡ (if is then piece_in first ∷ pieces_at entry.slot entries else pieces_at entry.slot entries)
+        ++ piece_in entry ∷ []
     of_first true = refl
     of_first false = refl
 
@@ -42,15 +46,18 @@ pub pieces_at-here :
     entry.slot ≡ at → entry.message ≡ message → entry.reply ≡ reply → nat_lt 0 (length reply) ≡ true →
     pieces_at at (entries ++ entry ∷ []) ≡ pieces_at at entries ++ piece_if message reply
 pieces_at-here entries entry at message reply slots messages replies some =
-    subst (λ (k : ℕ). pieces_at k (entries ++ entry ∷ []) ≡ pieces_at k entries ++ piece_in entry ∷ []) slots (pieces_at-own entries entry)
+    subst (λ (k : ℕ). pieces_at k (entries ++ entry ∷ []) ≡ pieces_at k entries ++ piece_in entry ∷ []) slots
+    (pieces_at-own entries entry)
     ∙ ap (λ (m : List ℕ). pieces_at at entries ++ record { message = m; reply = entry.reply } ∷ []) messages
     ∙ ap (λ (r : List ℕ). pieces_at at entries ++ record { message = message; reply = r } ∷ []) replies
     ∙ ap (λ (pieces : List Piece). pieces_at at entries ++ pieces) (sym (piece_if-some message reply some))
 
 -- of each other slot
 pub pieces_at-elsewhere :
-    (entries : List Logged) (entry : Logged) (k : ℕ) → k ≢ entry.slot → pieces_at k (entries ++ entry ∷ []) ≡ pieces_at k entries
+    (entries : List Logged) (entry : Logged) (k : ℕ) → k ≢ entry.slot →
+    pieces_at k (entries ++ entry ∷ []) ≡ pieces_at k entries
 pieces_at-elsewhere [] entry k other =
     ap (λ (is : Bool). if is then piece_in entry ∷ [] else []) (ne_eqb entry.slot k (λ same. other (sym same)))
 pieces_at-elsewhere (first ∷ entries) entry k other =
-    ap (λ (rest : List Piece). if first.slot == k then piece_in first ∷ rest else rest) (pieces_at-elsewhere entries entry k other)
+    ap (λ (rest : List Piece). if first.slot == k then piece_in first ∷ rest else rest)
+    (pieces_at-elsewhere entries entry k other)

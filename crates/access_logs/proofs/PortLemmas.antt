@@ -21,7 +21,8 @@ abbrev pub IsTied : LogSight → (ℕ → Slot) → Type 0
 IsTied seen slots = (k : ℕ) → sees seen k ≡ sight_of (slots k)
 
 -- a slot for which something is kept is one of those that there are
-kept_within : {C : Type 0} (items : List (Option C)) (at : ℕ) (item : C) → kept_at items at ≡ Some item → at < length items
+kept_within :
+    {C : Type 0} (items : List (Option C)) (at : ℕ) (item : C) → kept_at items at ≡ Some item → at < length items
 kept_within [] at item kept = cc kept
 kept_within (first ∷ items) zero item kept = omega arith
 kept_within (first ∷ items) (suc at) item kept = omega (arith, kept_within items at item kept)
@@ -43,7 +44,8 @@ sight_open :
     (slot : Slot) (traffic : Traffic) → slot.current ≡ Some traffic →
     sight_of slot ≡ record { done = ended_pieces slot.ended ++ done_of traffic; going = Some (going_of traffic) }
 sight_open slot traffic live =
-    ap (λ (current : Option Traffic). record { done = with_done (ended_pieces slot.ended) current; going = option_map going_of current }) live
+    ap (λ (current : Option Traffic).
+    record { done = with_done (ended_pieces slot.ended) current; going = option_map going_of current }) live
 
 -- a new port
 pub tied_new :
@@ -74,7 +76,8 @@ begun-elsewhere at old new elsewhere begun here k traffic live = elim (eqb_tells
 
 -- a connection is accepted
 pub begun-accepted :
-    (at : ℕ) (old new : ℕ → Slot) → new at ≡ with_open (old at) no_traffic → Elsewhere at old new → AreBegun old → AreBegun new
+    (at : ℕ) (old new : ℕ → Slot) → new at ≡ with_open (old at) no_traffic → Elsewhere at old new → AreBegun old →
+    AreBegun new
 begun-accepted at old new opened elsewhere begun =
     begun-elsewhere at old new elsewhere begun (λ traffic live.
     let same : Some traffic ≡ Some no_traffic = sym live ∙ ap (λ (slot : Slot). slot.current) opened in
@@ -126,12 +129,16 @@ pub tied-sent :
     (at : ℕ) (bytes : List ℕ) (was now : LogSight) (old new : ℕ → Slot) (traffic : Traffic) →
     Changes at (sending bytes) old new → (old at).current ≡ Some traffic → AreBegun old → IsTied was old →
     ((k : ℕ) → k ≢ at → sees now k ≡ sees was k) →
-    sees now at ≡ record { done = (sees was at).done; going = Some (record { message = (going_of traffic).message; reply = (going_of traffic).reply ++ bytes }) } →
+    sees now at ≡ record {
+      done = (sees was at).done;
+      going = Some (record { message = (going_of traffic).message; reply = (going_of traffic).reply ++ bytes });
+    } →
     IsTied now new
 tied-sent at bytes was now old new traffic changes live begun tied others here =
     let one = begun at traffic live in
     tied-changed at (sending bytes) was now old new traffic []
-    (record { message = (going_of traffic).message; reply = (going_of traffic).reply ++ bytes }) changes live tied others
+    (record { message = (going_of traffic).message; reply = (going_of traffic).reply ++ bytes }) changes live tied
+    others
     (sending_done bytes traffic one ∙ sym (append-nil (done_of traffic))) (sending_going bytes traffic one)
     (here ∙ sight_is _ _ _ _ (sym (append-nil (sees was at).done)) refl)
 
@@ -140,7 +147,10 @@ pub tied-begun :
     (at seconds : ℕ) (waiting : List ℕ) (was now : LogSight) (old new : ℕ → Slot) (traffic : Traffic) →
     Changes at (timing seconds (Some waiting)) old new → (old at).current ≡ Some traffic → IsTied was old →
     ((k : ℕ) → k ≢ at → sees now k ≡ sees was k) →
-    sees now at ≡ record { done = (sees was at).done ++ piece_if (going_of traffic).message (going_of traffic).reply; going = Some (begun waiting) } →
+    sees now at ≡ record {
+      done = (sees was at).done ++ piece_if (going_of traffic).message (going_of traffic).reply;
+      going = Some (begun waiting);
+    } →
     IsTied now new
 tied-begun at seconds waiting was now old new traffic changes live tied others here =
     tied-changed at (timing seconds (Some waiting)) was now old new traffic
@@ -192,12 +202,17 @@ pub tied-closed :
     (at : ℕ) (was now : LogSight) (old new : ℕ → Slot) (traffic : Traffic) →
     Closes at old new → (old at).current ≡ Some traffic → IsTied was old →
     ((k : ℕ) → k ≢ at → sees now k ≡ sees was k) →
-    sees now at ≡ record { done = (sees was at).done ++ piece_if (going_of traffic).message (going_of traffic).reply; going = None } →
+    sees now at ≡ record {
+      done = (sees was at).done ++ piece_if (going_of traffic).message (going_of traffic).reply;
+      going = None;
+    } →
     IsTied now new
 tied-closed at was now old new traffic closes live tied others here =
     tied-elsewhere at was now old new closes.1 tied others
     (here
     ∙ sight_is (done_at (with_ended (old at) traffic)) _ None None
-    (ap (λ (s : Sight). s.done ++ piece_if (going_of traffic).message (going_of traffic).reply) (tied at ∙ sight_open (old at) traffic live)
-    ∙ append_assoc (ended_pieces (old at).ended) (done_of traffic) (piece_if (going_of traffic).message (going_of traffic).reply)) refl
+    (ap (λ (s : Sight). s.done ++ piece_if (going_of traffic).message (going_of traffic).reply)
+    (tied at ∙ sight_open (old at) traffic live)
+    ∙ append_assoc (ended_pieces (old at).ended) (done_of traffic)
+    (piece_if (going_of traffic).message (going_of traffic).reply)) refl
     ∙ sym (ap sight_of (closes.0 traffic live)))

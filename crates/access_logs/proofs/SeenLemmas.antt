@@ -47,7 +47,8 @@ pub piece_was :
     (seens : List (Option Seen)) (at : ℕ) (seen : Seen) (piece : Piece) →
     kept_at seens at ≡ Some seen → kept_at (map going_at seens) at ≡ Some piece → piece_of seen ≡ piece
 piece_was seens at seen piece kept was =
-    let same : Some (piece_of seen) ≡ Some piece = ap going_at (sym kept) ∙ sym (kept_at-going seens at) ∙ was in cc same
+    let same : Some (piece_of seen) ≡ Some piece = ap going_at (sym kept) ∙ sym (kept_at-going seens at) ∙ was in cc
+    same
 
 -- the one that it has now
 pub going_here :

@@ -31,13 +31,14 @@ pub record IsKept (most : ℕ) (is_short : Bool) (bytes kept : List ℕ) : Type 
 abbrev pub size_of : List ℕ → ℕ
 size_of reply = min (length reply) (2 ^ 64 - 1)
 
--- by the first bytes of a reply that has so many: the status that its head says, and how many bytes follow the head; or,
--- of a reply that doesn't begin with a head of up to 64 fields, no bytes
+-- by the first bytes of a reply that has so many: the status that its head says, and how many bytes follow the head;
+-- or, of a reply that doesn't begin with a head of up to 64 fields, no bytes
 abbrev pub IsOutcome : List ℕ → ℕ → Entry → Type 0
 IsOutcome kept size entry =
     ((head : ResponseHead) × (rest : List ℕ) × ReadsResponse kept head rest × (entry.status ≡ Some (status_code head))
     × (entry.size ≡ size - length (print_response head)))
-    ⊎ (((head : ResponseHead) (rest : List ℕ) → ReadsResponse kept head rest → 64 < length head.fields) × (entry.size ≡ 0))
+    ⊎ (((head : ResponseHead) (rest : List ℕ) → ReadsResponse kept head rest → 64 < length head.fields)
+    × (entry.size ≡ 0))
 
 -- a field's name and value: the name is this one, in any case
 abbrev pub is_named : List ℕ → List ℕ × List ℕ → Bool
@@ -48,8 +49,8 @@ abbrev pub value_named : List ℕ → List (List ℕ × List ℕ) → Option (Li
 value_named name [] = None
 value_named name (field ∷ fields) = if is_named name field then Some field.1 else value_named name fields
 
--- by the first bytes of a message: the page that referred to it and the program that asks, as its head says; or none, of a
--- message that doesn't begin with a head of up to 64 fields
+-- by the first bytes of a message: the page that referred to it and the program that asks, as its head says; or none,
+-- of a message that doesn't begin with a head of up to 64 fields
 abbrev pub IsAsker : List ℕ → Option (List ℕ) → Option (List ℕ) → Type 0
 IsAsker kept referrer agent =
     ((head : RequestHead) × (rest : List ℕ) × ReadsRequest kept head rest
@@ -64,6 +65,7 @@ pub record IsEntry (message reply : List ℕ) (size : ℕ) (entry : Entry) : Typ
   pub outcome : IsOutcome reply size entry
   pub asker : IsAsker message (option_map (λ b. b.now) entry.referrer) (option_map (λ b. b.now) entry.agent)
 
+-- rule: Line of a reply
 -- the line is of this reply; its address and time are any
 pub record IsLineOf (is_short : Bool) (piece : Piece) (line : List ℕ) : Type 0 where
   pub message : List ℕ

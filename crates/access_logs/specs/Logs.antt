@@ -15,7 +15,6 @@ abbrev pub pieces_at : ℕ → List Logged → List Piece
 pieces_at at [] = []
 pieces_at at (logged ∷ more) = if logged.slot == at then piece_in logged ∷ pieces_at at more else pieces_at at more
 
--- rule: Line of a reply
 -- the line of the reply was sent, or is counted as lost
 abbrev pub LogsOne : Sending → Logged → Sending → Type 0
 LogsOne old logged new =
@@ -32,8 +31,8 @@ pub record IsFresh (sender : Sending) : Type 0 where
   pub lost : sender.lost ≡ 0
 
 -- rule: Log of a port
--- what a sender has sent that had sent nothing at first: the lines of replies, in the order in which they were done, those of
--- each slot just the replies that are done there
+-- what a sender has sent that had sent nothing at first: the lines of replies, in the order in which they were done,
+-- those of each slot just the replies that are done there
 pub record IsLogOf (slots : ℕ → Slot) (first sender : Sending) : Type 0 where
   pub logged : List Logged
   pub fresh : IsFresh first

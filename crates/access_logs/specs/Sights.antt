@@ -1,5 +1,5 @@
 -- What a port's log has seen at each slot; this project's profile.
-use Rattle.std.specs.Prelude.{ℕ, List, [], Option, option_map}
+use Rattle.std.specs.Prelude.{ℕ, List, [], ◌++◌, Option, option_map}
 use Rattle.http_ports.specs.Loops.{kept_at}
 use Rattle.http_ports.specs.Traffic.{Slot}
 use Rattle.log_queues.specs.Queues.{Sending}
@@ -25,6 +25,10 @@ going_at seen = option_map piece_of seen
 -- a reply of which nothing was sent
 abbrev pub begun : List ℕ → Piece
 begun message = record { message = message; reply = [] }
+
+-- a reply of which more was sent
+abbrev pub with_more : Piece → List ℕ → Piece
+with_more piece bytes = record { message = piece.message; reply = piece.reply ++ bytes }
 
 -- a slot: the replies that are done, and the one under way
 pub record Sight : Type 0 where

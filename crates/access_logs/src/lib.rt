@@ -1,14 +1,19 @@
 //! The access log of a server: a line for each reply, in the combined form that web servers write.
 //!
-//! A `LoggedPort` is a port whose replies are logged: what was sent on each connection is cut where a message may begin, and
-//! once a reply is done, its line is sent by a `PortLog`, or counted as lost. The line has the address, the time, the first
-//! line of the message, the status, how many bytes the body of the reply had, the referrer and the program that asked. Every
-//! byte that is not printable ASCII is printed as `\x` and two digits, and so are a quote and a backslash. Read
-//! `specs/Logs.antt`, and `specs/Lines.antt` for the bytes of a line. Its address and its time are tested and not proved.
+//! `LoggedPort` is a port over another one of `http_ports`, whose replies it logs. A reply is what is sent from one timestamp
+//! at which a message may begin up to the next one, or to the connection's end. Once it is done, the `PortLog` sends its line
+//! to the log's writer by a `LineSender` of `log_queues`, or counts it as lost: read `specs/Replies.antt`,
+//! `specs/Entries.antt` and `specs/Logs.antt`.
 //!
 //! `AccessLog` is a `Watch` of a server's connections, one after the other, and `ReplyLog` one of many that are open at
-//! once: they write such lines, and which message a line is of is tested. They hold up no reply and reject none: a line that
-//! can't be written is lost, and so is one that memory is lacking for.
+//! once, of each of which it keeps what it has `Seen`. Once a reply has been written, it writes a line: the
+//! address, the time, the first line of the message, the status, how many bytes the body of the reply had, the
+//! referrer and the program that asked. Every byte that is not printable ASCII is printed as `\x` and two digits, and
+//! so are a quote and a backslash.
+//!
+//! It holds up no reply and rejects none: a line that can't be written is lost, and so is one that memory is
+//! lacking for. Read `specs/Lines.antt` for the bytes of a line. Of these two logs it is tested and not proved which
+//! message a line is of; its time is tested of all.
 //!
 //! `LastReply` says of a connection's last reply whether it has fewer bytes than its head says.
 

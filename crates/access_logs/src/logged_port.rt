@@ -25,7 +25,7 @@ pub struct LoggedPort<'c, P: Port, C: Clock> {
 }
 
 impl<'c, P: Port, C: Clock> LoggedPort<'c, P, C> {
-    /// Has a new port log its replies, by a log of as many slots at which nothing has happened, with the times of a clock.
+    /// Has a new port log its replies, by a log of as many slots at which nothing has happened, with a clock's times.
     pub fn new(port: P, log: PortLog, clock: &'c C) -> LoggedPort<'c, P, C>
         requires fresh { (k : ℕ) → P.slots port k ≡ unused }
         requires places { length log.going ≡ (P.terms port).capacity }

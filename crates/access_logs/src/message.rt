@@ -107,7 +107,8 @@ fn size_in(fields: &[Header<'_>]) -> Option<u64> {
 
 /// Returns what the head says that the bytes begin with.
 pub(crate) fn replied_in(bytes: &[u8]) -> Replied
-    ensures head { IfSome result.head (λ count. (head : ResponseHead) × ReadsResponse bytes.now head (drop count bytes.now)
+    ensures head { IfSome result.head (λ count. (head : ResponseHead)
+        × ReadsResponse bytes.now head (drop count bytes.now)
         × (count ≡ length (print_response head)) × (result.status ≡ Some (status_code head))) }
     ensures none { result.head ≡ None → (head : ResponseHead) (rest : List ℕ) → ReadsResponse bytes.now head rest
         → 64 < length head.fields }

@@ -4,7 +4,7 @@ ghost use Rattle.log_queues.specs.Queues.{Loses, Sending, Sends};
 ghost use Rattle.access_logs.specs.Entries.{IsLineOf};
 ghost use Rattle.access_logs.specs.Replies.{Piece, piece_if};
 ghost use Rattle.access_logs.specs.Logs.{IsFresh, LogsAll, pieces_at};
-ghost use Rattle.access_logs.specs.Sights.{begun, piece_of, sees};
+ghost use Rattle.access_logs.specs.Sights.{begun, piece_of, sees, with_more};
 
 use crate::lines::line_of;
 use crate::logged::Logged;
@@ -83,7 +83,8 @@ fn set(places: &mut Vec<Option<Seen>>, slot: usize, seen: Seen)
 // rule: Line of a reply
 // Sends the line of a reply; one that memory is lacking for is lost.
 fn send_line(alloc: Global, lines: &mut LineSender, seconds: u64, seen: &Seen)
-    ensures { ((line : List ℕ) × IsLineOf (seen.now.message.is_short || seen.now.reply.is_short) (piece_of seen.now) line
+    ensures { ((line : List ℕ)
+        × IsLineOf (seen.now.message.is_short || seen.now.reply.is_short) (piece_of seen.now) line
         × Sends lines.old lines.new line) ⊎ Loses lines.old lines.new }
 {
     match line_of(alloc, &seen.entry(seconds)) {
@@ -170,7 +171,11 @@ impl PortLog {
     pub(crate) fn begin(&mut self, slot: usize, seconds: u64, waiting: &[u8])
         requires within { slot < length self.old.going }
         ensures here { (piece : Piece) → kept_at self.old.going slot ≡ Some piece
-            → sees self.new slot ≡ record { done = (sees self.old slot).done ++ piece_if piece.message piece.reply; going = Some (begun waiting.now) } }
+            → sees self.new slot
+            ≡ record {
+              done = (sees self.old slot).done ++ piece_if piece.message piece.reply;
+              going = Some (begun waiting.now);
+            } }
         ensures elsewhere { (k : ℕ) → k ≢ slot → sees self.new k ≡ sees self.old k }
         ensures slots { length self.new.going ≡ length self.old.going }
         ensures first { self.new.first ≡ self.old.first }
@@ -194,7 +199,8 @@ impl PortLog {
     pub(crate) fn write(&mut self, slot: usize, bytes: &[u8])
         requires within { slot < length self.old.going }
         ensures here { (piece : Piece) → kept_at self.old.going slot ≡ Some piece
-            → sees self.new slot ≡ record { done = (sees self.old slot).done; going = Some (record { message = piece.message; reply = piece.reply ++ bytes.now }) } }
+            → sees self.new slot
+            ≡ record { done = (sees self.old slot).done; going = Some (with_more piece bytes.now) } }
         ensures elsewhere { (k : ℕ) → k ≢ slot → sees self.new k ≡ sees self.old k }
         ensures slots { length self.new.going ≡ length self.old.going }
         ensures first { self.new.first ≡ self.old.first }
@@ -211,7 +217,8 @@ impl PortLog {
     pub(crate) fn end(&mut self, slot: usize, seconds: u64)
         requires within { slot < length self.old.going }
         ensures here { (piece : Piece) → kept_at self.old.going slot ≡ Some piece
-            → sees self.new slot ≡ record { done = (sees self.old slot).done ++ piece_if piece.message piece.reply; going = None } }
+            → sees self.new slot
+            ≡ record { done = (sees self.old slot).done ++ piece_if piece.message piece.reply; going = None } }
         ensures elsewhere { (k : ℕ) → k ≢ slot → sees self.new k ≡ sees self.old k }
         ensures slots { length self.new.going ≡ length self.old.going }
         ensures first { self.new.first ≡ self.old.first }

@@ -84,6 +84,7 @@ impl Seen {
         })
     }
 
+    // rule: Line of a reply
     // What a line says of the reply, at a time.
     pub(crate) fn entry(&self, seconds: u64) -> Entry<'_>
         ensures { IsEntry self.now.message.bytes.items self.now.reply.bytes.items (size_of self.now.reply.all) result }

@@ -17,7 +17,8 @@ returns-then-eq_ignore_ascii_case c =
     let index = c.loop-field.field-index in
     let field = slice_index_or fields index no_field in
     sym (c.loop-field.invariant ∙ value_named-at name fields index no_field c.loop-field-test.true
-    ∙ ap (λ (is : Bool). if is then Some field.value.now else value_named name (map header_parts (drop (suc index) fields)))
+    ∙ ap (λ (is : Bool). if is then Some field.value.now else value_named name
+    (map header_parts (drop (suc index) fields)))
     (named_is name (header_parts field) c.eq_ignore_ascii_case.result c.eq_ignore_ascii_case.ensures.test
     ∙ c.if-eq_ignore_ascii_case.true))
 
@@ -30,6 +31,7 @@ loop-field-preserved c =
     let field = slice_index_or fields index no_field in
     rw add-one
     (c.loop-field.invariant ∙ value_named-at name fields index no_field c.loop-field-test.true
-    ∙ ap (λ (is : Bool). if is then Some field.value.now else value_named name (map header_parts (drop (suc index) fields)))
+    ∙ ap (λ (is : Bool). if is then Some field.value.now else value_named name
+    (map header_parts (drop (suc index) fields)))
     (named_is name (header_parts field) c.eq_ignore_ascii_case.result c.eq_ignore_ascii_case.ensures.test
     ∙ c.if-eq_ignore_ascii_case.false))

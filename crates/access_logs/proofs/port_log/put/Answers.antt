@@ -6,7 +6,8 @@ pub returns-clause-took : goal.returns-clause-took
 returns-clause-took c =
     let items = c.args.places.now.items in
     let within : c.args.slot < length items = omega (arith, c.requires, c.args.places.now.ok) in
-    c.replace.ensures.value ∙ c.index_mut.ensures.value ∙ sym (kept_at-is-get_or items c.args.slot c.index_mut.result.now within)
+    c.replace.ensures.value ∙ c.index_mut.ensures.value ∙ sym
+    (kept_at-is-get_or items c.args.slot c.index_mut.result.now within)
 
 pub returns-clause-put : goal.returns-clause-put
 returns-clause-put c =

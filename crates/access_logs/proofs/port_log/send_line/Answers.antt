@@ -7,7 +7,8 @@ returns-in-Ok c =
     elim c.send.ensures.sends [
       | inl sends ↦ inl (
         c.deref.result.now,
-        IsLineOf-of c.args.seen.now c.entry.result c.deref.result.now c.entry.ensures (rw c.deref.ensures.value c.in-Ok.ensures),
+        IsLineOf-of c.args.seen.now c.entry.result c.deref.result.now c.entry.ensures
+            (rw c.deref.ensures.value c.in-Ok.ensures),
         sends,
       )
       | inr loses ↦ inr loses

@@ -23,7 +23,8 @@ invariant_of-self g c =
     let changes = c.in-Bytes.ensures.writes.2 in
     record {
       begun = begun-changed c.args.slot (sending sent) old new changes (traffic, live) (sending_begun sent) port.begun;
-      places = c.write.ensures.slots ∙ port.places ∙ sym (ap (λ (terms : Terms). terms.capacity) c.in-Bytes.ensures.terms);
+      places = c.write.ensures.slots ∙ port.places ∙ sym
+          (ap (λ (terms : Terms). terms.capacity) c.in-Bytes.ensures.terms);
       tied =
           tied-sent c.args.slot sent port.log c.write.new.self old new traffic changes live port.begun port.tied
           c.write.ensures.elsewhere

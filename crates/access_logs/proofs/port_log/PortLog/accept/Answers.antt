@@ -8,7 +8,8 @@ pub returns-clause-here : goal.returns-clause-here
 returns-clause-here c =
     rw (← c.self.view_is)
     (ap (λ (going : Option Piece). record { done = pieces_at c.args.slot c.self.inside.logged; going = going })
-    (going_here c.set.new.places.items c.args.slot c.new.result [] [] c.set.ensures.set c.new.ensures.message c.new.ensures.reply))
+    (going_here c.set.new.places.items c.args.slot c.new.result [] [] c.set.ensures.set c.new.ensures.message
+    c.new.ensures.reply))
 
 pub returns-clause-elsewhere : goal.returns-clause-elsewhere
 returns-clause-elsewhere c =

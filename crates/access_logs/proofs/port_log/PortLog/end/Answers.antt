@@ -9,7 +9,8 @@ use Rattle.access_logs.proofs.port_log.PortLog.end.Goals as goal
 pub returns-in-Some-clause-here : goal.returns-in-Some-clause-here
 returns-in-Some-clause-here c =
     rw (← c.self.view_is) (λ piece was.
-    let same = piece_was c.self.inside.seens.items c.args.slot c.in-Some.seen piece (sym c.put.ensures.took ∙ c.in-Some.is) was in
+    let same = piece_was c.self.inside.seens.items c.args.slot c.in-Some.seen piece
+    (sym c.put.ensures.took ∙ c.in-Some.is) was in
     sight_is _ _ _ _
     (c.log_last.ensures.here
     ∙ ap (λ (p : Piece). pieces_at c.args.slot c.self.inside.logged ++ piece_if p.message p.reply) same)
@@ -24,7 +25,8 @@ returns-in-Some-clause-elsewhere c =
 pub returns-in_default-clause-here : goal.returns-in_default-clause-here
 returns-in_default-clause-here c =
     rw (← c.self.view_is) (λ piece was.
-    let none = sym was ∙ kept_at-going c.self.inside.seens.items c.args.slot ∙ ap going_at (sym c.put.ensures.took ∙ c.in_default.is) in
+    let none = sym was ∙ kept_at-going c.self.inside.seens.items c.args.slot ∙ ap going_at
+    (sym c.put.ensures.took ∙ c.in_default.is) in
     cc none)
 
 pub returns-in_default-clause-elsewhere : goal.returns-in_default-clause-elsewhere

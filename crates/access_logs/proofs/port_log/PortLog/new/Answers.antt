@@ -14,5 +14,6 @@ pub returns-clause-empty : goal.returns-clause-empty
 returns-clause-empty c = λ k.
     let none : kept_at (map going_at c.in_ok-seens.seens.items) k ≡ None =
     kept_at-going c.in_ok-seens.seens.items k ∙ ap going_at (c.in_ok-seens.ensures.empty k) in
-    ap (λ (entries : List Logged). record { done = pieces_at k entries; going = kept_at (map going_at c.in_ok-seens.seens.items) k }) c.new.ensures
+    ap (λ (entries : List Logged). record
+    { done = pieces_at k entries; going = kept_at (map going_at c.in_ok-seens.seens.items) k }) c.new.ensures
     ∙ ap (λ (going : Option Piece). record { done = []; going = going }) none

@@ -9,7 +9,8 @@ use Rattle.access_logs.proofs.port_log.PortLog.write.Goals as goal
 pub returns-in-Some-clause-here : goal.returns-in-Some-clause-here
 returns-in-Some-clause-here c =
     rw (← c.self.view_is) (λ piece was.
-    let same = piece_was c.self.inside.seens.items c.args.slot c.in-Some.seen piece (sym c.put.ensures.took ∙ c.in-Some.is) was in
+    let same = piece_was c.self.inside.seens.items c.args.slot c.in-Some.seen piece
+    (sym c.put.ensures.took ∙ c.in-Some.is) was in
     ap (λ (going : Option Piece). record { done = pieces_at c.args.slot c.self.inside.logged; going = going })
     (going_here c.set.new.places.items c.args.slot c.write.new.self piece.message (piece.reply ++ c.args.bytes.now)
     c.set.ensures.set (c.write.ensures.message ∙ ap (λ (p : Piece). p.message) same)
@@ -25,7 +26,8 @@ returns-in-Some-clause-elsewhere c =
 pub returns-in_default-clause-here : goal.returns-in_default-clause-here
 returns-in_default-clause-here c =
     rw (← c.self.view_is) (λ piece was.
-    let none = sym was ∙ kept_at-going c.self.inside.seens.items c.args.slot ∙ ap going_at (sym c.put.ensures.took ∙ c.in_default.is) in
+    let none = sym was ∙ kept_at-going c.self.inside.seens.items c.args.slot ∙ ap going_at
+    (sym c.put.ensures.took ∙ c.in_default.is) in
     cc none)
 
 pub returns-in_default-clause-elsewhere : goal.returns-in_default-clause-elsewhere
