@@ -1,12 +1,12 @@
 // Lines of a log that are sent to its writer.
 
 use crate::writers::Paper;
-use log_queues::{LineSender, Page, Signal, open_log, start_writer};
+use log_queues::{LineSender, LogWriter, Page, Signal, open_log};
 use std::alloc::Global;
 use std::io::Write;
-use std::sync::Wait;
+use std::sync::{Mutex, Wait};
 use std::thread;
-use std::thread::Threads;
+use std::thread::{Scope, Threads};
 
 // A sheet that takes all, or fails so often after so many bytes.
 fn paper(alloc: Global, room: usize, fails: usize) -> Paper {
@@ -136,11 +136,28 @@ fn send_ten(senders: &mut [LineSender], signal: &Signal) {
     signal.end();
 }
 
+// Writes what the senders of a log send to a page, which no one else has until then.
+fn write_page<R: Wait>(rt: &R, writer: LogWriter, page: &Mutex<Page<'_, Paper>>) {
+    let mut writer = writer;
+    let mut page = page.lock(rt);
+    writer.write_all(rt, &mut page);
+}
+
+// Does a job in a thread of its own; whether there can be one.
+fn start<'s, E, F: FnOnce() + Send + Drop + 's>(scope: &Scope<'s, E>, job: F) -> bool
+    requires { F.pre job }
+{
+    match scope.spawn(job) {
+        Ok(_) => true,
+        Err(_) => false,
+    }
+}
+
 // Sends them while a thread writes, and waits for that.
 fn send_beside<R: Threads + Wait + Sync>(
     rt: &R,
     alloc: Global,
-    page: &mut Page<'_, Paper>,
+    page: &Mutex<Page<'_, Paper>>,
 ) -> bool {
     let Ok(log) = open_log(alloc, 3, 64) else {
         return false;
@@ -148,20 +165,17 @@ fn send_beside<R: Threads + Wait + Sync>(
     let mut senders = log.senders;
     let (writer, signal) = (log.writer, log.signal);
     thread::scope(thread::scope_env(), rt, |scope| -> bool {
-        let Some(thread) = start_writer(scope, rt, writer, page) else {
-            return false;
-        };
+        let is_started = start(scope, move || write_page(rt, writer, page));
         send_ten(&mut senders, &signal);
-        let (mut writer, page) = thread.join(rt);
-        !writer.write_now(page)
+        is_started
     })
 }
 
-// Whether three senders' lines are all written in a thread of its own, so that nothing is left.
+// Whether three senders' lines are all written in a thread of its own.
 fn is_written<R: Threads + Wait + Sync>(rt: &R, alloc: Global) -> bool {
     let mut all = paper(alloc, 0, 0);
-    let is_all = send_beside(rt, alloc, &mut Page::new(&mut all));
-    is_all && all.bytes.len() == 150
+    let is_started = send_beside(rt, alloc, &Mutex::new(Page::new(&mut all)));
+    is_started && all.bytes.len() == 150
 }
 
 // rule: Written log
