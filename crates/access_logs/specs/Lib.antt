@@ -1,5 +1,1 @@
 pub mod Lines
-pub mod Replies
-pub mod Entries
-pub mod Logs
-pub mod Sights

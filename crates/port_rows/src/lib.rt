@@ -30,8 +30,6 @@ mod lines;
 #[cfg(test)]
 mod log_tests;
 #[cfg(test)]
-mod logs;
-#[cfg(test)]
 mod peers;
 #[cfg(test)]
 mod port_server;

@@ -13,6 +13,7 @@ const TIMES: &str =
     "quick;POST /echo HTTP/1.1~Content-Length: 6~~secondPOST /echo HTTP/1.1~Content-Length: 6~~second;ended;HTTP/1.1 200 OK~Content-Type: text/plain~Content-Length: 1~~1HTTP/1.1 200 OK~Content-Type: text/plain~Content-Length: 1~~2";
 
 // rule: Timestamp of a connection
+// rule: Begin of a message
 // rule: Timestamp of a reply
 #[test]
 fn asks_the_desk_at_the_timestamp_of_each_message(rt: HostRuntime) -> Result<(), AllocError> {

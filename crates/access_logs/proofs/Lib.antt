@@ -1,7 +1,0 @@
-pub mod LineLemmas
-pub mod PlaceLemmas
-pub mod LogLemmas
-pub mod SeenLemmas
-pub mod BeginLemmas
-pub mod PortLemmas
-pub mod FieldLemmas
